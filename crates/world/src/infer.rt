@@ -1,0 +1,34 @@
+//! What type inference found of a body.
+
+use crate::{BindingId, ExprId, List, Map, PatId, Ty};
+
+/// The types of a body's nodes, and what its paths and names stand for.
+#[derive(PartialEq, Eq, PartialOrd, Ord, Hash, Debug, Drop)]
+pub struct InferenceResult {
+    /// One for each expression.
+    pub expr_types: List<Ty>,
+    /// One for each pattern.
+    pub pat_types: List<Ty>,
+    /// One for each binding.
+    pub binding_types: List<Ty>,
+    pub value_res: Map<ExprId, ValueNs>,
+    pub binding_modes: Map<PatId, BindingMode>,
+    /// The types of this body that are `Copy`.
+    pub copy_types: List<Ty>,
+    /// Whether inference met an error.
+    pub erroneous: bool,
+    /// The expressions whose types don't fit.
+    pub mismatches: List<ExprId>,
+}
+
+/// What a path of a body names.
+#[derive(Clone, Copy, PartialEq, Eq, PartialOrd, Ord, Hash, Debug)]
+pub enum ValueNs {
+    LocalBinding(BindingId),
+}
+
+/// How a name pattern binds.
+#[derive(Clone, Copy, PartialEq, Eq, PartialOrd, Ord, Hash, Debug)]
+pub enum BindingMode {
+    Move,
+}
