@@ -3,6 +3,7 @@
 #![tactic(auto)]
 
 mod body;
+mod boxed;
 mod bytes;
 mod clone;
 mod database;
@@ -19,6 +20,7 @@ pub use body::{
     ArithOp, BinaryOp, Binding, BindingAnnotation, Body, CmpOp, Expr, Literal, LogicOp, Ordering,
     Pat, Statement, UnaryOp,
 };
+pub use boxed::Box;
 pub use bytes::Bytes;
 pub use clone::TryClone;
 pub use database::{BodyRow, ConstRow, CrateRow, HirDatabase};
