@@ -1,0 +1,3 @@
+//! The machine: it runs a lowered body over one flat list of bytes, block by block, and gives the end
+//! that the meaning of the body's blocks has.
+#![tactic(auto)]
