@@ -1,0 +1,6 @@
+pub mod Does
+pub mod Graph
+pub mod Growth
+pub mod Lowered
+pub mod Refusals
+pub mod Simulates
