@@ -1,6 +1,9 @@
 //! The tables of the world.
+ghost use Rattle.std.specs.Prelude.{◌≡◌};
+ghost use Rattle.std.specs.Option.{option_copied, option_map};
+ghost use Rattle.world.specs.Lookups.{const_row, body_row};
 
-use crate::{Body, Crate, InferenceResult, Layout, List, Text, Ty};
+use crate::{Body, Crate, DefWithBodyId, InferenceResult, Layout, List, Text, Ty};
 
 /// The world: tables of items, bodies and layouts, whose rows are named by their places.
 #[derive(PartialEq, Eq, PartialOrd, Ord, Hash, Debug, Drop)]
@@ -33,4 +36,47 @@ pub struct ConstRow {
 pub struct BodyRow {
     pub body: Body,
     pub infer: InferenceResult,
+}
+
+impl HirDatabase {
+    /// The row of a constant.
+    fn const_row(&self, def: DefWithBodyId) -> Option<&ConstRow>
+        ensures { option_copied result ≡ const_row self.now def }
+    {
+        let DefWithBodyId::ConstId(id) = def;
+        self.consts.get(id.0 as u64)
+    }
+
+    /// The row of a body.
+    fn body_row(&self, def: DefWithBodyId) -> Option<&BodyRow>
+        ensures { option_copied result ≡ body_row self.now def }
+    {
+        match self.const_row(def) {
+            Some(row) => match row.body {
+                Some(place) => self.bodies.get(place as u64),
+                None => None,
+            },
+            None => None,
+        }
+    }
+
+    /// The body of what has one.
+    pub fn body(&self, def: DefWithBodyId) -> Option<&Body>
+        ensures { option_copied result ≡ option_map (λ row. row.body) (body_row self.now def) }
+    {
+        match self.body_row(def) {
+            Some(row) => Some(&row.body),
+            None => None,
+        }
+    }
+
+    /// What inference found of the body of what has one.
+    pub fn infer(&self, def: DefWithBodyId) -> Option<&InferenceResult>
+        ensures { option_copied result ≡ option_map (λ row. row.infer) (body_row self.now def) }
+    {
+        match self.body_row(def) {
+            Some(row) => Some(&row.infer),
+            None => None,
+        }
+    }
 }
