@@ -76,19 +76,19 @@ module _ {K : Type 0} {cmp : K → K → Ordering} (total : IsTotalOrder cmp) wh
     index_stays places index h j =
         rw (lookup-append (is_at (cmp j)) rows ((k, v) ∷ []))
         (stays (lookup (is_at (cmp j)) rows) (lookup (is_at (cmp j)) places) (is_at (cmp j) k) (index j)
-            (λ t. ap is_some (lookup_at_tie j k (tie_is_equal _ t) places) ∙ h))
+        (λ t. ap is_some (lookup_at_tie j k (tie_is_equal _ t) places) ∙ h))
 
     index_grows : (places more : List (K × ℕ)) → IsIndex cmp rows places → is_some (lookup (is_at (cmp k)) places) ≡ false
         → ((j : K) → lookup (is_at (cmp j)) more ≡ cond (is_at (cmp k) j) (Some (length rows)) (lookup (is_at (cmp j)) places)) → IsIndex cmp (rows ++ (k, v) ∷ []) more
     index_grows places more index h added j =
         rw (lookup-append (is_at (cmp j)) rows ((k, v) ∷ []), added j, tie_symm k j)
         (grows (lookup (is_at (cmp j)) rows) (lookup (is_at (cmp j)) places) (is_at (cmp j) k) (index j)
-            (λ t. ap is_some (lookup_at_tie j k (tie_is_equal _ t) places) ∙ h))
+        (λ t. ap is_some (lookup_at_tie j k (tie_is_equal _ t) places) ∙ h))
 
     -- a row with a new key, whose place is added at a copy of the key
     pub index_adds : (places more : List (K × ℕ)) (copy : K) (place : ℕ) → IsIndex cmp rows places → is_some (lookup (is_at (cmp k)) places) ≡ false → copy ≡ k → place ≡ length rows
         → ((j : K) → lookup (is_at (cmp j)) more ≡ cond (is_at (cmp copy) j) (Some place) (lookup (is_at (cmp j)) places)) → IsIndex cmp (rows ++ (k, v) ∷ []) more
     index_adds places more copy place index h same at_end added =
         index_grows places more index h (λ j. added j
-            ∙ ap (λ c. cond (is_at (cmp c) j) (Some place) (lookup (is_at (cmp j)) places)) same
-            ∙ ap (λ n. cond (is_at (cmp k) j) (Some n) (lookup (is_at (cmp j)) places)) at_end)
+        ∙ ap (λ c. cond (is_at (cmp c) j) (Some place) (lookup (is_at (cmp j)) places)) same
+        ∙ ap (λ n. cond (is_at (cmp k) j) (Some n) (lookup (is_at (cmp j)) places)) at_end)

@@ -102,6 +102,19 @@ impl<K: Ord + TryClone + Drop, V: Drop> Table<K, V> {
     }
 }
 
+impl<K: Ord + TryClone + Drop, V: TryClone + Drop> TryClone for Table<K, V> {
+    fn try_clone(&self, alloc: Global) -> Result<Table<K, V>, NoMemory> {
+        let mut copy = Table::new(alloc);
+        let rows = self.as_slice();
+        for row in rows {
+            let key = row.0.try_clone(alloc)?;
+            let value = row.1.try_clone(alloc)?;
+            copy.push(key, value)?;
+        }
+        Ok(copy)
+    }
+}
+
 impl<K: Ord, V: PartialEq> PartialEq for Table<K, V> {
     ghost eq = { pointwise (λ p q. K.eq p.0 q.0 && V.eq p.1 q.1) };
 

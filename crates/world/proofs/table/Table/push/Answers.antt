@@ -12,4 +12,4 @@ invariant_of-self-2 g c =
     let at_end : c.len.result ≡ length c.self.inside.rows.items = grind (arith, common_steps, c.in_ok-reserve.ensures.items) in
     rw (c.in_ok-push-2.ensures.items, c.in_ok-reserve.ensures.items)
     (index_adds g.met.K.Ord.total _ _ _ _ _ c.in_ok-copy.copy c.len.result c.self.invariant (sym c.contains_key.ensures ∙ c.if-contains_key.false) c.in_ok-copy.ensures
-        at_end c.in_ok-insert.ensures.updates.0)
+    at_end c.in_ok-insert.ensures.updates.0)
