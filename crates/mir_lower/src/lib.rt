@@ -3,3 +3,4 @@
 
 mod context;
 mod graph;
+mod literal;
