@@ -19,5 +19,4 @@ pub fn types_decide()
     ensures arg { (a b : GenericArg) → Decides (arg_eq a b) (a ≡ b) }
     ensures consts { (a b : Const) → Decides (const_eq a b) (a ≡ b) }
     ensures values { (a b : ValueConst) → Decides (value_eq a b) (a ≡ b) }
-{
-}
+{}

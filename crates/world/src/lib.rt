@@ -15,6 +15,8 @@ mod list;
 mod map;
 mod memory;
 mod table;
+#[cfg(test)]
+mod tests;
 mod text;
 mod ty;
 
