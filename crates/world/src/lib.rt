@@ -7,6 +7,7 @@ mod boxed;
 mod bytes;
 mod clone;
 mod database;
+mod decides;
 mod ids;
 mod infer;
 mod layout;
@@ -14,6 +15,8 @@ mod list;
 mod map;
 mod memory;
 mod table;
+#[cfg(test)]
+mod tests;
 mod text;
 mod ty;
 
@@ -25,6 +28,7 @@ pub use boxed::Box;
 pub use bytes::Bytes;
 pub use clone::TryClone;
 pub use database::{BodyRow, ConstRow, CrateRow, HirDatabase};
+pub use decides::types_decide;
 pub use ids::{BindingId, ConstId, Crate, DefWithBodyId, ExprId, PatId};
 pub use infer::{BindingMode, InferenceResult, ValueNs};
 pub use layout::{Layout, MultiLayout, TagEncoding, Variants};
