@@ -1,5 +1,6 @@
 -- How the graph grows while an expression is lowered, and what stands in it at a point of its code.
 use Rattle.std.specs.Prelude.{◌≡◌, ◌≢◌, ℕ, ◌<◌, List, length, Option, Some, None, slice_get, option_map, option_and_then}
+use Rattle.mir.specs.declared.body.BasicBlock.{BasicBlock}
 use Rattle.mir.specs.declared.body.Local.{Local}
 use Rattle.mir.specs.declared.body.Terminator.{Terminator}
 use Rattle.mir.specs.declared.ids.LocalId.{LocalId}
@@ -21,7 +22,8 @@ count_at s block = option_map (λ b. length b.statements) (slice_get s.blocks bl
 -- What stood in a graph stands in the graph that it grew to.
 pub record Grows (old new : Shape) : Type 0 where
   pub statements : (block index : ℕ) (statement : Statement) → statement_at old block index ≡ Some statement → statement_at new block index ≡ Some statement
-  pub terminators : (block : ℕ) (terminator : Terminator) → terminator_at old block ≡ Some terminator → terminator_at new block ≡ Some terminator
+  -- a block that is ended stays as it is
+  pub ended : (at : ℕ) (block : BasicBlock) (terminator : Terminator) → slice_get old.blocks at ≡ Some block → block.terminator ≡ Some terminator → slice_get new.blocks at ≡ Some block
   pub locals : (index : ℕ) (local : Local) → slice_get old.locals index ≡ Some local → slice_get new.locals index ≡ Some local
   pub temps : (e local : ℕ) → temp_of old e ≡ Some local → temp_of new e ≡ Some local
 

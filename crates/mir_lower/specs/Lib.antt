@@ -2,6 +2,7 @@ pub mod Contexts
 pub mod Does
 pub mod Graph
 pub mod Growth
+pub mod Leaving
 pub mod Literals
 pub mod Lowered
 pub mod Refusals

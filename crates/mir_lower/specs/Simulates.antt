@@ -1,6 +1,7 @@
 -- A graph does what a typed body means.
 use Rattle.std.specs.Prelude.{◌≡◌, ℕ, ◌+◌, ◌<◌, ◌≤◌, List, Option, Some, None, Result, Ok, Err, slice_get}
 use Rattle.world.specs.declared.database.HirDatabase.{HirDatabase}
+use Rattle.mir.specs.declared.body.Local.{Local}
 use Rattle.mir.specs.declared.body.MirBody.{MirBody}
 use Rattle.mir.specs.declared.errors.MirEvalError.{MirEvalError}
 use Rattle.mir.specs.declared.errors.MirEvalError as error
@@ -28,6 +29,6 @@ EndsAs (More cost) run = Unit {0}
 -- For every amount of fuel a run of the graph, where it can begin, ends as the source's meaning does. The return
 -- slot has the type of the body's root.
 pub record Simulates (source : Source) (body : MirBody) : Type 0 where
-  pub slot : (local : _) → slice_get body.locals 0 ≡ Some local → node_type source (root source) ≡ Some local.ty
+  pub slot : (local : Local) × (slice_get body.locals 0 ≡ Some local) × (node_type source (root source) ≡ Some local.ty)
   pub runs : (fuel : ℕ) (start : Frame × Memory) → begun source.world body ≡ Ok start →
     EndsAs (meaning_of source fuel) (λ budget. entering budget start.0 start.1 body.start_block.0)

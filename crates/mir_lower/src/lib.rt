@@ -4,3 +4,4 @@
 mod context;
 mod graph;
 mod literal;
+mod lower;

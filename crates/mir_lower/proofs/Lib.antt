@@ -1,0 +1,9 @@
+pub mod Forms
+pub mod Growing
+pub mod Holding
+pub mod Leaving
+pub mod Lists
+pub mod Reaching
+pub mod Running
+pub mod Sound
+pub mod Stack
