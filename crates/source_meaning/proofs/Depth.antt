@@ -1,0 +1,1 @@
+-- What depth and order do to the cells that a body's expressions are given.
