@@ -1,15 +1,15 @@
 -- More fuel changes no end, and enough fuel comes to an end.
-use Rattle.std.proofs.Common.{◌≡◌, ℕ, zero, suc, ◌+◌, ◌<◌, ◌≤◌, Bool, true, false, List, [], ◌∷◌, length, ◌==◌, if◌then◌else◌, Option, Some, None, All, refl, sym, ap, ◌∙◌, subst, arith}
+use Rattle.std.proofs.Common.{◌≡◌, ℕ, zero, suc, ◌<◌, ◌≤◌, Bool, true, false, List, [], ◌∷◌, length, ◌==◌, if◌then◌else◌, Option, Some, None, refl, ap, ◌∙◌, arith}
 use Rattle.std.proofs.lemmas.List.Elements.{All-head, All-tail}
 use Rattle.world.specs.declared.body.ArithOp.TheVariants.{Add}
 use Rattle.world.specs.declared.body.BinaryOp.TheVariants.{ArithOp as Arithmetic}
 use Rattle.world.specs.declared.body.Expr.{Expr}
 use Rattle.world.specs.declared.body.Expr.TheVariants as expr
-use Rattle.world_check.specs.Checked.{IsCheckedBody, children_of}
+use Rattle.world_check.specs.Checked.{IsCheckedBody}
 use Rattle.numbers.specs.Operators.{Answer, Computes, Panics, Undefined, computed, of_arith}
 use Rattle.source_meaning.specs.Ends.{Cost, End, Go, Panic, Stuck, More, IsOver, after, then_do}
-use Rattle.source_meaning.specs.Meaning.{Level, put, put_if_any, put_answer, node_kind, literal_operand, literal_bytes, no_fuel, place_of, operand_of, binary_into, into_of, level_above, level_at, meaning_of}
-use Rattle.source_meaning.specs.Source.{Source, Store, Path, Operand, node, root, operand_bytes}
+use Rattle.source_meaning.specs.Meaning.{Level, put, put_if_any, put_answer, node_kind, literal_operand, literal_bytes, no_fuel, place_of, operand_of, into_of, level_above, level_at, meaning_of}
+use Rattle.source_meaning.specs.Source.{Source, Store, Path, node, root, operand_bytes}
 
 -- what is over after a cost is over
 over_before : {A : Type 0} (cost : Cost) (end : End A) → IsOver (after cost end) → IsOver end
@@ -145,8 +145,8 @@ into_ends source checked zero e lt path store = absurd (omega arith)
 into_ends source checked (suc bound) e lt path store =
     let below = level_at source (fuel_below bound) in
     let operand = λ (child : ℕ) (less : child < bound) (later : Store).
-        operand_over source (level_above source below) child (node source child) later (λ last.
-        then_do_over (below.into child _ last) _ (into_ends source checked bound child less _ last) (λ value final. tt)) in
+    operand_over source (level_above source below) child (node source child) later (λ last.
+    then_do_over (below.into child _ last) _ (into_ends source checked bound child less _ last) (λ value final. tt)) in
     into_over source (level_above source (level_above source below)) e (node source e) path store (λ lhs rhs is.
     (operand lhs.0 (lt_of_two lhs.0 e bound (left_is_below source checked e lhs rhs is) lt), operand rhs.0 (lt_of_two rhs.0 e bound (right_is_below source checked e lhs rhs is) lt)))
   where

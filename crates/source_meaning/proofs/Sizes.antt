@@ -1,7 +1,6 @@
 -- A plain body of a checked world is never stuck: each value has the size of its type.
-use Rattle.std.proofs.Common.{◌≡◌, ◌≢◌, ℕ, zero, suc, Bool, true, false, cond, if◌then◌else◌, ◌==◌, ◌||◌, ◌&&◌, List, length, replicate, Option, Some, None, unwrap_or, option_map, option_and_then, slice_get, IfSome, ℤ, ◌+ℤ◌, pos, refl, sym, ap, ◌∙◌, subst, arith, eqb-true, eq-eqb, is_eq}
+use Rattle.std.proofs.Common.{◌≡◌, ◌≢◌, ℕ, zero, suc, Bool, true, false, cond, if◌then◌else◌, ◌==◌, ◌&&◌, List, length, Option, Some, unwrap_or, option_map, option_and_then, ℤ, pos, refl, sym, ap, ◌∙◌, subst, eqb-true, eq-eqb, is_eq}
 use Rattle.std.specs.BTreeMap.{is_at}
-use Rattle.std.specs.Map.{lookup}
 use Rattle.std.proofs.lemmas.Bool.{false≢true}
 use Rattle.std.proofs.lemmas.List.{length-replicate}
 use Rattle.std.proofs.lemmas.Map.Entries.{place_from_lookup}
@@ -22,12 +21,12 @@ use Rattle.world.specs.declared.ty.UintTy.TheVariants as uint
 use Rattle.world.specs.declared.ty.Ty as ty_rows
 use Rattle.world.specs.declared.ty.Ty.{Ty, Bool as BoolTy, Int as IntType, Uint as UintType, Tuple'}
 use Rattle.world.specs.Lookups.{layout_of}
-use Rattle.world_check.specs.Checked.{IsChecked, IsCheckedBody, IsCheckedLayout, int_bytes, uint_bytes, fixed_size}
-use Rattle.numbers.specs.Bytes.{low_digits, low_bytes, residue, holds, number_of, is_width}
-use Rattle.numbers.specs.Operators.{Answer, Computes, Panics, Undefined, computed, combined, on_integers, kept, panic_word, is_shift, of_arith, kind_of}
+use Rattle.world_check.specs.Checked.{IsChecked, IsCheckedBody, IsCheckedLayout, int_bytes, uint_bytes}
+use Rattle.numbers.specs.Bytes.{low_digits, low_bytes, residue, holds, is_width}
+use Rattle.numbers.specs.Operators.{Answer, Computes, Panics, Undefined, computed, combined, on_integers, kept, is_shift, of_arith, kind_of}
 use Rattle.numbers.specs.declared.operator.Operator.TheVariants.{Add as AddOperator}
 use Rattle.source_meaning.specs.Ends.{Cost, End, Go, Panic, Stuck, More, after, then_do}
-use Rattle.source_meaning.specs.Meaning.{Level, literal_number, literal_bytes, put, put_if_any, put_answer, node_kind, literal_operand, no_fuel, place_of, operand_of, binary_into, into_of, level_above, level_at, meaning_of}
+use Rattle.source_meaning.specs.Meaning.{Level, literal_number, literal_bytes, put, put_if_any, put_answer, node_kind, literal_operand, no_fuel, place_of, operand_of, into_of, level_above, level_at, meaning_of}
 use Rattle.source_meaning.specs.Source.{Source, Store, Path, Cell, Result, Node, Operand, Literally, At, same_cell, cell_node, zeroed, with_cell_bytes, node, node_type, node_layout, root, operand_bytes}
 use Rattle.source_meaning.specs.Valid.{Evaluates, itself, left as within_left, right as within_right, IsInteger, IsNumberLiteral, HasPlainForm, IsPlainNode, IsPlain, HasSizedLayout, HasDefinedCost}
 
