@@ -1,5 +1,6 @@
 -- The order of a body's expressions, and which of them are given a cell.
-use Rattle.std.proofs.Common.{◌≡◌, ℕ, zero, suc, ◌<◌, ◌≤◌, cond, List, [], ◌∷◌, ◌++◌, Option, Some, refl, ap, ap₂, ◌∙◌, arith}
+use Rattle.std.proofs.lemmas.List.Elements.{All-nil, All-cons, All-head, All-tail, All-append}
+use Rattle.std.proofs.Common.{Bool, true, false, All, ◌≡◌, ℕ, zero, suc, ◌<◌, ◌≤◌, cond, List, [], ◌∷◌, ◌++◌, Option, Some, refl, ap, ap₂, ◌∙◌, arith}
 use Rattle.world.specs.declared.body.ArithOp.TheVariants.{Add}
 use Rattle.world.specs.declared.body.BinaryOp.TheVariants.{ArithOp}
 use Rattle.world.specs.declared.body.Expr.{Expr}
@@ -53,3 +54,47 @@ pub marked_in_literal : (source : Source) (depth e : ℕ) (literal : _) → node
 unfolding marked_in
 marked_in_literal source zero e literal is = refl
 marked_in_literal source (suc depth) e literal is = ap (marked_by source (marked_in depth source)) is
+
+All-either : (literal : Bool) (P : ℕ → Type 0) (cells : List ℕ) → All P cells → All P (cond literal [] cells)
+All-either true P cells all = All-nil P
+All-either false P cells all = all
+
+-- what holds of a sum's operands that are no literals, and of what they are given, holds of what the sum is given
+All-as_operand : (source : Source) (P : ℕ → Type 0) (below : ℕ → List ℕ) (e : ℕ) → P e → All P (below e) → All P (marked_as_operand source below e)
+All-as_operand source P below e here rest = All-either (is_literal (node source e)) P (e ∷ below e) (All-cons P e (below e) here rest)
+
+All-marked_by : (source : Source) (P : ℕ → Type 0) (below : ℕ → List ℕ) (form : Option Expr) → ((lhs rhs : _) → form ≡ Some (BinaryOp lhs rhs (Some (ArithOp Add))) → P lhs.0 × All P (below lhs.0) × P rhs.0 × All P (below rhs.0)) → All P (marked_by source below form)
+All-marked_by source P below (Some (BinaryOp lhs rhs (Some (ArithOp Add)))) holds =
+    let both = holds lhs rhs refl in
+    All-append P (marked_as_operand source below lhs.0) (marked_as_operand source below rhs.0) (All-as_operand source P below lhs.0 both.0 both.1) (All-as_operand source P below rhs.0 both.2 both.3)
+All-marked_by source P below _ holds = All-nil P
+
+All-weaker : (P Q : ℕ → Type 0) (cells : List ℕ) → ((f : ℕ) → P f → Q f) → All P cells → All Q cells
+All-weaker P Q [] weaker all = All-nil Q
+All-weaker P Q (f ∷ cells) weaker all = All-cons Q f cells (weaker f (All-head P f cells all)) (All-weaker P Q cells weaker (All-tail P f cells all))
+
+-- what is given a cell is evaluated where the expression is
+pub marked_are_evaluated : (source : Source) (depth e : ℕ) → All (Evaluates source e) (marked_in depth source e)
+unfolding marked_in
+marked_are_evaluated source zero e = All-nil (Evaluates source e)
+marked_are_evaluated source (suc depth) e =
+    All-marked_by source (Evaluates source e) (marked_in depth source) (node source e) (λ lhs rhs is. (
+      left is itself,
+      All-weaker (Evaluates source lhs.0) (Evaluates source e) (marked_in depth source lhs.0) (λ f part. left is part) (marked_are_evaluated source depth lhs.0),
+      right is itself,
+      All-weaker (Evaluates source rhs.0) (Evaluates source e) (marked_in depth source rhs.0) (λ f part. right is part) (marked_are_evaluated source depth rhs.0),
+    ))
+
+-- and comes before the expression
+pub marked_are_earlier : (source : Source) → IsCheckedBody source.body source.infer → (depth e : ℕ) → All (λ f. f < e) (marked_in depth source e)
+unfolding marked_in
+marked_are_earlier source checked zero e = All-nil (λ f. f < e)
+marked_are_earlier source checked (suc depth) e =
+    All-marked_by source (λ f. f < e) (marked_in depth source) (node source e) (λ lhs rhs is.
+    let left_below = left_is_below source checked e lhs rhs is in
+    let right_below = right_is_below source checked e lhs rhs is in (
+      left_below,
+      All-weaker (λ f. f < lhs.0) (λ f. f < e) (marked_in depth source lhs.0) (λ f less. omega arith) (marked_are_earlier source checked depth lhs.0),
+      right_below,
+      All-weaker (λ f. f < rhs.0) (λ f. f < e) (marked_in depth source rhs.0) (λ f less. omega arith) (marked_are_earlier source checked depth rhs.0),
+    ))

@@ -139,7 +139,8 @@ left_is_below source checked e lhs rhs is = All-head (λ child. child < e) lhs.0
 pub right_is_below : (source : Source) → IsCheckedBody source.body source.infer → (e : ℕ) (lhs rhs : _) → node source e ≡ Some (expr.BinaryOp lhs rhs (Some (Arithmetic Add))) → rhs.0 < e
 right_is_below source checked e lhs rhs is = All-head (λ child. child < e) rhs.0 [] (All-tail (λ child. child < e) lhs.0 (rhs.0 ∷ []) (checked.children e _ is))
 
-into_ends : (source : Source) → IsCheckedBody source.body source.infer → (bound e : ℕ) → e < bound → (path : Path) (store : Store) → IsOver ((level_at source (fuel_below bound)).into e path store)
+-- an expression comes to an end with enough fuel, whatever path and store it is evaluated at
+pub into_ends : (source : Source) → IsCheckedBody source.body source.infer → (bound e : ℕ) → e < bound → (path : Path) (store : Store) → IsOver ((level_at source (fuel_below bound)).into e path store)
 unfolding level_at fuel_below
 into_ends source checked zero e lt path store = absurd (omega arith)
 into_ends source checked (suc bound) e lt path store =

@@ -290,13 +290,18 @@ module _ (source : Source) (checked : IsChecked source.world) where
   level_is_sound zero = no_fuel_is_sound
   level_is_sound (suc fuel) = above_is_sound (level_at source fuel) (level_is_sound fuel)
 
-abbrev AnyBytes : List ℕ → Type 0
-AnyBytes bytes = Unit {0}
+-- so many bytes as the body's type has
+abbrev pub ResultFits : Source → List ℕ → Type 0
+ResultFits source bytes = length bytes ≡ size_of source (root source)
 
-meaning_is_sound : (source : Source) (fuel : ℕ) → IsChecked source.world → IsPlain source → HasDefinedCost source → IsSound source AnyBytes (meaning_of source fuel)
+pub meaning_is_sound : (source : Source) (fuel : ℕ) → IsChecked source.world → IsPlain source → HasDefinedCost source → IsSound source (ResultFits source) (meaning_of source fuel)
 unfolding meaning_of
 meaning_is_sound source fuel checked plain sized =
-    after_is_sound source AnyBytes _ _ (then_do_is_sound source Nothing AnyBytes ((level_at source fuel).into (root source) _ _) _ ((level_is_sound source checked fuel).into (root source) _ _ (record { plain = plain; sized = sized }) (zeroed_is_sized source) refl) (λ done store sized' is. (sized', tt)))
+    after_is_sound source (ResultFits source) _ _ (then_do_is_sound source Nothing (ResultFits source) ((level_at source fuel).into (root source) _ _) _ ((level_is_sound source checked fuel).into (root source) _ _ (record { plain = plain; sized = sized }) (zeroed_is_sized source) refl) (λ done store sized' is. (sized', sized'.holds_all Result)))
 
 pub plain_is_never_stuck : (source : Source) (fuel : ℕ) → IsChecked source.world → IsCheckedBody source.body source.infer → IsPlain source → HasDefinedCost source → meaning_of source fuel ≢ Stuck
-plain_is_never_stuck source fuel checked body plain sized stuck = subst (IsSound source AnyBytes) stuck (meaning_is_sound source fuel checked plain sized)
+plain_is_never_stuck source fuel checked body plain sized stuck = subst (IsSound source (ResultFits source)) stuck (meaning_is_sound source fuel checked plain sized)
+
+-- the value of a plain body has as many bytes as its type
+pub result_has_size : (source : Source) (fuel : ℕ) (bytes : List ℕ) (store : Store) (cost : Cost) → IsChecked source.world → IsPlain source → HasDefinedCost source → meaning_of source fuel ≡ Go bytes store cost → length bytes ≡ size_of source (root source)
+result_has_size source fuel bytes store cost checked plain sized is = (subst (IsSound source (ResultFits source)) is (meaning_is_sound source fuel checked plain sized)).1
