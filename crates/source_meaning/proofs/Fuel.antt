@@ -1,5 +1,6 @@
 -- More fuel changes no end, and enough fuel comes to an end.
-use Rattle.std.proofs.Common.{◌≡◌, ℕ, zero, suc, ◌<◌, ◌≤◌, Bool, true, false, List, [], ◌∷◌, length, ◌==◌, if◌then◌else◌, Option, Some, None, refl, ap, ◌∙◌, arith}
+use Rattle.std.proofs.Common.{⊎_elim, sym, ◌≡◌, ℕ, zero, suc, ◌<◌, ◌≤◌, Bool, true, false, List, [], ◌∷◌, length, ◌==◌, if◌then◌else◌, Option, Some, None, refl, ap, ◌∙◌, arith}
+use Rattle.std.proofs.lemmas.Bool.{cases_lt}
 use Rattle.std.proofs.lemmas.List.Elements.{All-head, All-tail}
 use Rattle.world.specs.declared.body.ArithOp.TheVariants.{Add}
 use Rattle.world.specs.declared.body.BinaryOp.TheVariants.{ArithOp as Arithmetic}
@@ -83,6 +84,11 @@ pub more_fuel : (source : Source) (fuel more : ℕ) → fuel ≤ more → IsOver
 unfolding meaning_of
 more_fuel source fuel more le over =
     after_agrees _ _ _ (then_do_agrees ((level_at source fuel).into (root source) _ _) ((level_at source more).into (root source) _ _) _ _ ((more_agrees source fuel more le).into (root source) _ _) (λ value store o. refl)) over
+
+-- so two ends of one body are the same
+pub one_end : (source : Source) (fuel other : ℕ) → IsOver (meaning_of source fuel) → IsOver (meaning_of source other) → meaning_of source fuel ≡ meaning_of source other
+one_end source fuel other over over' =
+    ⊎_elim (λ lt. sym (more_fuel source fuel other (omega arith) over)) (λ le. more_fuel source other fuel le over') (cases_lt fuel other)
 
 -- Enough fuel comes to an end.
 
