@@ -1,5 +1,5 @@
 -- How the evaluation of a part of a source ends, and what it costs.
-use Rattle.std.specs.Prelude.{◌≡◌, ℕ, ◌+◌, List}
+use Rattle.std.specs.Prelude.{ℕ, ◌+◌, List}
 use Rattle.source_meaning.specs.Source.{Store}
 
 -- What an evaluation takes of the limits on a run.

@@ -1,6 +1,6 @@
 -- What a typed body means: its value, or how else it ends, by evaluating its tree of expressions. It knows no
 -- blocks. Fuel bounds how deep the evaluation goes.
-use Rattle.std.specs.Prelude.{◌≡◌, ℕ, zero, suc, Bool, true, false, if◌then◌else◌, ◌==◌, List, [], ◌∷◌, length, filter, not, Option, Some, None, ℤ, pos, option_and_then, option_map}
+use Rattle.std.specs.Prelude.{◌≡◌, ℕ, zero, suc, Bool, false, if◌then◌else◌, ◌==◌, List, length, filter, not, Option, Some, None, ℤ, pos, option_and_then, option_map}
 use Rattle.world.specs.declared.body.ArithOp.{ArithOp}
 use Rattle.world.specs.declared.body.ArithOp.TheVariants.{Add}
 use Rattle.world.specs.declared.body.BinaryOp.TheVariants.{ArithOp as Arithmetic}
@@ -8,14 +8,13 @@ use Rattle.world.specs.declared.body.Expr.{Expr}
 use Rattle.world.specs.declared.body.Expr.TheVariants as expr
 use Rattle.world.specs.declared.body.Literal.{Literal}
 use Rattle.world.specs.declared.body.Literal.TheVariants.{Int, Uint}
-use Rattle.world.specs.declared.layout.Layout.{Layout}
 use Rattle.world.specs.declared.ty.Ty.{Ty}
 use Rattle.world.specs.Lookups.{is_copy}
 use Rattle.numbers.specs.Bytes.{low_bytes}
 use Rattle.numbers.specs.declared.operator.Kind.{Kind}
 use Rattle.numbers.specs.Operators.{Answer, Computes, Panics, Undefined, computed, of_arith, kind_of}
-use Rattle.source_meaning.specs.Ends.{Cost, no_cost, so_many_turns, End, Go, Panic, Stuck, More, after, then_do}
-use Rattle.source_meaning.specs.Source.{Source, node, node_type, node_layout, root, Cell, Result, Node, Path, Store, zeroed, with_cell_bytes, Operand, Literally, At, operand_bytes, marked_in}
+use Rattle.source_meaning.specs.Ends.{no_cost, so_many_turns, End, Go, Panic, Stuck, More, after, then_do}
+use Rattle.source_meaning.specs.Source.{Source, node, node_type, node_layout, root, Result, Node, Path, Store, zeroed, with_cell_bytes, Operand, Literally, At, operand_bytes, marked_in}
 
 -- the number that a literal is
 abbrev pub literal_number : Literal → Option ℤ

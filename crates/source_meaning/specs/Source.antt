@@ -1,17 +1,15 @@
 -- A typed body in its world, its nodes, and the cells that hold their values.
-use Rattle.std.specs.Prelude.{◌≡◌, ◌==◌, ℕ, zero, suc, Bool, true, false, cond, not, List, [], ◌∷◌, ◌++◌, length, replicate, Option, Some, None, unwrap_or, option_map, option_and_then, filter}
+use Rattle.std.specs.Prelude.{◌==◌, ℕ, zero, suc, Bool, true, false, cond, List, [], ◌∷◌, ◌++◌, replicate, Option, Some, None, unwrap_or, option_map, option_and_then}
 use Rattle.world.specs.declared.body.ArithOp.TheVariants.{Add}
 use Rattle.world.specs.declared.body.BinaryOp.TheVariants.{ArithOp}
 use Rattle.world.specs.declared.body.Body.{Body}
 use Rattle.world.specs.declared.body.Expr.{Expr}
 use Rattle.world.specs.declared.body.Expr.TheVariants.{BinaryOp, Literal}
-use Rattle.world.specs.declared.body.Literal.TheVariants.{Int, Uint}
 use Rattle.world.specs.declared.database.HirDatabase.{HirDatabase}
 use Rattle.world.specs.declared.infer.InferenceResult.{InferenceResult}
 use Rattle.world.specs.declared.layout.Layout.{Layout}
 use Rattle.world.specs.declared.ty.Ty.{Ty}
-use Rattle.world.specs.Lookups.{layout_of, type_of, expr_of, is_copy}
-use Rattle.world_check.specs.Checked.{children_of}
+use Rattle.world.specs.Lookups.{layout_of, type_of, expr_of}
 
 -- a typed body in its world
 pub record Source : Type 0 where
