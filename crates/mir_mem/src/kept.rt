@@ -15,7 +15,7 @@ pub enum Computed {
     Undefined,
 }
 
-fn holds_unsigned(size: usize, value: u128) -> bool
+pub(crate) fn holds_unsigned(size: usize, value: u128) -> bool
     requires { IsTrue (is_width size) }
     ensures { result ≡ holds false size (pos value) }
 {
@@ -34,7 +34,7 @@ fn is_between(value: i128, least: i128, greatest: i128) -> bool
     least <= value && value <= greatest
 }
 
-fn holds_signed(size: usize, value: i128) -> bool
+pub(crate) fn holds_signed(size: usize, value: i128) -> bool
     requires { IsTrue (is_width size) }
     ensures { result ≡ holds true size value }
 {
