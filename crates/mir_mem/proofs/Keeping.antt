@@ -1,11 +1,11 @@
 -- Results in the bytes of their type.
-use Rattle.std.proofs.Common.{◌≡◌, ℕ, zero, suc, ◌+◌, ◌-◌, ◌*◌, ◌/◌, ◌%◌, ◌^◌, ◌<◌, ◌≤◌, ◌↔◌, Bool, true, false, cond, not, ◌&&◌, ◌⊎◌, inl, inr, ltb, leb, eqb, IsTrue, List, [], ◌∷◌, ◌++◌, length, take, ℤ, pos, negsuc, ◌≤ℤ◌, ◌-ℤ◌, int_div, int_eq, Decides, refl, sym, ◌∙◌, ap, arith, FitsSigned}
+use Rattle.std.proofs.Common.{◌≡◌, ℕ, zero, suc, ◌+◌, ◌-◌, ◌*◌, ◌/◌, ◌%◌, ◌^◌, ◌<◌, ◌≤◌, ◌↔◌, Bool, true, false, cond, not, ◌&&◌, ◌⊎◌, inl, inr, ltb, leb, eqb, IsTrue, take, ℤ, pos, negsuc, ◌≤ℤ◌, ◌-ℤ◌, int_div, int_eq, refl, sym, ◌∙◌, ap, arith, FitsSigned}
 use Rattle.std.specs.Int.{w128, cast_unsigned, cast_signed, CanDivide, to_le_bytes, bytes_low_first, byte_at, from_bool}
-use Rattle.std.proofs.Math.Nat.{div-div-eq-div-mul, mod-eq_of_lt, div-one, add-mul, pow-le-pow_right}
+use Rattle.std.proofs.Math.Nat.{div-div-eq-div-mul, div-one, add-mul, pow-le-pow_right}
 use Rattle.std.proofs.lemmas.Nat.{div-add-mod', div_below, mod-mul-add, mod_below, pow-add}
 use Rattle.std.proofs.lemmas.Int.{ints, to_z-of_z}
 use Rattle.std.proofs.lemmas.Bool.Decides.{nat_tests, same_from_decides}
-use borrow.Author.Tests.{ltb-true, leb-true, lt-ltb, le-ltb, le-leb, ne_eqb, eqb-true, eqb-false}
+use borrow.Author.Tests.{ltb-true, leb-true, lt-ltb, le-leb, ne_eqb, eqb-true, eqb-false}
 use lib.Signed.{mag}
 use Rattle.numbers.specs.declared.operator.Operator.{Operator}
 use Rattle.numbers.specs.Operators.{Answer, Computes, Panics, kept, divided, told, panic_word}
@@ -49,7 +49,7 @@ complement-mod p q n h below =
     let shape : q * p - suc n ≡ k * p + (p - 1 - n % p) = omega arith in
     ap (λ m. m % p) shape ∙ mod-mul-add k p (p - 1 - n % p) (omega arith)
 
-all_values : (size : ℕ) → size ≤ 16 → 2 ^ 128 ≡ 256 ^ (16 - size) * 256 ^ size
+pub all_values : (size : ℕ) → size ≤ 16 → 2 ^ 128 ≡ 256 ^ (16 - size) * 256 ^ size
 all_values size h =
     let total : 16 ≡ (16 - size) + size = omega arith in
     ap (λ m. 256 ^ m) total ∙ pow-add 256 (16 - size) size
@@ -187,8 +187,8 @@ divided-refused op signed size x y z h = rw h (refused (not (int_eq y (pos 0))) 
 pub divided_overflow : (op : Operator) (size : ℕ) (x y z : ℤ) → is_width size ≡ true → FitsSigned w128 y → (CanDivide w128 x y → ⊥) → Panics (panic_word op) ≡ divided op true size x y z
 divided_overflow op size x y z h fits over =
     elim (cases_bool (int_eq y (pos 0))) [
-      inl zero' ↦ divided-by_zero op true size x y z zero'
-    | inr other ↦ divided-refused op true size x y z (unless_true _ (λ k. over (nonzero_from_test y fits other, holds_fits size (int_div x y) (width_below size h) k)))
+      | inl zero' ↦ divided-by_zero op true size x y z zero'
+      | inr other ↦ divided-refused op true size x y z (unless_true _ (λ k. over (nonzero_from_test y fits other, holds_fits size (int_div x y) (width_below size h) k)))
     ]
 
 pub divided_by_none : (op : Operator) (size x y : ℕ) (z : ℤ) → (0 < y → ⊥) → Panics (panic_word op) ≡ divided op false size (pos x) (pos y) z
@@ -215,9 +215,9 @@ same_bits (pos m) (pos n) f g = same_naturals m n
 same_bits (pos m) (negsuc n) f g = ne_eqb m (2 ^ 128 - suc n) (omega (arith, f.sfits, g.sfits))
 same_bits (negsuc m) (pos n) f g = ne_eqb (2 ^ 128 - suc m) n (omega (arith, f.sfits, g.sfits))
 same_bits (negsuc m) (negsuc n) f g = elim (cases_bool (eqb m n)) [
-    inl same ↦ rw (eqb-true m n same) (grind (arith, nat_tests))
+  | inl same ↦ rw (eqb-true m n same) (grind (arith, nat_tests))
   | inr other ↦ ne_eqb _ _ (omega (arith, f.sfits, g.sfits, eqb-false m n other)) ∙ sym (grind (arith, nat_tests))
-  ]
+]
 
 pub same_signed : (x y m n : ℤ) → mag x < 2 ^ 127 → mag y < 2 ^ 127 → x ≡ m → y ≡ n → eqb (cast_unsigned w128 x) (cast_unsigned w128 y) ≡ int_eq m n
 same_signed x y m n f g e h = rw (← e, ← h) (same_bits x y (record { sfits = f }) (record { sfits = g }))

@@ -1,14 +1,15 @@
 //! Arithmetic on numbers, with the result in the bytes of their type.
 
-use numbers::Operator;
-
-use crate::Computed;
-use crate::kept::{holds_signed, holds_unsigned, kept_signed, kept_unsigned, low_bytes, low_digits};
-
 ghost use Rattle.std.specs.Prelude.{◌≡◌, ◌≤◌, IsTrue, true, false, pos, ◌+ℤ◌, ◌-ℤ◌, ◌*ℤ◌, int_div, int_rem};
 ghost use Rattle.numbers.specs.Bytes.{is_width};
 ghost use Rattle.numbers.specs.Operators.{kept, divided};
 ghost use Rattle.mir_mem.specs.Computed.{answer_of, count_of};
+
+use crate::Computed;
+use crate::kept::{
+    holds_signed, holds_unsigned, kept_signed, kept_unsigned, low_bytes, low_digits,
+};
+use numbers::Operator;
 
 pub(crate) fn added_unsigned(size: usize, left: u128, right: u128) -> Computed
     requires { IsTrue (is_width size) }

@@ -1,15 +1,14 @@
 //! Shifts of one integer by another.
 
-use numbers::{Kind, Operator};
+ghost use Rattle.std.specs.Prelude.{◌≡◌, ℕ, ◌*◌, ◌<◌, ◌≤◌, IsTrue, true, length, IfSome, IfNone, pos, ◌&&◌};
+ghost use Rattle.numbers.specs.Bytes.{is_width, number_of};
+ghost use Rattle.numbers.specs.Operators.{shifted, shifted_by, shift, sign_of};
+ghost use Rattle.mir_mem.specs.Computed.{answer_of, count_of};
 
 use crate::Computed;
 use crate::kept::{low_bytes, low_digits};
 use crate::read::{is_width, signed, unsigned};
-
-ghost use Rattle.std.specs.Prelude.{◌≡◌, ℕ, ◌*◌, ◌<◌, ◌≤◌, IsTrue, true, length, IfSome, IfNone, pos};
-ghost use Rattle.numbers.specs.Bytes.{is_width, number_of};
-ghost use Rattle.numbers.specs.Operators.{shifted, shifted_by, shift, sign_of};
-ghost use Rattle.mir_mem.specs.Computed.{answer_of, count_of};
+use numbers::{Kind, Operator};
 
 fn shifted(op: Operator, is_signed: bool, bytes: &[u8], amount: u32) -> Computed
     requires width { IsTrue (is_width (length bytes.now)) }
@@ -42,14 +41,28 @@ fn amount(is_signed: bool, bytes: &[u8], bits: u32) -> Option<u32>
         if number < 0 {
             return None;
         }
-        if number < bits as i128 { Some(number as u32) } else { None }
+        if number < bits as i128 {
+            Some(number as u32)
+        } else {
+            None
+        }
     } else {
         let number = unsigned(bytes);
-        if number < bits as u128 { Some(number as u32) } else { None }
+        if number < bits as u128 {
+            Some(number as u32)
+        } else {
+            None
+        }
     }
 }
 
-fn shifted_by(op: Operator, left_signed: bool, right_signed: bool, left: &[u8], right: &[u8]) -> Computed
+fn shifted_by(
+    op: Operator,
+    left_signed: bool,
+    right_signed: bool,
+    left: &[u8],
+    right: &[u8],
+) -> Computed
     requires left { IsTrue (is_width (length left.now)) }
     requires right { IsTrue (is_width (length right.now)) }
     ensures answer { answer_of result ≡ shifted_by op left_signed left.now (number_of right_signed right.now) }
@@ -61,6 +74,7 @@ fn shifted_by(op: Operator, left_signed: bool, right_signed: bool, left: &[u8], 
     }
 }
 
+#[tactic(auto, unfolding(numbers::specs::Operators::sign_of))]
 fn sign_of(kind: Option<Kind>) -> Option<bool>
     ensures { result ≡ sign_of kind }
 {
@@ -72,8 +86,20 @@ fn sign_of(kind: Option<Kind>) -> Option<bool>
     }
 }
 
+fn both_widths(left: &[u8], right: &[u8]) -> bool
+    ensures { result ≡ (is_width (length left.now) && is_width (length right.now)) }
+{
+    is_width(left.len()) && is_width(right.len())
+}
+
 /// A shift of one integer by another, of any two integer types.
-pub(crate) fn shift(op: Operator, left_kind: Option<Kind>, right_kind: Option<Kind>, left: &[u8], right: &[u8]) -> Computed
+pub(crate) fn shift(
+    op: Operator,
+    left_kind: Option<Kind>,
+    right_kind: Option<Kind>,
+    left: &[u8],
+    right: &[u8],
+) -> Computed
     ensures answer { answer_of result ≡ shift op (sign_of left_kind) (sign_of right_kind) left.now right.now }
     ensures count { count_of result ≤ 16 }
 {
@@ -83,8 +109,7 @@ pub(crate) fn shift(op: Operator, left_kind: Option<Kind>, right_kind: Option<Ki
     let Some(right_signed) = sign_of(right_kind) else {
         return Computed::Undefined;
     };
-    let widths = is_width(left.len()) && is_width(right.len());
-    if widths {
+    if both_widths(left, right) {
         shifted_by(op, left_signed, right_signed, left, right)
     } else {
         Computed::Undefined

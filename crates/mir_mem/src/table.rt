@@ -1,6 +1,10 @@
 //! The table of operators, computed.
 
-use numbers::{Kind, Operator};
+ghost use Rattle.std.specs.Prelude.{◌≡◌, ◌≤◌, IsTrue, true, false, length, bit_xor, bit_and, bit_or, ℕ, IfSome, IfNone, ◌&&◌, ◌==◌};
+ghost use Rattle.numbers.specs.declared.operator.Kind.{Kind};
+ghost use Rattle.numbers.specs.Bytes.{is_width};
+ghost use Rattle.numbers.specs.Operators.{on_integers, by_bits, is_on_booleans, combined, computed};
+ghost use Rattle.mir_mem.specs.Computed.{answer_of, count_of};
 
 use crate::Computed;
 use crate::arithmetic::{
@@ -11,12 +15,7 @@ use crate::arithmetic::{
 use crate::kept::{low_digits, told};
 use crate::read::{is_width, signed, unsigned};
 use crate::shifts::shift;
-
-ghost use Rattle.std.specs.Prelude.{◌≡◌, ◌≤◌, IsTrue, true, false, length, bit_xor, bit_and, bit_or, ℕ, IfSome, IfNone};
-ghost use Rattle.numbers.specs.declared.operator.Kind.{Kind};
-ghost use Rattle.numbers.specs.Bytes.{is_width};
-ghost use Rattle.numbers.specs.Operators.{on_integers, by_bits, is_on_booleans, combined, computed};
-ghost use Rattle.mir_mem.specs.Computed.{answer_of, count_of};
+use numbers::{Kind, Operator};
 
 fn xored(left: &[u8], right: &[u8]) -> Computed
     requires width { IsTrue (is_width (length left.now)) }
@@ -119,6 +118,7 @@ fn common(left: Option<Kind>, right: Option<Kind>) -> Option<Kind>
     if left == right { Some(left) } else { None }
 }
 
+#[tactic(auto, unfolding(numbers::specs::Operators::is_on_booleans))]
 fn is_on_booleans(op: Operator) -> bool
     ensures { result ≡ is_on_booleans op }
 {
@@ -142,29 +142,62 @@ fn is_on_booleans(op: Operator) -> bool
     }
 }
 
-fn combined(op: Operator, left_kind: Option<Kind>, right_kind: Option<Kind>, left: &[u8], right: &[u8]) -> Computed
+fn fits_booleans(op: Operator, left: &[u8], right: &[u8]) -> bool
+    ensures { result ≡ (is_on_booleans op && (length left.now == 1) && (length right.now == 1)) }
+{
+    is_on_booleans(op) && left.len() == 1 && right.len() == 1
+}
+
+fn same_width(left: &[u8], right: &[u8]) -> bool
+    ensures { result ≡ (is_width (length left.now) && (length left.now == length right.now)) }
+{
+    is_width(left.len()) && left.len() == right.len()
+}
+
+fn combined(
+    op: Operator,
+    left_kind: Option<Kind>,
+    right_kind: Option<Kind>,
+    left: &[u8],
+    right: &[u8],
+) -> Computed
     ensures answer { answer_of result ≡ combined op left_kind right_kind left.now right.now }
     ensures count { count_of result ≤ 16 }
 {
     match common(left_kind, right_kind) {
         Some(Kind::Signed) => {
-            let fits = is_width(left.len()) && left.len() == right.len();
-            if fits { on_signed(op, left, right) } else { Computed::Undefined }
+            if same_width(left, right) {
+                on_signed(op, left, right)
+            } else {
+                Computed::Undefined
+            }
         }
         Some(Kind::Unsigned) => {
-            let fits = is_width(left.len()) && left.len() == right.len();
-            if fits { on_unsigned(op, left, right) } else { Computed::Undefined }
+            if same_width(left, right) {
+                on_unsigned(op, left, right)
+            } else {
+                Computed::Undefined
+            }
         }
         Some(Kind::Boolean) => {
-            let fits = is_on_booleans(op) && left.len() == 1 && right.len() == 1;
-            if fits { on_unsigned(op, left, right) } else { Computed::Undefined }
+            if fits_booleans(op, left, right) {
+                on_unsigned(op, left, right)
+            } else {
+                Computed::Undefined
+            }
         }
         None => Computed::Undefined,
     }
 }
 
 /// What an operator makes of two operands, whose kinds and bytes are given.
-pub fn compute(op: Operator, left_kind: Option<Kind>, right_kind: Option<Kind>, left: &[u8], right: &[u8]) -> Computed
+pub fn compute(
+    op: Operator,
+    left_kind: Option<Kind>,
+    right_kind: Option<Kind>,
+    left: &[u8],
+    right: &[u8],
+) -> Computed
     ensures answer { answer_of result ≡ computed op left_kind right_kind left.now right.now }
     ensures count { count_of result ≤ 16 }
 {

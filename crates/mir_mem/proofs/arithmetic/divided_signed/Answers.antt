@@ -1,4 +1,4 @@
-use Rattle.std.proofs.Common.{◌≡◌, ◌∙◌, ap, sym, refl, ℤ, arith, rules, length, true, false, pos, FitsSigned, int_rem, int_div}
+use Rattle.std.proofs.Common.{true, int_div}
 use Rattle.std.specs.Int.{w128}
 use Rattle.std.proofs.lemmas.Int.{to_z-of_z}
 use Rattle.mir_mem.proofs.Keeping.{divided-kept, divided_overflow, nonzero_test}

@@ -1,6 +1,4 @@
-use Rattle.std.proofs.Common.{◌≡◌, ◌∙◌, ap, sym, refl, ℤ, arith, rules, length, true, false, pos, FitsSigned, int_rem, int_div}
-use Rattle.std.specs.Int.{w128}
-use Rattle.std.proofs.lemmas.Int.{to_z-of_z}
+use Rattle.std.proofs.Common.{false, pos}
 use Rattle.mir_mem.proofs.Keeping.{divided-kept, divided_by_none, nonzero_test}
 use Rattle.mir_mem.proofs.arithmetic.divided_unsigned.Goals as goal
 

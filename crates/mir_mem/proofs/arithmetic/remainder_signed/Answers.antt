@@ -1,8 +1,6 @@
-use Rattle.std.proofs.Common.{◌≡◌, ◌∙◌, ap, sym, refl, ℤ, arith, rules, length, true, false, pos, FitsSigned, int_rem, int_div}
+use Rattle.std.proofs.Common.{◌∙◌, sym, arith, true, FitsSigned, int_rem, int_div}
 use Rattle.std.specs.Int.{w128}
 use Rattle.std.proofs.lemmas.Int.{to_z-of_z}
-use Rattle.numbers.specs.Bytes.{holds, low_bytes}
-use Rattle.numbers.specs.Operators.{Computes}
 use lib.Signed.{mag_rem}
 use Rattle.mir_mem.proofs.Keeping.{divided-held, divided-refused, divided_overflow, nonzero_test}
 use Rattle.mir_mem.proofs.arithmetic.remainder_signed.Goals as goal

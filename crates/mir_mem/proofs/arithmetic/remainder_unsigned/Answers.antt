@@ -1,7 +1,4 @@
-use Rattle.std.proofs.Common.{◌≡◌, ◌∙◌, ap, sym, refl, ℤ, arith, rules, length, true, false, pos, FitsSigned, int_rem, int_div}
-use Rattle.std.specs.Int.{w128}
-use Rattle.std.proofs.lemmas.Int.{to_z-of_z}
-use Rattle.numbers.specs.Bytes.{holds, low_bytes}
+use Rattle.std.proofs.Common.{◌∙◌, ap, sym, false, pos}
 use Rattle.numbers.specs.Operators.{Computes}
 use Rattle.mir_mem.proofs.Keeping.{divided-held, divided-refused, divided_by_none, nonzero_test, low_bytes-pos}
 use Rattle.mir_mem.proofs.arithmetic.remainder_unsigned.Goals as goal

@@ -1,5 +1,4 @@
-use Rattle.std.proofs.Common.{◌∙◌, not, ap, sym, refl}
-use Rattle.numbers.specs.Bytes.{number_of}
+use Rattle.std.proofs.Common.{◌∙◌, not, ap, refl}
 use Rattle.numbers.specs.Operators.{on_integers, told}
 use Rattle.mir_mem.proofs.Keeping.{passed_is, same_signed}
 use Rattle.mir_mem.proofs.table.on_signed.Goals as goal

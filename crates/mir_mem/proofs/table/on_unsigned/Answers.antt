@@ -1,4 +1,4 @@
-use Rattle.std.proofs.Common.{◌∙◌, not, ap, sym, refl}
+use Rattle.std.proofs.Common.{◌∙◌, not, ap, refl}
 use Rattle.numbers.specs.Bytes.{number_of}
 use Rattle.numbers.specs.Operators.{on_integers, told}
 use Rattle.mir_mem.proofs.Keeping.{same_naturals}

@@ -1,4 +1,3 @@
-use Rattle.std.proofs.Common.{◌∙◌, ap}
 use Rattle.numbers.specs.Operators.{by_bits}
 use Rattle.mir_mem.proofs.table.ored.Goals as goal
 
