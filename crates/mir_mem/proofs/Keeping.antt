@@ -37,7 +37,7 @@ take-le_bytes size n h =
 product_of_sum : (k quot p : ℕ) → (k + 1 + quot) * p ≡ k * p + p + quot * p
 product_of_sum k quot p = omega (arith, add-mul (k + 1) quot p, add-mul k 1 p)
 
-complement-mod : (p q n : ℕ) → 0 < p → n < q * p → (q * p - suc n) % p ≡ p - 1 - n % p
+pub complement-mod : (p q n : ℕ) → 0 < p → n < q * p → (q * p - suc n) % p ≡ p - 1 - n % p
 complement-mod p q n h below =
     let quot : ℕ = n / p in
     let k : ℕ = q - 1 - quot in
@@ -74,7 +74,7 @@ unless_true : (b : Bool) → (b ≡ true → ⊥) → b ≡ false
 unless_true true refuted = absurd (refuted refl)
 unless_true false refuted = refl
 
-values_mono : (size more : ℕ) → size ≤ more → 256 ^ size ≤ 256 ^ more
+pub values_mono : (size more : ℕ) → size ≤ more → 256 ^ size ≤ 256 ^ more
 values_mono size more h = pow-le-pow_right (omega arith) h
 
 -- between the ends of a signed type

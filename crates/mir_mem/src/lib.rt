@@ -6,6 +6,8 @@ mod kept;
 mod read;
 mod shifts;
 mod table;
+mod unary;
 
 pub use kept::Computed;
 pub use table::compute;
+pub use unary::{invert, negate};
