@@ -1,16 +1,14 @@
 -- The operators on one operand.
-use Rattle.std.proofs.Common.{◌≡◌, ◌≢◌, ℕ, zero, suc, ◌+◌, ◌-◌, ◌*◌, ◌%◌, ◌^◌, ◌<◌, ◌≤◌, Bool, true, false, cond, ltb, eqb, ◌⊎◌, inl, inr, List, length, get_or, Option, Some, None, All, ℤ, pos, negsuc, neg_ℤ, refl, sym, ◌∙◌, ap, arith}
+use Rattle.std.proofs.Common.{◌≡◌, ℕ, zero, suc, ◌+◌, ◌-◌, ◌*◌, ◌%◌, ◌^◌, ◌<◌, ◌≤◌, true, false, ltb, ◌⊎◌, inl, inr, List, length, get_or, Some, ℤ, pos, negsuc, neg_ℤ, refl, sym, ◌∙◌, ap, arith}
 use Rattle.std.proofs.Math.Nat.{mod-eq_of_lt}
-use Rattle.std.proofs.lemmas.Nat.{mod_below}
 use Rattle.std.proofs.lemmas.Bool.{cases_lt}
 use Rattle.std.proofs.lemmas.List.Elements.{All-from_get_or}
 use borrow.Author.Tests.{lt-ltb, le-ltb}
 use mir.Val.{Fits}
 use mir.Syntax.{w8}
-use Rattle.numbers.specs.declared.operator.Kind.{Kind}
-use Rattle.numbers.specs.declared.operator.Kind.TheVariants.{Signed, Unsigned, Boolean}
+use Rattle.numbers.specs.declared.operator.Kind.TheVariants.{Signed, Unsigned}
 use Rattle.numbers.specs.Bytes.{low_digits, low_bytes, residue, signed_reading, number_of, value_of, is_width}
-use Rattle.numbers.specs.Operators.{Answer, Computes, Undefined, negated, inverted, denied, told}
+use Rattle.numbers.specs.Operators.{Answer, Computes, negated, inverted}
 use Rattle.numbers.proofs.Digits.{low_digits-mod, some_values, value_of_below}
 use Rattle.mir_mem.proofs.Keeping.{all_values, complement-mod, values_mono, width_below}
 
@@ -25,7 +23,7 @@ counted_down size n h below =
     let whole : n % 256 ^ size ≡ n = mod-eq_of_lt below in
     let inside : n < 256 ^ (16 - size) * 256 ^ size = omega (arith, values, values_mono size 16 h) in
     let left : (2 ^ 128 - suc n) % 256 ^ size ≡ 256 ^ size - 1 - n =
-        ap (λ m. (m - suc n) % 256 ^ size) values ∙ complement-mod (256 ^ size) (256 ^ (16 - size)) n (some_values size) inside ∙ ap (λ m. 256 ^ size - 1 - m) whole in
+    ap (λ m. (m - suc n) % 256 ^ size) values ∙ complement-mod (256 ^ size) (256 ^ (16 - size)) n (some_values size) inside ∙ ap (λ m. 256 ^ size - 1 - m) whole in
     sym (low_digits-mod size (2 ^ 128 - suc n)) ∙ ap (low_digits size) left
 
 pub inverted_digits : (bytes : List ℕ) (n : ℕ) → length bytes ≤ 16 → value_of bytes < 256 ^ length bytes → n ≡ value_of bytes → low_digits (length bytes) (2 ^ 128 - 1 - n) ≡ low_digits (length bytes) (256 ^ length bytes - 1 - value_of bytes)
@@ -53,9 +51,9 @@ negative_digits size (suc n) r z h below wide range e (inr other) =
 signed_cases : (bytes : List ℕ) → value_of bytes < 256 ^ length bytes → (number_of true bytes ≡ pos (value_of bytes)) ⊎ ((0 < value_of bytes) × (number_of true bytes ≡ negsuc (256 ^ length bytes - 1 - value_of bytes)))
 unfolding number_of signed_reading
 signed_cases bytes below = elim (cases_lt (2 * value_of bytes) (256 ^ length bytes)) [
-    inl h ↦ let test : ltb (2 * value_of bytes) (256 ^ length bytes) ≡ true = lt-ltb _ _ h in inl (rw test refl)
+  | inl h ↦ let test : ltb (2 * value_of bytes) (256 ^ length bytes) ≡ true = lt-ltb _ _ h in inl (rw test refl)
   | inr h ↦ let test : ltb (2 * value_of bytes) (256 ^ length bytes) ≡ false = le-ltb _ _ h in inr (omega (arith, some_values (length bytes)), rw test refl)
-  ]
+]
 
 pub negated-signed : (bytes : List ℕ) (v r : ℕ) (a : Answer) → is_width (length bytes) ≡ true → value_of bytes < 256 ^ length bytes → v ≡ value_of bytes → v < 2 ^ 128 → r < 2 ^ 128 → (r + v) % 2 ^ 128 ≡ 0 → a ≡ Computes (low_digits (length bytes) r) → a ≡ negated (Some Signed) bytes
 unfolding negated

@@ -1,15 +1,14 @@
 //! The operators on one operand.
 
-use numbers::Kind;
-
-use crate::Computed;
-use crate::kept::{low_digits, told};
-use crate::read::{is_width, unsigned};
-
 ghost use Rattle.std.specs.Prelude.{◌≡◌, ◌≤◌, IsTrue, length, true};
 ghost use Rattle.numbers.specs.Bytes.{is_width};
 ghost use Rattle.numbers.specs.Operators.{negated, inverted, denied};
 ghost use Rattle.mir_mem.specs.Computed.{answer_of, count_of};
+
+use crate::Computed;
+use crate::kept::{low_digits, told};
+use crate::read::{is_width, unsigned};
+use numbers::Kind;
 
 #[tactic(auto, unfolding(numbers::specs::Operators::denied))]
 fn denied(bytes: &[u8]) -> Computed

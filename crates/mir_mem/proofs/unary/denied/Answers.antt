@@ -1,5 +1,4 @@
-use Rattle.std.proofs.Common.{◌≡◌, ◌∙◌, ap, sym, eqb, length, get_or}
-use Rattle.numbers.specs.Bytes.{value_of}
+use Rattle.std.proofs.Common.{◌≡◌, ◌∙◌, ap, eqb, length}
 use Rattle.numbers.specs.Operators.{denied, told}
 use Rattle.mir_mem.proofs.Reading.{word1_is}
 use Rattle.mir_mem.proofs.unary.denied.Goals as goal
