@@ -21,7 +21,7 @@ value_of-nil = refl
 pub value_of-drop : (bytes : List ℕ) (i : ℕ) → i < length bytes → value_of (drop i bytes) ≡ get_or bytes i 0 + 256 * value_of (drop (suc i) bytes)
 value_of-drop bytes i h = ap value_of (drop-cons bytes i 0 h) ∙ value_of-cons _ _
 
-value_of-dropped : (bytes : List ℕ) (n : ℕ) → length bytes ≡ n → value_of (drop n bytes) ≡ 0
+pub value_of-dropped : (bytes : List ℕ) (n : ℕ) → length bytes ≡ n → value_of (drop n bytes) ≡ 0
 value_of-dropped bytes n h = ap value_of (drop_all n bytes (omega arith)) ∙ value_of-nil
 
 pub word2_is : (bytes : List ℕ) → length bytes ≡ 2 → from_le_bytes w16 (get_or bytes 0 0 ∷ get_or bytes 1 0 ∷ []) ≡ value_of bytes

@@ -3,11 +3,13 @@
 
 mod arithmetic;
 mod kept;
+mod pad;
 mod read;
 mod shifts;
 mod table;
 mod unary;
 
 pub use kept::Computed;
+pub use pad::pad16;
 pub use table::compute;
 pub use unary::{invert, negate};
