@@ -1,15 +1,15 @@
 -- Numbers extended to more bytes.
-use Rattle.std.proofs.Common.{◌≡◌, ℕ, zero, suc, ◌+◌, ◌-◌, ◌*◌, ◌^◌, ◌<◌, ◌≤◌, ◌↔◌, Bool, true, false, cond, ltb, inl, inr, List, [], ◌∷◌, ◌++◌, length, get_or, take, drop, replicate, All, ℤ, pos, negsuc, refl, sym, ◌∙◌, ap, arith, length-append, length-take}
-use Rattle.std.proofs.Math.Nat.{mul-le-mul_left, mul_comm}
+use Rattle.std.proofs.Common.{◌≡◌, ℕ, zero, suc, ◌+◌, ◌-◌, ◌*◌, ◌^◌, ◌<◌, ◌≤◌, ◌↔◌, Bool, true, false, ltb, inl, inr, List, ◌++◌, length, get_or, take, drop, replicate, All, pos, refl, sym, ◌∙◌, ap, arith, length-append, length-take}
+use Rattle.std.proofs.Math.Nat.{mul-le-mul_left}
 use Rattle.std.proofs.lemmas.Nat.{pow-add}
 use Rattle.std.proofs.lemmas.Bool.{cases_lt}
-use Rattle.std.proofs.lemmas.List.{take-append-drop, drop_all, length-replicate}
+use Rattle.std.proofs.lemmas.List.{take-append-drop, length-replicate}
 use Rattle.std.proofs.lemmas.List.Elements.{All-from_get_or, All-take}
 use borrow.Author.Tests.{lt-ltb, le-ltb}
 use mir.Val.{Fits}
 use mir.Syntax.{w8}
 use Rattle.numbers.specs.Bytes.{value_of, signed_reading, number_of}
-use Rattle.numbers.proofs.Digits.{value_of-append, value_of_below, next_values, some_values}
+use Rattle.numbers.proofs.Digits.{value_of-append, value_of_below, next_values}
 use Rattle.mir_mem.proofs.Reading.{value_of-drop, value_of-dropped}
 use Rattle.mir_mem.proofs.Keeping.{values_mono}
 use Rattle.mir_mem.proofs.Negation.{value_in_range}

@@ -2,6 +2,7 @@
 #![tactic(auto)]
 
 mod arithmetic;
+mod int_value;
 mod kept;
 mod pad;
 mod read;
@@ -9,6 +10,7 @@ mod shifts;
 mod table;
 mod unary;
 
+pub use int_value::IntValue;
 pub use kept::Computed;
 pub use pad::pad16;
 pub use table::compute;
