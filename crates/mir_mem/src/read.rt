@@ -10,21 +10,21 @@ pub(crate) fn is_width(size: usize) -> bool
     size == 1 || size == 2 || size == 4 || size == 8 || size == 16
 }
 
-fn word2(bytes: &[u8]) -> u16
+pub(crate) fn word2(bytes: &[u8]) -> u16
     requires { length bytes.now ≡ 2 }
     ensures { result ≡ value_of bytes.now }
 {
     u16::from_le_bytes([bytes[0], bytes[1]])
 }
 
-fn word4(bytes: &[u8]) -> u32
+pub(crate) fn word4(bytes: &[u8]) -> u32
     requires { length bytes.now ≡ 4 }
     ensures { result ≡ value_of bytes.now }
 {
     u32::from_le_bytes([bytes[0], bytes[1], bytes[2], bytes[3]])
 }
 
-fn word8(bytes: &[u8]) -> u64
+pub(crate) fn word8(bytes: &[u8]) -> u64
     requires { length bytes.now ≡ 8 }
     ensures { result ≡ value_of bytes.now }
 {
@@ -33,7 +33,7 @@ fn word8(bytes: &[u8]) -> u64
     ])
 }
 
-fn word16(bytes: &[u8]) -> u128
+pub(crate) fn word16(bytes: &[u8]) -> u128
     requires { length bytes.now ≡ 16 }
     ensures { result ≡ value_of bytes.now }
 {
