@@ -1,2 +1,3 @@
+pub mod Evaluators
 pub mod Limits
 pub mod Machine

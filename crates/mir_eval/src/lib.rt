@@ -1,3 +1,11 @@
 //! The machine: it runs a lowered body over one flat list of bytes, block by block, and gives the end
 //! that the meaning of the body's blocks has.
 #![tactic(auto)]
+
+mod evaluator;
+mod limits;
+mod output;
+
+pub use evaluator::{Evaluator, Turned};
+pub use limits::Limits;
+pub use output::MirOutput;

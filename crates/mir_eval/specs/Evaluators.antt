@@ -1,0 +1,95 @@
+-- The machine that an evaluator is, and how its calls change it.
+use Rattle.std.specs.Prelude.{◌≡◌, ◌⊎◌, ℕ, Bool, true, false, if◌then◌else◌, ◌==◌, List, map, Option, Some, None, Result, Ok, Err, option_map, unwrap_or, codes}
+use Rattle.world.specs.declared.database.HirDatabase.{HirDatabase}
+use Rattle.world.specs.declared.ids.Crate.{Crate}
+use Rattle.world.specs.declared.ids.DefWithBodyId.{DefWithBodyId}
+use Rattle.world.specs.declared.ty.Const.{Const}
+use Rattle.world.specs.Lookups.{const_row}
+use Rattle.mir.specs.declared.body.MirBody.{MirBody}
+use Rattle.mir.specs.declared.errors.MirEvalError.{MirEvalError}
+use Rattle.mir.specs.declared.errors.MirEvalError as error
+use Rattle.mir.specs.Memory.{Interval}
+use Rattle.mir.specs.Run.{begun}
+use Rattle.mir_eval.specs.declared.evaluator.Cell.{Cell}
+use Rattle.mir_eval.specs.declared.evaluator.Run.{Run}
+use Rattle.mir_eval.specs.declared.evaluator.Phase.{Phase}
+use Rattle.mir_eval.specs.declared.evaluator.Phase.TheVariants as phase
+use Rattle.mir_eval.specs.declared.evaluator.Turned.{Turned}
+use Rattle.mir_eval.specs.declared.evaluator.Turned.TheVariants as turns
+use Rattle.mir_eval.specs.declared.evaluator.Evaluator.{Evaluator}
+use Rattle.mir_eval.specs.Machine.{Machine, State, Fresh, Going, Over, pointer_bytes}
+
+-- where a cell lies
+abbrev pub interval_of : Cell → Interval
+interval_of cell = record { address = cell.address; size = cell.size }
+
+-- the state of a run that goes on
+abbrev pub going : Run → State
+going run =
+    Going (record { body = run.body.value; cells = map interval_of run.cells.items }) (record { stack = run.stack.items }) run.block.0 run.left
+
+-- the state of a phase
+abbrev pub state_of : Phase → State
+state_of phase.Fresh = Fresh
+state_of (phase.Going run) = going run
+state_of (phase.Over outcome left) = Over outcome left
+
+-- the machine that an evaluator is
+abbrev pub machine_of : Evaluator → Machine
+machine_of evaluator =
+    record { world = evaluator.db.now; owner = evaluator.owner; blocks = evaluator.blocks; state = state_of evaluator.phase }
+
+-- the crate of what has a body, and the first crate where the world has no row of it
+abbrev pub crate_of : HirDatabase → DefWithBodyId → Crate
+crate_of world owner = unwrap_or (option_map (λ row. row.krate) (const_row world owner)) (record { 0 = 0 })
+
+-- whether a pointer has as many bytes as the machine's own
+abbrev pub is_own_width : Option ℕ → Bool
+is_own_width (Some bytes) = bytes == 8
+is_own_width None = false
+
+-- the state in which a run begins, or why it can't begin
+unfoldable pub start_of : Machine → MirBody → Result State MirEvalError
+start_of machine body =
+    if is_own_width (pointer_bytes machine.world machine.owner) then
+    elim (begun machine.world body) [
+      | Ok start ↦ Ok (Going start.0 start.1 body.start_block.0 machine.blocks)
+      | Err e ↦ Err e
+    ]
+    else Err (error.NotSupported (codes "targets with different pointer size from host"))
+
+abbrev pub is_fresh : State → Bool
+is_fresh Fresh = true
+is_fresh (Going frame memory block left) = false
+is_fresh (Over outcome left) = false
+
+abbrev pub is_going : State → Bool
+is_going Fresh = false
+is_going (Going frame memory block left) = true
+is_going (Over outcome left) = false
+
+abbrev pub is_over : State → Bool
+is_over Fresh = false
+is_over (Going frame memory block left) = false
+is_over (Over outcome left) = true
+
+-- what a run ended in, where it is over
+abbrev pub outcome : State → Option (Result Const MirEvalError)
+outcome Fresh = None
+outcome (Going frame memory block left) = None
+outcome (Over result left) = Some result
+
+-- how a run turned out that ended in a value or in a fault
+abbrev pub turned_out : Option (Result Const MirEvalError) → Turned
+turned_out (Some (Ok value)) = turns.Done
+turned_out (Some (Err e)) = turns.Fault
+turned_out None = turns.Fault
+
+-- how a run turned out
+abbrev pub turned : State → Turned
+turned state = turned_out (outcome state)
+
+-- a machine came into a state, or its run ended for want of memory; the rest of it stayed
+abbrev pub Became : Machine → Machine → State → Type 0
+Became before after state =
+    (after ≡ record before { state = state }) ⊎ ((left : ℕ) × (after ≡ record before { state = Over (Err error.NoMemory) left }))

@@ -1,0 +1,171 @@
+//! The machine as its callers use it: made, begun once, run to its end, and taken apart.
+
+ghost use Rattle.std.specs.Prelude.{◌≡◌, ◌↔◌, ◌⊎◌, [], IfOk, IfErr, OnErr, IsOk, IsSome, IsTrue};
+
+use crate::{Limits, MirOutput};
+use mir::{BasicBlockId, MirBody, MirEvalError};
+use std::alloc::Global;
+use std::rc::Rc;
+use world::{Const, Crate, DefWithBodyId, HirDatabase};
+
+/// Where the cell of a local lies on the stack: its first byte, and how many bytes it has.
+#[derive(Clone, Copy, PartialEq, Eq, Debug)]
+pub(crate) struct Cell {
+    pub address: u64,
+    pub size: u64,
+}
+
+/// A run that has begun and isn't over.
+#[derive(Drop)]
+pub(crate) struct Run {
+    pub body: Rc<MirBody>,
+    /// One for each local of the body.
+    pub cells: Vec<Cell>,
+    pub stack: Vec<u8>,
+    /// The block to be entered next.
+    pub block: BasicBlockId,
+    /// How many blocks may still be entered.
+    pub left: u64,
+}
+
+/// Where an evaluator is in its one run.
+#[derive(Drop)]
+pub(crate) enum Phase {
+    Fresh,
+    Going(Run),
+    Over {
+        outcome: Result<Const, MirEvalError>,
+        left: u64,
+    },
+}
+
+/// How a run turned out.
+#[derive(Clone, Copy, PartialEq, Eq, Debug)]
+pub enum Turned {
+    /// It ended in a value.
+    Done,
+    /// It ended in a fault.
+    Fault,
+}
+
+/// The machine for one run of one body.
+#[derive(Drop)]
+pub struct Evaluator<'a> {
+    alloc: Global,
+    db: &'a HirDatabase,
+    owner: DefWithBodyId,
+    blocks: u64,
+    phase: Phase,
+}
+
+impl<'a> Evaluator<'a> {
+    ghost use Rattle.mir.specs.declared.errors.MirEvalError as error;
+    ghost use Rattle.mir_eval.specs.Limits.{IsWithin};
+    ghost use Rattle.mir_eval.specs.Machine.{State, Fresh, pointer_bytes, stepped, finished, turns_of};
+    ghost use Rattle.mir_eval.specs.Evaluators.{machine_of, crate_of, start_of, is_fresh, is_going, is_over, turned, outcome, Became};
+
+    /// A machine for a body that belongs to `owner`. It takes no memory. The refusal is
+    /// `TargetDataLayoutNotAvailable`, exactly where the size of a pointer of the owner's crate isn't
+    /// known.
+    pub fn new(
+        alloc: Global,
+        db: &'a HirDatabase,
+        owner: DefWithBodyId,
+        _assert_placeholder_ty_is_unused: bool,
+        limits: &Limits,
+    ) -> Result<Evaluator<'a>, MirEvalError>
+        requires { IsWithin limits.now }
+        ensures made { IfOk result (λ evaluator. machine_of evaluator ≡ record { world = db.now; owner = owner; blocks = limits.now.blocks; state = Fresh }) }
+        ensures refused { IfErr result (λ e. e ≡ error.TargetDataLayoutNotAvailable (crate_of db.now owner)) }
+        ensures variant { IsOk result ↔ IsSome (pointer_bytes db.now owner) }
+    {
+        let DefWithBodyId::ConstId(id) = owner;
+        let krate = match db.consts.get(id.0 as u64) {
+            Some(row) => row.krate,
+            None => return Err(MirEvalError::TargetDataLayoutNotAvailable(Crate(0))),
+        };
+        let pointer_bytes = match db.crates.get(krate.0 as u64) {
+            Some(row) => row.pointer_bytes,
+            None => None,
+        };
+        match pointer_bytes {
+            Some(_) => Ok(Evaluator {
+                alloc,
+                db,
+                owner,
+                blocks: limits.blocks,
+                phase: Phase::Fresh,
+            }),
+            None => Err(MirEvalError::TargetDataLayoutNotAvailable(krate)),
+        }
+    }
+
+    /// Begins a run of the body. The refusals, in this order: `NotSupported` where the pointers of the
+    /// owner's crate have another size than 8 bytes; `LayoutError` or `TypeIsUnsized` for the first
+    /// local whose type has no layout or no size; `NoMemory`. After a refusal nothing was begun.
+    pub fn begin(&mut self, body: Rc<MirBody>) -> Result<(), MirEvalError>
+        requires { IsTrue (is_fresh (machine_of self.old).state) }
+        ensures began { IfOk result (λ _. (start : State) × (start_of (machine_of self.old) body.value ≡ Ok start) × (machine_of self.new ≡ record (machine_of self.old) { state = start })) }
+        ensures refused { IfErr result (λ e. (e ≡ error.NoMemory) ⊎ (start_of (machine_of self.old) body.value ≡ Err e)) }
+        ensures unchanged { OnErr result (machine_of self.new ≡ machine_of self.old) }
+    {
+        drop(body);
+        Err(MirEvalError::NoMemory)
+    }
+
+    /// Runs one block to its end. Want of memory ends the run.
+    pub fn advance(&mut self)
+        requires { IsTrue (is_going (machine_of self.old).state) }
+        ensures { Became (machine_of self.old) (machine_of self.new) (stepped (machine_of self.old).state) }
+    {
+        self.phase = Phase::Over {
+            outcome: Err(MirEvalError::NoMemory),
+            left: 0,
+        };
+    }
+
+    /// Runs to the end, and tells whether that is a value or a fault. Want of memory is a fault.
+    pub fn run(&mut self) -> Turned
+        requires { IsTrue (is_going (machine_of self.old).state) }
+        ensures ended { Became (machine_of self.old) (machine_of self.new) (finished (machine_of self.old).state) }
+        ensures told { result ≡ turned (machine_of self.new).state }
+    {
+        self.phase = Phase::Over {
+            outcome: Err(MirEvalError::NoMemory),
+            left: 0,
+        };
+        Turned::Fault
+    }
+
+    /// How many blocks were entered.
+    pub fn turns(&self) -> u64
+        ensures { result ≡ turns_of (machine_of self.now) }
+    {
+        match &self.phase {
+            Phase::Fresh => 0,
+            Phase::Going(run) => self.blocks.saturating_sub(run.left),
+            Phase::Over { left, .. } => self.blocks.saturating_sub(*left),
+        }
+    }
+
+    /// Whether the run has ended, in a value or in a fault.
+    pub fn is_over(&self) -> bool
+        ensures { result ≡ is_over (machine_of self.now).state }
+    {
+        matches!(&self.phase, Phase::Over { .. })
+    }
+
+    /// What the run ended in, and what it wrote. It takes no memory.
+    pub fn finish(self) -> (Result<Const, MirEvalError>, MirOutput)
+        requires { IsTrue (is_over (machine_of self).state) }
+        ensures ended { Some result.0 ≡ outcome (machine_of self.entry).state }
+        ensures wrote { result.1 ≡ ([], []) }
+    {
+        let Evaluator { alloc, phase, .. } = self;
+        match phase {
+            Phase::Over { outcome, left: _ } => (outcome, MirOutput::empty(alloc)),
+            Phase::Fresh => unreachable!(),
+            Phase::Going(_) => unreachable!(),
+        }
+    }
+}
