@@ -8,25 +8,19 @@ use Rattle.world.specs.Lookups.{const_row}
 use Rattle.mir.specs.declared.body.MirBody.{MirBody}
 use Rattle.mir.specs.declared.errors.MirEvalError.{MirEvalError}
 use Rattle.mir.specs.declared.errors.MirEvalError as error
-use Rattle.mir.specs.Memory.{Interval}
 use Rattle.mir.specs.Run.{begun}
-use Rattle.mir_eval.specs.declared.evaluator.Cell.{Cell}
 use Rattle.mir_eval.specs.declared.evaluator.Run.{Run}
 use Rattle.mir_eval.specs.declared.evaluator.Phase.{Phase}
 use Rattle.mir_eval.specs.declared.evaluator.Phase.TheVariants as phase
 use Rattle.mir_eval.specs.declared.evaluator.Turned.{Turned}
 use Rattle.mir_eval.specs.declared.evaluator.Turned.TheVariants as turns
 use Rattle.mir_eval.specs.declared.evaluator.Evaluator.{Evaluator}
+use Rattle.mir_eval.specs.Steps.{frame, memory}
 use Rattle.mir_eval.specs.Machine.{Machine, State, Fresh, Going, Over, pointer_bytes}
-
--- where a cell lies
-abbrev pub interval_of : Cell → Interval
-interval_of cell = record { address = cell.address; size = cell.size }
 
 -- the state of a run that goes on
 abbrev pub going : Run → State
-going run =
-    Going (record { body = run.body.value; cells = map interval_of run.cells.items }) (record { stack = run.stack.items }) run.block.0 run.left
+going run = Going (frame run.body.value run.cells.items) (memory run.stack.items) run.block.0 run.left
 
 -- the state of a phase
 abbrev pub state_of : Phase → State

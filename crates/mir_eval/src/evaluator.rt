@@ -2,18 +2,12 @@
 
 ghost use Rattle.std.specs.Prelude.{◌≡◌, ◌↔◌, ◌⊎◌, [], IfOk, IfErr, OnErr, IsOk, IsSome, IsTrue};
 
+use crate::cells::Cell;
 use crate::{Limits, MirOutput};
 use mir::{BasicBlockId, MirBody, MirEvalError};
 use std::alloc::Global;
 use std::rc::Rc;
 use world::{Const, Crate, DefWithBodyId, HirDatabase};
-
-/// Where the cell of a local lies on the stack: its first byte, and how many bytes it has.
-#[derive(Clone, Copy, PartialEq, Eq, Debug)]
-pub(crate) struct Cell {
-    pub address: u64,
-    pub size: u64,
-}
 
 /// A run that has begun and isn't over.
 #[derive(Drop)]

@@ -2,9 +2,13 @@
 //! that the meaning of the body's blocks has.
 #![tactic(auto)]
 
+mod cells;
 mod evaluator;
+mod faults;
 mod limits;
 mod output;
+mod steps;
+mod stub;
 
 pub use evaluator::{Evaluator, Turned};
 pub use limits::Limits;
