@@ -13,6 +13,7 @@ mod layout;
 mod list;
 mod map;
 mod memory;
+mod table;
 mod text;
 mod ty;
 
@@ -30,5 +31,6 @@ pub use layout::{Layout, MultiLayout, TagEncoding, Variants};
 pub use list::List;
 pub use map::Map;
 pub use memory::NoMemory;
+pub use table::Table;
 pub use text::Text;
 pub use ty::{Const, GenericArg, GenericArgs, IntTy, MemoryMap, Ty, UintTy, ValueConst};
