@@ -9,24 +9,11 @@ use Rattle.mir.specs.declared.body.MirBody.{MirBody}
 use Rattle.mir.specs.declared.errors.MirEvalError.{MirEvalError}
 use Rattle.mir.specs.declared.errors.MirEvalError as error
 use Rattle.mir.specs.Run.{begun}
-use Rattle.mir_eval.specs.declared.evaluator.Run.{Run}
-use Rattle.mir_eval.specs.declared.evaluator.Phase.{Phase}
-use Rattle.mir_eval.specs.declared.evaluator.Phase.TheVariants as phase
 use Rattle.mir_eval.specs.declared.evaluator.Turned.{Turned}
 use Rattle.mir_eval.specs.declared.evaluator.Turned.TheVariants as turns
 use Rattle.mir_eval.specs.declared.evaluator.Evaluator.{Evaluator}
-use Rattle.mir_eval.specs.Steps.{frame, memory}
+use Rattle.mir_eval.specs.Phases.{state_of}
 use Rattle.mir_eval.specs.Machine.{Machine, State, Fresh, Going, Over, pointer_bytes}
-
--- the state of a run that goes on
-abbrev pub going : Run → State
-going run = Going (frame run.body.value run.cells.items) (memory run.stack.items) run.block.0 run.left
-
--- the state of a phase
-abbrev pub state_of : Phase → State
-state_of phase.Fresh = Fresh
-state_of (phase.Going run) = going run
-state_of (phase.Over outcome left) = Over outcome left
 
 -- the machine that an evaluator is
 abbrev pub machine_of : Evaluator → Machine

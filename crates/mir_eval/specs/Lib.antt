@@ -1,5 +1,6 @@
+pub mod Computed
 pub mod Evaluators
 pub mod Limits
 pub mod Machine
+pub mod Phases
 pub mod Steps
-pub mod Computed

@@ -1,37 +1,17 @@
 //! The machine as its callers use it: made, begun once, run to its end, and taken apart.
 
-ghost use Rattle.std.specs.Prelude.{◌≡◌, ◌↔◌, ◌⊎◌, [], IfOk, IfErr, OnErr, IsOk, IsSome, IsTrue};
+ghost use Rattle.std.specs.Prelude.{◌≡◌, ◌↔◌, ◌⊎◌, [], slice_get, option_map, option_and_then, codes, IfOk, IfErr, OnErr, IsOk, IsSome, IsTrue};
 
-use crate::cells::Cell;
+ghost use Rattle.world.specs.Lookups.{const_row};
+ghost use Rattle.mir.specs.declared.errors.MirEvalError as error;
+
+use crate::places::place_all;
+use crate::runs::{Phase, Run};
 use crate::{Limits, MirOutput};
-use mir::{BasicBlockId, MirBody, MirEvalError};
+use mir::{MirBody, MirEvalError};
 use std::alloc::Global;
 use std::rc::Rc;
-use world::{Const, Crate, DefWithBodyId, HirDatabase};
-
-/// A run that has begun and isn't over.
-#[derive(Drop)]
-pub(crate) struct Run {
-    pub body: Rc<MirBody>,
-    /// One for each local of the body.
-    pub cells: Vec<Cell>,
-    pub stack: Vec<u8>,
-    /// The block to be entered next.
-    pub block: BasicBlockId,
-    /// How many blocks may still be entered.
-    pub left: u64,
-}
-
-/// Where an evaluator is in its one run.
-#[derive(Drop)]
-pub(crate) enum Phase {
-    Fresh,
-    Going(Run),
-    Over {
-        outcome: Result<Const, MirEvalError>,
-        left: u64,
-    },
-}
+use world::{Const, Crate, DefWithBodyId, HirDatabase, Text};
 
 /// How a run turned out.
 #[derive(Clone, Copy, PartialEq, Eq, Debug)]
@@ -52,8 +32,41 @@ pub struct Evaluator<'a> {
     phase: Phase,
 }
 
+/// The size of a pointer of the crate that something belongs to, where it is known.
+fn pointer_bytes(db: &HirDatabase, krate: Option<Crate>) -> Option<u64>
+    ensures { result ≡ option_and_then (λ krate. option_and_then (λ row. row.pointer_bytes) (slice_get db.now.crates krate.0)) krate }
+{
+    match krate {
+        Some(krate) => match db.crates.get(krate.0 as u64) {
+            Some(row) => row.pointer_bytes,
+            None => None,
+        },
+        None => None,
+    }
+}
+
+/// The crate that something belongs to.
+fn crate_of(db: &HirDatabase, owner: DefWithBodyId) -> Option<Crate>
+    ensures { result ≡ option_map (λ row. row.krate) (const_row db.now owner) }
+{
+    let DefWithBodyId::ConstId(id) = owner;
+    match db.consts.get(id.0 as u64) {
+        Some(row) => Some(row.krate),
+        None => None,
+    }
+}
+
+/// The refusal of a target whose pointers have another size than the machine's own.
+fn other_width(alloc: Global) -> MirEvalError
+    ensures { (result ≡ error.NoMemory) ⊎ (result ≡ error.NotSupported (codes "targets with different pointer size from host")) }
+{
+    match Text::from_str(alloc, "targets with different pointer size from host") {
+        Ok(text) => MirEvalError::NotSupported(text),
+        Err(_) => MirEvalError::NoMemory,
+    }
+}
+
 impl<'a> Evaluator<'a> {
-    ghost use Rattle.mir.specs.declared.errors.MirEvalError as error;
     ghost use Rattle.mir_eval.specs.Limits.{IsWithin};
     ghost use Rattle.mir_eval.specs.Machine.{State, Fresh, pointer_bytes, stepped, finished, turns_of};
     ghost use Rattle.mir_eval.specs.Evaluators.{machine_of, crate_of, start_of, is_fresh, is_going, is_over, turned, outcome, Became};
@@ -73,16 +86,8 @@ impl<'a> Evaluator<'a> {
         ensures refused { IfErr result (λ e. e ≡ error.TargetDataLayoutNotAvailable (crate_of db.now owner)) }
         ensures variant { IsOk result ↔ IsSome (pointer_bytes db.now owner) }
     {
-        let DefWithBodyId::ConstId(id) = owner;
-        let krate = match db.consts.get(id.0 as u64) {
-            Some(row) => row.krate,
-            None => return Err(MirEvalError::TargetDataLayoutNotAvailable(Crate(0))),
-        };
-        let pointer_bytes = match db.crates.get(krate.0 as u64) {
-            Some(row) => row.pointer_bytes,
-            None => None,
-        };
-        match pointer_bytes {
+        let krate = crate_of(db, owner);
+        match pointer_bytes(db, krate) {
             Some(_) => Ok(Evaluator {
                 alloc,
                 db,
@@ -90,21 +95,39 @@ impl<'a> Evaluator<'a> {
                 blocks: limits.blocks,
                 phase: Phase::Fresh,
             }),
-            None => Err(MirEvalError::TargetDataLayoutNotAvailable(krate)),
+            None => Err(MirEvalError::TargetDataLayoutNotAvailable(
+                krate.unwrap_or(Crate(0)),
+            )),
         }
     }
 
     /// Begins a run of the body. The refusals, in this order: `NotSupported` where the pointers of the
     /// owner's crate have another size than 8 bytes; `LayoutError` or `TypeIsUnsized` for the first
     /// local whose type has no layout or no size; `NoMemory`. After a refusal nothing was begun.
+    #[tactic(auto, unfolding(crate::specs::Evaluators::start_of, mir::specs::Run::begun))]
     pub fn begin(&mut self, body: Rc<MirBody>) -> Result<(), MirEvalError>
         requires { IsTrue (is_fresh (machine_of self.old).state) }
         ensures began { IfOk result (λ _. (start : State) × (start_of (machine_of self.old) body.value ≡ Ok start) × (machine_of self.new ≡ record (machine_of self.old) { state = start })) }
         ensures refused { IfErr result (λ e. (e ≡ error.NoMemory) ⊎ (start_of (machine_of self.old) body.value ≡ Err e)) }
         ensures unchanged { OnErr result (machine_of self.new ≡ machine_of self.old) }
     {
-        drop(body);
-        Err(MirEvalError::NoMemory)
+        if pointer_bytes(self.db, crate_of(self.db, self.owner)) != Some(8) {
+            return Err(other_width(self.alloc));
+        }
+        match place_all(self.alloc, self.db, body.locals.as_slice()) {
+            Ok(placed) => {
+                let block = body.start_block;
+                self.phase = Phase::Going(Run {
+                    body,
+                    cells: placed.cells,
+                    stack: placed.stack,
+                    block,
+                    left: self.blocks,
+                });
+                Ok(())
+            }
+            Err(e) => Err(e),
+        }
     }
 
     /// Runs one block to its end. Want of memory ends the run.
@@ -112,10 +135,16 @@ impl<'a> Evaluator<'a> {
         requires { IsTrue (is_going (machine_of self.old).state) }
         ensures { Became (machine_of self.old) (machine_of self.new) (stepped (machine_of self.old).state) }
     {
-        self.phase = Phase::Over {
-            outcome: Err(MirEvalError::NoMemory),
-            left: 0,
-        };
+        let alloc = self.alloc;
+        match &mut self.phase {
+            Phase::Going(run) => {
+                if let Some(phase) = run.step(alloc) {
+                    self.phase = phase;
+                }
+            }
+            Phase::Fresh => unreachable!(),
+            Phase::Over { .. } => unreachable!(),
+        }
     }
 
     /// Runs to the end, and tells whether that is a value or a fault. Want of memory is a fault.
@@ -124,11 +153,18 @@ impl<'a> Evaluator<'a> {
         ensures ended { Became (machine_of self.old) (machine_of self.new) (finished (machine_of self.old).state) }
         ensures told { result ≡ turned (machine_of self.new).state }
     {
-        self.phase = Phase::Over {
-            outcome: Err(MirEvalError::NoMemory),
-            left: 0,
+        let alloc = self.alloc;
+        let phase = match &mut self.phase {
+            Phase::Going(run) => run.finish(alloc),
+            Phase::Fresh => unreachable!(),
+            Phase::Over { .. } => unreachable!(),
         };
-        Turned::Fault
+        let turned = match &phase {
+            Phase::Over { outcome: Ok(_), .. } => Turned::Done,
+            _ => Turned::Fault,
+        };
+        self.phase = phase;
+        turned
     }
 
     /// How many blocks were entered.

@@ -6,7 +6,10 @@ mod cells;
 mod evaluator;
 mod faults;
 mod limits;
+mod outcomes;
 mod output;
+mod places;
+mod runs;
 mod steps;
 mod stub;
 
