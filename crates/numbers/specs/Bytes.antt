@@ -1,5 +1,5 @@
 -- Whole numbers as bytes, the lowest byte first, unsigned or in two's complement.
-use Rattle.std.specs.Prelude.{ℕ, zero, suc, ◌+◌, ◌-◌, ◌*◌, ◌/◌, ◌%◌, ◌^◌, Bool, true, false, if◌then◌else◌, ◌||◌, ◌==◌, nat_lt, List, [], ◌∷◌, length, ℤ, pos, negsuc}
+use Rattle.std.specs.Prelude.{ℕ, zero, suc, ◌+◌, ◌-◌, ◌*◌, ◌/◌, ◌%◌, ◌^◌, Bool, true, false, if◌then◌else◌, ◌||◌, ◌==◌, nat_lt, nat_le, List, [], ◌∷◌, length, ℤ, pos, negsuc}
 
 -- how many unsigned numbers so many bytes tell apart
 abbrev pub count_of_values : ℕ → ℕ
@@ -26,19 +26,19 @@ value_of (byte ∷ bytes) = byte + 256 * value_of bytes
 
 -- the number of so many bytes whose unsigned reading is n, in two's complement: the upper half of the readings are the negative numbers
 unfoldable pub signed_reading : ℕ → ℕ → ℤ
-signed_reading size n = if nat_lt n (count_of_values size / 2) then pos n else negsuc (count_of_values size - 1 - n)
+signed_reading size n = if nat_lt (2 * n) (count_of_values size) then pos n else negsuc (count_of_values size - 1 - n)
 
 -- the number that bytes are, unsigned or in two's complement
 unfoldable pub number_of : Bool → List ℕ → ℤ
 number_of false bytes = pos (value_of bytes)
 number_of true bytes = signed_reading (length bytes) (value_of bytes)
 
--- the type of so many bytes, signed or not, holds the number
+-- the type of so many bytes, signed or not, holds the number; the double of a signed number is at least -(256 ^ size) and below 256 ^ size
 unfoldable pub holds : Bool → ℕ → ℤ → Bool
 holds false size (pos n) = nat_lt n (count_of_values size)
 holds false size (negsuc n) = false
-holds true size (pos n) = nat_lt n (count_of_values size / 2)
-holds true size (negsuc n) = nat_lt n (count_of_values size / 2)
+holds true size (pos n) = nat_lt (2 * n) (count_of_values size)
+holds true size (negsuc n) = nat_le (2 * (n + 1)) (count_of_values size)
 
 -- some integer type has so many bytes
 abbrev pub is_width : ℕ → Bool

@@ -128,16 +128,16 @@ is_on_booleans Le = true
 is_on_booleans Gt = true
 is_on_booleans Ge = true
 
--- a number that is shifted by an amount, up or down: the bits that pass the type's end are lost, and those that come in at a signed number's top have its sign
-unfoldable pub shifted : Operator → ℕ → ℤ → ℕ → Answer
-shifted Shl size number amount = Computes (low_bytes size (number *ℤ pos (2 ^ amount)))
-shifted Shr size number amount = Computes (low_bytes size (int_shr number amount))
-shifted _ size number amount = Undefined
+-- the bits shifted up or down by an amount: those that pass the type's end are lost, and those that come in at a signed number's top have its sign
+unfoldable pub shifted : Operator → Bool → List ℕ → ℕ → Answer
+shifted Shl signed bytes amount = Computes (low_digits (length bytes) (value_of bytes * 2 ^ amount))
+shifted Shr signed bytes amount = Computes (low_bytes (length bytes) (int_shr (number_of signed bytes) amount))
+shifted _ signed bytes amount = Undefined
 
 -- the same, where the amount is a number from 0 to below the number of bits; any other panics
-unfoldable pub shifted_by : Operator → ℕ → ℤ → ℤ → Answer
-shifted_by op size number (pos amount) = if nat_lt amount (8 * size) then shifted op size number amount else Panics (panic_word op)
-shifted_by op size number (negsuc amount) = Panics (panic_word op)
+unfoldable pub shifted_by : Operator → Bool → List ℕ → ℤ → Answer
+shifted_by op signed bytes (pos amount) = if nat_lt amount (8 * length bytes) then shifted op signed bytes amount else Panics (panic_word op)
+shifted_by op signed bytes (negsuc amount) = Panics (panic_word op)
 
 -- the operator is a shift
 unfoldable pub is_shift : Operator → Bool
@@ -187,7 +187,7 @@ sign_of None = None
 -- a shift of one integer by another, of any two integer types
 unfoldable pub shift : Operator → Option Bool → Option Bool → List ℕ → List ℕ → Answer
 shift op (Some left_sign) (Some right_sign) left right =
-    if is_width (length left) && is_width (length right) then shifted_by op (length left) (number_of left_sign left) (number_of right_sign right) else Undefined
+    if is_width (length left) && is_width (length right) then shifted_by op left_sign left (number_of right_sign right) else Undefined
 shift op (Some left_sign) None left right = Undefined
 shift op None _ left right = Undefined
 

@@ -37,6 +37,13 @@ impl<T> List<T> {
         }
     }
 
+    /// The elements of a vector. It takes no memory.
+    pub fn from_vec(items: Vec<T>) -> List<T>
+        ensures { result ≡ items.items }
+    {
+        List { items }
+    }
+
     /// How many elements there are.
     pub fn len(&self) -> u64
         ensures { result ≡ length self.now }

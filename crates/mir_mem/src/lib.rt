@@ -1,0 +1,9 @@
+//! The machine's memory: numbers as the bytes that it holds, and what operators make of them.
+#![tactic(auto)]
+
+mod kept;
+mod read;
+mod table;
+
+pub use kept::Computed;
+pub use table::compute;
