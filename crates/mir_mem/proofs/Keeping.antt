@@ -1,14 +1,14 @@
 -- Results in the bytes of their type.
-use Rattle.std.proofs.Common.{◌≡◌, ℕ, zero, suc, ◌+◌, ◌-◌, ◌*◌, ◌/◌, ◌%◌, ◌^◌, ◌<◌, ◌≤◌, ◌↔◌, Bool, true, false, cond, ltb, leb, IsTrue, List, [], ◌∷◌, ◌++◌, length, take, ℤ, pos, negsuc, ◌≤ℤ◌, nat_abs, Decides, refl, sym, ◌∙◌, ap, arith, FitsSigned}
-use Rattle.std.specs.Int.{w128, cast_unsigned, to_le_bytes, bytes_low_first, byte_at, from_bool}
-use Rattle.std.proofs.Math.Nat.{div-div-eq-div-mul, mod-eq_of_lt, div-one, add-mul, pow-le-pow_right}
+use Rattle.std.proofs.Common.{◌≡◌, ℕ, zero, suc, ◌+◌, ◌-◌, ◌*◌, ◌/◌, ◌%◌, ◌^◌, ◌<◌, ◌≤◌, ◌↔◌, Bool, true, false, cond, not, ◌&&◌, ◌⊎◌, inl, inr, ltb, leb, eqb, IsTrue, take, ℤ, pos, negsuc, ◌≤ℤ◌, ◌-ℤ◌, int_div, int_eq, refl, sym, ◌∙◌, ap, arith, FitsSigned}
+use Rattle.std.specs.Int.{w128, cast_unsigned, cast_signed, CanDivide, to_le_bytes, bytes_low_first, byte_at, from_bool}
+use Rattle.std.proofs.Math.Nat.{div-div-eq-div-mul, div-one, add-mul, pow-le-pow_right}
 use Rattle.std.proofs.lemmas.Nat.{div-add-mod', div_below, mod-mul-add, mod_below, pow-add}
-use Rattle.std.proofs.lemmas.Int.{ints}
+use Rattle.std.proofs.lemmas.Int.{ints, to_z-of_z}
 use Rattle.std.proofs.lemmas.Bool.Decides.{nat_tests, same_from_decides}
-use borrow.Author.Tests.{ltb-true, leb-true, lt-ltb, le-ltb, le-leb}
+use borrow.Author.Tests.{ltb-true, leb-true, lt-ltb, le-leb, ne_eqb, eqb-true, eqb-false}
 use lib.Signed.{mag}
 use Rattle.numbers.specs.declared.operator.Operator.{Operator}
-use Rattle.numbers.specs.Operators.{Answer, Computes, Panics, kept, told, panic_word}
+use Rattle.numbers.specs.Operators.{Answer, Computes, Panics, kept, divided, told, panic_word}
 use Rattle.numbers.specs.Bytes.{low_digits, residue, low_bytes, holds, is_width}
 use Rattle.numbers.proofs.Digits.{low_digits-mod, take-low_digits, some_values, next_values}
 
@@ -49,7 +49,7 @@ complement-mod p q n h below =
     let shape : q * p - suc n ≡ k * p + (p - 1 - n % p) = omega arith in
     ap (λ m. m % p) shape ∙ mod-mul-add k p (p - 1 - n % p) (omega arith)
 
-all_values : (size : ℕ) → size ≤ 16 → 2 ^ 128 ≡ 256 ^ (16 - size) * 256 ^ size
+pub all_values : (size : ℕ) → size ≤ 16 → 2 ^ 128 ≡ 256 ^ (16 - size) * 256 ^ size
 all_values size h =
     let total : 16 ≡ (16 - size) + size = omega arith in
     ap (λ m. 256 ^ m) total ∙ pow-add 256 (16 - size) size
@@ -65,6 +65,10 @@ cast_residue size (negsuc n) h fits =
 pub take-signed_bytes : (size : ℕ) (z : ℤ) → size ≤ 16 → FitsSigned w128 z → take size (to_le_bytes w128 (cast_unsigned w128 z)) ≡ low_bytes size z
 unfolding low_bytes
 take-signed_bytes size z h fits = take-le_bytes size (cast_unsigned w128 z) h ∙ sym (low_digits-mod size _) ∙ ap (low_digits size) (cast_residue size z h fits)
+
+cases_bool : (b : Bool) → (b ≡ true) ⊎ (b ≡ false)
+cases_bool true = inl refl
+cases_bool false = inr refl
 
 unless_true : (b : Bool) → (b ≡ true → ⊥) → b ≡ false
 unless_true true refuted = absurd (refuted refl)
@@ -138,3 +142,82 @@ unfolding holds
 kept_unsigned_overflow op size n h over =
     let values : 256 ^ size ≤ 256 ^ 16 = values_mono size 16 (width_below size h) in
     kept-refused op false size (pos n) (unless_true (ltb n (256 ^ size)) (λ k. over (omega (arith, ltb-true n (256 ^ size) k))))
+
+-- ---- quotients and remainders
+
+-- a signed number as it is passed on
+pub passed_is : (z n : ℤ) → mag z < 2 ^ 127 → z ≡ n → cast_signed w128 (cast_unsigned w128 z) ≡ n
+passed_is z n fits e = to_z-of_z w128 z (record { sfits = fits }) ∙ e
+
+pub nonzero_test : (z : ℤ) → 0 < cast_unsigned w128 z → int_eq z (pos 0) ≡ false
+nonzero_test (pos n) h = grind (arith, nat_tests)
+nonzero_test (negsuc n) h = refl
+
+nonzero_from_test : (z : ℤ) → FitsSigned w128 z → int_eq z (pos 0) ≡ false → 0 < cast_unsigned w128 z
+nonzero_from_test (pos n) fits h = grind (arith, nat_tests)
+nonzero_from_test (negsuc n) fits h = omega (arith, fits.sfits)
+
+refused : (b : Bool) (a c : Answer) → c ≡ cond (b && false) a c
+refused true a c = refl
+refused false a c = refl
+
+zero_test : (n : ℕ) → n ≡ 0 → int_eq (pos n) (pos 0) ≡ true
+zero_test n h = rw h refl
+
+negative_not_held : (size n : ℕ) → holds false size (negsuc n) ≡ false
+unfolding holds
+negative_not_held size n = refl
+
+pub divided-held : (op : Operator) (signed : Bool) (size : ℕ) (x y z : ℤ) (a : Answer) → int_eq y (pos 0) ≡ false → holds signed size (int_div x y) ≡ true → a ≡ Computes (low_bytes size z) → a ≡ divided op signed size x y z
+unfolding divided
+divided-held op signed size x y z a h k e = rw (h, k) e
+
+pub divided-kept : (op : Operator) (signed : Bool) (size : ℕ) (x y : ℤ) (a : Answer) → int_eq y (pos 0) ≡ false → a ≡ kept op signed size (int_div x y) → a ≡ divided op signed size x y (int_div x y)
+unfolding divided kept
+divided-kept op signed size x y a h e = rw h e
+
+pub divided-by_zero : (op : Operator) (signed : Bool) (size : ℕ) (x y z : ℤ) → int_eq y (pos 0) ≡ true → Panics (panic_word op) ≡ divided op signed size x y z
+unfolding divided
+divided-by_zero op signed size x y z h = rw h refl
+
+pub divided-refused : (op : Operator) (signed : Bool) (size : ℕ) (x y z : ℤ) → holds signed size (int_div x y) ≡ false → Panics (panic_word op) ≡ divided op signed size x y z
+unfolding divided
+divided-refused op signed size x y z h = rw h (refused (not (int_eq y (pos 0))) _ _)
+
+pub divided_overflow : (op : Operator) (size : ℕ) (x y z : ℤ) → is_width size ≡ true → FitsSigned w128 y → (CanDivide w128 x y → ⊥) → Panics (panic_word op) ≡ divided op true size x y z
+divided_overflow op size x y z h fits over =
+    elim (cases_bool (int_eq y (pos 0))) [
+      | inl zero' ↦ divided-by_zero op true size x y z zero'
+      | inr other ↦ divided-refused op true size x y z (unless_true _ (λ k. over (nonzero_from_test y fits other, holds_fits size (int_div x y) (width_below size h) k)))
+    ]
+
+pub divided_by_none : (op : Operator) (size x y : ℕ) (z : ℤ) → (0 < y → ⊥) → Panics (panic_word op) ≡ divided op false size (pos x) (pos y) z
+divided_by_none op size x y z none = divided-by_zero op false size (pos x) (pos y) z (zero_test y (omega arith))
+
+-- ---- differences of natural numbers
+
+pub difference : (x y : ℕ) → y ≤ x → pos x -ℤ pos y ≡ pos (x - y)
+difference x y h = omega (arith, ints)
+
+pub kept_negative : (op : Operator) (size x y : ℕ) → (y ≤ x → ⊥) → Panics (panic_word op) ≡ kept op false size (pos x -ℤ pos y)
+kept_negative op size x y below =
+    let negative : pos x -ℤ pos y ≡ negsuc (y - x - 1) = omega (arith, ints) in
+    kept-refused op false size _ (ap (holds false size) negative ∙ negative_not_held size (y - x - 1))
+
+-- ---- equality
+
+pub same_naturals : (m n : ℕ) → eqb m n ≡ int_eq (pos m) (pos n)
+same_naturals m n = grind (arith, nat_tests)
+
+-- the bits of two signed numbers are the same where the numbers are
+same_bits : (x y : ℤ) → FitsSigned w128 x → FitsSigned w128 y → eqb (cast_unsigned w128 x) (cast_unsigned w128 y) ≡ int_eq x y
+same_bits (pos m) (pos n) f g = same_naturals m n
+same_bits (pos m) (negsuc n) f g = ne_eqb m (2 ^ 128 - suc n) (omega (arith, f.sfits, g.sfits))
+same_bits (negsuc m) (pos n) f g = ne_eqb (2 ^ 128 - suc m) n (omega (arith, f.sfits, g.sfits))
+same_bits (negsuc m) (negsuc n) f g = elim (cases_bool (eqb m n)) [
+  | inl same ↦ rw (eqb-true m n same) (grind (arith, nat_tests))
+  | inr other ↦ ne_eqb _ _ (omega (arith, f.sfits, g.sfits, eqb-false m n other)) ∙ sym (grind (arith, nat_tests))
+]
+
+pub same_signed : (x y m n : ℤ) → mag x < 2 ^ 127 → mag y < 2 ^ 127 → x ≡ m → y ≡ n → eqb (cast_unsigned w128 x) (cast_unsigned w128 y) ≡ int_eq m n
+same_signed x y m n f g e h = rw (← e, ← h) (same_bits x y (record { sfits = f }) (record { sfits = g }))

@@ -1,6 +1,6 @@
 -- The numbers that bytes are, by the words that reading them puts together.
-use Rattle.std.proofs.Common.{◌≡◌, ◌≢◌, inl, inr, ℕ, zero, suc, ◌+◌, ◌-◌, ◌*◌, ◌^◌, ◌<◌, ◌≤◌, Bool, true, false, cond, ltb, eqb, ◌||◌, List, [], ◌∷◌, ◌++◌, length, get_or, take, drop, All, ℤ, pos, negsuc, refl, sym, ◌∙◌, ap, arith, length-take, length-drop}
-use Rattle.std.specs.Int.{w8, w16, w32, w64, w128, cast_signed, from_le_bytes, Width}
+use Rattle.std.proofs.Common.{◌≡◌, ◌≢◌, inl, inr, ℕ, suc, ◌+◌, ◌-◌, ◌*◌, ◌^◌, ◌<◌, true, false, ltb, List, [], ◌∷◌, length, get_or, take, drop, ℤ, negsuc, refl, sym, ◌∙◌, ap, arith, length-take}
+use Rattle.std.specs.Int.{w16, w32, w64, cast_signed, from_le_bytes, Width}
 use mir.Val.{bits, hbits}
 use Rattle.std.proofs.lemmas.Bool.Decides.{nat_tests}
 use Rattle.std.proofs.lemmas.List.{take-append-drop, drop_all}
@@ -8,7 +8,7 @@ use Rattle.std.proofs.Math.Seq.{drop-cons}
 use Rattle.std.proofs.lemmas.Bool.{cases_lt}
 use borrow.Author.Tests.{lt-ltb, le-ltb}
 use Rattle.numbers.specs.Bytes.{value_of, signed_reading, number_of, is_width}
-use Rattle.numbers.proofs.Digits.{value_of-append, value_of_below}
+use Rattle.numbers.proofs.Digits.{value_of-append}
 
 value_of-cons : (byte : ℕ) (bytes : List ℕ) → value_of (byte ∷ bytes) ≡ byte + 256 * value_of bytes
 unfolding value_of
@@ -47,15 +47,15 @@ signed_reading_is : (w : Width) (size n : ℕ) → 256 ^ size ≡ 2 ^ bits w →
 unfolding signed_reading
 signed_reading_is w size n e f =
     elim (cases_lt n (2 ^ hbits w)) [
-      inl h ↦
-        let a : ltb n (2 ^ hbits w) ≡ true = lt-ltb _ _ h in
-        let b : ltb (2 * n) (256 ^ size) ≡ true = lt-ltb _ _ (omega arith) in
-        rw (a, b) refl
-    | inr h ↦
-        let a : ltb n (2 ^ hbits w) ≡ false = le-ltb _ _ h in
-        let b : ltb (2 * n) (256 ^ size) ≡ false = le-ltb _ _ (omega arith) in
-        let c : 2 ^ bits w - suc n ≡ 256 ^ size - 1 - n = omega arith in
-        rw (a, b) (ap negsuc c)
+      | inl h ↦
+          let a : ltb n (2 ^ hbits w) ≡ true = lt-ltb _ _ h in
+          let b : ltb (2 * n) (256 ^ size) ≡ true = lt-ltb _ _ (omega arith) in
+          rw (a, b) refl
+      | inr h ↦
+          let a : ltb n (2 ^ hbits w) ≡ false = le-ltb _ _ h in
+          let b : ltb (2 * n) (256 ^ size) ≡ false = le-ltb _ _ (omega arith) in
+          let c : 2 ^ bits w - suc n ≡ 256 ^ size - 1 - n = omega arith in
+          rw (a, b) (ap negsuc c)
     ]
 
 -- what a word of the width is as a signed number

@@ -1,11 +1,11 @@
 //! Results in the bytes of their type.
 
-use numbers::Operator;
-
 ghost use Rattle.std.specs.Prelude.{◌≡◌, ℕ, ◌≤◌, IsTrue, true, false, pos, ◌↔◌, ◌≤ℤ◌};
 ghost use Rattle.numbers.specs.Bytes.{is_width, holds, low_digits, low_bytes};
 ghost use Rattle.numbers.specs.Operators.{Computes, kept, told};
 ghost use Rattle.mir_mem.specs.Computed.{answer_of, count_of};
+
+use numbers::Operator;
 
 /// What an operator makes of its operands: that many of the bytes, a panic, or no meaning.
 #[derive(Clone, Copy, PartialEq, Eq, Debug)]
@@ -15,7 +15,7 @@ pub enum Computed {
     Undefined,
 }
 
-fn holds_unsigned(size: usize, value: u128) -> bool
+pub(crate) fn holds_unsigned(size: usize, value: u128) -> bool
     requires { IsTrue (is_width size) }
     ensures { result ≡ holds false size (pos value) }
 {
@@ -34,7 +34,7 @@ fn is_between(value: i128, least: i128, greatest: i128) -> bool
     least <= value && value <= greatest
 }
 
-fn holds_signed(size: usize, value: i128) -> bool
+pub(crate) fn holds_signed(size: usize, value: i128) -> bool
     requires { IsTrue (is_width size) }
     ensures { result ≡ holds true size value }
 {

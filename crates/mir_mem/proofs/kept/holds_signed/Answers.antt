@@ -1,5 +1,5 @@
-use Rattle.std.proofs.Common.{◌≡◌, ◌∙◌, ap, sym, refl, ℤ, arith, rules, length}
-use Rattle.std.specs.Int.{w8, w16, w32, w64, w128}
+use Rattle.std.proofs.Common.{◌≡◌, sym, refl, rules}
+use Rattle.std.specs.Int.{w128}
 use Rattle.std.proofs.lemmas.Int.{to_z-of_z}
 use Rattle.mir_mem.proofs.Keeping.{holds-between, wide_holds}
 use Rattle.mir_mem.proofs.kept.holds_signed.Goals as goal

@@ -1,6 +1,4 @@
-use Rattle.std.proofs.Common.{◌≡◌, ◌∙◌, ap, sym, refl, ℤ, arith, rules, length}
-use Rattle.std.specs.Int.{w8, w16, w32, w64, w128}
-use Rattle.std.proofs.lemmas.Int.{to_z-of_z}
+use Rattle.std.proofs.Common.{◌≡◌, sym, refl, rules}
 use Rattle.mir_mem.proofs.Keeping.{holds_up_to, wide_holds_unsigned}
 use Rattle.mir_mem.proofs.kept.holds_unsigned.Goals as goal
 

@@ -1,5 +1,5 @@
-use Rattle.std.proofs.Common.{◌≡◌, true, false, pos, ◌∙◌, ap, sym, refl, ℤ, arith, rules, length}
-use Rattle.std.specs.Int.{w8, w16, w32, w64, w128}
+use Rattle.std.proofs.Common.{true, ◌∙◌, ap, sym}
+use Rattle.std.specs.Int.{w128}
 use Rattle.std.proofs.lemmas.Int.{to_z-of_z}
 use Rattle.numbers.specs.Bytes.{holds, low_bytes}
 use Rattle.numbers.specs.Operators.{Computes}

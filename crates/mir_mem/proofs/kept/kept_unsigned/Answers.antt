@@ -1,7 +1,4 @@
-use Rattle.std.proofs.Common.{◌≡◌, true, false, pos, ◌∙◌, ap, sym, refl, ℤ, arith, rules, length}
-use Rattle.std.specs.Int.{w8, w16, w32, w64, w128}
-use Rattle.std.proofs.lemmas.Int.{to_z-of_z}
-use Rattle.numbers.specs.Bytes.{holds, low_bytes}
+use Rattle.std.proofs.Common.{false, ◌∙◌, ap, sym}
 use Rattle.numbers.specs.Operators.{Computes}
 use Rattle.mir_mem.proofs.Keeping.{kept-held, kept-refused, low_bytes-pos}
 use Rattle.mir_mem.proofs.kept.kept_unsigned.Goals as goal

@@ -1,6 +1,4 @@
-use Rattle.std.proofs.Common.{◌≡◌, ◌∙◌, ap, sym, refl, ℤ, arith, rules, length, take}
-use Rattle.std.specs.Int.{w8, w16, w32, w64, w128, cast_unsigned, to_le_bytes}
-use Rattle.std.proofs.lemmas.Int.{to_z-of_z}
+use Rattle.std.proofs.Common.{◌∙◌, ap, take}
 use Rattle.numbers.specs.Operators.{Computes}
 use Rattle.mir_mem.proofs.Keeping.{take-le_bytes}
 use Rattle.mir_mem.proofs.kept.low_digits.Goals as goal

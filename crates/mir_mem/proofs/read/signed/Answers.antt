@@ -1,4 +1,4 @@
-use Rattle.std.proofs.Common.{◌≡◌, ◌∙◌, ap, sym, refl, ℤ, arith, rules, length}
+use Rattle.std.proofs.Common.{◌≡◌, ◌∙◌, ap, refl, arith, rules, length}
 use Rattle.std.specs.Int.{w8, w16, w32, w64, w128}
 use Rattle.std.proofs.lemmas.Int.{to_z-of_z}
 use mir.Val.{to_z, of_z}

@@ -1,8 +1,7 @@
-use Rattle.std.proofs.Common.{◌≡◌, ◌∙◌, ap, sym, refl, ℤ, arith, rules, length}
-use Rattle.std.specs.Int.{w8, w16, w32, w64, w128}
+use Rattle.std.specs.Int.{w128}
 use Rattle.std.proofs.lemmas.Int.{to_z-of_z}
 use Rattle.mir_mem.proofs.Keeping.{kept_overflow}
-use Rattle.mir_mem.proofs.table.added_signed.Goals as goal
+use Rattle.mir_mem.proofs.arithmetic.added_signed.Goals as goal
 
 pub returns-in-None-clause-answer : goal.returns-in-None-clause-answer
 returns-in-None-clause-answer c =
