@@ -1,2 +1,2 @@
 pub mod Blocks
-pub mod Cells
+pub mod CellLists

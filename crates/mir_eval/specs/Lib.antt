@@ -1,4 +1,3 @@
-pub mod Computed
 pub mod Evaluators
 pub mod Limits
 pub mod Machine

@@ -11,7 +11,6 @@ mod output;
 mod places;
 mod runs;
 mod steps;
-mod stub;
 
 pub use evaluator::{Evaluator, Turned};
 pub use limits::Limits;

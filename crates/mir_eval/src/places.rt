@@ -109,7 +109,7 @@ fn place(
 }
 
 /// One cell for each local in order, and the stack with all of them.
-#[tactic(auto, unfolding(mir::specs::Memory::cells_of), using(crate::proofs::Cells::before_one))]
+#[tactic(auto, unfolding(mir::specs::Memory::cells_of), using(crate::proofs::CellLists::before_one))]
 pub(crate) fn place_all(
     alloc: Global,
     db: &HirDatabase,

@@ -7,11 +7,11 @@ ghost use Rattle.mir_eval.specs.Steps.{interval_of, operated_bytes, frame, memor
 
 use crate::cells::{cell_of, copy, read, write, Cell};
 use crate::faults::Fault;
-use crate::stub::{compute, Computed};
 use mir::{
     BasicBlock, BasicBlockId, BinOp, MirBody, OperandKind, Place, Rvalue, Statement, StatementKind,
     Terminator, TerminatorKind,
 };
+use mir_mem::{compute, Computed};
 use numbers::{Kind, Operator};
 use world::Const;
 

@@ -1,7 +1,7 @@
 use Rattle.std.proofs.Common.{◌≡◌, drop, map}
 use Rattle.mir.specs.Memory.{cells_of, first_memory}
 use Rattle.mir_eval.specs.Steps.{interval_of, memory}
-use Rattle.mir_eval.proofs.Cells.{with_before}
+use Rattle.mir_eval.proofs.CellLists.{with_before}
 use Rattle.mir_eval.proofs.places.place_all.Given as goal
 
 -- the cells so far before those of the locals from here on are all cells
