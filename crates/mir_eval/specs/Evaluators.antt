@@ -1,19 +1,17 @@
 -- The machine that an evaluator is, and how its calls change it.
-use Rattle.std.specs.Prelude.{◌≡◌, ◌⊎◌, ℕ, Bool, true, false, if◌then◌else◌, ◌==◌, List, map, Option, Some, None, Result, Ok, Err, option_map, unwrap_or, codes}
+use Rattle.std.specs.Prelude.{◌≡◌, ◌⊎◌, ℕ, Bool, true, false, List, map, Option, Some, None, Result, Ok, Err, option_map, unwrap_or}
 use Rattle.world.specs.declared.database.HirDatabase.{HirDatabase}
 use Rattle.world.specs.declared.ids.Crate.{Crate}
 use Rattle.world.specs.declared.ids.DefWithBodyId.{DefWithBodyId}
 use Rattle.world.specs.declared.ty.Const.{Const}
 use Rattle.world.specs.Lookups.{const_row}
-use Rattle.mir.specs.declared.body.MirBody.{MirBody}
 use Rattle.mir.specs.declared.errors.MirEvalError.{MirEvalError}
 use Rattle.mir.specs.declared.errors.MirEvalError as error
-use Rattle.mir.specs.Run.{begun}
 use Rattle.mir_eval.specs.declared.evaluator.Turned.{Turned}
 use Rattle.mir_eval.specs.declared.evaluator.Turned.TheVariants as turns
 use Rattle.mir_eval.specs.declared.evaluator.Evaluator.{Evaluator}
 use Rattle.mir_eval.specs.Phases.{state_of}
-use Rattle.mir_eval.specs.Machine.{Machine, State, Fresh, Going, Over, pointer_bytes}
+use Rattle.mir_eval.specs.Machine.{Machine, State, Fresh, Going, Over}
 
 -- the machine that an evaluator is
 abbrev pub machine_of : Evaluator → Machine
@@ -23,21 +21,6 @@ machine_of evaluator =
 -- the crate of what has a body, and the first crate where the world has no row of it
 abbrev pub crate_of : HirDatabase → DefWithBodyId → Crate
 crate_of world owner = unwrap_or (option_map (λ row. row.krate) (const_row world owner)) (record { 0 = 0 })
-
--- whether a pointer has as many bytes as the machine's own
-abbrev pub is_own_width : Option ℕ → Bool
-is_own_width (Some bytes) = bytes == 8
-is_own_width None = false
-
--- the state in which a run begins, or why it can't begin
-unfoldable pub start_of : Machine → MirBody → Result State MirEvalError
-start_of machine body =
-    if is_own_width (pointer_bytes machine.world machine.owner) then
-    elim (begun machine.world body) [
-      | Ok start ↦ Ok (Going start.0 start.1 body.start_block.0 machine.blocks)
-      | Err e ↦ Err e
-    ]
-    else Err (error.NotSupported (codes "targets with different pointer size from host"))
 
 abbrev pub is_fresh : State → Bool
 is_fresh Fresh = true

@@ -2,4 +2,5 @@ pub mod Evaluators
 pub mod Limits
 pub mod Machine
 pub mod Phases
+pub mod Start
 pub mod Steps

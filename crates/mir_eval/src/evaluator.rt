@@ -3,9 +3,9 @@
 ghost use Rattle.std.specs.Prelude.{◌≡◌, ◌↔◌, ◌⊎◌, [], slice_get, option_map, option_and_then, codes, IfOk, IfErr, OnErr, IsOk, IsSome, IsTrue};
 
 ghost use Rattle.world.specs.Lookups.{const_row};
+ghost use Rattle.mir_eval.specs.Start.{is_own_width};
 ghost use Rattle.mir.specs.declared.errors.MirEvalError as error;
 
-use crate::places::place_all;
 use crate::runs::{Phase, Run};
 use crate::{Limits, MirOutput};
 use mir::{MirBody, MirEvalError};
@@ -56,6 +56,16 @@ fn crate_of(db: &HirDatabase, owner: DefWithBodyId) -> Option<Crate>
     }
 }
 
+/// Whether a pointer has as many bytes as the machine's own.
+fn is_own_width(bytes: Option<u64>) -> bool
+    ensures { result ≡ is_own_width bytes }
+{
+    match bytes {
+        Some(bytes) => bytes == 8,
+        None => false,
+    }
+}
+
 /// The refusal of a target whose pointers have another size than the machine's own.
 fn other_width(alloc: Global) -> MirEvalError
     ensures { (result ≡ error.NoMemory) ⊎ (result ≡ error.NotSupported (codes "targets with different pointer size from host")) }
@@ -68,8 +78,9 @@ fn other_width(alloc: Global) -> MirEvalError
 
 impl<'a> Evaluator<'a> {
     ghost use Rattle.mir_eval.specs.Limits.{IsWithin};
-    ghost use Rattle.mir_eval.specs.Machine.{State, Fresh, pointer_bytes, stepped, finished, turns_of};
-    ghost use Rattle.mir_eval.specs.Evaluators.{machine_of, crate_of, start_of, is_fresh, is_going, is_over, turned, outcome, Became};
+    ghost use Rattle.mir_eval.specs.Machine.{Fresh, pointer_bytes, stepped, finished, turns_of};
+    ghost use Rattle.mir_eval.specs.Start.{start_of};
+    ghost use Rattle.mir_eval.specs.Evaluators.{machine_of, crate_of, is_fresh, is_going, is_over, turned, outcome, Became};
 
     /// A machine for a body that belongs to `owner`. It takes no memory. The refusal is
     /// `TargetDataLayoutNotAvailable`, exactly where the size of a pointer of the owner's crate isn't
@@ -104,26 +115,20 @@ impl<'a> Evaluator<'a> {
     /// Begins a run of the body. The refusals, in this order: `NotSupported` where the pointers of the
     /// owner's crate have another size than 8 bytes; `LayoutError` or `TypeIsUnsized` for the first
     /// local whose type has no layout or no size; `NoMemory`. After a refusal nothing was begun.
-    #[tactic(auto, unfolding(crate::specs::Evaluators::start_of, mir::specs::Run::begun))]
+    #[tactic(auto, unfolding(crate::specs::Start::start_of))]
     pub fn begin(&mut self, body: Rc<MirBody>) -> Result<(), MirEvalError>
         requires { IsTrue (is_fresh (machine_of self.old).state) }
-        ensures began { IfOk result (λ _. (start : State) × (start_of (machine_of self.old) body.value ≡ Ok start) × (machine_of self.new ≡ record (machine_of self.old) { state = start })) }
+        ensures began { IfOk result (λ _. start_of (machine_of self.old) body.value ≡ Ok (machine_of self.new).state) }
+        ensures kept { machine_of self.new ≡ record (machine_of self.old) { state = (machine_of self.new).state } }
         ensures refused { IfErr result (λ e. (e ≡ error.NoMemory) ⊎ (start_of (machine_of self.old) body.value ≡ Err e)) }
         ensures unchanged { OnErr result (machine_of self.new ≡ machine_of self.old) }
     {
-        if pointer_bytes(self.db, crate_of(self.db, self.owner)) != Some(8) {
+        if !is_own_width(pointer_bytes(self.db, crate_of(self.db, self.owner))) {
             return Err(other_width(self.alloc));
         }
-        match place_all(self.alloc, self.db, body.locals.as_slice()) {
-            Ok(placed) => {
-                let block = body.start_block;
-                self.phase = Phase::Going(Run {
-                    body,
-                    cells: placed.cells,
-                    stack: placed.stack,
-                    block,
-                    left: self.blocks,
-                });
+        match Run::start(self.alloc, self.db, body, self.blocks) {
+            Ok(run) => {
+                self.phase = Phase::Going(run);
                 Ok(())
             }
             Err(e) => Err(e),

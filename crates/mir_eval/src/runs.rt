@@ -1,15 +1,16 @@
 //! A run that has begun, and the phases of an evaluator.
 
-ghost use Rattle.std.specs.Prelude.{◌≡◌, IfSome, IfNone};
+ghost use Rattle.std.specs.Prelude.{◌≡◌, ◌⊎◌, IfOk, IfErr, IfSome, IfNone};
 
 use crate::cells::Cell;
 use crate::outcomes::outcome;
+use crate::places::place_all;
 use crate::steps::{enter, enter_all, Exit};
 use crate::faults::Fault;
 use mir::{BasicBlockId, MirBody, MirEvalError};
 use std::alloc::Global;
 use std::rc::Rc;
-use world::Const;
+use world::{Const, HirDatabase};
 
 /// A run that has begun and isn't over.
 #[derive(Drop)]
@@ -36,9 +37,38 @@ pub(crate) enum Phase {
 }
 
 impl Run {
+    ghost use Rattle.mir.specs.declared.errors.MirEvalError as error;
+    ghost use Rattle.mir.specs.Run.{begun};
     ghost use Rattle.mir_eval.specs.Machine.{Over, outcome_of, stepped, finished};
     ghost use Rattle.mir_eval.specs.Steps.{ending_of};
+    ghost use Rattle.mir_eval.specs.Start.{started};
     ghost use Rattle.mir_eval.specs.Phases.{going, Reached};
+
+    /// The run of a body that may enter so many blocks, before its first.
+    #[tactic(auto, unfolding(mir::specs::Run::begun))]
+    pub(crate) fn start(
+        alloc: Global,
+        db: &HirDatabase,
+        body: Rc<MirBody>,
+        blocks: u64,
+    ) -> Result<Run, MirEvalError>
+        ensures ok { IfOk result (λ run. started (begun db.now body.value) body.value.start_block.0 blocks ≡ Ok (going run)) }
+        ensures err { IfErr result (λ e. (e ≡ error.NoMemory) ⊎ (begun db.now body.value ≡ Err e)) }
+    {
+        match place_all(alloc, db, body.locals.as_slice()) {
+            Ok(placed) => {
+                let block = body.start_block;
+                Ok(Run {
+                    body,
+                    cells: placed.cells,
+                    stack: placed.stack,
+                    block,
+                    left: blocks,
+                })
+            }
+            Err(e) => Err(e),
+        }
+    }
 
     /// The run, over.
     fn over(&self, alloc: Global, end: Result<(), Fault>, left: u64) -> Phase
