@@ -7,3 +7,7 @@ pub record IsWithin (limits : Limits) : Type 0 where
   pub blocks : limits.blocks ≤ 2 ^ 63
   pub nesting : limits.nesting ≤ 1000
   pub bytes : limits.bytes ≤ 2 ^ 59
+
+-- the limits of a run for which none were asked
+abbrev pub default_limits : Limits
+default_limits = record { blocks = 10000000; nesting = 100; bytes = 1000000000 }
