@@ -1,5 +1,5 @@
 -- What lowering each form does, from what lowering its parts does.
-use Rattle.std.proofs.Common.{◌≡◌, ◌≢◌, ℕ, zero, suc, ◌+◌, ◌<◌, ◌≤◌, ◌⊎◌, ⊎_elim, inl, inr, Bool, true, false, cond, List, [], ◌∷◌, ◌++◌, length, Option, Some, None, Result, Ok, Err, refl, sym, ap, ◌∙◌, subst, arith, append_assoc, append_nil, eqb}
+use Rattle.std.proofs.Common.{◌≡◌, ◌≢◌, ℕ, zero, suc, ◌+◌, ◌<◌, ◌≤◌, ◌⊎◌, ⊎_elim, inl, inr, Bool, true, false, cond, List, [], ◌∷◌, ◌++◌, length, Option, Some, None, Result, Ok, Err, refl, sym, ap, ◌∙◌, subst, arith, append_assoc, append-nil, eqb}
 use Rattle.std.specs.Prelude.{slice_get, option_map, option_and_then}
 use borrow.Author.Tests.{eqb-true}
 use Rattle.world.specs.declared.body.ArithOp.TheVariants as arith_op
@@ -37,7 +37,7 @@ use Rattle.mir_lower.specs.Growth.{Grows, IsSound, IsOpen, count_at}
 use Rattle.mir_lower.specs.Literals.{IsLiteral}
 use Rattle.mir_lower.specs.Lowered.{Keeps, marks, LowersInto, LowersPlace, LowersOperand}
 use Rattle.mir_lower.specs.Simulates.{EndsWithin}
-use Rattle.source_meaning.proofs.Marked.{marked_in_literal, marked_in_sum}
+use Rattle.source_meaning.proofs.Depth.{marked_in_literal, marked_in_sum}
 use Rattle.mir_lower.proofs.Lists.{slice_get_in}
 use Rattle.mir_lower.proofs.Growing.{grows-refl, grows-trans, with_statement-grows, with_temp-grows, with_mark-grows, temp_of-with_temp_same}
 use Rattle.mir_lower.proofs.Holding.{assigns, interval-of}
@@ -45,13 +45,14 @@ use Rattle.mir_lower.proofs.Reaching.{comes-refl, reaches-after, reaches-then}
 use Rattle.mir_lower.proofs.Running.{comes-statement, ends-statement}
 use Rattle.mir_lower.proofs.Sound.{with_statement-sound, with_statement-open, with_statement-scope, with_statement-temps, with_temp-sound, with_temp-open, with_temp-scope, with_mark-sound, with_mark-open}
 
+by_test : {A : Type 0} (m n : ℕ) (fits not : A) (b : Bool) → eqb m n ≡ b → ((m ≡ n) × (cond b fits not ≡ fits)) ⊎ (cond b fits not ≡ not)
+by_test m n fits not true is = inl (eqb-true m n is, refl)
+by_test m n fits not false is = inr refl
+
 -- the test that a write's bytes fit their cell
 put-cases : (store : Store) (path : Path) (bytes : List ℕ) → ((length bytes ≡ length (store path.cell)) × (put store path bytes ≡ Go tt (with_cell_bytes store path.cell bytes) no_cost)) ⊎ (put store path bytes ≡ Stuck)
 unfolding put
-put-cases store path bytes = by_test (eqb (length bytes) (length (store path.cell))) refl where
-  by_test : (b : Bool) → eqb (length bytes) (length (store path.cell)) ≡ b → ((length bytes ≡ length (store path.cell)) × (cond b (Go tt (with_cell_bytes store path.cell bytes) no_cost) Stuck ≡ Go tt (with_cell_bytes store path.cell bytes) no_cost)) ⊎ (cond b (Go tt (with_cell_bytes store path.cell bytes) no_cost) Stuck ≡ Stuck)
-  by_test true is = inl (eqb-true _ _ is, refl)
-  by_test false is = inr refl
+put-cases store path bytes = by_test (length bytes) (length (store path.cell)) (Go tt (with_cell_bytes store path.cell bytes) no_cost) Stuck (eqb (length bytes) (length (store path.cell))) refl
 
 pub local_of-grows : (old new : Shape) → Grows old new → (c : Cell) (l : ℕ) → local_of old c ≡ Some l → local_of new c ≡ Some l
 local_of-grows old new grows Slot l h = h
@@ -103,7 +104,7 @@ literal-operand source whole frame s e literal operand form is (suc fuel) store 
     let gives : operand_of source (level_at source fuel) e (node source e) store ≡ Go (Literally (constant_bytes is.konst)) store no_cost =
       ap (λ f. operand_of source (level_at source fuel) e f store) form ∙ ap (literal_operand store) is.bytes in
     subst (Reaches frame (here s) (here s) memory (λ value after later. Holds whole frame after later × Fits source whole frame e value operand)) (sym gives)
-      (0, memory, omega arith, comes-refl frame (here s) memory, holds, literal-fits source whole frame e literal operand is)
+      (0, memory, omega arith, comes-refl frame (here s) memory, (holds, literal-fits source whole frame e literal operand is))
 
 literal-marks : (source : Source) (e : ℕ) (literal : Literal) → node source e ≡ Some (expr.Literal literal) → marked_as_operand source (marks source) e ≡ []
 literal-marks source e literal form = ap (λ f. cond (is_literal f) [] (e ∷ marks source e)) form
@@ -114,7 +115,7 @@ lowers-literal-operand source s e literal operand sound opened form is =
     record {
       keeps = record {
         grows = grows-refl s; sound = sound; «open» = opened;
-        scope = sym (ap (λ m. s.scope ++ m) (literal-marks source e literal form) ∙ append_nil s.scope);
+        scope = sym (ap (λ m. s.scope ++ m) (literal-marks source e literal form) ∙ append-nil s.scope);
       };
       does = record { reaches = λ whole frame grows whole-sound frame-is fuel store memory holds. literal-operand source whole frame s e literal operand form is fuel store memory holds };
     }
@@ -143,7 +144,7 @@ lowers-literal source s new e literal place operand span sound opened form is sa
           grows = with_statement-grows st s opened;
           sound = with_statement-sound source st s opened sound;
           «open» = with_statement-open st s opened;
-          scope = with_statement-scope st s opened ∙ sym (ap (λ m. s.scope ++ m) (literal-no-marks source e literal form) ∙ append_nil s.scope);
+          scope = with_statement-scope st s opened ∙ sym (ap (λ m. s.scope ++ m) (literal-no-marks source e literal form) ∙ append-nil s.scope);
         };
         does = record {
           reaches = λ whole frame grows whole-sound frame-is fuel store memory holds.
@@ -175,8 +176,8 @@ place-operand source old new whole frame e place sound is grows does form (suc f
         ((level_at source fuel).place e store) (λ path later. Go (At path) later no_cost)
         (does.reaches whole frame grows sound is fuel store memory holds)
         (λ path after middle claims.
-          (0, middle, omega arith, comes-refl frame (here new) middle, claims.0,
-           subst (λ (p : Path). Fits source whole frame e (At p) (Copy place)) (sym claims.1) (place-fits source whole frame e place sound is (grows.temps e place.local.0 does.found))))) where
+          (0, middle, omega arith, comes-refl frame (here new) middle, (claims.0,
+           subst (λ (p : Path). Fits source whole frame e (At p) (Copy place)) (sym claims.1) (place-fits source whole frame e place sound is (grows.temps e place.local.0 does.found)))))) where
   no-literal : (form : Option Expr) → is_literal form ≡ false → operand_of source (level_at source fuel) e form store ≡ then_do ((level_at source fuel).place e store) (λ path later. Go (At path) later no_cost)
   no-literal (Some (expr.Literal literal)) is = cc
   no-literal _ is = refl
@@ -207,7 +208,7 @@ into-place source from middle new whole frame e does grows sound is live (suc fu
     reaches-then frame (here from) (here new) (here new) memory (λ _ after later. Holds whole frame after later) (λ path after later. Holds whole frame after later × (path ≡ record { cell = Node e }))
       ((level_at source fuel).into e (record { cell = Node e }) store) (λ _ later. Go (record { cell = Node e }) later no_cost)
       (reaches-from (here from) (here middle) (live memory) ((level_at source fuel).into e (record { cell = Node e }) store) (does.reaches whole frame grows sound is fuel store memory holds))
-      (λ value after later claims. (0, later, omega arith, comes-refl frame (here new) later, claims, refl)) where
+      (λ value after later claims. (0, later, omega arith, comes-refl frame (here new) later, (claims, refl))) where
   reaches-from : (p q : Point) → Comes frame 0 p memory q memory → (end : End (Unit {0})) → Reaches frame q (here new) memory (λ _ after later. Holds whole frame after later) end → Reaches frame p (here new) memory (λ _ after later. Holds whole frame after later) end
   reaches-from p q comes end reaches =
       subst (Reaches frame p (here new) memory (λ _ after later. Holds whole frame after later)) (no-cost-before end)

@@ -2,6 +2,7 @@
 use Rattle.std.proofs.Common.{◌≡◌, ◌≢◌, ℕ, zero, suc, ◌+◌, ◌<◌, ◌≤◌, ◌⊎◌, ⊎_elim, inl, inr, Bool, true, false, cond, List, [], ◌∷◌, ◌++◌, length, Option, Some, None, Result, Ok, Err, refl, sym, ap, ◌∙◌, subst, arith, eqb}
 use Rattle.std.specs.Prelude.{slice_get, option_and_then, ◌==◌}
 use Rattle.std.proofs.lemmas.Bool.{cases_eq}
+use Rattle.std.proofs.lemmas.Bool.Decides.{nat_tests}
 use Rattle.std.proofs.lemmas.Option.{option_and_then_some}
 use Rattle.mir.specs.declared.errors.MirEvalError.{MirEvalError}
 use Rattle.mir.specs.declared.operand.Place.{Place}
@@ -18,10 +19,10 @@ use Rattle.mir_lower.proofs.Stack.{length-bytes_at, can_write, read-written, rea
 -- one cell or two, and where it is one, `same_cell` says so
 same_cell-refl : (c : Cell) → same_cell c c ≡ true
 same_cell-refl Slot = refl
-same_cell-refl (Node e) = eqb-refl e where
-  eqb-refl : (n : ℕ) → eqb n n ≡ true
-  eqb-refl zero = refl
-  eqb-refl (suc n) = eqb-refl n
+same_cell-refl (Node e) = grind (arith, nat_tests)
+
+unequal : (m n : ℕ) → m ≢ n → eqb m n ≡ false
+unequal m n differ = grind (arith, nat_tests)
 
 cells : (c d : Cell) → ((c ≡ d) × (same_cell c d ≡ true)) ⊎ ((c ≢ d) × (same_cell c d ≡ false))
 cells Slot Slot = inl (refl, refl)
@@ -29,12 +30,7 @@ cells Slot (Node e) = inr ((λ same. cc), refl)
 cells (Node e) Slot = inr ((λ same. cc), refl)
 cells (Node e) (Node f) =
     ⊎_elim (λ same. inl (ap Node same, ap (λ g. same_cell (Node e) (Node g)) (sym same) ∙ same_cell-refl (Node e)))
-      (λ differ. inr ((λ same. differ (let parts : e ≡ f = cc in parts)), unequal e f differ)) (cases_eq e f) where
-  unequal : (m n : ℕ) → m ≢ n → eqb m n ≡ false
-  unequal zero zero differ = absurd (differ refl)
-  unequal zero (suc n) differ = refl
-  unequal (suc m) zero differ = refl
-  unequal (suc m) (suc n) differ = unequal m n (λ same. differ (ap suc same))
+      (λ differ. inr ((λ same. differ (let parts : e ≡ f = cc in parts)), unequal e f differ)) (cases_eq e f)
 
 -- no two cells share a local
 local_of-own : (source : Source) (s : Shape) → IsSound source s → (c d : Cell) (l : ℕ) → local_of s c ≡ Some l → local_of s d ≡ Some l → c ≡ d

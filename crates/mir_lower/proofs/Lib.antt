@@ -3,6 +3,7 @@ pub mod Growing
 pub mod Holding
 pub mod Leaving
 pub mod Lists
+pub mod Numbers
 pub mod Reaching
 pub mod Running
 pub mod Sound

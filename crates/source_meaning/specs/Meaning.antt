@@ -13,7 +13,7 @@ use Rattle.world.specs.Lookups.{is_copy}
 use Rattle.numbers.specs.Bytes.{low_bytes}
 use Rattle.numbers.specs.declared.operator.Kind.{Kind}
 use Rattle.numbers.specs.Operators.{Answer, Computes, Panics, Undefined, computed, of_arith, kind_of}
-use Rattle.source_meaning.specs.Ends.{no_cost, so_many_turns, End, Go, Panic, Stuck, More, after, then_do}
+use Rattle.source_meaning.specs.Ends.{no_cost, so_many_turns, End, Go, Panic, Stuck, More, after, then_do, IsOver}
 use Rattle.source_meaning.specs.Source.{Source, node, node_type, node_layout, root, Result, Node, Path, Store, zeroed, with_cell_bytes, Operand, Literally, At, operand_bytes, marked_in}
 
 -- the number that a literal is
@@ -120,3 +120,4 @@ meaning_of source fuel =
 pub record Gives (source : Source) (end : End (List ℕ)) : Type 0 where
   pub fuel : ℕ
   pub reached : meaning_of source fuel ≡ end
+  pub over : IsOver end
