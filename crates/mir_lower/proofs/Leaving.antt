@@ -15,7 +15,7 @@ use Rattle.mir.specs.Memory.{Memory, bytes_at}
 use Rattle.mir.specs.Run.{Frame, Ended, Ending, Next, Stops, GoesTo, Faulted, Returned, returned, after_statement, after_statements, terminated, next_from, going_on, running, entering, out_of_blocks}
 use Rattle.source_meaning.specs.Source.{Source}
 use Rattle.mir_lower.specs.Does.{Point, here, run_from, local_bytes, IsFrameOf, Comes}
-use Rattle.mir_lower.specs.Graph.{Shape, no_statements, ended, with_statement, with_terminator, with_block}
+use Rattle.mir_lower.specs.Graph.{Shape, no_statements, ended, with_statement, with_terminator, with_block, temp_of}
 use Rattle.mir_lower.specs.Growth.{terminator_at, statement_at, count_at, Grows, IsSound, IsOpen}
 use Rattle.mir_lower.specs.Leaving.{Leaves}
 use Rattle.mir_lower.specs.Simulates.{EndsWithin}
@@ -23,7 +23,7 @@ use Rattle.mir_lower.proofs.Growing.{current_of, grows-refl, grows-trans, with_s
 use Rattle.mir_lower.proofs.Lists.{slice_get-last, slice_get-set_same}
 use Rattle.mir_lower.proofs.Reaching.{comes-refl, comes-trans}
 use Rattle.mir_lower.proofs.Running.{here-is, comes-statement}
-use Rattle.mir_lower.proofs.Sound.{with_statement-sound, with_statement-open, with_terminator-sound, with_block-sound, with_block-open}
+use Rattle.mir_lower.proofs.Sound.{sound_by, with_statement-sound, with_statement-open, with_terminator-sound, with_block-sound, with_block-open}
 
 drop_all : {A : Type 0} (xs : List A) → drop (length xs) xs ≡ []
 drop_all [] = refl
@@ -69,7 +69,7 @@ here-with_block : (s : Shape) → here (with_block s) ≡ record { block = lengt
 unfolding with_block count_at
 here-with_block s = ap (λ (o : Option BasicBlock). record { block = length s.blocks; index = unwrap_or (option_map (λ (b : BasicBlock). length b.statements) o) 0 }) (slice_get-last s.blocks no_statements)
 
-entering-none : (frame : Frame) (memory : Memory) (block : ℕ) → entering 0 frame memory block ≡ out_of_blocks
+pub entering-none : (frame : Frame) (memory : Memory) (block : ℕ) → entering 0 frame memory block ≡ out_of_blocks
 unfolding entering
 entering-none frame memory block = refl
 
@@ -148,4 +148,30 @@ ends-return s whole frame span memory bytes opened grows is slot =
         ∙ run-terminator (record { span = span; kind = Return }) s whole frame opened grows is memory more
         ∙ ap (λ o. record { ending = returned o; left = more }) slot;
       with_fewer = λ fewer less. absurd (omega arith);
+    }
+
+-- the scope itself counts for nothing
+pub sound-scope : (source : Source) (s : Shape) (scope : List ℕ) → IsSound source s → IsSound source (record s { scope = scope })
+sound-scope source s scope sound = sound_by source s (record s { scope = scope }) refl refl sound
+
+pub open-scope : (s : Shape) (scope : List ℕ) → IsOpen s → IsOpen (record s { scope = scope })
+unfolding terminator_at
+open-scope s scope opened = record { there = opened.there; unended = opened.unended }
+
+grows-scope : (s : Shape) (scope : List ℕ) → Grows s (record s { scope = scope })
+unfolding statement_at temp_of
+grows-scope s scope = record { statements = λ b i x h. h; ended = λ b block t h is. h; locals = λ i l h. h; temps = λ e l h. h }
+
+here-scope : (s : Shape) (scope : List ℕ) → here (record s { scope = scope }) ≡ here s
+unfolding count_at
+here-scope s scope = refl
+
+pub leaves-scope : (source : Source) (s new : Shape) (scope : List ℕ) (turns : ℕ) → IsOpen s → Leaves source (record s { scope = scope }) new turns → Leaves source s new turns
+leaves-scope source s new scope turns opened leaves =
+    record {
+      grows = grows-trans s (record s { scope = scope }) new (grows-scope s scope) leaves.grows;
+      sound = leaves.sound;
+      «open» = leaves.«open»;
+      comes = λ whole frame grows is memory.
+        subst (λ (p : Point). Comes frame turns p memory (here new) memory) (here-scope s scope) (leaves.comes whole frame grows is memory);
     }

@@ -1,5 +1,6 @@
 pub mod Contexts
 pub mod Does
+pub mod Form
 pub mod Graph
 pub mod Growth
 pub mod Leaving

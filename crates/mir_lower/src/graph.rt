@@ -3,9 +3,9 @@
 ghost use Rattle.std.specs.Prelude.{◌≡◌, ◌<◌, ◌^◌, ℕ, length, IfOk, OnOk, Some, None, slice_get};
 ghost use Rattle.mir_lower.specs.Graph.{shape, first_shape, with_statement, with_terminator, with_block, with_temp, with_mark, temp_of, no_statements};
 
-use mir::{BasicBlock, BasicBlockId, Local, LocalId, Statement, Terminator};
+use mir::{BasicBlock, BasicBlockId, Local, LocalId, MirBody, Statement, Terminator};
 use std::alloc::Global;
-use world::{ExprId, List, NoMemory, Ty};
+use world::{DefWithBodyId, ExprId, List, NoMemory, Ty};
 
 /// An expression that was given a local in the scope that is open.
 #[derive(Clone, Copy)]
@@ -132,5 +132,21 @@ impl Graph {
         };
         self.mark(node, local)?;
         Ok(local)
+    }
+
+    /// The body with these blocks and locals. It takes no memory.
+    pub fn into_body(self, owner: DefWithBodyId) -> MirBody
+        ensures blocks { result.basic_blocks ≡ (shape self).blocks }
+        ensures locals { result.locals ≡ (shape self).locals }
+        ensures start { result.start_block.0 ≡ 0 }
+        ensures owner { result.owner ≡ owner }
+    {
+        let Graph { blocks, locals, .. } = self;
+        MirBody {
+            basic_blocks: List::from_vec(blocks),
+            locals,
+            start_block: BasicBlockId(0),
+            owner,
+        }
     }
 }

@@ -10,16 +10,25 @@ ghost use Rattle.world.specs.declared.body.Expr.TheVariants as expr;
 ghost use Rattle.world_check.specs.Checked.{IsCheckedBody};
 ghost use Rattle.mir_lower.specs.Contexts.{source_of};
 ghost use Rattle.mir_lower.specs.Does.{local_of};
+ghost use Rattle.mir_lower.specs.Form.{HasForm};
 ghost use Rattle.mir_lower.specs.Graph.{shape, with_statement};
 ghost use Rattle.mir_lower.specs.Growth.{IsSound, IsOpen};
 ghost use Rattle.mir_lower.specs.Lowered.{LowersInto, LowersPlace, LowersOperand};
 ghost use Rattle.mir_lower.specs.Refusals.{RefusesAt};
 
 use crate::context::Context;
+use crate::form::{Form, form_of};
 use crate::graph::Graph;
 use crate::literal::{form_not_built, lower_literal, node_ty};
 use mir::{BinOp, MirLowerError, MirSpan, Operand, OperandKind, Place, Rvalue, Statement, StatementKind};
-use world::{ArithOp, BinaryOp, Expr, ExprId, TryClone};
+use world::{ExprId, TryClone};
+
+/// The form of an expression of the body.
+fn form_at<'a>(context: &Context<'a>, e: ExprId) -> Form<'a>
+    ensures { HasForm (node (source_of context.now) e.0) result }
+{
+    form_of(context.body.exprs.get(e.0 as u64))
+}
 
 /// An expression as an operand: a number literal as it stands, and any other by its place.
 #[cycle(lower)]
@@ -35,8 +44,8 @@ pub(crate) fn lower_operand(
     ensures lowered { IfOk result (λ operand. LowersOperand (source_of context.now) (shape graph.old) (shape graph.new) e.0 operand.kind) }
     ensures refused { IfErr result (RefusesAt (source_of context.now) e.0) }
 {
-    match context.body.exprs.get(e.0 as u64) {
-        Some(Expr::Literal(literal)) => lower_literal(context, e, literal),
+    match form_at(context, e) {
+        Form::Literal(literal) => lower_literal(context, e, literal),
         _ => {
             let place = lower_place(context, graph, e)?;
             Ok(Operand {
@@ -91,18 +100,14 @@ pub(crate) fn lower_into(
         → LowersInto (source_of context.now) (shape graph.old) (shape graph.new) e.0 cell) }
     ensures refused { IfErr result (RefusesAt (source_of context.now) e.0) }
 {
-    match context.body.exprs.get(e.0 as u64) {
-        Some(Expr::Literal(literal)) => {
+    match form_at(context, e) {
+        Form::Literal(literal) => {
             let operand = lower_literal(context, e, literal)?;
             assign(graph, place, Rvalue::Use(operand), e)
         }
-        Some(Expr::BinaryOp { op: None, .. }) => Err(MirLowerError::IncompleteExpr),
-        Some(Expr::BinaryOp {
-            lhs,
-            rhs,
-            op: Some(BinaryOp::ArithOp(ArithOp::Add)),
-        }) => lower_sum(context, graph, e, *lhs, *rhs, place),
-        _ => Err(form_not_built(context.alloc)),
+        Form::Sum(lhs, rhs) => lower_sum(context, graph, e, lhs, rhs, place),
+        Form::NoOperator => Err(MirLowerError::IncompleteExpr),
+        Form::Unbuilt => Err(form_not_built(context.alloc)),
     }
 }
 
