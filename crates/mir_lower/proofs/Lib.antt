@@ -1,3 +1,4 @@
+pub mod Aligned
 pub mod Drops
 pub mod Forms
 pub mod Growing

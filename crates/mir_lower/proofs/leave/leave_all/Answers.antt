@@ -26,5 +26,5 @@ pub returns : goal.returns
 returns c =
     let source = source_of c.args.context.now in
     let all = c.loop-marked.invariant in
-    let none = no-drops source c.loop-marked.scope.items (let empty = c.in_default.ensures.cases.0 in c.loop-marked.scope.ok.0 ∙ empty) in
+    let none = no-drops source c.loop-marked.scope.items (let empty = c.in_default.ensures.cases.0 in sym c.loop-marked.scope.ok.0 ∙ empty) in
     subst (λ (n : ℕ). Leaves source (shape c.args.graph.now) (shape c.loop-marked.graph) n) (let sum = all.2 in omega (arith, none, sum)) all.1

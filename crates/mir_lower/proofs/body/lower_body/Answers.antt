@@ -1,0 +1,53 @@
+-- From the first graph through the root, the scope that is left, and the return.
+use Rattle.std.proofs.Common.{◌≡◌, ℕ, List, Some, refl, sym, ap, ◌∙◌, subst}
+use Rattle.mir.specs.declared.body.TerminatorKind.TheVariants.{Return}
+use Rattle.mir.specs.declared.span.MirSpan.TheVariants.{ExprId}
+use Rattle.source_meaning.specs.Source.{root, Result}
+use Rattle.mir_lower.specs.Contexts.{source_of}
+use Rattle.mir_lower.specs.Graph.{Shape, shape, first_shape}
+use Rattle.mir_lower.specs.Growth.{IsSound, IsOpen}
+use Rattle.mir_lower.specs.Leaving.{Leaves, drops}
+use Rattle.mir_lower.specs.Lowered.{LowersInto}
+use Rattle.mir_lower.specs.Refusals.{RefusesAt}
+use Rattle.mir_lower.proofs.Aligned.{are-aligned}
+use Rattle.mir_lower.proofs.Refused.{refuses-no-memory, refused-exit}
+use Rattle.mir_lower.proofs.Whole.{first-sound, first-open, whole-simulates}
+use Rattle.mir_lower.proofs.body.lower_body.Goals as goal
+
+pub returns-in_err-ty-clause-refused : goal.returns-in_err-ty-clause-refused
+returns-in_err-ty-clause-refused c =
+    refused-exit (RefusesAt (source_of c.args.context.now) (root (source_of c.args.context.now))) _ c.from_residual.result c.from_residual.ensures.1 (refuses-no-memory (source_of c.args.context.now) (root (source_of c.args.context.now)))
+
+pub returns-in_err-graph-clause-refused : goal.returns-in_err-graph-clause-refused
+returns-in_err-graph-clause-refused c =
+    refused-exit (RefusesAt (source_of c.args.context.now) (root (source_of c.args.context.now))) _ c.from_residual-in_err-graph.result c.from_residual-in_err-graph.ensures.1 (refuses-no-memory (source_of c.args.context.now) (root (source_of c.args.context.now)))
+
+pub lower_into-requires-clause-sound : goal.lower_into-requires-clause-sound
+lower_into-requires-clause-sound c =
+    let source = source_of c.args.context.now in
+    subst (IsSound source) (sym c.in_ok-graph.ensures) (first-sound source c.in_ok-ty.ty c.len.result c.len.ensures (sym c.in-Some.ensures ∙ ap Some (sym c.in_ok-ty.ensures)))
+
+pub lower_into-requires-clause-opened : goal.lower_into-requires-clause-opened
+lower_into-requires-clause-opened c = subst IsOpen (sym c.in_ok-graph.ensures) (first-open c.in_ok-ty.ty c.len.result)
+
+pub leave_scope-requires-clause-sound : goal.leave_scope-requires-clause-sound
+leave_scope-requires-clause-sound c = (c.in_ok-lower_into.ensures.lowered Result refl).keeps.sound
+
+pub leave_scope-requires-clause-opened : goal.leave_scope-requires-clause-opened
+leave_scope-requires-clause-opened c = (c.in_ok-lower_into.ensures.lowered Result refl).keeps.«open»
+
+pub returns-in_err-leave_scope-clause-refused : goal.returns-in_err-leave_scope-clause-refused
+returns-in_err-leave_scope-clause-refused c =
+    refused-exit (RefusesAt (source_of c.args.context.now) (root (source_of c.args.context.now))) _ c.from_residual-in_err-leave_scope.result c.from_residual-in_err-leave_scope.ensures.1 (refuses-no-memory (source_of c.args.context.now) (root (source_of c.args.context.now)))
+
+pub returns-clause-simulates : goal.returns-clause-simulates
+returns-clause-simulates c =
+    let source = source_of c.args.context.now in
+    let s1 = shape c.lower_into.new.graph in
+    let s2 = shape c.leave_scope.new.graph in
+    let into : LowersInto source (first_shape c.in_ok-ty.ty c.len.result) s1 (root source) Result = subst (λ (s : Shape). LowersInto source s s1 (root source) Result) c.in_ok-graph.ensures (c.in_ok-lower_into.ensures.lowered Result refl) in
+    let leaves = subst (λ (scope : List ℕ). Leaves source s1 s2 (drops source scope)) into.keeps.scope c.in_ok-leave_scope.ensures in
+    whole-simulates source c.in_ok-ty.ty c.len.result s1 s2 (ExprId c.args.context.now.body.now.body_expr) c.into_body.result (are-aligned source.world c.requires.world) into leaves
+      (c.into_body.ensures.blocks ∙ ap (λ (s : Shape). s.blocks) c.set_terminator.ensures)
+      (c.into_body.ensures.locals ∙ ap (λ (s : Shape). s.locals) c.set_terminator.ensures)
+      c.into_body.ensures.start
