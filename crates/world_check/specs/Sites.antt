@@ -116,15 +116,22 @@ infer_range_sites body infer b =
     ∷ site (Row Bodies b) (list_all (λ id. is_in_range body.exprs id.0) infer.mismatches)
     ∷ []
 
+abbrev pub exprs_range_sites : ℕ → Body → List Site
+exprs_range_sites b body =
+    site (Nodes b Exprs) (is_nameable body.exprs) ∷ each (expr_range_sites body b) 0 body.exprs
+
+abbrev pub pats_range_sites : ℕ → Body → List Site
+pats_range_sites b body =
+    site (Nodes b Pats) (is_nameable body.pats) ∷ each (pat_range_sites body b) 0 body.pats
+
+abbrev pub rest_range_sites : ℕ → BodyRow → List Site
+rest_range_sites b row =
+    site (Nodes b Bindings) (is_nameable row.body.bindings)
+    ∷ site (Row Bodies b) (is_in_range row.body.exprs row.body.body_expr.0)
+    ∷ infer_range_sites row.body row.infer b
+
 abbrev pub body_range_sites : ℕ → BodyRow → List Site
-body_range_sites b row = let body = row.body in
-    site (Nodes b Exprs) (is_nameable body.exprs)
-    ∷ each (expr_range_sites body b) 0 body.exprs
-    ++ (site (Nodes b Pats) (is_nameable body.pats)
-    ∷ each (pat_range_sites body b) 0 body.pats
-    ++ (site (Nodes b Bindings) (is_nameable body.bindings)
-    ∷ site (Row Bodies b) (is_in_range body.exprs body.body_expr.0)
-    ∷ infer_range_sites body row.infer b))
+body_range_sites b row = exprs_range_sites b row.body ++ (pats_range_sites b row.body ++ rest_range_sites b row)
 
 -- no earlier row of the table has the key
 abbrev pub is_first_with_key : List (Ty × Layout) → ℕ → Ty → Bool
@@ -133,14 +140,18 @@ is_first_with_key rows i key = not (list_any (λ row. ty_eq row.0 key) (take i r
 abbrev pub key_sites : List (Ty × Layout) → ℕ → Ty × Layout → List Site
 key_sites rows i row = site (Row Layouts i) (is_first_with_key rows i row.0) ∷ []
 
-abbrev pub range_sites : HirDatabase → List Site
-range_sites world =
+abbrev pub consts_range_sites : HirDatabase → List Site
+consts_range_sites world =
     site (Table Crates) (is_nameable world.crates)
     ∷ site (Table Consts) (is_nameable world.consts)
     ∷ each (const_sites world) 0 world.consts
-    ++ (site (Table Bodies) (is_nameable world.bodies)
-    ∷ each body_range_sites 0 world.bodies
-    ++ each (key_sites world.layouts) 0 world.layouts)
+
+abbrev pub bodies_range_sites : HirDatabase → List Site
+bodies_range_sites world = site (Table Bodies) (is_nameable world.bodies) ∷ each body_range_sites 0 world.bodies
+
+abbrev pub range_sites : HirDatabase → List Site
+range_sites world =
+    consts_range_sites world ++ (bodies_range_sites world ++ each (key_sites world.layouts) 0 world.layouts)
 
 -- Bodies are trees.
 

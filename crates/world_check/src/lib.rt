@@ -3,8 +3,11 @@
 #![tactic(auto)]
 
 mod checked_world;
+mod children;
 mod fault;
+mod layouts;
 mod place;
+mod ranges;
 mod rows;
 
 pub use checked_world::CheckedWorld;
