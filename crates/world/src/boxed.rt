@@ -1,6 +1,6 @@
 ghost use Rattle.std.specs.Prelude.{◌≡◌, IfOk};
 
-use crate::NoMemory;
+use crate::{NoMemory, TryClone};
 use std::alloc::Global;
 use std::boxed::Box as HeapBox;
 use std::cmp::Ordering;
@@ -45,6 +45,13 @@ impl<T: Drop> Box<T> {
     {
         let inner = HeapBox::new(alloc, value)?;
         Ok(Box { inner })
+    }
+}
+
+impl<T: TryClone + Drop> TryClone for Box<T> {
+    fn try_clone(&self, alloc: Global) -> Result<Box<T>, NoMemory> {
+        let value = self.as_ref().try_clone(alloc)?;
+        Box::new(alloc, value)
     }
 }
 

@@ -8,7 +8,7 @@ ghost use Rattle.std.specs.Hash as fed;
 ghost use Rattle.std.specs.Ordering.{nat_cmp, as_partial_cmp};
 ghost use Rattle.std.proofs.Common.{rules};
 
-use crate::NoMemory;
+use crate::{NoMemory, TryClone};
 use std::alloc::Global;
 use std::cmp::Ordering;
 use std::hash::{Hash, Hasher};
@@ -66,6 +66,13 @@ impl Bytes {
     {
         self.bytes.push(x)?;
         Ok(())
+    }
+}
+
+impl TryClone for Bytes {
+    fn try_clone(&self, alloc: Global) -> Result<Bytes, NoMemory> {
+        let bytes = self.bytes.as_slice().to_vec(alloc)?;
+        Ok(Bytes { bytes })
     }
 }
 
