@@ -5,10 +5,12 @@
 mod checked_world;
 mod children;
 mod fault;
+mod keys;
 mod layouts;
 mod place;
 mod ranges;
 mod rows;
+mod trees;
 
 pub use checked_world::CheckedWorld;
 pub use fault::{CheckFault, CheckRow, InvalidWorld};
