@@ -16,3 +16,6 @@ pub use checked_world::CheckedWorld;
 pub use fault::{CheckFault, CheckRow, InvalidWorld};
 pub use place::{NodeKind, Place, TableName};
 pub use rows::check;
+
+#[cfg(test)]
+mod tests;
