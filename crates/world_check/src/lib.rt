@@ -7,6 +7,7 @@ mod children;
 mod fault;
 mod keys;
 mod layouts;
+mod parents;
 mod place;
 mod ranges;
 mod rows;
