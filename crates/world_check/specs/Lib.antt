@@ -1,1 +1,6 @@
 pub mod Checked
+pub mod Parents
+pub mod Places
+pub mod Sites
+pub mod Heights
+pub mod Rows
