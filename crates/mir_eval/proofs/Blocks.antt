@@ -1,10 +1,10 @@
 -- Steps of the run of blocks.
-use Rattle.std.proofs.Common.{◌≡◌, ℕ, zero, suc, ◌-◌, ◌<◌, Some, slice_get, refl, arith, subst, sub-one}
+use Rattle.std.proofs.Common.{◌≡◌, ℕ, zero, suc, ◌-◌, ◌<◌, slice_get, refl, arith, sub-one}
 use Rattle.mir.specs.Memory.{Memory}
-use Rattle.mir.specs.Run.{Frame, Next, Stops, GoesTo, Ended, entering, going_on, next_from}
+use Rattle.mir.specs.Run.{Frame, Next, Stops, GoesTo, entering, going_on, next_from}
 
 after_next : (budget : ℕ) (frame : Frame) (next : Next) →
-    (elim next [ | Stops ending ↦ record { ending = ending; left = budget } | GoesTo after target ↦ entering budget frame after target ]) ≡ going_on budget frame next
+    (elim next [ Stops ending ↦ record { ending = ending; left = budget } | GoesTo after target ↦ entering budget frame after target ]) ≡ going_on budget frame next
 unfolding going_on
 after_next budget frame (Stops ending) = refl
 after_next budget frame (GoesTo after target) = refl

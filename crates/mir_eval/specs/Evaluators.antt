@@ -1,5 +1,5 @@
 -- The machine that an evaluator is, and how its calls change it.
-use Rattle.std.specs.Prelude.{◌≡◌, ◌⊎◌, ℕ, Bool, true, false, List, map, Option, Some, None, Result, Ok, Err, option_map, unwrap_or}
+use Rattle.std.specs.Prelude.{◌≡◌, ◌⊎◌, ℕ, Bool, true, false, Option, Some, None, Result, Ok, Err, option_map, unwrap_or}
 use Rattle.world.specs.declared.database.HirDatabase.{HirDatabase}
 use Rattle.world.specs.declared.ids.Crate.{Crate}
 use Rattle.world.specs.declared.ids.DefWithBodyId.{DefWithBodyId}

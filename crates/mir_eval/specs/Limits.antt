@@ -1,5 +1,5 @@
 -- How much a run may take.
-use Rattle.std.specs.Prelude.{ℕ, ◌^◌, ◌≤◌}
+use Rattle.std.specs.Prelude.{◌^◌, ◌≤◌}
 use Rattle.mir_eval.specs.declared.limits.Limits.{Limits}
 
 -- the limits are at most the greatest ones

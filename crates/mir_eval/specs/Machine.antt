@@ -1,5 +1,5 @@
 -- The machine that runs a body, as its callers see it, and what its calls do.
-use Rattle.std.specs.Prelude.{◌≡◌, ℕ, zero, suc, ◌-◌, List, [], Option, Some, None, Result, Ok, Err, slice_get, option_map, option_and_then, codes, ◌⊎◌}
+use Rattle.std.specs.Prelude.{◌≡◌, ℕ, zero, suc, ◌-◌, List, [], Option, Some, None, Result, Ok, Err, slice_get, option_and_then}
 use Rattle.world.specs.declared.database.HirDatabase.{HirDatabase}
 use Rattle.world.specs.declared.ty.Const.{Const}
 use Rattle.world.specs.declared.ty.Const.TheVariants.{Value}
@@ -10,7 +10,7 @@ use Rattle.mir.specs.declared.body.MirBody.{MirBody}
 use Rattle.mir.specs.declared.errors.MirEvalError.{MirEvalError}
 use Rattle.mir.specs.declared.errors.MirEvalError as error
 use Rattle.mir.specs.Memory.{Memory}
-use Rattle.mir.specs.Run.{Frame, Ending, Returned, Faulted, Next, Stops, GoesTo, Ended, entering, next_from, out_of_blocks, bad_read}
+use Rattle.mir.specs.Run.{Frame, Ending, Returned, Faulted, Stops, GoesTo, entering, next_from, out_of_blocks, bad_read}
 
 -- where a run is: not begun, about to enter a block with so many blocks left to enter, or over
 pub data State : Type 0 where

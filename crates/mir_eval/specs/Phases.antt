@@ -1,10 +1,6 @@
 -- The state of a run, as its parts tell it.
-use Rattle.std.specs.Prelude.{◌≡◌, ◌⊎◌, ℕ, List, map, Option, None, Some, Result, Ok, Err}
-use Rattle.world.specs.declared.database.HirDatabase.{HirDatabase}
-use Rattle.mir.specs.declared.body.Local.{Local}
-use Rattle.mir.specs.declared.errors.MirEvalError.{MirEvalError}
+use Rattle.std.specs.Prelude.{◌≡◌, ◌⊎◌, List, map}
 use Rattle.mir.specs.Memory.{Interval, Memory}
-use Rattle.mir_eval.specs.declared.cells.Cell.{Cell}
 use Rattle.mir_eval.specs.declared.places.Placed.{Placed}
 use Rattle.mir_eval.specs.declared.runs.Run.{Run}
 use Rattle.mir_eval.specs.declared.runs.Phase.{Phase}

@@ -1,6 +1,5 @@
 -- What the parts of a run answer, in the words of its meaning.
-use Rattle.std.specs.Prelude.{ℕ, List, map, take, Option, Some, None, Result, Ok, Err, slice_get, option_and_then, codes}
-use Rattle.world.specs.declared.ty.Const.{Const}
+use Rattle.std.specs.Prelude.{ℕ, List, map, take, Result, Ok, Err, slice_get, option_and_then, codes}
 use Rattle.numbers.specs.Operators.{panic_word}
 use Rattle.mir.specs.declared.body.MirBody.{MirBody}
 use Rattle.mir.specs.declared.errors.MirEvalError.{MirEvalError}

@@ -1,7 +1,6 @@
 //! The machine as its callers use it: made, begun once, run to its end, and taken apart.
 
-ghost use Rattle.std.specs.Prelude.{◌≡◌, ◌↔◌, ◌⊎◌, [], slice_get, option_map, option_and_then, codes, IfOk, IfErr, OnErr, IsOk, IsSome, IsTrue};
-
+ghost use Rattle.std.specs.Prelude.{◌≡◌, ◌↔◌, ◌⊎◌, [], slice_get, option_map, option_and_then, codes, IfOk, IfErr, OnOk, OnErr, IsOk, IsSome, IsTrue};
 ghost use Rattle.world.specs.Lookups.{const_row};
 ghost use Rattle.mir_eval.specs.Start.{is_own_width};
 ghost use Rattle.mir.specs.declared.errors.MirEvalError as error;
@@ -106,9 +105,7 @@ impl<'a> Evaluator<'a> {
                 blocks: limits.blocks,
                 phase: Phase::Fresh,
             }),
-            None => Err(MirEvalError::TargetDataLayoutNotAvailable(
-                krate.unwrap_or(Crate(0)),
-            )),
+            None => Err(MirEvalError::TargetDataLayoutNotAvailable(krate.unwrap_or(Crate(0)))),
         }
     }
 
@@ -120,6 +117,7 @@ impl<'a> Evaluator<'a> {
         requires { IsTrue (is_fresh (machine_of self.old).state) }
         ensures began { IfOk result (λ _. start_of (machine_of self.old) body.value ≡ Ok (machine_of self.new).state) }
         ensures kept { machine_of self.new ≡ record (machine_of self.old) { state = (machine_of self.new).state } }
+        ensures goes { OnOk result (IsTrue (is_going (machine_of self.new).state)) }
         ensures refused { IfErr result (λ e. (e ≡ error.NoMemory) ⊎ (start_of (machine_of self.old) body.value ≡ Err e)) }
         ensures unchanged { OnErr result (machine_of self.new ≡ machine_of self.old) }
     {
@@ -153,9 +151,11 @@ impl<'a> Evaluator<'a> {
     }
 
     /// Runs to the end, and tells whether that is a value or a fault. Want of memory is a fault.
+    #[tactic(auto, unfolding(crate::specs::Machine::finished))]
     pub fn run(&mut self) -> Turned
         requires { IsTrue (is_going (machine_of self.old).state) }
         ensures ended { Became (machine_of self.old) (machine_of self.new) (finished (machine_of self.old).state) }
+        ensures over { IsTrue (is_over (machine_of self.new).state) }
         ensures told { result ≡ turned (machine_of self.new).state }
     {
         let alloc = self.alloc;

@@ -11,6 +11,8 @@ mod output;
 mod places;
 mod runs;
 mod steps;
+#[cfg(test)]
+mod tests;
 
 pub use evaluator::{Evaluator, Turned};
 pub use limits::Limits;

@@ -5,8 +5,8 @@ ghost use Rattle.mir.specs.declared.errors.MirEvalError as error;
 ghost use Rattle.mir_eval.specs.Machine.{value_of, outcome_of};
 ghost use Rattle.mir_eval.specs.Steps.{error_of, ending_of};
 
-use crate::cells::{cell_of, read, Cell};
-use crate::faults::{to_error, Fault};
+use crate::cells::{Cell, cell_of, read};
+use crate::faults::{Fault, to_error};
 use mir::{LocalId, MirBody, MirEvalError};
 use std::alloc::Global;
 use world::{Box, Bytes, Const, List, MemoryMap, NoMemory, TryClone, ValueConst};

@@ -3,10 +3,10 @@
 ghost use Rattle.std.specs.Prelude.{◌≡◌, ◌⊎◌, IfOk, IfErr, IfSome, IfNone};
 
 use crate::cells::Cell;
+use crate::faults::Fault;
 use crate::outcomes::outcome;
 use crate::places::place_all;
-use crate::steps::{enter, enter_all, Exit};
-use crate::faults::Fault;
+use crate::steps::{Exit, enter, enter_all};
 use mir::{BasicBlockId, MirBody, MirEvalError};
 use std::alloc::Global;
 use std::rc::Rc;
@@ -74,7 +74,13 @@ impl Run {
     fn over(&self, alloc: Global, end: Result<(), Fault>, left: u64) -> Phase
         ensures { Reached result (Over (outcome_of self.now.body.value (ending_of self.now.cells.items self.now.stack.items end)) left) }
     {
-        match outcome(alloc, self.body.as_ref(), self.cells.as_slice(), self.stack.as_slice(), end) {
+        match outcome(
+            alloc,
+            self.body.as_ref(),
+            self.cells.as_slice(),
+            self.stack.as_slice(),
+            end,
+        ) {
             Ok(outcome) => Phase::Over { outcome, left },
             Err(_) => Phase::Over {
                 outcome: Err(MirEvalError::NoMemory),
@@ -93,7 +99,12 @@ impl Run {
             return Some(self.over(alloc, Err(Fault::OutOfBlocks), 0));
         }
         let left = self.left - 1;
-        match enter(self.body.as_ref(), self.cells.as_slice(), self.stack.as_mut_slice(), self.block) {
+        match enter(
+            self.body.as_ref(),
+            self.cells.as_slice(),
+            self.stack.as_mut_slice(),
+            self.block,
+        ) {
             Ok(Exit::GoesTo(target)) => {
                 self.block = target;
                 self.left = left;

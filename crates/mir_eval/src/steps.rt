@@ -5,13 +5,13 @@ ghost use Rattle.numbers.specs.Operators.{kind_of};
 ghost use Rattle.mir.specs.Run.{copied, read, operator_of, operated, rvalue_bytes, operand_bytes, operand_type, after_statement, after_statements, terminated, next_from, entering};
 ghost use Rattle.mir_eval.specs.Steps.{interval_of, operated_bytes, frame, memory, left_with, next_of, ended_of};
 
-use crate::cells::{cell_of, copy, read, write, Cell};
+use crate::cells::{Cell, cell_of, copy, read, write};
 use crate::faults::Fault;
 use mir::{
     BasicBlock, BasicBlockId, BinOp, MirBody, OperandKind, Place, Rvalue, Statement, StatementKind,
     Terminator, TerminatorKind,
 };
-use mir_mem::{compute, Computed};
+use mir_mem::{Computed, compute};
 use numbers::{Kind, Operator};
 use world::Const;
 
@@ -120,7 +120,13 @@ fn operate(
     };
     let left_kind = operand_kind(body, left);
     let right_kind = operand_kind(body, right);
-    match compute(operator_of(op), left_kind, right_kind, left_bytes, right_bytes) {
+    match compute(
+        operator_of(op),
+        left_kind,
+        right_kind,
+        left_bytes,
+        right_bytes,
+    ) {
         Computed::Bytes(bytes, count) => Ok((bytes, count)),
         Computed::Panics(op) => Err(Fault::Panic(op)),
         Computed::Undefined => Err(Fault::Undefined),
@@ -239,10 +245,7 @@ pub(crate) fn enter_all(
         match enter(body, cells, stack, block) {
             Ok(Exit::GoesTo(target)) => block = target,
             Ok(Exit::Returns) => {
-                return Stop {
-                    end: Ok(()),
-                    left,
-                };
+                return Stop { end: Ok(()), left };
             }
             Err(fault) => {
                 return Stop {
