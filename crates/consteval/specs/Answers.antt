@@ -65,12 +65,10 @@ abbrev pub carried : Result Const MirEvalError → Result Const ConstEvalError
 carried (Ok konst) = Ok konst
 carried (Err e) = Err (from_eval_error e)
 
--- the body that is kept for the definition ran to the answer, over so many blocks
-pub record AnswersRun (kept : Kept) (def : DefWithBodyId) (blocks turns : ℕ) (answer : Result Const ConstEvalError) : Type 0 where
-  pub body : MirBody
-  pub is_kept : Contains kept.bodies (def, body)
+-- the body ran to the answer, over so many blocks
+pub record RunsTo (world : HirDatabase) (body : MirBody) (blocks turns : ℕ) (answer : Result Const ConstEvalError) : Type 0 where
   pub outcome : Result Const MirEvalError
-  pub ran : Ran kept.world body blocks turns outcome
+  pub ran : Ran world body blocks turns outcome
   pub is : answer ≡ carried outcome
 
 -- the body could not be lowered: it has none, it was given arguments, or its lowering was refused
@@ -80,22 +78,23 @@ RefusesBody world def args e =
     ⊎ ((e ≡ refusal.NotSupported (codes "form not built")) × (args.0 ≢ []))
     ⊎ ((row : BodyRow) × (body_row world def ≡ Some row) × Refuses (source_of world row) e)
 
--- the body that is kept could not begin: the crate's pointers, or a local that can have no cell
-abbrev pub RefusesRun : Kept → DefWithBodyId → MirEvalError → Type 0
-RefusesRun kept def e =
-    ((e ≡ error.TargetDataLayoutNotAvailable (crate_of kept.world def)) × (pointer_bytes kept.world def ≡ None))
-    ⊎ ((e ≡ error.NotSupported (codes "targets with different pointer size from host")) × (pointer_bytes kept.world def ≢ Some 8))
-    ⊎ ((body : MirBody) × Contains kept.bodies (def, body) × (begun kept.world body ≡ Err e))
+-- a body could not begin: the crate's pointers, or a local that can have no cell
+abbrev pub RefusesRun : HirDatabase → DefWithBodyId → MirBody → MirEvalError → Type 0
+RefusesRun world def body e =
+    ((e ≡ error.TargetDataLayoutNotAvailable (crate_of world def)) × (pointer_bytes world def ≡ None))
+    ⊎ ((e ≡ error.NotSupported (codes "targets with different pointer size from host")) × (pointer_bytes world def ≢ Some 8))
+    ⊎ (begun world body ≡ Err e)
 
--- where no run began, the answer is a refusal that has its cause
-abbrev pub AnswersRefusal : Kept → DefWithBodyId → GenericArgs → Result Const ConstEvalError → Type 0
-AnswersRefusal kept def args answer =
-    ((e : MirLowerError) × (answer ≡ Err (from_lower_error e)) × RefusesBody kept.world def args e)
-    ⊎ ((e : MirEvalError) × (answer ≡ Err (from_eval_error e)) × RefusesRun kept def e)
+-- the answer of a body: that of its run, or why none began, or want of memory
+abbrev pub AnswersBody : HirDatabase → DefWithBodyId → MirBody → ℕ → ℕ → Result Const ConstEvalError → Type 0
+AnswersBody world def body blocks turns answer =
+    RunsTo world body blocks turns answer
+    ⊎ ((turns ≡ 0) × (e : MirEvalError) × (answer ≡ Err (from_eval_error e)) × RefusesRun world def body e)
+    ⊎ (answer ≡ Err constant.NoMemory)
 
--- every answer but want of memory is that of a run of the kept body, or a refusal before any run
+-- every answer but want of memory is that of the kept body, or the refusal to lower one
 abbrev pub HasCause : Kept → DefWithBodyId → GenericArgs → ℕ → ℕ → Result Const ConstEvalError → Type 0
 HasCause kept def args blocks turns answer =
-    AnswersRun kept def blocks turns answer
-    ⊎ ((turns ≡ 0) × AnswersRefusal kept def args answer)
+    ((body : MirBody) × Contains kept.bodies (def, body) × AnswersBody kept.world def body blocks turns answer)
+    ⊎ ((turns ≡ 0) × (e : MirLowerError) × (answer ≡ Err (from_lower_error e)) × RefusesBody kept.world def args e)
     ⊎ (answer ≡ Err constant.NoMemory)

@@ -1,5 +1,6 @@
 -- What is kept of finished evaluations, as its callers see it.
-use Rattle.std.specs.Prelude.{◌≡◌, ℕ, ◌-◌, List, Option, Some, Result, Ok, Contains}
+use Rattle.std.specs.Prelude.{◌≡◌, ℕ, ◌-◌, List, Option, Some, Result, Ok, Contains, map}
+use Rattle.std.specs.Rc.{Rc}
 use Rattle.world.specs.declared.database.HirDatabase.{HirDatabase}
 use Rattle.world.specs.declared.database.BodyRow.{BodyRow}
 use Rattle.world.specs.declared.ids.DefWithBodyId.{DefWithBodyId}
@@ -8,7 +9,7 @@ use Rattle.world.specs.Lookups.{body_row}
 use Rattle.mir.specs.declared.body.MirBody.{MirBody}
 use Rattle.mir.specs.Memory.{Memory}
 use Rattle.mir.specs.Run.{Frame, Ended, begun, entering}
-use Rattle.mir_eval.specs.Machine.{outcome_of}
+use Rattle.mir_eval.specs.Machine.{Machine, Going, outcome_of}
 use Rattle.mir_lower.specs.Simulates.{Simulates}
 use Rattle.source_meaning.specs.Source.{Source}
 
@@ -17,6 +18,20 @@ pub record Kept : Type 0 where
   pub world : HirDatabase
   pub bodies : List (DefWithBodyId × MirBody)
   pub values : List (DefWithBodyId × Const)
+
+-- what is kept, from lists of shared bodies and of values
+abbrev pub kept_of : {Z : Type 0} → HirDatabase → List (DefWithBodyId × Rc MirBody Z) → List (DefWithBodyId × Const) → Kept
+kept_of world bodies values = record { world = world; bodies = map (λ kept. (kept.0, kept.1.value)) bodies; values = values }
+
+-- what was kept stays, over the same world
+pub record Stays (before after : Kept) : Type 0 where
+  pub world : after.world ≡ before.world
+  pub bodies : (def : DefWithBodyId) (body : MirBody) → Contains before.bodies (def, body) → Contains after.bodies (def, body)
+  pub values : (def : DefWithBodyId) (konst : Const) → Contains before.values (def, konst) → Contains after.values (def, konst)
+
+-- a value is kept for the definition
+abbrev pub IsKept : List (DefWithBodyId × Const) → DefWithBodyId → Type 0
+IsKept values def = (konst : Const) × Contains values (def, konst)
 
 -- a row of bodies as a source
 abbrev pub source_of : HirDatabase → BodyRow → Source
@@ -31,6 +46,13 @@ pub record IsLowered (world : HirDatabase) (def : DefWithBodyId) (body : MirBody
 -- the end of a body's run under a budget of blocks
 abbrev pub run_of : MirBody → Frame × Memory → ℕ → Ended
 run_of body start blocks = entering blocks start.0 start.1 body.start_block.0
+
+-- a machine is about to enter the body's first block
+pub record HasBegun (world : HirDatabase) (def : DefWithBodyId) (body : MirBody) (blocks : ℕ) (machine : Machine) : Type 0 where
+  pub start : Frame × Memory
+  pub began : begun world body ≡ Ok start
+  pub limit : machine.blocks ≡ blocks
+  pub state : machine.state ≡ Going start.0 start.1 body.start_block.0 blocks
 
 -- a run of a kept body came to this outcome, over so many blocks
 pub record Ran (world : HirDatabase) (body : MirBody) (blocks turns : ℕ) (outcome : Result Const _) : Type 0 where

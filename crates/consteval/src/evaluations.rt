@@ -1,12 +1,15 @@
 //! Evaluations over one checked world, and what they keep.
 
 use crate::Evaluated;
-use mir::{ConstEvalError, MirBody};
-use mir_eval::{Limits, MirOutput};
+use crate::kept::{find, keep};
+use crate::lowering::lower;
+use crate::running::{refused, run_body};
+use mir::{ConstEvalError, MirBody, MirLowerError};
+use mir_eval::Limits;
 use std::alloc::Global;
 use std::marker::Model;
 use std::rc::Rc;
-use world::{Const, DefWithBodyId, GenericArgs, NoMemory};
+use world::{Const, DefWithBodyId, GenericArgs, Map, NoMemory, TryClone};
 use world_check::CheckedWorld;
 
 /// Evaluations over one checked world. They keep each lowered body and each value.
@@ -16,40 +19,45 @@ pub struct Evaluations<'w> {
     world: &'w CheckedWorld,
     bodies: Vec<(DefWithBodyId, Rc<MirBody>)>,
     values: Vec<(DefWithBodyId, Const)>,
+    body_places: Map<DefWithBodyId, u64>,
+    value_places: Map<DefWithBodyId, u64>,
 }
 
 impl<'w> Model for Evaluations<'w> {
-    ghost use Rattle.std.specs.Prelude.{map};
     ghost use Rattle.std.specs.Coded.{codes};
     ghost use Rattle.world.specs.contracts.ty.Ty as ty;
-    ghost use Rattle.consteval.specs.Kept.{Kept, IsSound};
+    ghost use Rattle.consteval.specs.Kept.{Kept, IsSound, kept_of};
 
     ghost Value = { Kept };
 
     ghost coded = { Prim.hlevel (codes, ty.the_row.coded) };
 
-    ghost view = { λ e. record { world = e.world.now; bodies = map (λ kept. (kept.0, kept.1.value)) e.bodies.items; values = e.values.items } };
+    ghost view = { λ e. kept_of e.world.now e.bodies.items e.values.items };
 
-    ghost invariant = { λ e. IsSound (record { world = e.world.now; bodies = map (λ kept. (kept.0, kept.1.value)) e.bodies.items; values = e.values.items }) };
+    ghost invariant = { λ e. IsSound (kept_of e.world.now e.bodies.items e.values.items) };
 }
 
 impl<'w> Evaluations<'w> {
-    ghost use Rattle.std.specs.Prelude.{◌≡◌, ◌≤◌, [], Some, Ok, Err, IfOk, IsOk, IsSome, Contains};
+    ghost use Rattle.std.specs.Prelude.{◌≡◌, ◌⊎◌, ◌≤◌, [], Some, Ok, Err, IfOk, IfErr, OnOk, IsOk, IsSome, Contains};
+    ghost use Rattle.mir.specs.declared.errors.MirLowerError.TheVariants as refusal;
     ghost use Rattle.mir_eval.specs.Limits.{IsWithin};
     ghost use Rattle.source_meaning.specs.Valid.{HasDefinedCost};
-    ghost use Rattle.consteval.specs.Kept.{source_of};
+    ghost use Rattle.consteval.specs.Kept.{source_of, IsValueOf, IsKept, Stays};
     ghost use Rattle.consteval.specs.Valid.{IsValid};
-    ghost use Rattle.consteval.specs.Answers.{GivesValue, GivesPanic, AnswersWithin, HasCause, panic_of};
+    ghost use Rattle.consteval.specs.Answers.{GivesValue, GivesPanic, AnswersWithin, HasCause, RefusesBody, panic_of};
 
     /// Evaluations that have kept nothing yet. It takes no memory.
     pub fn new(alloc: Global, world: &'w CheckedWorld) -> Result<Evaluations<'w>, NoMemory>
         ensures { IfOk result (λ e. e ≡ record { world = world.now; bodies = []; values = [] }) }
+        ensures { IsOk result }
     {
         Ok(Evaluations {
             alloc,
             world,
             bodies: Vec::new(alloc),
             values: Vec::new(alloc),
+            body_places: Map::new(alloc),
+            value_places: Map::new(alloc),
         })
     }
 
@@ -60,7 +68,44 @@ impl<'w> Evaluations<'w> {
         self.world
     }
 
-    /// Evaluates a definition.
+    /// The lowered body of a definition: the kept one, or a new one, which is then kept.
+    fn body_of(
+        &mut self,
+        def: DefWithBodyId,
+        args: &GenericArgs,
+    ) -> Result<Rc<MirBody>, MirLowerError>
+        ensures found { IfOk result (λ body. Contains self.new.bodies (def, body.value)) }
+        ensures refused { IfErr result (λ e. (e ≡ refusal.NoMemory) ⊎ RefusesBody self.old.world def args.now e) }
+        ensures stays { Stays self.old self.new }
+    {
+        if args.0.as_slice().is_empty() {
+            if let Some(body) = find(&self.body_places, self.bodies.as_slice(), def) {
+                return Ok(Rc::clone(body));
+            }
+        }
+        let body = lower(self.alloc, self.world, def, args)?;
+        let Ok(body) = Rc::new(self.alloc, body) else {
+            return Err(MirLowerError::NoMemory);
+        };
+        keep(&mut self.body_places, &mut self.bodies, def, Rc::clone(&body))?;
+        Ok(body)
+    }
+
+    /// Keeps the value of a definition, unless one is kept.
+    fn keep_value(&mut self, def: DefWithBodyId, konst: &Const) -> Result<(), NoMemory>
+        requires { IsValueOf self.old def konst.now }
+        ensures kept { OnOk result (IsKept self.new.values def) }
+        ensures stays { Stays self.old self.new }
+    {
+        if find(&self.value_places, self.values.as_slice(), def).is_some() {
+            return Ok(());
+        }
+        let konst = konst.try_clone(self.alloc)?;
+        keep(&mut self.value_places, &mut self.values, def, konst)
+    }
+
+    /// Evaluates a definition. It always runs the definition's body afresh; that body is lowered at most
+    /// once. A value is kept, unless one is kept already.
     pub fn eval_def(
         &mut self,
         def: DefWithBodyId,
@@ -74,15 +119,26 @@ impl<'w> Evaluations<'w> {
         ensures complete { (row : _) → IsValid self.old.world def args.now row → HasDefinedCost (source_of self.old.world row)
             → AnswersWithin (source_of self.old.world row) limits.now.blocks result.result }
         ensures cause { HasCause self.new def args.now limits.now.blocks result.turns result.result }
-        ensures world { self.new.world ≡ self.old.world }
-        ensures bodies_stay { (key : _) (body : _) → Contains self.old.bodies (key, body) → Contains self.new.bodies (key, body) }
-        ensures values_stay { (key : _) (konst : _) → Contains self.old.values (key, konst) → Contains self.new.values (key, konst) }
-        ensures kept { IsOk result.result → (konst : _) × Contains self.new.values (def, konst) }
+        ensures turns { result.turns ≤ limits.now.blocks }
+        ensures stays { Stays self.old self.new }
+        ensures kept { IsOk result.result → IsKept self.new.values def }
     {
-        Evaluated {
-            result: Err(ConstEvalError::NoMemory),
-            output: MirOutput::empty(self.alloc),
-            turns: 0,
+        let body = match self.body_of(def, args) {
+            Ok(body) => body,
+            Err(error) => return refused(self.alloc, ConstEvalError::from(error)),
+        };
+        let evaluated = run_body(self.alloc, self.world.db(), def, body, limits);
+        let keeping = match &evaluated.result {
+            Ok(konst) => self.keep_value(def, konst),
+            Err(_) => Ok(()),
+        };
+        match keeping {
+            Ok(()) => evaluated,
+            Err(_) => Evaluated {
+                result: Err(ConstEvalError::NoMemory),
+                output: evaluated.output,
+                turns: evaluated.turns,
+            },
         }
     }
 }

@@ -4,6 +4,9 @@
 
 mod evaluated;
 mod evaluations;
+mod kept;
+mod lowering;
+mod running;
 
 pub use evaluated::Evaluated;
 pub use evaluations::Evaluations;

@@ -1,5 +1,5 @@
 -- The layouts of a checked world have alignments.
-use Rattle.std.proofs.Common.{◌≡◌, ℕ, ◌<◌, ◌^◌, Some, sym, subst}
+use Rattle.std.proofs.Common.{ℕ, ◌<◌, sym, subst}
 use Rattle.std.proofs.Math.Pow.{pow_pos}
 use Rattle.std.proofs.lemmas.Map.Entries.{place_from_lookup}
 use Rattle.world.specs.declared.database.HirDatabase.{HirDatabase}

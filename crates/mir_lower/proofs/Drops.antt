@@ -1,6 +1,6 @@
 -- Counting what is dropped of a scope.
-use Rattle.std.proofs.Common.{◌≡◌, ℕ, zero, suc, ◌+◌, Bool, true, false, cond, List, [], ◌∷◌, ◌++◌, length, Some, None, refl, sym, ap, ◌∙◌, arith, append-nil}
-use Rattle.std.specs.Prelude.{map, filter, option_to_list, vec_len}
+use Rattle.std.proofs.Common.{◌≡◌, ℕ, ◌+◌, Bool, true, false, cond, List, [], ◌∷◌, ◌++◌, length, refl, ap, ◌∙◌, arith}
+use Rattle.std.specs.Prelude.{filter}
 use Rattle.source_meaning.specs.Meaning.{is_dropped}
 use Rattle.source_meaning.specs.Source.{Source}
 use Rattle.mir_lower.specs.declared.graph.Marked.{Marked}

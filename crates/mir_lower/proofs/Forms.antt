@@ -1,6 +1,6 @@
 -- What lowering each form does, from what lowering its parts does.
-use Rattle.std.proofs.Common.{◌≡◌, ◌≢◌, ℕ, zero, suc, ◌+◌, ◌<◌, ◌≤◌, ◌⊎◌, ⊎_elim, inl, inr, Bool, true, false, cond, List, [], ◌∷◌, ◌++◌, length, Option, Some, None, Result, Ok, Err, refl, sym, ap, ◌∙◌, subst, arith, append_assoc, append-nil, eqb}
-use Rattle.std.specs.Prelude.{slice_get, option_map, option_and_then}
+use Rattle.std.proofs.Common.{◌≡◌, ℕ, zero, suc, ◌+◌, ◌<◌, ◌⊎◌, ⊎_elim, inl, inr, Bool, true, false, cond, List, [], ◌∷◌, ◌++◌, length, Option, Some, None, Ok, Err, refl, sym, ap, ◌∙◌, subst, arith, append_assoc, append-nil, eqb}
+use Rattle.std.specs.Prelude.{slice_get, option_map}
 use borrow.Author.Tests.{eqb-true}
 use Rattle.world.specs.declared.body.ArithOp.TheVariants as arith_op
 use Rattle.world.specs.declared.body.BinaryOp.TheVariants.{ArithOp}
@@ -10,16 +10,14 @@ use Rattle.world.specs.declared.body.Literal.{Literal}
 use Rattle.world.specs.declared.ids.ExprId.{ExprId}
 use Rattle.world.specs.declared.ty.Ty.{Ty}
 use Rattle.world_check.specs.Checked.{IsCheckedBody}
-use Rattle.numbers.specs.declared.operator.Kind.{Kind}
-use Rattle.numbers.specs.declared.operator.Operator.TheVariants as operator
-use Rattle.numbers.specs.Operators.{Answer, Computes, Panics, Undefined, computed, of_arith, kind_of}
+use Rattle.numbers.specs.Operators.{Answer, Computes, Panics, Undefined, computed, of_arith}
 use Rattle.mir.specs.declared.ids.LocalId.{LocalId}
 use Rattle.mir.specs.declared.operand.BinOp.TheVariants.{Add}
 use Rattle.mir.specs.declared.errors.MirEvalError.{MirEvalError}
 use Rattle.mir.specs.declared.errors.MirEvalError as error
 use Rattle.mir.specs.declared.operand.Operand.{Operand as MirOperand}
 use Rattle.mir.specs.declared.operand.OperandKind.{OperandKind}
-use Rattle.mir.specs.declared.operand.OperandKind.TheVariants.{Copy, Constant}
+use Rattle.mir.specs.declared.operand.OperandKind.TheVariants.{Copy}
 use Rattle.mir.specs.declared.operand.Place.{Place}
 use Rattle.mir.specs.declared.operand.Rvalue.{Rvalue}
 use Rattle.mir.specs.declared.operand.Rvalue.TheVariants.{Use, CheckedBinaryOp}
@@ -28,22 +26,22 @@ use Rattle.mir.specs.declared.statement.Statement.{Statement}
 use Rattle.mir.specs.declared.statement.StatementKind.TheVariants.{Assign, StorageLive}
 use Rattle.mir.specs.Memory.{Memory}
 use Rattle.mir.specs.Run.{Frame, after_statement, copied, rvalue_bytes, operated, answered, operator_of, operand_bytes as mir_bytes, operand_type, constant_bytes, read}
-use Rattle.source_meaning.specs.Ends.{Cost, no_cost, End, Go, Panic, Stuck, More, after, then_do}
-use Rattle.source_meaning.specs.Meaning.{Level, no_fuel, level_above, level_at, literal_bytes, literal_operand, put, put_if_any, put_answer, node_kind, place_of, operand_of, into_of, binary_into}
-use Rattle.source_meaning.specs.Source.{Source, node, node_type, Cell, Result as Slot, Node, Path, Store, with_cell_bytes, Operand, Literally, At, operand_bytes, is_literal, marked_in, marked_as_operand}
-use Rattle.mir_lower.specs.Does.{Point, here, run_from, local_of, local_bytes, IsFrameOf, Holds, Comes, Reaches, Does, Fits, DoesOperand, DoesPlace}
+use Rattle.source_meaning.specs.Ends.{no_cost, End, Go, Panic, Stuck, More, after, then_do}
+use Rattle.source_meaning.specs.Meaning.{level_at, literal_operand, put, put_if_any, put_answer, node_kind, operand_of, into_of}
+use Rattle.source_meaning.specs.Valid.{Evaluates}
+use Rattle.source_meaning.specs.Source.{Source, node, node_type, root, Cell, Result as Slot, Node, Path, Store, with_cell_bytes, Operand, Literally, At, operand_bytes, is_literal, marked_as_operand}
+use Rattle.mir_lower.specs.Does.{Point, here, local_of, local_bytes, IsFrameOf, Holds, Comes, Reaches, Does, Fits, DoesOperand, DoesPlace}
 use Rattle.mir_lower.specs.Graph.{Shape, with_statement, with_temp, with_mark, temp_of}
 use Rattle.mir_lower.specs.Growth.{Grows, IsSound, IsOpen, count_at}
 use Rattle.mir_lower.specs.Literals.{IsLiteral}
-use Rattle.mir_lower.specs.Lowered.{Keeps, marks, LowersInto, LowersPlace, LowersOperand}
-use Rattle.mir_lower.specs.Simulates.{EndsWithin}
+use Rattle.mir_lower.specs.Lowered.{marks, LowersInto, LowersPlace, LowersOperand}
 use Rattle.source_meaning.proofs.Depth.{marked_in_literal, marked_in_sum}
 use Rattle.mir_lower.proofs.Lists.{slice_get_in}
 use Rattle.mir_lower.proofs.Growing.{grows-refl, grows-trans, with_statement-grows, with_temp-grows, with_mark-grows, temp_of-with_temp_same}
 use Rattle.mir_lower.proofs.Holding.{assigns, interval-of}
 use Rattle.mir_lower.proofs.Reaching.{comes-refl, reaches-after, reaches-then}
 use Rattle.mir_lower.proofs.Running.{comes-statement, ends-statement}
-use Rattle.mir_lower.proofs.Sound.{with_statement-sound, with_statement-open, with_statement-scope, with_statement-temps, with_temp-sound, with_temp-open, with_temp-scope, with_mark-sound, with_mark-open}
+use Rattle.mir_lower.proofs.Sound.{with_statement-sound, with_statement-open, with_statement-scope, with_temp-sound, with_temp-open, with_temp-scope, with_mark-sound, with_mark-open}
 
 by_test : {A : Type 0} (m n : ℕ) (fits not : A) (b : Bool) → eqb m n ≡ b → ((m ≡ n) × (cond b fits not ≡ fits)) ⊎ (cond b fits not ≡ not)
 by_test m n fits not true is = inl (eqb-true m n is, refl)
@@ -232,9 +230,9 @@ same-here-temp : (e : ℕ) (ty : Ty) (s : Shape) → here (with_temp e ty s) ≡
 unfolding count_at with_temp
 same-here-temp e ty s = refl
 
-given-temp : (source : Source) (s : Shape) (e : ℕ) (ty : Ty) → IsSound source s → IsOpen s → e < length s.temps → node_type source e ≡ Some ty → temp_of s e ≡ None → Given source s (with_mark e (with_temp e ty s)) e (length s.locals)
-given-temp source s e ty sound opened within has none =
-    let next = given-mark source (with_temp e ty s) e (length s.locals) (with_temp-sound source e ty s within has sound) (with_temp-open e ty s opened) (temp_of-with_temp_same e ty s within) in
+given-temp : (source : Source) (s : Shape) (e : ℕ) (ty : Ty) → IsSound source s → IsOpen s → e < length s.temps → node_type source e ≡ Some ty → Evaluates source (root source) e → temp_of s e ≡ None → Given source s (with_mark e (with_temp e ty s)) e (length s.locals)
+given-temp source s e ty sound opened within has reached none =
+    let next = given-mark source (with_temp e ty s) e (length s.locals) (with_temp-sound source e ty s within has reached sound) (with_temp-open e ty s opened) (temp_of-with_temp_same e ty s within) in
     record {
       grows = grows-trans s (with_temp e ty s) (with_mark e (with_temp e ty s)) (with_temp-grows e ty s none) next.grows;
       sound = next.sound; «open» = next.«open»;
@@ -244,8 +242,8 @@ given-temp source s e ty sound opened within has none =
     }
 
 -- the local that an expression has, or is given
-pub given-local : (source : Source) (s new : Shape) (e local : ℕ) (ty : Ty) → IsSound source s → IsOpen s → e < length source.body.exprs → node_type source e ≡ Some ty → ((l : ℕ) → temp_of s e ≡ Some l → (local ≡ l) × (new ≡ with_mark e s)) → (temp_of s e ≡ None → (local ≡ length s.locals) × (new ≡ with_mark e (with_temp e ty s))) → Given source s new e local
-given-local source s new e local ty sound opened within has old fresh = by_temp (temp_of s e) refl where
+pub given-local : (source : Source) (s new : Shape) (e local : ℕ) (ty : Ty) → IsSound source s → IsOpen s → e < length source.body.exprs → node_type source e ≡ Some ty → Evaluates source (root source) e → ((l : ℕ) → temp_of s e ≡ Some l → (local ≡ l) × (new ≡ with_mark e s)) → (temp_of s e ≡ None → (local ≡ length s.locals) × (new ≡ with_mark e (with_temp e ty s))) → Given source s new e local
+given-local source s new e local ty sound opened within has reached old fresh = by_temp (temp_of s e) refl where
   by_temp : (t : Option ℕ) → temp_of s e ≡ t → Given source s new e local
   by_temp (Some l) found =
       let facts = old l found in
@@ -253,7 +251,7 @@ given-local source s new e local ty sound opened within has old fresh = by_temp 
   by_temp None none =
       let facts = fresh none in
       let inside : e < length s.temps = (let n = sound.nodes in omega arith) in
-      subst (λ (n : Shape). Given source s n e local) (sym facts.1) (subst (λ (l : ℕ). Given source s (with_mark e (with_temp e ty s)) e l) (sym facts.0) (given-temp source s e ty sound opened inside has none))
+      subst (λ (n : Shape). Given source s n e local) (sym facts.1) (subst (λ (l : ℕ). Given source s (with_mark e (with_temp e ty s)) e l) (sym facts.0) (given-temp source s e ty sound opened inside has reached none))
 
 live-does-nothing : (frame : Frame) (memory : Memory) (local : LocalId) → after_statement frame memory (StorageLive local) ≡ Ok memory
 unfolding after_statement

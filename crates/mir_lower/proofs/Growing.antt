@@ -1,7 +1,6 @@
 -- Each step of the builder grows the graph, and keeps it sound.
-use Rattle.std.proofs.Common.{◌≡◌, ◌≢◌, ℕ, zero, suc, ◌+◌, ◌<◌, ◌≤◌, ◌⊎◌, ⊎_elim, List, [], ◌∷◌, ◌++◌, length, Option, Some, None, refl, sym, ap, ◌∙◌, subst, arith, length-append}
-use Rattle.std.specs.Prelude.{slice_get, slice_set, option_map, option_and_then, replicate}
-use Rattle.std.proofs.Math.ListN.{length-set}
+use Rattle.std.proofs.Common.{◌≡◌, ◌≢◌, ℕ, ◌<◌, ⊎_elim, List, [], ◌∷◌, ◌++◌, length, Some, None, sym, ap, ◌∙◌, subst}
+use Rattle.std.specs.Prelude.{slice_get, slice_set, option_map, option_and_then}
 use Rattle.std.proofs.lemmas.Bool.{cases_eq}
 use Rattle.std.proofs.lemmas.Option.{option_and_then_some}
 use Rattle.world.specs.declared.ty.Ty.{Ty}
@@ -10,10 +9,9 @@ use Rattle.mir.specs.declared.body.Local.{Local}
 use Rattle.mir.specs.declared.body.Terminator.{Terminator}
 use Rattle.mir.specs.declared.ids.LocalId.{LocalId}
 use Rattle.mir.specs.declared.statement.Statement.{Statement}
-use Rattle.source_meaning.specs.Source.{Source, node_type, root}
 use Rattle.mir_lower.specs.Graph.{Shape, no_statements, more_of, ended, with_current, with_statement, with_terminator, with_block, temp_of, with_temp, with_mark}
-use Rattle.mir_lower.specs.Growth.{statement_at, terminator_at, count_at, Grows, IsSound, IsOpen}
-use Rattle.mir_lower.proofs.Lists.{slice_get-front, slice_get-last, slice_get-set_same, slice_get-set_other, slice_get_in, slice_get_below}
+use Rattle.mir_lower.specs.Growth.{statement_at, terminator_at, Grows, IsOpen}
+use Rattle.mir_lower.proofs.Lists.{slice_get-front, slice_get-set_same, slice_get-set_other, slice_get_in, slice_get_below}
 
 -- the statements that a block had, the block has
 pub record BlockGrows (old new : BasicBlock) : Type 0 where

@@ -1,18 +1,17 @@
 -- Assigning to the local of a cell: afterwards memory and store agree again.
-use Rattle.std.proofs.Common.{◌≡◌, ◌≢◌, ℕ, zero, suc, ◌+◌, ◌<◌, ◌≤◌, ◌⊎◌, ⊎_elim, inl, inr, Bool, true, false, cond, List, [], ◌∷◌, ◌++◌, length, Option, Some, None, Result, Ok, Err, refl, sym, ap, ◌∙◌, subst, arith, eqb}
-use Rattle.std.specs.Prelude.{slice_get, option_and_then, ◌==◌}
+use Rattle.std.proofs.Common.{◌≡◌, ◌≢◌, ℕ, ◌⊎◌, ⊎_elim, inl, inr, true, false, cond, List, length, Option, Some, None, Ok, Err, refl, sym, ap, ◌∙◌, arith, eqb}
+use Rattle.std.specs.Prelude.{slice_get, option_and_then}
 use Rattle.std.proofs.lemmas.Bool.{cases_eq}
 use Rattle.std.proofs.lemmas.Bool.Decides.{nat_tests}
 use Rattle.std.proofs.lemmas.Option.{option_and_then_some}
-use Rattle.mir.specs.declared.errors.MirEvalError.{MirEvalError}
 use Rattle.mir.specs.declared.operand.Place.{Place}
 use Rattle.mir.specs.declared.operand.Rvalue.{Rvalue}
 use Rattle.mir.specs.declared.statement.StatementKind.TheVariants.{Assign}
 use Rattle.mir.specs.Memory.{Interval, Memory, bytes_at, with_bytes}
 use Rattle.mir.specs.Run.{Frame, after_statement, copied, rvalue_bytes, bad_write}
 use Rattle.source_meaning.specs.Source.{Source, Cell, Result as Slot, Node, Store, same_cell, with_cell_bytes}
-use Rattle.mir_lower.specs.Does.{local_of, local_bytes, AreApart, IsFrameOf, Holds}
-use Rattle.mir_lower.specs.Graph.{Shape, temp_of}
+use Rattle.mir_lower.specs.Does.{local_of, local_bytes, IsFrameOf, Holds}
+use Rattle.mir_lower.specs.Graph.{Shape}
 use Rattle.mir_lower.specs.Growth.{IsSound}
 use Rattle.mir_lower.proofs.Stack.{length-bytes_at, can_write, read-written, read-apart}
 

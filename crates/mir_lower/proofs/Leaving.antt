@@ -1,6 +1,6 @@
 -- Leaving a scope: one block for each local that is dropped.
-use Rattle.std.proofs.Common.{◌≡◌, ◌≢◌, ℕ, zero, suc, ◌+◌, ◌<◌, ◌≤◌, List, [], ◌∷◌, ◌++◌, length, Option, Some, None, Result, Ok, Err, refl, sym, ap, ◌∙◌, subst, arith, drop}
-use Rattle.std.specs.Prelude.{slice_get, slice_set, option_and_then, unwrap_or, option_map}
+use Rattle.std.proofs.Common.{◌≡◌, ℕ, suc, ◌+◌, List, [], ◌∷◌, length, Option, Some, Ok, Err, refl, sym, ap, ◌∙◌, subst, arith, drop}
+use Rattle.std.specs.Prelude.{slice_get, unwrap_or, option_map}
 use Rattle.std.proofs.Math.ListN.{length-set}
 use Rattle.mir.specs.declared.body.BasicBlock.{BasicBlock}
 use Rattle.mir.specs.declared.body.Terminator.{Terminator}
@@ -11,8 +11,8 @@ use Rattle.mir.specs.declared.operand.Place.{Place}
 use Rattle.mir.specs.declared.span.MirSpan.{MirSpan}
 use Rattle.mir.specs.declared.statement.Statement.{Statement}
 use Rattle.mir.specs.declared.statement.StatementKind.TheVariants.{StorageDead}
-use Rattle.mir.specs.Memory.{Memory, bytes_at}
-use Rattle.mir.specs.Run.{Frame, Ended, Ending, Next, Stops, GoesTo, Faulted, Returned, returned, after_statement, after_statements, terminated, next_from, going_on, running, entering, out_of_blocks}
+use Rattle.mir.specs.Memory.{Memory}
+use Rattle.mir.specs.Run.{Frame, Next, Stops, GoesTo, Faulted, Returned, returned, after_statement, after_statements, terminated, next_from, going_on, running, entering, out_of_blocks}
 use Rattle.source_meaning.specs.Source.{Source}
 use Rattle.mir_lower.specs.Does.{Point, here, run_from, local_bytes, IsFrameOf, Comes}
 use Rattle.mir_lower.specs.Graph.{Shape, no_statements, ended, with_statement, with_terminator, with_block, temp_of}

@@ -1,7 +1,6 @@
 -- A number literal's bytes, and its layout.
-use Rattle.std.proofs.Common.{◌≡◌, ℕ, ◌≤◌, Bool, List, Option, Some, None, refl, sym, ap, ◌∙◌, subst, arith, take, ℤ}
+use Rattle.std.proofs.Common.{◌≡◌, ℕ, ◌≤◌, List, Option, Some, None, sym, ap, ◌∙◌, subst, arith, take, ℤ}
 use Rattle.std.specs.Prelude.{option_map, option_and_then}
-use Rattle.world.specs.declared.body.Expr.{Expr}
 use Rattle.world.specs.declared.body.Expr.TheVariants as expr
 use Rattle.world.specs.declared.body.Literal.{Literal}
 use Rattle.world.specs.declared.body.Literal.TheVariants as literal

@@ -1,7 +1,7 @@
 -- The causes of refusals, carried upwards.
-use Rattle.std.proofs.Common.{◌≡◌, ℕ, Bool, true, false, Option, Some, None, Result, Ok, Err, refl, sym, ap, ◌∙◌, subst, ⊎_elim, ◌⊎◌}
+use Rattle.std.proofs.Common.{◌≡◌, ℕ, false, Option, Some, Result, refl, sym, ap, subst, ⊎_elim, ◌⊎◌}
 use Rattle.std.specs.Prelude.{codes, IfErr, IsErrAnd}
-use Rattle.std.proofs.lemmas.Result.{err_from_is_err_and, IfErr-weaker}
+use Rattle.std.proofs.lemmas.Result.{err_from_is_err_and}
 use Rattle.world.specs.declared.body.ArithOp.TheVariants.{Add}
 use Rattle.world.specs.declared.body.BinaryOp.TheVariants.{ArithOp}
 use Rattle.world.specs.declared.body.Expr.{Expr}
@@ -40,8 +40,19 @@ refused-exit P Q r returned carries =
     subst (λ (s : Result _ MirLowerError). IfErr s P) (sym p.1) (carries p.0 p.2)
 
 -- a form that is no literal's
-pub no-literal : (node : Option Expr) (f : Form) → HasForm node f → ((l : _) → f ≡ form.Literal l → ⊥) → is_literal node ≡ false
-no-literal node (form.Literal l) has differ = absurd (differ l refl)
-no-literal node (form.Sum lhs rhs) has differ = ap is_literal has
-no-literal node form.NoOperator has differ = has.1
-no-literal node form.Unbuilt has differ = has.1
+pub no-literal : (there : Option Expr) (f : Form) → HasForm there f → ((l : _) → f ≡ form.Literal l → ⊥) → is_literal there ≡ false
+no-literal there (form.Literal l) has differ = absurd (differ l refl)
+no-literal there (form.Sum lhs rhs) has differ = ap is_literal has
+no-literal there form.NoOperator has differ = has.1
+no-literal there form.Unbuilt has differ = has.1
+
+-- the operands of what is evaluated are evaluated
+pub evaluates-left : (source : Source) (from e : ℕ) (lhs rhs : ExprId) → node source e ≡ Some (expr.BinaryOp lhs rhs (Some (ArithOp Add))) → Evaluates source from e → Evaluates source from lhs.0
+evaluates-left source from e lhs rhs form itself = left form itself
+evaluates-left source from e lhs rhs form (left is rest) = left is (evaluates-left source _ e lhs rhs form rest)
+evaluates-left source from e lhs rhs form (right is rest) = right is (evaluates-left source _ e lhs rhs form rest)
+
+pub evaluates-right : (source : Source) (from e : ℕ) (lhs rhs : ExprId) → node source e ≡ Some (expr.BinaryOp lhs rhs (Some (ArithOp Add))) → Evaluates source from e → Evaluates source from rhs.0
+evaluates-right source from e lhs rhs form itself = right form itself
+evaluates-right source from e lhs rhs form (left is rest) = left is (evaluates-right source _ e lhs rhs form rest)
+evaluates-right source from e lhs rhs form (right is rest) = right is (evaluates-right source _ e lhs rhs form rest)

@@ -1,14 +1,14 @@
 -- One statement of the open block, run.
-use Rattle.std.proofs.Common.{◌≡◌, ◌≢◌, ℕ, zero, suc, ◌+◌, ◌<◌, ◌≤◌, List, [], ◌∷◌, ◌++◌, length, Option, Some, None, Result, Ok, Err, refl, sym, ap, ◌∙◌, subst, arith, length-append, drop}
+use Rattle.std.proofs.Common.{◌≡◌, ℕ, suc, ◌+◌, ◌<◌, List, [], ◌∷◌, ◌++◌, length, Option, Some, Ok, Err, sym, ap, ◌∙◌, arith, length-append, drop}
 use Rattle.std.specs.Prelude.{slice_get, slice_set, option_map, option_and_then, unwrap_or}
 use Rattle.std.proofs.lemmas.Option.{option_and_then_some}
 use Rattle.mir.specs.declared.body.BasicBlock.{BasicBlock}
 use Rattle.mir.specs.declared.errors.MirEvalError.{MirEvalError}
 use Rattle.mir.specs.declared.statement.Statement.{Statement}
 use Rattle.mir.specs.Memory.{Memory}
-use Rattle.mir.specs.Run.{Frame, Ended, Faulted, Stops, Next, after_statement, after_statements, terminated, next_from, going_on, running}
+use Rattle.mir.specs.Run.{Frame, Faulted, Stops, after_statement, after_statements, terminated, next_from, going_on, running}
 use Rattle.mir_lower.specs.Does.{Point, here, run_from, IsFrameOf, Comes}
-use Rattle.mir_lower.specs.Graph.{Shape, more_of, with_statement, with_temp, with_mark}
+use Rattle.mir_lower.specs.Graph.{Shape, more_of, with_statement}
 use Rattle.mir_lower.specs.Growth.{statement_at, count_at, Grows, IsOpen}
 use Rattle.mir_lower.specs.Simulates.{EndsWithin}
 use Rattle.mir_lower.proofs.Growing.{current_of, with_statement-is}

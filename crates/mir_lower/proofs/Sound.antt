@@ -1,18 +1,18 @@
 -- Each step of the builder keeps a graph sound and open.
-use Rattle.std.proofs.Common.{◌≡◌, ◌≢◌, ℕ, zero, suc, ◌+◌, ◌<◌, ◌≤◌, ◌⊎◌, ⊎_elim, inl, inr, List, [], ◌∷◌, ◌++◌, length, Option, Some, None, refl, sym, ap, ◌∙◌, subst, arith, length-append}
-use Rattle.std.specs.Prelude.{slice_get, slice_set, option_map, option_and_then, replicate}
+use Rattle.std.proofs.Common.{◌≡◌, ◌≢◌, ℕ, ◌+◌, ◌<◌, ◌⊎◌, ⊎_elim, inl, inr, List, [], ◌∷◌, ◌++◌, length, Option, Some, refl, sym, ap, ◌∙◌, subst, arith, length-append}
+use Rattle.std.specs.Prelude.{slice_get, option_map, option_and_then}
 use Rattle.std.proofs.Math.ListN.{length-set}
-use Rattle.std.proofs.lemmas.Bool.{cases_eq}
+use Rattle.std.proofs.lemmas.Bool.{cases_eq, cases_lt}
 use Rattle.world.specs.declared.ty.Ty.{Ty}
-use Rattle.mir.specs.declared.body.BasicBlock.{BasicBlock}
 use Rattle.mir.specs.declared.body.Local.{Local}
 use Rattle.mir.specs.declared.body.Terminator.{Terminator}
 use Rattle.mir.specs.declared.ids.LocalId.{LocalId}
 use Rattle.mir.specs.declared.statement.Statement.{Statement}
 use Rattle.source_meaning.specs.Source.{Source, node_type, root}
-use Rattle.mir_lower.specs.Graph.{Shape, no_statements, more_of, ended, with_statement, with_terminator, with_block, temp_of, with_temp, with_mark, first_shape}
-use Rattle.mir_lower.specs.Growth.{statement_at, terminator_at, count_at, Grows, IsSound, IsOpen}
-use Rattle.mir_lower.proofs.Lists.{slice_get-front, slice_get-last, slice_get-set_same, slice_get-set_other, slice_get_in, slice_get_below}
+use Rattle.source_meaning.specs.Valid.{Evaluates}
+use Rattle.mir_lower.specs.Graph.{Shape, no_statements, more_of, with_statement, with_terminator, with_block, temp_of, with_temp, with_mark}
+use Rattle.mir_lower.specs.Growth.{terminator_at, IsSound, IsOpen}
+use Rattle.mir_lower.proofs.Lists.{slice_get-front, slice_get-last, slice_get-set_same, slice_get_in, slice_get_below}
 use Rattle.mir_lower.proofs.Growing.{current_of, with_statement-is, with_terminator-is, temp_of-with_temp_same, temp_of-with_temp_other}
 
 -- only locals, and which of them hold expressions, count
@@ -25,6 +25,7 @@ sound_by source old new locals temps sound =
       nodes = ap length temps ∙ sound.nodes;
       slot = λ l h. sound.slot l (sym (local 0) ∙ h);
       result = let n = ap length locals in let r = sound.result in omega arith;
+      cells = λ l x h. sound.cells l x (sym (local l) ∙ h);
       above_result = λ e l h. sound.above_result e l (sym (at e) ∙ h);
       within = λ e l h. let n = ap length locals in let r = sound.within e l (sym (at e) ∙ h) in omega arith;
       own = λ e f l h k. sound.own e f l (sym (at e) ∙ h) (sym (at f) ∙ k);
@@ -104,8 +105,8 @@ temp_cases e f l ty s within h =
       (λ differ. inr (differ, sym (temp_of-with_temp_other e f ty s differ) ∙ h))
       (cases_eq f e)
 
-pub with_temp-sound : (source : Source) (e : ℕ) (ty : Ty) (s : Shape) → e < length s.temps → node_type source e ≡ Some ty → IsSound source s → IsSound source (with_temp e ty s)
-with_temp-sound source e ty s within has sound =
+pub with_temp-sound : (source : Source) (e : ℕ) (ty : Ty) (s : Shape) → e < length s.temps → node_type source e ≡ Some ty → Evaluates source (root source) e → IsSound source s → IsSound source (with_temp e ty s)
+with_temp-sound source e ty s within has reached sound =
     let grown : (i : ℕ) (l : Local) → slice_get s.locals i ≡ Some l → slice_get (with_temp e ty s).locals i ≡ Some l =
       λ i l h. ap (λ (ls : List Local). slice_get ls i) (with_temp-locals e ty s) ∙ slice_get-front s.locals (record { ty = ty } ∷ []) i l h in
     let long : length (with_temp e ty s).locals ≡ length s.locals + 1 = ap length (with_temp-locals e ty s) ∙ length-append s.locals (record { ty = ty } ∷ []) in
@@ -117,6 +118,15 @@ with_temp-sound source e ty s within has sound =
         let there = grown 0 first.0 first.1 in
         let same : first.0 ≡ l = cc in sound.slot l (first.1 ∙ ap Some same);
       result = let r = sound.result in omega arith;
+      cells = λ l x h. ⊎_elim
+        (λ old. let found = slice_get_in s.locals l old in
+          let there = grown l found.0 found.1 in
+          let same : found.0 ≡ x = cc in sound.cells l x (found.1 ∙ ap Some same))
+        (λ past. let below = slice_get_below (with_temp e ty s).locals l x h in
+          let new : l ≡ length s.locals = omega arith in
+          let h' : slice_get (with_temp e ty s).locals (length s.locals) ≡ Some x = ap (slice_get (with_temp e ty s).locals) (sym new) ∙ h in
+          let same : record { ty = ty } ≡ x = cc in (e, reached, has ∙ ap (λ (y : Local). Some y.ty) same))
+        (cases_lt l (length s.locals));
       above_result = λ f l h. ⊎_elim (λ new. let r = sound.result in let n = new.1 in omega arith) (λ old. sound.above_result f l old.1) (temp_cases e f l ty s within h);
       within = λ f l h. ⊎_elim (λ new. let n = new.1 in omega arith) (λ old. let r = sound.within f l old.1 in omega arith) (temp_cases e f l ty s within h);
       own = λ f g l h k. ⊎_elim

@@ -1,5 +1,5 @@
 -- Reading a cell after a write.
-use Rattle.std.proofs.Common.{◌≡◌, ◌≢◌, ℕ, zero, suc, ◌+◌, ◌-◌, ◌<◌, ◌≤◌, Bool, true, false, cond, ◌⊎◌, ⊎_elim, inl, inr, List, [], ◌∷◌, ◌++◌, length, take, drop, Option, Some, None, refl, sym, ap, ◌∙◌, subst, arith, rules, length-append, length-take, length-drop, leb}
+use Rattle.std.proofs.Common.{◌≡◌, ℕ, ◌+◌, ◌≤◌, Bool, true, false, cond, ◌⊎◌, ⊎_elim, inl, inr, List, ◌++◌, length, take, drop, Some, None, refl, sym, ap, ◌∙◌, arith, rules, leb}
 use Rattle.std.proofs.lemmas.List.{places, same_lists}
 use Rattle.std.proofs.lemmas.Option.{cond_some}
 use borrow.Author.Tests.{leb-true, le-leb}

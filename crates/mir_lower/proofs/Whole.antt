@@ -1,5 +1,5 @@
 -- A whole body: its root, leaving it, and returning.
-use Rattle.std.proofs.Common.{◌≡◌, ◌≢◌, ℕ, zero, suc, ◌+◌, ◌-◌, ◌<◌, ◌≤◌, Bool, true, false, List, [], ◌∷◌, ◌++◌, length, Option, Some, None, Result, Ok, Err, refl, sym, ap, ◌∙◌, subst, arith}
+use Rattle.std.proofs.Common.{◌≡◌, ℕ, zero, suc, ◌+◌, ◌<◌, ◌≤◌, List, length, Option, Some, None, Ok, refl, sym, ap, ◌∙◌, subst, arith}
 use Rattle.std.specs.Prelude.{slice_get, replicate, option_map, option_and_then, unwrap_or}
 use Rattle.world.specs.declared.database.HirDatabase.{HirDatabase}
 use Rattle.world.specs.declared.layout.Layout.{Layout}
@@ -12,22 +12,23 @@ use Rattle.mir.specs.declared.errors.MirEvalError.{MirEvalError}
 use Rattle.mir.specs.declared.errors.MirEvalError as error
 use Rattle.mir.specs.declared.span.MirSpan.{MirSpan}
 use Rattle.mir.specs.Memory.{Interval, Memory, first_memory, bytes_at, cells_of}
-use Rattle.mir.specs.Run.{Frame, Ending, Returned, Faulted, Ended, out_of_blocks, entering, running, begun}
+use Rattle.mir.specs.Run.{Frame, Ending, Returned, Faulted, out_of_blocks, entering, begun}
 use Rattle.source_meaning.specs.Ends.{Cost, so_many_turns, End, Go, Panic, Stuck, More, after, then_do}
 use Rattle.source_meaning.specs.Meaning.{level_at, meaning_of, leaving_turns}
 use Rattle.source_meaning.specs.Source.{Source, node_type, node_layout, root, Cell, Result as Slot, Node, cell_node, Store, zeroed}
+use Rattle.source_meaning.specs.Valid.{Evaluates, itself}
 use Rattle.mir_lower.specs.Does.{Point, here, run_from, local_of, local_bytes, IsFrameOf, Holds, Comes, Reaches}
 use Rattle.mir_lower.specs.Graph.{Shape, first_shape, with_terminator, temp_of}
 use Rattle.mir_lower.specs.Growth.{Grows, IsSound, IsOpen, count_at, terminator_at}
-use Rattle.mir_lower.specs.Leaving.{Leaves, drops}
-use Rattle.mir_lower.specs.Lowered.{LowersInto, marks}
+use Rattle.mir_lower.specs.Leaving.{Leaves}
+use Rattle.mir_lower.specs.Lowered.{LowersInto}
 use Rattle.mir_lower.specs.Simulates.{EndsWithin, EndsAs, Simulates}
 use Rattle.mir.specs.declared.ids.LocalId.{LocalId}
 use Rattle.std.proofs.Math.ListN.{length-replicate}
 use Rattle.mir_lower.proofs.Growing.{grows-refl, grows-trans, with_terminator-grows}
 use Rattle.mir_lower.proofs.Leaving.{entering-suc, entering-none, ends-return}
 use Rattle.mir_lower.proofs.Lists.{slice_get_in}
-use Rattle.mir_lower.proofs.Placing.{AreAligned, HasCell, Placing, places-all, first-ok}
+use Rattle.mir_lower.proofs.Placing.{AreAligned, Placing, places-all, first-ok}
 use Rattle.mir_lower.proofs.Reaching.{ends-after}
 use Rattle.mir_lower.proofs.Sound.{with_terminator-sound}
 
@@ -70,7 +71,7 @@ ends-as-entered frame memory block Stuck ends = tt
 ends-as-entered frame memory block (More cost) ends = tt
 
 -- the frame in which a body begins
-begun-cells : (world : HirDatabase) (body : MirBody) (start : Frame × Memory) → begun world body ≡ Ok start → (all : List Interval × Memory) × (cells_of world body.locals first_memory ≡ Ok all) × ◌≡◌ {A = Frame × Memory} start (record { body = body; cells = all.0 }, all.1)
+pub begun-cells : (world : HirDatabase) (body : MirBody) (start : Frame × Memory) → begun world body ≡ Ok start → (all : List Interval × Memory) × (cells_of world body.locals first_memory ≡ Ok all) × ◌≡◌ {A = Frame × Memory} start (record { body = body; cells = all.0 }, all.1)
 unfolding begun
 begun-cells world body start h =
     let first = first-ok (cells_of world body.locals first_memory) (λ all. Ok (record { body = body; cells = all.0 }, all.1)) start h in
@@ -132,6 +133,7 @@ whole-simulates source ty nodes s1 s2 span body aligned into leaves blocks local
     let first = slice_get_in whole.locals 0 sound.result in
     record {
       slot = (first.0, ap (λ (l : List Local). slice_get l 0) locals ∙ first.1, sound.slot first.0 first.1);
+      cells = λ l local h. sound.cells l local (ap (λ (ls : List Local). slice_get ls l) (sym locals) ∙ h);
       runs = λ fuel begin h.
         let all = begun-cells source.world body begin h in
         let frame : Frame = record { body = body; cells = all.0.0 } in
@@ -151,11 +153,15 @@ first-sound source ty nodes many typed =
       nodes = length-replicate nodes None ∙ many;
       slot = λ local h. (let same : record { ty = ty } ≡ local = cc in typed ∙ ap (λ (l : Local). Some l.ty) same);
       result = omega arith;
+      cells = λ l local h. only-slot l local h;
       above_result = λ e l h. absurd (no-temp nodes e l h);
       within = λ e l h. absurd (no-temp nodes e l h);
       own = λ e f l h k. absurd (no-temp nodes e l h);
       typed = λ e i l h k. absurd (no-temp nodes e i h);
     } where
+  only-slot : (l : ℕ) (local : Local) → slice_get (first_shape ty nodes).locals l ≡ Some local → (e : ℕ) × Evaluates source (root source) e × (node_type source e ≡ Some local.ty)
+  only-slot zero local h = (let same : record { ty = ty } ≡ local = cc in (root source, itself, typed ∙ ap (λ (l : Local). Some l.ty) same))
+  only-slot (suc l) local h = cc
   no-temp : (n e l : ℕ) → option_map (λ (local : LocalId). local.0) (option_and_then (λ temp. temp) (slice_get (replicate n None) e)) ≡ Some l → ⊥
   no-temp zero e l h = cc
   no-temp (suc n) zero l h = cc

@@ -1,13 +1,12 @@
 -- What the code of a graph does: from a point of it to another, or to the end of the run.
-use Rattle.std.specs.Prelude.{◌≡◌, ◌≢◌, ℕ, zero, ◌+◌, ◌<◌, ◌≤◌, List, length, Option, Some, None, slice_get, option_and_then, unwrap_or, ◌⊎◌}
-use Rattle.world.specs.declared.ty.Ty.{Ty}
+use Rattle.std.specs.Prelude.{◌≡◌, ◌≢◌, ℕ, zero, ◌+◌, ◌<◌, ◌≤◌, List, Option, Some, slice_get, option_and_then, unwrap_or, ◌⊎◌}
 use Rattle.mir.specs.declared.errors.MirEvalError as error
 use Rattle.mir.specs.declared.operand.OperandKind.{OperandKind}
 use Rattle.mir.specs.Memory.{Interval, Memory, bytes_at}
-use Rattle.mir.specs.Run.{Frame, Ending, Faulted, Ended, out_of_blocks, running, operand_bytes, operand_type}
+use Rattle.mir.specs.Run.{Frame, Faulted, Ended, out_of_blocks, running, operand_bytes, operand_type}
 use Rattle.source_meaning.specs.Ends.{End, Go, Panic, Stuck, More}
 use Rattle.source_meaning.specs.Meaning.{level_at}
-use Rattle.source_meaning.specs.Source.{Source, node_type, Cell, Result, Node, Path, Store, Operand, operand_bytes as source_bytes}
+use Rattle.source_meaning.specs.Source.{Source, node_type, Cell, Result, Node, Store, Operand, operand_bytes as source_bytes}
 use Rattle.mir_lower.specs.Graph.{Shape, temp_of}
 use Rattle.mir_lower.specs.Growth.{Grows, IsSound, count_at}
 use Rattle.mir_lower.specs.Simulates.{EndsWithin}

@@ -1,7 +1,6 @@
 -- The graph that lowering builds, as data: its blocks, which of them is the current one, to which statements are added, its locals, which local holds which
 -- expression's value, and which expressions were given a local in the scope so far.
 use Rattle.std.specs.Prelude.{ℕ, false, List, [], ◌∷◌, ◌++◌, length, replicate, map, Option, Some, None, slice_get, slice_set, option_map, option_and_then}
-use Rattle.world.specs.declared.ids.ExprId.{ExprId}
 use Rattle.world.specs.declared.ty.Ty.{Ty}
 use Rattle.mir.specs.declared.body.BasicBlock.{BasicBlock}
 use Rattle.mir.specs.declared.body.Local.{Local}

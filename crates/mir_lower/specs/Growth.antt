@@ -1,11 +1,11 @@
 -- How the graph grows while an expression is lowered, and what stands in it at a point of its code.
-use Rattle.std.specs.Prelude.{◌≡◌, ◌≢◌, ℕ, ◌<◌, List, length, Option, Some, None, slice_get, option_map, option_and_then}
+use Rattle.std.specs.Prelude.{◌≡◌, ℕ, ◌<◌, length, Option, Some, None, slice_get, option_map, option_and_then}
 use Rattle.mir.specs.declared.body.BasicBlock.{BasicBlock}
 use Rattle.mir.specs.declared.body.Local.{Local}
 use Rattle.mir.specs.declared.body.Terminator.{Terminator}
-use Rattle.mir.specs.declared.ids.LocalId.{LocalId}
 use Rattle.mir.specs.declared.statement.Statement.{Statement}
 use Rattle.source_meaning.specs.Source.{Source, node_type, root}
+use Rattle.source_meaning.specs.Valid.{Evaluates}
 use Rattle.mir_lower.specs.Graph.{Shape, temp_of}
 
 -- the statement at a place of a block, and a block's terminator
@@ -28,11 +28,13 @@ pub record Grows (old new : Shape) : Type 0 where
   pub temps : (e local : ℕ) → temp_of old e ≡ Some local → temp_of new e ≡ Some local
 
 -- A graph that lowering can go on with: its current block isn't ended, each expression's local is a local of its
--- type, and no two expressions, nor an expression and the result, share one.
+-- type, no two expressions, nor an expression and the result, share one, and each local is of the type of an
+-- expression that is evaluated.
 pub record IsSound (source : Source) (s : Shape) : Type 0 where
   pub nodes : length s.temps ≡ length source.body.exprs
   pub slot : (local : Local) → slice_get s.locals 0 ≡ Some local → node_type source (root source) ≡ Some local.ty
   pub result : 0 < length s.locals
+  pub cells : (l : ℕ) (local : Local) → slice_get s.locals l ≡ Some local → (e : ℕ) × Evaluates source (root source) e × (node_type source e ≡ Some local.ty)
   pub above_result : (e local : ℕ) → temp_of s e ≡ Some local → 0 < local
   pub within : (e local : ℕ) → temp_of s e ≡ Some local → local < length s.locals
   pub own : (e f local : ℕ) → temp_of s e ≡ Some local → temp_of s f ≡ Some local → e ≡ f

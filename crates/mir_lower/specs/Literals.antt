@@ -1,5 +1,5 @@
 -- A literal as an operand of the graph.
-use Rattle.std.specs.Prelude.{◌≡◌, ℕ, List, Some}
+use Rattle.std.specs.Prelude.{◌≡◌, ℕ, Some}
 use Rattle.world.specs.declared.body.Literal.{Literal}
 use Rattle.world.specs.declared.ty.Const.{Const}
 use Rattle.world.specs.declared.ty.Ty.{Ty}

@@ -1,13 +1,11 @@
 -- Why a typed body can't be lowered.
-use Rattle.std.specs.Prelude.{◌≡◌, ◌≢◌, ℕ, ◌<◌, Bool, true, false, IsTrue, List, [], ◌⊎◌, Option, Some, None, codes}
+use Rattle.std.specs.Prelude.{◌≡◌, ◌≢◌, ℕ, ◌<◌, IsTrue, [], ◌⊎◌, Option, Some, None, codes}
 use Rattle.world.specs.declared.body.ArithOp.TheVariants.{Add}
 use Rattle.world.specs.declared.body.BinaryOp.TheVariants.{ArithOp}
 use Rattle.world.specs.declared.body.Expr.{Expr}
 use Rattle.world.specs.declared.body.Expr.TheVariants as expr
-use Rattle.world.specs.declared.body.Literal.TheVariants.{Int, Uint}
 use Rattle.world.specs.declared.infer.InferenceResult.{InferenceResult}
 use Rattle.world.specs.declared.layout.Layout.{Layout}
-use Rattle.mir.specs.declared.errors.LayoutError.TheVariants.{Unknown}
 use Rattle.mir.specs.declared.errors.MirLowerError.{MirLowerError}
 use Rattle.mir.specs.declared.errors.MirLowerError.TheVariants as refusal
 use Rattle.source_meaning.specs.Source.{Source, node, node_layout, root}

@@ -1,6 +1,5 @@
 -- A graph does what a typed body means.
-use Rattle.std.specs.Prelude.{◌≡◌, ℕ, ◌+◌, ◌<◌, ◌≤◌, List, Option, Some, None, Result, Ok, Err, slice_get}
-use Rattle.world.specs.declared.database.HirDatabase.{HirDatabase}
+use Rattle.std.specs.Prelude.{◌≡◌, ℕ, ◌+◌, ◌<◌, ◌≤◌, List, Some, Ok, slice_get}
 use Rattle.mir.specs.declared.body.Local.{Local}
 use Rattle.mir.specs.declared.body.MirBody.{MirBody}
 use Rattle.mir.specs.declared.errors.MirEvalError.{MirEvalError}
@@ -10,6 +9,7 @@ use Rattle.mir.specs.Run.{Frame, Ending, Returned, Faulted, Ended, out_of_blocks
 use Rattle.source_meaning.specs.Ends.{End, Go, Panic, Stuck, More}
 use Rattle.source_meaning.specs.Meaning.{meaning_of}
 use Rattle.source_meaning.specs.Source.{Source, node_type, root}
+use Rattle.source_meaning.specs.Valid.{Evaluates}
 
 -- A run under every budget: it ends so, after so many blocks at most. With just as many blocks or more it ends
 -- so and leaves the rest, and with fewer it runs out of them.
@@ -27,8 +27,9 @@ EndsAs Stuck run = Unit {0}
 EndsAs (More cost) run = Unit {0}
 
 -- For every amount of fuel a run of the graph, where it can begin, ends as the source's meaning does. The return
--- slot has the type of the body's root.
+-- slot has the type of the body's root, and each local that of an expression that is evaluated.
 pub record Simulates (source : Source) (body : MirBody) : Type 0 where
   pub slot : (local : Local) × (slice_get body.locals 0 ≡ Some local) × (node_type source (root source) ≡ Some local.ty)
+  pub cells : (l : ℕ) (local : Local) → slice_get body.locals l ≡ Some local → (e : ℕ) × Evaluates source (root source) e × (node_type source e ≡ Some local.ty)
   pub runs : (fuel : ℕ) (start : Frame × Memory) → begun source.world body ≡ Ok start →
     EndsAs (meaning_of source fuel) (λ budget. entering budget start.0 start.1 body.start_block.0)

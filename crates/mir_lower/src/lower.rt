@@ -3,7 +3,8 @@
 ghost use Rattle.std.specs.Prelude.{◌≡◌, ◌<◌, ℕ, length, IfOk, IfErr, OnOk, Some};
 ghost use Rattle.mir.specs.declared.operand.OperandKind.TheVariants.{Copy};
 ghost use Rattle.mir.specs.declared.statement.StatementKind.TheVariants.{Assign, StorageLive};
-ghost use Rattle.source_meaning.specs.Source.{Cell, node};
+ghost use Rattle.source_meaning.specs.Source.{Cell, node, root};
+ghost use Rattle.source_meaning.specs.Valid.{Evaluates};
 ghost use Rattle.world.specs.declared.body.ArithOp.TheVariants.{Add as Plus};
 ghost use Rattle.world.specs.declared.body.BinaryOp.TheVariants.{ArithOp as Arithmetic};
 ghost use Rattle.world.specs.declared.body.Expr.TheVariants as expr;
@@ -41,6 +42,7 @@ pub(crate) fn lower_operand(
     requires sound { IsSound (source_of context.now) (shape graph.old) }
     requires opened { IsOpen (shape graph.old) }
     requires within { e.0 < length context.now.body.now.exprs }
+    requires reached { Evaluates (source_of context.now) (root (source_of context.now)) e.0 }
     ensures lowered { IfOk result (λ operand. LowersOperand (source_of context.now) (shape graph.old) (shape graph.new) e.0 operand.kind) }
     ensures refused { IfErr result (RefusesAt (source_of context.now) e.0) }
 {
@@ -67,6 +69,7 @@ fn lower_place(
     requires sound { IsSound (source_of context.now) (shape graph.old) }
     requires opened { IsOpen (shape graph.old) }
     requires within { e.0 < length context.now.body.now.exprs }
+    requires reached { Evaluates (source_of context.now) (root (source_of context.now)) e.0 }
     ensures lowered { IfOk result (λ place. LowersPlace (source_of context.now) (shape graph.old) (shape graph.new) e.0 place.local.0) }
     ensures refused { IfErr result (RefusesAt (source_of context.now) e.0) }
 {
@@ -96,6 +99,7 @@ pub(crate) fn lower_into(
     requires sound { IsSound (source_of context.now) (shape graph.old) }
     requires opened { IsOpen (shape graph.old) }
     requires within { e.0 < length context.now.body.now.exprs }
+    requires reached { Evaluates (source_of context.now) (root (source_of context.now)) e.0 }
     ensures lowered { OnOk result ((cell : Cell) → local_of (shape graph.old) cell ≡ Some place.local.0
         → LowersInto (source_of context.now) (shape graph.old) (shape graph.new) e.0 cell) }
     ensures refused { IfErr result (RefusesAt (source_of context.now) e.0) }
@@ -125,6 +129,7 @@ fn lower_sum(
     requires sound { IsSound (source_of context.now) (shape graph.old) }
     requires opened { IsOpen (shape graph.old) }
     requires within { e.0 < length context.now.body.now.exprs }
+    requires reached { Evaluates (source_of context.now) (root (source_of context.now)) e.0 }
     requires form { node (source_of context.now) e.0 ≡ Some (expr.BinaryOp lhs rhs (Some (Arithmetic Plus))) }
     ensures lowered { OnOk result ((cell : Cell) → local_of (shape graph.old) cell ≡ Some place.local.0
         → LowersInto (source_of context.now) (shape graph.old) (shape graph.new) e.0 cell) }

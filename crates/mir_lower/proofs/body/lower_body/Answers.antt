@@ -1,8 +1,8 @@
 -- From the first graph through the root, the scope that is left, and the return.
-use Rattle.std.proofs.Common.{◌≡◌, ℕ, List, Some, refl, sym, ap, ◌∙◌, subst}
-use Rattle.mir.specs.declared.body.TerminatorKind.TheVariants.{Return}
+use Rattle.std.proofs.Common.{ℕ, List, Some, refl, sym, ap, ◌∙◌, subst}
 use Rattle.mir.specs.declared.span.MirSpan.TheVariants.{ExprId}
 use Rattle.source_meaning.specs.Source.{root, Result}
+use Rattle.source_meaning.specs.Valid.{itself}
 use Rattle.mir_lower.specs.Contexts.{source_of}
 use Rattle.mir_lower.specs.Graph.{Shape, shape, first_shape}
 use Rattle.mir_lower.specs.Growth.{IsSound, IsOpen}
@@ -29,6 +29,9 @@ lower_into-requires-clause-sound c =
 
 pub lower_into-requires-clause-opened : goal.lower_into-requires-clause-opened
 lower_into-requires-clause-opened c = subst IsOpen (sym c.in_ok-graph.ensures) (first-open c.in_ok-ty.ty c.len.result)
+
+pub lower_into-requires-clause-reached : goal.lower_into-requires-clause-reached
+lower_into-requires-clause-reached c = itself
 
 pub leave_scope-requires-clause-sound : goal.leave_scope-requires-clause-sound
 leave_scope-requires-clause-sound c = (c.in_ok-lower_into.ensures.lowered Result refl).keeps.sound

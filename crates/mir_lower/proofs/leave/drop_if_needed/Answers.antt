@@ -1,5 +1,5 @@
 -- A drop where the type asks for one, and nothing else.
-use Rattle.std.proofs.Common.{◌≡◌, ℕ, Bool, refl, sym, ap, ◌∙◌, subst}
+use Rattle.std.proofs.Common.{Bool, sym, ◌∙◌, subst}
 use Rattle.std.proofs.lemmas.Result.{on_ok_weaker}
 use Rattle.mir.specs.declared.span.MirSpan.TheVariants.{ExprId}
 use Rattle.std.specs.Prelude.{None}

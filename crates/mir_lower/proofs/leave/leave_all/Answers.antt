@@ -1,10 +1,9 @@
 -- The locals from the last back.
-use Rattle.std.proofs.Common.{◌≡◌, ℕ, ◌+◌, List, [], ◌∷◌, ◌++◌, Some, None, refl, sym, ap, ◌∙◌, subst, arith}
-use Rattle.std.specs.Prelude.{option_to_list}
+use Rattle.std.proofs.Common.{ℕ, ◌+◌, sym, ◌∙◌, subst, arith}
 use Rattle.source_meaning.specs.Meaning.{is_dropped}
 use Rattle.mir_lower.specs.Contexts.{source_of}
 use Rattle.mir_lower.specs.Graph.{shape}
-use Rattle.mir_lower.specs.Leaving.{Leaves, drops, nodes_of, one_if}
+use Rattle.mir_lower.specs.Leaving.{Leaves, one_if}
 use Rattle.mir_lower.proofs.Drops.{drops-last, no-drops}
 use Rattle.mir_lower.proofs.Leaving.{leaves-refl, leaves-trans}
 use Rattle.mir_lower.proofs.leave.leave_all.Goals as goal

@@ -1,5 +1,5 @@
 -- A drop, and then the end of the storage.
-use Rattle.std.proofs.Common.{◌≡◌, ℕ, ◌+◌, refl, sym, subst, arith}
+use Rattle.std.proofs.Common.{◌≡◌, ℕ, ◌+◌, subst, arith}
 use Rattle.std.proofs.lemmas.Result.{on_ok_weaker}
 use Rattle.mir.specs.declared.span.MirSpan.TheVariants.{ExprId}
 use Rattle.source_meaning.specs.Meaning.{is_dropped}

@@ -1,9 +1,9 @@
 -- The scope is taken out of the graph, and then left.
-use Rattle.std.proofs.Common.{◌≡◌, ℕ, List, [], refl, sym, ap, ◌∙◌, subst}
+use Rattle.std.proofs.Common.{List, ap, subst}
 use Rattle.std.proofs.lemmas.Result.{on_ok_weaker}
 use Rattle.mir_lower.specs.Contexts.{source_of}
 use Rattle.mir_lower.specs.declared.graph.Marked.{Marked}
-use Rattle.mir_lower.specs.Graph.{Shape, shape}
+use Rattle.mir_lower.specs.Graph.{shape}
 use Rattle.mir_lower.specs.Leaving.{Leaves, drops, nodes_of}
 use Rattle.mir_lower.proofs.Leaving.{leaves-scope, sound-scope, open-scope}
 use Rattle.mir_lower.proofs.leave.leave_scope.Goals as goal

@@ -1,5 +1,5 @@
 -- A literal's bytes are as many as its layout says; each refusal has its cause.
-use Rattle.std.proofs.Common.{◌≡◌, ◌≤◌, ⊎_elim, Some, refl, sym, ap, ◌∙◌, subst, arith}
+use Rattle.std.proofs.Common.{◌≤◌, ⊎_elim, Some, refl, sym, ap, ◌∙◌, subst}
 use Rattle.std.proofs.lemmas.Result.{IfOk-weaker}
 use Rattle.mir_lower.specs.Contexts.{source_of}
 use Rattle.mir_lower.specs.Refusals.{RefusesNode}

@@ -1,5 +1,5 @@
 -- The lowest bytes of a signed number are those of its two's complement.
-use Rattle.std.proofs.Common.{◌≡◌, ◌∙◌, ap, sym, ◌≤◌, take}
+use Rattle.std.proofs.Common.{◌∙◌, ap, sym, take}
 use Rattle.std.specs.Int.{w128, cast_unsigned, to_le_bytes}
 use Rattle.std.proofs.lemmas.Int.{to_z-of_z}
 use Rattle.mir_mem.proofs.Keeping.{take-signed_bytes}

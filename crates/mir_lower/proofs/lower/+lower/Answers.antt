@@ -1,8 +1,6 @@
 -- Each form does what it means, by what its parts do; each refusal has its cause.
-use Rattle.std.proofs.Common.{◌≡◌, ◌<◌, ℕ, Some, refl, sym, ap, ◌∙◌, subst, ⊎_elim, arith}
-use Rattle.std.proofs.lemmas.List.Elements.{All-head, All-tail}
+use Rattle.std.proofs.Common.{Some, sym, ap, ◌∙◌, subst, arith}
 use Rattle.std.proofs.lemmas.Result.{IfOk-weaker, on_ok_weaker, IfErr-weaker}
-use Rattle.mir.specs.declared.errors.MirLowerError.{MirLowerError}
 use Rattle.mir.specs.declared.errors.MirLowerError.TheVariants as refusal
 use Rattle.mir.specs.declared.span.MirSpan.TheVariants.{ExprId}
 use Rattle.mir_lower.specs.Contexts.{source_of}
@@ -14,9 +12,9 @@ use Rattle.mir_lower.specs.Graph.{Shape, shape, temp_of}
 use Rattle.mir_lower.specs.Growth.{IsSound, IsOpen}
 use Rattle.mir_lower.proofs.Growing.{with_statement-grows}
 use Rattle.mir_lower.proofs.Sound.{with_statement-sound, with_statement-open}
-use Rattle.mir_lower.specs.Refusals.{RefusesNode, RefusesAt}
+use Rattle.mir_lower.specs.Refusals.{RefusesAt}
 use Rattle.mir_lower.proofs.Forms.{lowers-literal, lowers-literal-operand, lowers-place-operand, lowers-place, lowers-sum, given-local}
-use Rattle.mir_lower.proofs.Refused.{refuses-here, refuses-no-memory, refuses-left, refuses-right, refuses-unbuilt, refused-exit, no-literal}
+use Rattle.mir_lower.proofs.Refused.{evaluates-left, evaluates-right, refuses-here, refuses-no-memory, refuses-left, refuses-right, refuses-unbuilt, refused-exit, no-literal}
 use Rattle.mir_lower.proofs.lower.+lower.Goals as goal
 
 pub lower_into-returns-in_err-operand-in-Literal-clause-refused : goal.lower_into-returns-in_err-operand-in-Literal-clause-refused
@@ -70,7 +68,7 @@ lower_place-returns-in_err-local-clause-refused t c =
 
 pub lower_place-push_statement-requires : goal.lower_place-push_statement-requires
 lower_place-push_statement-requires t c =
-    let given = given-local (source_of c.args.context.now) (shape c.args.graph.now) (shape c.temp_for.new.self) c.args.e.0 c.in_ok-local.local.0 c.in_ok-ty.ty c.requires.sound c.requires.opened c.requires.within (sym c.in-Some.ensures ∙ ap Some (sym c.in_ok-ty.ensures)) c.in_ok-local.ensures.old c.in_ok-local.ensures.new in
+    let given = given-local (source_of c.args.context.now) (shape c.args.graph.now) (shape c.temp_for.new.self) c.args.e.0 c.in_ok-local.local.0 c.in_ok-ty.ty c.requires.sound c.requires.opened c.requires.within (sym c.in-Some.ensures ∙ ap Some (sym c.in_ok-ty.ensures)) c.requires.reached c.in_ok-local.ensures.old c.in_ok-local.ensures.new in
     given.«open».there
 
 pub lower_place-returns-in_err-push_statement-clause-refused : goal.lower_place-returns-in_err-push_statement-clause-refused
@@ -79,15 +77,15 @@ lower_place-returns-in_err-push_statement-clause-refused t c =
 
 pub lower_place-lower_into-requires : goal.lower_place-lower_into-requires
 lower_place-lower_into-requires t c =
-    let given = given-local (source_of c.args.context.now) (shape c.args.graph.now) (shape c.temp_for.new.self) c.args.e.0 c.in_ok-local.local.0 c.in_ok-ty.ty c.requires.sound c.requires.opened c.requires.within (sym c.in-Some.ensures ∙ ap Some (sym c.in_ok-ty.ensures)) c.in_ok-local.ensures.old c.in_ok-local.ensures.new in
+    let given = given-local (source_of c.args.context.now) (shape c.args.graph.now) (shape c.temp_for.new.self) c.args.e.0 c.in_ok-local.local.0 c.in_ok-ty.ty c.requires.sound c.requires.opened c.requires.within (sym c.in-Some.ensures ∙ ap Some (sym c.in_ok-ty.ensures)) c.requires.reached c.in_ok-local.ensures.old c.in_ok-local.ensures.new in
     let live : Statement = record { kind = StorageLive c.in_ok-local.local; span = ExprId c.args.e } in
     (omega arith, (c.requires.checked, (
       subst (IsSound (source_of c.args.context.now)) (sym c.in_ok-push_statement.ensures) (with_statement-sound (source_of c.args.context.now) live (shape c.temp_for.new.self) given.«open» given.sound), (
-      subst IsOpen (sym c.in_ok-push_statement.ensures) (with_statement-open live (shape c.temp_for.new.self) given.«open»), c.requires.within))))
+      subst IsOpen (sym c.in_ok-push_statement.ensures) (with_statement-open live (shape c.temp_for.new.self) given.«open»), (c.requires.within, c.requires.reached)))))
 
 pub lower_place-returns-clause-lowered : goal.lower_place-returns-clause-lowered
 lower_place-returns-clause-lowered t c =
-    let given = given-local (source_of c.args.context.now) (shape c.args.graph.now) (shape c.temp_for.new.self) c.args.e.0 c.in_ok-local.local.0 c.in_ok-ty.ty c.requires.sound c.requires.opened c.requires.within (sym c.in-Some.ensures ∙ ap Some (sym c.in_ok-ty.ensures)) c.in_ok-local.ensures.old c.in_ok-local.ensures.new in
+    let given = given-local (source_of c.args.context.now) (shape c.args.graph.now) (shape c.temp_for.new.self) c.args.e.0 c.in_ok-local.local.0 c.in_ok-ty.ty c.requires.sound c.requires.opened c.requires.within (sym c.in-Some.ensures ∙ ap Some (sym c.in_ok-ty.ensures)) c.requires.reached c.in_ok-local.ensures.old c.in_ok-local.ensures.new in
     let live : Statement = record { kind = StorageLive c.in_ok-local.local; span = ExprId c.args.e } in
     let found = ap (λ (s : Shape). temp_of s c.args.e.0) c.in_ok-push_statement.ensures ∙ (with_statement-grows live (shape c.temp_for.new.self) given.«open»).temps c.args.e.0 c.in_ok-local.local.0 given.found in
     lowers-place (source_of c.args.context.now) (shape c.args.graph.now) (shape c.temp_for.new.self) (shape c.push_statement.new.self) (shape c.lower_into.new.graph) c.args.e.0 c.in_ok-local.local (ExprId c.args.e) given c.in_ok-push_statement.ensures
@@ -97,7 +95,7 @@ pub lower_sum-lower_operand-requires : goal.lower_sum-lower_operand-requires
 lower_sum-lower_operand-requires t c =
     let below = left_is_below (source_of c.args.context.now) c.requires.checked c.args.e.0 c.args.lhs c.args.rhs c.requires.form in
     let within = c.requires.within in
-    (omega arith, (c.requires.checked, (c.requires.sound, (c.requires.opened, omega arith))))
+    (omega arith, (c.requires.checked, (c.requires.sound, (c.requires.opened, (omega arith, evaluates-left (source_of c.args.context.now) _ c.args.e.0 c.args.lhs c.args.rhs c.requires.form c.requires.reached)))))
 
 pub lower_sum-returns-in_err-left-clause-refused : goal.lower_sum-returns-in_err-left-clause-refused
 lower_sum-returns-in_err-left-clause-refused t c =
@@ -108,7 +106,7 @@ pub lower_sum-lower_operand-requires-2 : goal.lower_sum-lower_operand-requires-2
 lower_sum-lower_operand-requires-2 t c =
     let below = right_is_below (source_of c.args.context.now) c.requires.checked c.args.e.0 c.args.lhs c.args.rhs c.requires.form in
     let within = c.requires.within in
-    (omega arith, (c.requires.checked, (c.in_ok-left.ensures.lowered.keeps.sound, (c.in_ok-left.ensures.lowered.keeps.«open», omega arith))))
+    (omega arith, (c.requires.checked, (c.in_ok-left.ensures.lowered.keeps.sound, (c.in_ok-left.ensures.lowered.keeps.«open», (omega arith, evaluates-right (source_of c.args.context.now) _ c.args.e.0 c.args.lhs c.args.rhs c.requires.form c.requires.reached)))))
 
 pub lower_sum-returns-in_err-right-clause-refused : goal.lower_sum-returns-in_err-right-clause-refused
 lower_sum-returns-in_err-right-clause-refused t c =

@@ -1,0 +1,79 @@
+-- What is kept stays right when more is kept.
+use Rattle.std.proofs.Common.{◌≡◌, ℕ, ◌⊎◌, ⊎_elim, List, [], ◌∷◌, ◌++◌, Ok, refl, sym, ap, ◌∙◌, subst}
+use Rattle.std.specs.Prelude.{Contains}
+use Rattle.std.proofs.lemmas.List.Elements.{Contains-push, Contains-push_cases, Contains-append_left}
+use Rattle.world.specs.declared.database.HirDatabase.{HirDatabase}
+use Rattle.world.specs.declared.ids.DefWithBodyId.{DefWithBodyId}
+use Rattle.world.specs.declared.ty.Const.{Const}
+use Rattle.mir.specs.declared.body.MirBody.{MirBody}
+use Rattle.consteval.specs.Kept.{Kept, IsLowered, IsValueOf, IsSound, Ran, Stays}
+
+pub stays : (kept : Kept) → Stays kept kept
+stays kept = record { world = refl; bodies = λ def body h. h; values = λ def konst h. h }
+
+pub stays-then : (first second third : Kept) → Stays first second → Stays second third → Stays first third
+stays-then first second third one two =
+    record {
+      world = two.world ∙ one.world;
+      bodies = λ def body h. two.bodies def body (one.bodies def body h);
+      values = λ def konst h. two.values def konst (one.values def konst h);
+    }
+
+-- what is kept with one more body, and with one more value
+abbrev pub with_body : DefWithBodyId → MirBody → Kept → Kept
+with_body def body kept = record kept { bodies = kept.bodies ++ (def, body) ∷ [] }
+
+abbrev pub with_value : DefWithBodyId → Const → Kept → Kept
+with_value def konst kept = record kept { values = kept.values ++ (def, konst) ∷ [] }
+
+pub with_body-stays : (def : DefWithBodyId) (body : MirBody) (kept : Kept) → Stays kept (with_body def body kept)
+with_body-stays def body kept =
+    record {
+      world = refl;
+      bodies = λ other old h. Contains-append_left kept.bodies ((def, body) ∷ []) (other, old) h;
+      values = λ other konst h. h;
+    }
+
+pub with_value-stays : (def : DefWithBodyId) (konst : Const) (kept : Kept) → Stays kept (with_value def konst kept)
+with_value-stays def konst kept =
+    record {
+      world = refl;
+      bodies = λ other old h. h;
+      values = λ other old h. Contains-append_left kept.values ((def, konst) ∷ []) (other, old) h;
+    }
+
+-- a kept value stays one where the bodies stay
+value-stays : (before after : Kept) → Stays before after → (def : DefWithBodyId) (konst : Const) → IsValueOf before def konst → IsValueOf after def konst
+value-stays before after stays def konst is =
+    record {
+      body = is.body;
+      from = stays.bodies def is.body is.from;
+      blocks = is.blocks;
+      turns = is.turns;
+      ran = subst (λ w. Ran w is.body is.blocks is.turns (Ok konst)) (sym stays.world) is.ran;
+    }
+
+pub first-sound : (world : HirDatabase) → IsSound (record { world = world; bodies = []; values = [] })
+first-sound world = record { bodies = λ def body h. none (def, body) h; values = λ def konst h. none (def, konst) h } where
+  none : {X : Type 0} {P : Type 0} (x : X) → Contains [] x → P
+  none x h = absurd h
+
+pub with_body-sound : (def : DefWithBodyId) (body : MirBody) (kept : Kept) → IsLowered kept.world def body → IsSound kept → IsSound (with_body def body kept)
+with_body-sound def body kept lowered sound =
+    record {
+      bodies = λ other old h. ⊎_elim (λ before. sound.bodies other old before) (λ same. moved other old same) (Contains-push_cases kept.bodies (def, body) (other, old) h);
+      values = λ other konst h. value-stays kept (with_body def body kept) (with_body-stays def body kept) other konst (sound.values other konst h);
+    } where
+  moved : (other : DefWithBodyId) (old : MirBody) → ◌≡◌ {A = DefWithBodyId × MirBody} (def, body) (other, old) → IsLowered kept.world other old
+  moved other old same =
+      subst (λ (pair : DefWithBodyId × MirBody). IsLowered kept.world pair.0 pair.1) same lowered
+
+pub with_value-sound : (def : DefWithBodyId) (konst : Const) (kept : Kept) → IsValueOf kept def konst → IsSound kept → IsSound (with_value def konst kept)
+with_value-sound def konst kept is sound =
+    record {
+      bodies = λ other old h. sound.bodies other old h;
+      values = λ other old h. value-stays kept (with_value def konst kept) (with_value-stays def konst kept) other old
+        (⊎_elim (λ before. sound.values other old before) (λ same. moved other old same) (Contains-push_cases kept.values (def, konst) (other, old) h));
+    } where
+  moved : (other : DefWithBodyId) (old : Const) → ◌≡◌ {A = DefWithBodyId × Const} (def, konst) (other, old) → IsValueOf kept other old
+  moved other old same = subst (λ (pair : DefWithBodyId × Const). IsValueOf kept pair.0 pair.1) same is

@@ -1,0 +1,5 @@
+pub mod Begins
+pub mod Ends
+pub mod Headline
+pub mod Keeping
+pub mod Refused

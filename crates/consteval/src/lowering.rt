@@ -1,0 +1,46 @@
+//! From a definition to its lowered body.
+
+ghost use Rattle.std.specs.Prelude.{◌≡◌, ◌⊎◌, IfOk, IfErr, codes};
+ghost use Rattle.mir.specs.declared.errors.MirLowerError.TheVariants as refusal;
+ghost use Rattle.consteval.specs.Answers.{RefusesBody};
+ghost use Rattle.consteval.specs.Kept.{IsLowered};
+
+use mir::{MirBody, MirLowerError};
+use mir_lower::lower_to_mir;
+use std::alloc::Global;
+use world::{DefWithBodyId, GenericArgs, Text};
+use world_check::CheckedWorld;
+
+/// The refusal of what can't be lowered yet.
+fn form_not_built(alloc: Global) -> MirLowerError
+    ensures { (result ≡ refusal.NoMemory) ⊎ (result ≡ refusal.NotSupported (codes "form not built")) }
+{
+    match Text::from_str(alloc, "form not built") {
+        Ok(text) => MirLowerError::NotSupported(text),
+        Err(_) => MirLowerError::NoMemory,
+    }
+}
+
+/// The lowered body of a definition. The refusals, in this order: `NotSupported` where there are
+/// arguments, `IncompleteExpr` where there is no body, those of `lower_to_mir`, and `NoMemory`.
+pub(crate) fn lower(
+    alloc: Global,
+    world: &CheckedWorld,
+    def: DefWithBodyId,
+    args: &GenericArgs,
+) -> Result<MirBody, MirLowerError>
+    ensures lowered { IfOk result (IsLowered world.now def) }
+    ensures refused { IfErr result (λ e. (e ≡ refusal.NoMemory) ⊎ RefusesBody world.now def args.now e) }
+{
+    if !args.0.as_slice().is_empty() {
+        return Err(form_not_built(alloc));
+    }
+    let db = world.db();
+    let Some(body) = db.body(def) else {
+        return Err(MirLowerError::IncompleteExpr);
+    };
+    let Some(infer) = db.infer(def) else {
+        return Err(MirLowerError::IncompleteExpr);
+    };
+    lower_to_mir(alloc, db, def, body, infer)
+}

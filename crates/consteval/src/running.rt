@@ -1,0 +1,75 @@
+//! One run of a lowered body.
+
+ghost use Rattle.std.specs.Prelude.{◌≡◌, ◌⊎◌, ◌≤◌, [], Err, IfOk, IfErr};
+ghost use Rattle.mir.specs.declared.errors.MirEvalError as error;
+ghost use Rattle.mir_eval.specs.Evaluators.{machine_of};
+ghost use Rattle.mir_eval.specs.Limits.{IsWithin};
+ghost use Rattle.consteval.specs.Answers.{AnswersBody, RefusesRun};
+ghost use Rattle.consteval.specs.Kept.{HasBegun};
+
+use crate::Evaluated;
+use mir::{ConstEvalError, MirBody, MirEvalError};
+use mir_eval::{Evaluator, Limits, MirOutput};
+use std::alloc::Global;
+use std::rc::Rc;
+use world::{DefWithBodyId, HirDatabase};
+
+/// The answer where no run began.
+pub(crate) fn refused(alloc: Global, error: ConstEvalError) -> Evaluated
+    ensures { result ≡ record { result = Err error; output = ([], []); turns = 0 } }
+{
+    Evaluated {
+        result: Err(error),
+        output: MirOutput::empty(alloc),
+        turns: 0,
+    }
+}
+
+/// A machine that is about to enter the body's first block.
+fn begun<'a>(
+    alloc: Global,
+    db: &'a HirDatabase,
+    def: DefWithBodyId,
+    body: Rc<MirBody>,
+    limits: &Limits,
+) -> Result<Evaluator<'a>, MirEvalError>
+    requires { IsWithin limits.now }
+    ensures began { IfOk result (λ evaluator. HasBegun db.now def body.value limits.now.blocks (machine_of evaluator)) }
+    ensures refused { IfErr result (λ e. (e ≡ error.NoMemory) ⊎ RefusesRun db.now def body.value e) }
+{
+    let mut evaluator = Evaluator::new(alloc, db, def, false, limits)?;
+    evaluator.begin(body)?;
+    Ok(evaluator)
+}
+
+/// Runs a body to its end.
+pub(crate) fn run_body(
+    alloc: Global,
+    db: &HirDatabase,
+    def: DefWithBodyId,
+    body: Rc<MirBody>,
+    limits: &Limits,
+) -> Evaluated
+    requires { IsWithin limits.now }
+    ensures printed { result.output ≡ ([], []) }
+    ensures answered { AnswersBody db.now def body.value limits.now.blocks result.turns result.result }
+    ensures turns { result.turns ≤ limits.now.blocks }
+{
+    match begun(alloc, db, def, body, limits) {
+        Ok(mut evaluator) => {
+            evaluator.run();
+            let turns = evaluator.turns();
+            let (outcome, output) = evaluator.finish();
+            let result = match outcome {
+                Ok(konst) => Ok(konst),
+                Err(error) => Err(ConstEvalError::from(error)),
+            };
+            Evaluated {
+                result,
+                output,
+                turns,
+            }
+        }
+        Err(error) => refused(alloc, ConstEvalError::from(error)),
+    }
+}
