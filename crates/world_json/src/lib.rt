@@ -1,13 +1,9 @@
-// A library with one function.
+//! The world and the goals as JSON: what a tree stands for, and the first place in it that doesn't fit.
 #![tactic(auto)]
 
-ghost use Rattle.std.specs.Prelude.{◌≡◌};
-ghost use Rattle.world_json.specs.Echo.{echo_of};
+mod from_json;
+mod misfit;
+mod parts;
+mod scalars;
 
-// The `ensures` clause is the contract: what `echo` returns is `echo_of` of its argument, a definition
-// in `specs/Echo.antt`, which a caller's clause can cite too.
-pub fn echo(x: usize) -> usize
-    ensures { result ≡ echo_of x }
-{
-    x
-}
+pub use misfit::NotAWorld;
