@@ -2,8 +2,13 @@
 #![tactic(auto)]
 
 mod from_json;
+mod ids;
+mod keys;
 mod misfit;
 mod parts;
 mod scalars;
+mod tables;
+mod types;
+mod variants;
 
 pub use misfit::NotAWorld;
