@@ -20,6 +20,19 @@ pub(crate) trait FromJson: Sized {
         ensures { Gives result (reads (view tree.now)) };
 }
 
+/// The named fields of a variant, as they are read from an object.
+pub(crate) trait Fields {
+    /// The enum of the variant.
+    type Whole;
+
+    // What a tree stands for.
+    ghost reads: { Data → Fit Self.Whole };
+
+    /// The variant with the fields that the tree has.
+    fn read(alloc: Global, tree: &Value) -> Result<Self::Whole, NotAWorld>
+        ensures { Gives result (reads (view tree.now)) };
+}
+
 /// A type whose value may be left out of an object.
 pub(crate) trait MayBeAbsent: Sized {
     // What stands for a value that is left out.

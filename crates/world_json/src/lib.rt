@@ -1,10 +1,14 @@
 //! The world and the goals as JSON: what a tree stands for, and the first place in it that doesn't fit.
 #![tactic(auto)]
 
+mod bodies;
 mod from_json;
 mod ids;
 mod keys;
+mod layouts;
 mod misfit;
+mod numerals;
+mod operators;
 mod parts;
 mod scalars;
 mod tables;

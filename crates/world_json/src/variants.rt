@@ -4,10 +4,10 @@ ghost use Rattle.std.specs.Prelude.{◌≡◌, option_map};
 ghost use Rattle.serde_json.specs.Data.{Data};
 ghost use Rattle.serde_json.specs.View.{view, members_view};
 ghost use Rattle.world_json.specs.Fit.{Fit, Gives, GivesBy, found};
-ghost use Rattle.world_json.specs.Variants.{variant_of, only_member, is_unit, payload_at};
+ghost use Rattle.world_json.specs.Variants.{variant_of, only_member, is_unit, part_at, payload_at};
 
 use crate::NotAWorld;
-use crate::from_json::{FromJson, below_key, here};
+use crate::from_json::{Fields, FromJson, below_key, here};
 use serde_json::{Map, Value};
 use std::alloc::Global;
 
@@ -65,5 +65,28 @@ impl<'a> Variant<'a> {
                 Err(fault) => Err(below_key(alloc, name, fault)),
             },
         }
+    }
+
+    /// The whole variant of this name, whose payload has its fields.
+    pub(crate) fn fields<F: Fields>(&self, alloc: Global, name: &str) -> Result<Option<F::Whole>, NotAWorld>
+        ensures { Gives result (payload_at name.now F.reads (self.now.name.now, option_map (λ part. view part.now) self.now.payload)) }
+    {
+        if self.name != name {
+            return Ok(None);
+        }
+        match self.payload {
+            None => Ok(None),
+            Some(part) => match F::read(alloc, part) {
+                Ok(x) => Ok(Some(x)),
+                Err(fault) => Err(below_key(alloc, name, fault)),
+            },
+        }
+    }
+
+    /// The tree of the payload of the variant of this name.
+    pub(crate) fn part(&self, name: &str) -> Option<&'a Value>
+        ensures { option_map (λ part. view part.now) result ≡ part_at name.now (self.now.name.now, option_map (λ part. view part.now) self.now.payload) }
+    {
+        if self.name == name { self.payload } else { None }
     }
 }
