@@ -59,6 +59,13 @@ IsBelow step inner NoMemory = Unit {0}
 IsBelow step (At path) (At outer) = outer ≡ step ++ path
 IsBelow step NoMemory (At outer) = ⊥
 
+-- whether the second answer is the first one, seen from one step further outside
+abbrev pub IsInside : {A : Type 0} → List ℕ → Result A NotAWorld → Result A NotAWorld → Type 0
+IsInside step (Ok x) (Ok y) = y ≡ x
+IsInside step (Ok x) (Err fault) = ⊥
+IsInside step (Err inner) (Ok y) = ⊥
+IsInside step (Err inner) (Err outer) = IsBelow step inner outer
+
 -- whether a fault is that of a part that itself doesn't fit
 abbrev pub IsHere : NotAWorld → Type 0
 IsHere (At path) = path ≡ []

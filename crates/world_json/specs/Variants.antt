@@ -27,10 +27,6 @@ variant_of (object ms) = found (only_member ms)
 abbrev pub is_unit : List ℕ → Named → Bool
 is_unit name v = bytes_eq v.0 name && is_none v.1
 
--- the tree of the payload of the variant of this name
-abbrev pub part_at : List ℕ → Named → Option Data
-part_at name v = if bytes_eq v.0 name then v.1 else None
-
 abbrev pub payload_of : {A : Type 0} → List ℕ → (Data → Fit A) → Option Data → Fit (Option A)
 payload_of name reads None = Ok None
 payload_of name reads (Some d) = below (key_step name) (reads d >>= λ x. Ok (Some x))

@@ -3,7 +3,7 @@
 ghost use Rattle.std.specs.Prelude.{◌≡◌};
 ghost use Rattle.serde_json.specs.Data.{Data};
 ghost use Rattle.serde_json.specs.View.{view};
-ghost use Rattle.world_json.specs.Fit.{Fit, Gives, IsBelow, IsHere, IsAt, key_step, item_step};
+ghost use Rattle.world_json.specs.Fit.{Fit, Gives, IsBelow, IsInside, IsHere, IsAt, key_step, item_step};
 
 use crate::NotAWorld;
 use serde_json::Value;
@@ -70,6 +70,20 @@ pub(crate) fn below_item(alloc: Global, place: usize, inner: NotAWorld) -> NotAW
     match inner {
         NotAWorld::At(path) => at_text(alloc, format!(in alloc; "[{place}]{}", path.as_str())),
         NotAWorld::NoMemory => NotAWorld::NoMemory,
+    }
+}
+
+/// What reading an item gave, seen from the array that has it at this place.
+pub(crate) fn inside_item<T: Drop>(
+    alloc: Global,
+    place: usize,
+    read: Result<T, NotAWorld>,
+) -> Result<T, NotAWorld>
+    ensures { IsInside (item_step place) read result }
+{
+    match read {
+        Ok(x) => Ok(x),
+        Err(fault) => Err(below_item(alloc, place, fault)),
     }
 }
 

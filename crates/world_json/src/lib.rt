@@ -6,6 +6,7 @@ mod from_json;
 mod ids;
 mod keys;
 mod layouts;
+mod maps;
 mod misfit;
 mod numerals;
 mod operators;

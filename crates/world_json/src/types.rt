@@ -1,13 +1,15 @@
 //! Types.
 
-ghost use Rattle.serde_json.specs.View.{view};
+ghost use Rattle.std.specs.Prelude.{option_map};
+ghost use Rattle.serde_json.specs.View.{view, items_view};
 ghost use Rattle.world_json.specs.Fit.{Gives};
-ghost use Rattle.world_json.specs.Parts.{list_of};
-ghost use Rattle.world_json.specs.Types.{int_ty_of, uint_ty_of, ty_of};
+ghost use Rattle.world_json.specs.Parts.{items_from, list_of};
+ghost use Rattle.world_json.specs.Types.{int_ty_of, uint_ty_of, ty_of, ty_rows};
+ghost use Rattle.world_json.specs.Variants.{enum_of, payload_at};
 
 use crate::NotAWorld;
-use crate::from_json::{FromJson, below_item, below_key, here};
-use crate::variants::variant_of;
+use crate::from_json::{FromJson, below_key, here, inside_item};
+use crate::variants::{Variant, variant_of};
 use serde_json::Value;
 use std::alloc::Global;
 use world::{IntTy, List, Ty, UintTy};
@@ -71,6 +73,7 @@ impl FromJson for UintTy {
 impl FromJson for Ty {
     ghost reads = { ty_of };
 
+    #[tactic(auto, using(crate::proofs::TypeLayers::gives_type))]
     fn from_json(alloc: Global, tree: &Value) -> Result<Ty, NotAWorld> {
         ty(alloc, tree)
     }
@@ -78,8 +81,9 @@ impl FromJson for Ty {
 
 /// A type.
 #[cycle(types)]
+#[tactic(auto, unfolding(crate::specs::Types::ty_rows))]
 fn ty(alloc: Global, tree: &Value) -> Result<Ty, NotAWorld>
-    ensures { Gives result (ty_of (view tree.now)) }
+    ensures { Gives result (enum_of (ty_rows (list_of ty_of)) (view tree.now)) }
 {
     let variant = variant_of(alloc, tree)?;
     if variant.is("Bool") {
@@ -91,13 +95,27 @@ fn ty(alloc: Global, tree: &Value) -> Result<Ty, NotAWorld>
     if let Some(width) = variant.payload(alloc, "Uint")? {
         return Ok(Ty::Uint(width));
     }
-    if let Some(part) = variant.part("Tuple") {
-        return match tys(alloc, part) {
-            Ok(parts) => Ok(Ty::Tuple(parts)),
-            Err(fault) => Err(below_key(alloc, "Tuple", fault)),
-        };
+    if let Some(parts) = tys_at(alloc, variant, "Tuple")? {
+        return Ok(Ty::Tuple(parts));
     }
     Err(here(alloc))
+}
+
+/// The list of types that is the payload of the variant of this name.
+#[cycle(types)]
+fn tys_at(alloc: Global, variant: Variant, name: &str) -> Result<Option<List<Ty>>, NotAWorld>
+    ensures { Gives result (payload_at name.now (list_of ty_of) (variant.entry.name.now, option_map (λ part. view part.now) variant.entry.payload)) }
+{
+    if variant.name != name {
+        return Ok(None);
+    }
+    match variant.payload {
+        None => Ok(None),
+        Some(part) => match tys(alloc, part) {
+            Ok(x) => Ok(Some(x)),
+            Err(fault) => Err(below_key(alloc, name, fault)),
+        },
+    }
 }
 
 /// A list of types.
@@ -105,16 +123,20 @@ fn ty(alloc: Global, tree: &Value) -> Result<Ty, NotAWorld>
 fn tys(alloc: Global, tree: &Value) -> Result<List<Ty>, NotAWorld>
     ensures { Gives result (list_of ty_of (view tree.now)) }
 {
-    let Some(items) = tree.as_array() else {
-        return Err(here(alloc));
-    };
-    let items = items.as_slice();
+    match tree.as_array() {
+        Some(items) => ty_items(alloc, items.as_slice()),
+        None => Err(here(alloc)),
+    }
+}
+
+/// The types that are the items of an array.
+#[cycle(types)]
+fn ty_items(alloc: Global, items: &[Value]) -> Result<List<Ty>, NotAWorld>
+    ensures { Gives result (items_from ty_of 0 (items_view items.now)) }
+{
     let mut list = List::new(alloc);
     for (place, item) in items.iter().enumerate() {
-        let x = match ty(alloc, item) {
-            Ok(x) => x,
-            Err(fault) => return Err(below_item(alloc, place, fault)),
-        };
+        let x = inside_item(alloc, place, ty(alloc, item))?;
         list.push(x)?;
     }
     Ok(list)

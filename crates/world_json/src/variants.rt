@@ -4,7 +4,7 @@ ghost use Rattle.std.specs.Prelude.{◌≡◌, option_map};
 ghost use Rattle.serde_json.specs.Data.{Data};
 ghost use Rattle.serde_json.specs.View.{view, members_view};
 ghost use Rattle.world_json.specs.Fit.{Fit, Gives, GivesBy, found};
-ghost use Rattle.world_json.specs.Variants.{variant_of, only_member, is_unit, part_at, payload_at};
+ghost use Rattle.world_json.specs.Variants.{variant_of, only_member, is_unit, payload_at};
 
 use crate::NotAWorld;
 use crate::from_json::{Fields, FromJson, below_key, here};
@@ -14,8 +14,8 @@ use std::alloc::Global;
 /// A variant's name, and its payload where there is one.
 #[derive(Clone, Copy)]
 pub(crate) struct Variant<'a> {
-    name: &'a str,
-    payload: Option<&'a Value>,
+    pub(crate) name: &'a str,
+    pub(crate) payload: Option<&'a Value>,
 }
 
 /// The variant that a tree names.
@@ -81,12 +81,5 @@ impl<'a> Variant<'a> {
                 Err(fault) => Err(below_key(alloc, name, fault)),
             },
         }
-    }
-
-    /// The tree of the payload of the variant of this name.
-    pub(crate) fn part(&self, name: &str) -> Option<&'a Value>
-        ensures { option_map (λ part. view part.now) result ≡ part_at name.now (self.now.name.now, option_map (λ part. view part.now) self.now.payload) }
-    {
-        if self.name == name { self.payload } else { None }
     }
 }
