@@ -3,7 +3,10 @@
 
 mod bodies;
 mod from_json;
+mod goal;
 mod ids;
+mod inference;
+mod input;
 mod keys;
 mod layouts;
 mod maps;
@@ -16,4 +19,9 @@ mod tables;
 mod types;
 mod variants;
 
+pub use goal::Goal;
+pub use input::read_world;
 pub use misfit::NotAWorld;
+
+#[cfg(test)]
+mod tests;
