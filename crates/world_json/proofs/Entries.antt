@@ -45,10 +45,12 @@ module _ {K V : Type 0} (cmp : K → K → Ordering) (reads : Data → Fit (K ×
 
   pub stands_on : IsTotalOrder cmp → (entries : List (K × V)) (last : Option K) (key : K) (value : V) → Stands entries last → rises cmp last key ≡ true
       → Stands (entries ++ (key, value) ∷ []) (Some key)
-  stands_on order entries last key value stands rising = record { above = λ next higher.
-      all_append (λ (e : K × V). cmp next e.0 ≡ Greater) entries (key, value)
-          (stands.above next (rises_on order last key next rising higher))
-          (order.antisymm next key ∙ ap ordering_reverse (is_less (cmp key next) higher)) }
+  stands_on order entries last key value stands rising = record {
+    above = λ next higher.
+        all_append (λ (e : K × V). cmp next e.0 ≡ Greater) entries (key, value)
+        (stands.above next (rises_on order last key next rising higher))
+        (order.antisymm next key ∙ ap ordering_reverse (is_less (cmp key next) higher));
+  }
 
   abbrev pub with_front : List (K × V) → Fit (List (K × V)) → Fit (List (K × V))
   with_front front rest = rest >>= λ xs. Ok (front ++ xs)

@@ -36,7 +36,7 @@ step names es e false rest h = refl
 
 key_found : (names : List (Bor (List ℕ))) (es : List Entry)
     → option_map string_bytes (find (λ key. not (list_any (λ name. bytes_eq name.now (string_bytes key)) names)) (keys_of es))
-      ≡ unknown_key (map (λ name. name.now) names) (members_view es)
+    ≡ unknown_key (map (λ name. name.now) names) (members_view es)
 key_found names [] = refl
 key_found names (e ∷ es) = rw (is_among-map names (string_bytes e.0)) (step names es e (list_any (λ name. bytes_eq name.now (string_bytes e.0)) names) _ (key_found names es))
 

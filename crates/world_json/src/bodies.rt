@@ -20,7 +20,12 @@ impl FromJson for Body {
         let pats = optional(alloc, tree, "pats")?;
         let bindings = optional(alloc, tree, "bindings")?;
         let body_expr = required(alloc, tree, "body_expr")?;
-        let value = Body { exprs, pats, bindings, body_expr };
+        let value = Body {
+            exprs,
+            pats,
+            bindings,
+            body_expr,
+        };
         let names = ["exprs", "pats", "bindings", "body_expr"];
         with_no_other(alloc, members, &names, value)
     }
@@ -86,7 +91,11 @@ impl Fields for LetFields {
         let pat = required(alloc, tree, "pat")?;
         let initializer = optional(alloc, tree, "initializer")?;
         let else_branch = optional(alloc, tree, "else_branch")?;
-        let value = Statement::Let { pat, initializer, else_branch };
+        let value = Statement::Let {
+            pat,
+            initializer,
+            else_branch,
+        };
         let names = ["pat", "initializer", "else_branch"];
         with_no_other(alloc, members, &names, value)
     }

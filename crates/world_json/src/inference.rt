@@ -24,8 +24,26 @@ impl FromJson for InferenceResult {
         let copy_types = optional(alloc, tree, "copy_types")?;
         let erroneous = optional(alloc, tree, "erroneous")?;
         let mismatches = optional(alloc, tree, "mismatches")?;
-        let value = InferenceResult { expr_types, pat_types, binding_types, value_res, binding_modes, copy_types, erroneous, mismatches };
-        let names = ["expr_types", "pat_types", "binding_types", "value_res", "binding_modes", "copy_types", "erroneous", "mismatches"];
+        let value = InferenceResult {
+            expr_types,
+            pat_types,
+            binding_types,
+            value_res,
+            binding_modes,
+            copy_types,
+            erroneous,
+            mismatches,
+        };
+        let names = [
+            "expr_types",
+            "pat_types",
+            "binding_types",
+            "value_res",
+            "binding_modes",
+            "copy_types",
+            "erroneous",
+            "mismatches",
+        ];
         with_no_other(alloc, members, &names, value)
     }
 }

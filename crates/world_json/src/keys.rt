@@ -14,7 +14,6 @@ use crate::from_json::{FromJson, MayBeAbsent, below_key, here};
 use serde_json::{Map, Value};
 use std::alloc::Global;
 
-
 /// The members of an object.
 pub(crate) fn members_of(alloc: Global, tree: &Value) -> Result<&Map<String, Value>, NotAWorld>
     ensures { GivesBy (λ members. members_view members.now.entries) result (members_of (view tree.now)) }
@@ -26,11 +25,7 @@ pub(crate) fn members_of(alloc: Global, tree: &Value) -> Result<&Map<String, Val
 }
 
 /// The value at a key that has to be there.
-pub(crate) fn required<T: FromJson>(
-    alloc: Global,
-    tree: &Value,
-    name: &str,
-) -> Result<T, NotAWorld>
+pub(crate) fn required<T: FromJson>(alloc: Global, tree: &Value, name: &str) -> Result<T, NotAWorld>
     ensures { Gives result (required name.now T.reads (view tree.now)) }
 {
     match tree.get(name) {

@@ -21,7 +21,13 @@ impl FromJson for Layout {
         let sized = optional(alloc, tree, "sized")?;
         let offsets = optional(alloc, tree, "offsets")?;
         let variants = required(alloc, tree, "variants")?;
-        let value = Layout { size, align, sized, offsets, variants };
+        let value = Layout {
+            size,
+            align,
+            sized,
+            offsets,
+            variants,
+        };
         let names = ["size", "align", "sized", "offsets", "variants"];
         with_no_other(alloc, members, &names, value)
     }
@@ -57,8 +63,20 @@ impl FromJson for MultiLayout {
         let tag_signed = optional(alloc, tree, "tag_signed")?;
         let encoding = required(alloc, tree, "encoding")?;
         let variants = optional(alloc, tree, "variants")?;
-        let value = MultiLayout { tag_offset, tag_size, tag_signed, encoding, variants };
-        let names = ["tag_offset", "tag_size", "tag_signed", "encoding", "variants"];
+        let value = MultiLayout {
+            tag_offset,
+            tag_size,
+            tag_signed,
+            encoding,
+            variants,
+        };
+        let names = [
+            "tag_offset",
+            "tag_size",
+            "tag_signed",
+            "encoding",
+            "variants",
+        ];
         with_no_other(alloc, members, &names, value)
     }
 }
@@ -94,8 +112,18 @@ impl Fields for NicheFields {
         let niche_first = required(alloc, tree, "niche_first")?;
         let niche_last = required(alloc, tree, "niche_last")?;
         let niche_start = required(alloc, tree, "niche_start")?;
-        let value = TagEncoding::Niche { untagged_variant, niche_first, niche_last, niche_start };
-        let names = ["untagged_variant", "niche_first", "niche_last", "niche_start"];
+        let value = TagEncoding::Niche {
+            untagged_variant,
+            niche_first,
+            niche_last,
+            niche_start,
+        };
+        let names = [
+            "untagged_variant",
+            "niche_first",
+            "niche_last",
+            "niche_start",
+        ];
         with_no_other(alloc, members, &names, value)
     }
 }

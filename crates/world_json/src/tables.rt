@@ -32,7 +32,12 @@ impl FromJson for ConstRow {
         let krate = required(alloc, tree, "krate")?;
         let ty = required(alloc, tree, "ty")?;
         let body = optional(alloc, tree, "body")?;
-        let value = ConstRow { name, krate, ty, body };
+        let value = ConstRow {
+            name,
+            krate,
+            ty,
+            body,
+        };
         let names = ["name", "krate", "ty", "body"];
         with_no_other(alloc, members, &names, value)
     }
@@ -62,7 +67,12 @@ impl FromJson for HirDatabase {
         let consts = optional(alloc, tree, "consts")?;
         let bodies = optional(alloc, tree, "bodies")?;
         let layouts = optional(alloc, tree, "layouts")?;
-        let value = HirDatabase { crates, consts, bodies, layouts };
+        let value = HirDatabase {
+            crates,
+            consts,
+            bodies,
+            layouts,
+        };
         let names = ["crates", "consts", "bodies", "layouts"];
         with_no_other(alloc, members, &names, value)
     }

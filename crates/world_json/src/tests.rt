@@ -4,7 +4,8 @@ use std::alloc::Global;
 use std::test::Fail;
 use world::{ConstId, Crate, DefWithBodyId, ExprId, Text, Ty, UintTy, Variants};
 
-const SAMPLE: &str = r#"{"version":1,"world":{"crates":[{"pointer_bytes":8}],"consts":[{"name":"GOAL","krate":0,"ty":{"Uint":"Usize"},"body":0}],"bodies":[{"body":{"exprs":[{"Literal":{"Int":["2",null]}},{"Literal":{"Int":["2",null]}},{"BinaryOp":{"lhs":0,"rhs":1,"op":{"ArithOp":"Add"}}}],"body_expr":2},"infer":{"expr_types":[{"Uint":"Usize"},{"Uint":"Usize"},{"Uint":"Usize"}],"copy_types":[{"Uint":"Usize"}]}}],"layouts":[[{"Uint":"Usize"},{"size":8,"align":8,"sized":true,"offsets":[],"variants":{"Single":0}}]]},"goals":[{"def":{"ConstId":0}}]}"#;
+const SAMPLE: &str =
+    r#"{"version":1,"world":{"crates":[{"pointer_bytes":8}],"consts":[{"name":"GOAL","krate":0,"ty":{"Uint":"Usize"},"body":0}],"bodies":[{"body":{"exprs":[{"Literal":{"Int":["2",null]}},{"Literal":{"Int":["2",null]}},{"BinaryOp":{"lhs":0,"rhs":1,"op":{"ArithOp":"Add"}}}],"body_expr":2},"infer":{"expr_types":[{"Uint":"Usize"},{"Uint":"Usize"},{"Uint":"Usize"}],"copy_types":[{"Uint":"Usize"}]}}],"layouts":[[{"Uint":"Usize"},{"size":8,"align":8,"sized":true,"offsets":[],"variants":{"Single":0}}]]},"goals":[{"def":{"ConstId":0}}]}"#;
 
 #[test]
 fn the_sample_is_read(rt: HostRuntime) -> Result<(), Fail> {

@@ -23,7 +23,10 @@ pub(crate) fn variant_of<'a>(alloc: Global, tree: &'a Value) -> Result<Variant<'
     ensures { GivesBy (λ v. (v.name.now, option_map (λ part. view part.now) v.payload)) result (variant_of (view tree.now)) }
 {
     match tree {
-        Value::String(name) => Ok(Variant { name: name.as_str(), payload: None }),
+        Value::String(name) => Ok(Variant {
+            name: name.as_str(),
+            payload: None,
+        }),
         Value::Object(members) => only_member(alloc, members),
         _ => Err(here(alloc)),
     }
@@ -38,7 +41,10 @@ fn only_member<'a>(alloc: Global, members: &'a Map<String, Value>) -> Result<Var
         return Err(here(alloc));
     }
     match members.first_key_value() {
-        Some((name, part)) => Ok(Variant { name: name.as_str(), payload: Some(part) }),
+        Some((name, part)) => Ok(Variant {
+            name: name.as_str(),
+            payload: Some(part),
+        }),
         None => Err(here(alloc)),
     }
 }
@@ -52,7 +58,11 @@ impl<'a> Variant<'a> {
     }
 
     /// The payload of the variant of this name.
-    pub(crate) fn payload<T: FromJson>(&self, alloc: Global, name: &str) -> Result<Option<T>, NotAWorld>
+    pub(crate) fn payload<T: FromJson>(
+        &self,
+        alloc: Global,
+        name: &str,
+    ) -> Result<Option<T>, NotAWorld>
         ensures { Gives result (payload_at name.now T.reads (self.now.name.now, option_map (λ part. view part.now) self.now.payload)) }
     {
         if self.name != name {
@@ -68,7 +78,11 @@ impl<'a> Variant<'a> {
     }
 
     /// The whole variant of this name, whose payload has its fields.
-    pub(crate) fn fields<F: Fields>(&self, alloc: Global, name: &str) -> Result<Option<F::Whole>, NotAWorld>
+    pub(crate) fn fields<F: Fields>(
+        &self,
+        alloc: Global,
+        name: &str,
+    ) -> Result<Option<F::Whole>, NotAWorld>
         ensures { Gives result (payload_at name.now F.reads (self.now.name.now, option_map (λ part. view part.now) self.now.payload)) }
     {
         if self.name != name {
