@@ -1,6 +1,7 @@
 //! Bodies: trees of expressions and patterns, whose nodes name one another by id.
 
-use crate::{BindingId, ExprId, IntTy, List, PatId, Text, UintTy};
+use crate::{BindingId, ExprId, IntTy, List, NoMemory, PatId, Text, TryClone, UintTy};
+use std::alloc::Global;
 
 /// The body of an item. A child's id is below its parent's of the same kind.
 #[derive(PartialEq, Eq, PartialOrd, Ord, Hash, Debug, Drop)]
@@ -124,4 +125,58 @@ pub enum BinaryOp {
 #[derive(Clone, Copy, PartialEq, Eq, PartialOrd, Ord, Hash, Debug)]
 pub enum Pat {
     Bind { id: BindingId },
+}
+
+impl TryClone for Body {
+    fn try_clone(&self, alloc: Global) -> Result<Body, NoMemory> {
+        Ok(Body {
+            exprs: self.exprs.try_clone(alloc)?,
+            pats: self.pats.try_clone(alloc)?,
+            bindings: self.bindings.try_clone(alloc)?,
+            body_expr: self.body_expr,
+        })
+    }
+}
+
+impl TryClone for Binding {
+    fn try_clone(&self, alloc: Global) -> Result<Binding, NoMemory> {
+        Ok(Binding {
+            name: self.name.try_clone(alloc)?,
+            mode: self.mode,
+        })
+    }
+}
+
+impl TryClone for Expr {
+    fn try_clone(&self, alloc: Global) -> Result<Expr, NoMemory> {
+        match self {
+            Expr::Path(name) => Ok(Expr::Path(name.try_clone(alloc)?)),
+            Expr::Block { statements, tail } => Ok(Expr::Block {
+                statements: statements.try_clone(alloc)?,
+                tail: *tail,
+            }),
+            Expr::UnaryOp { expr, op } => Ok(Expr::UnaryOp {
+                expr: *expr,
+                op: *op,
+            }),
+            Expr::BinaryOp { lhs, rhs, op } => Ok(Expr::BinaryOp {
+                lhs: *lhs,
+                rhs: *rhs,
+                op: *op,
+            }),
+            Expr::Literal(literal) => Ok(Expr::Literal(*literal)),
+        }
+    }
+}
+
+impl TryClone for Statement {
+    fn try_clone(&self, _alloc: Global) -> Result<Statement, NoMemory> {
+        Ok(*self)
+    }
+}
+
+impl TryClone for Pat {
+    fn try_clone(&self, _alloc: Global) -> Result<Pat, NoMemory> {
+        Ok(*self)
+    }
 }

@@ -1,4 +1,4 @@
-ghost use Rattle.std.specs.Prelude.{◌≡◌, [], ◌∷◌, ◌++◌, length, slice_get, OnOk, OnErr};
+ghost use Rattle.std.specs.Prelude.{◌≡◌, [], ◌∷◌, ◌++◌, length, slice_get, IfOk, OnOk, OnErr};
 ghost use Rattle.std.specs.Option.{option_copied};
 ghost use Rattle.std.specs.Prelude.{◌==◌};
 ghost use Rattle.std.specs.Cmp.{partial_order_from_own_ties};
@@ -8,7 +8,7 @@ ghost use Rattle.std.specs.Hash as fed;
 ghost use Rattle.std.specs.Ordering.{nat_cmp, as_partial_cmp};
 ghost use Rattle.std.proofs.Common.{rules};
 
-use crate::NoMemory;
+use crate::{NoMemory, TryClone};
 use std::alloc::Global;
 use std::cmp::Ordering;
 use std::hash::{Hash, Hasher};
@@ -36,6 +36,21 @@ impl Bytes {
         Bytes {
             bytes: Vec::new(alloc),
         }
+    }
+
+    /// A copy of bytes.
+    pub fn from_slice(alloc: Global, bytes: &[u8]) -> Result<Bytes, NoMemory>
+        ensures { IfOk result (λ copy. copy ≡ bytes.now) }
+    {
+        let bytes = Vec::from_slice(alloc, bytes)?;
+        Ok(Bytes { bytes })
+    }
+
+    /// The bytes of a vector. It takes no memory.
+    pub fn from_vec(bytes: Vec<u8>) -> Bytes
+        ensures { result ≡ bytes.items }
+    {
+        Bytes { bytes }
     }
 
     /// How many bytes there are.
@@ -66,6 +81,13 @@ impl Bytes {
     {
         self.bytes.push(x)?;
         Ok(())
+    }
+}
+
+impl TryClone for Bytes {
+    fn try_clone(&self, alloc: Global) -> Result<Bytes, NoMemory> {
+        let bytes = self.bytes.as_slice().to_vec(alloc)?;
+        Ok(Bytes { bytes })
     }
 }
 

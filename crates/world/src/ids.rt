@@ -1,5 +1,8 @@
 //! What names an item of the world, or a node of one body: a place in its table.
 
+use crate::{NoMemory, TryClone};
+use std::alloc::Global;
+
 /// A crate: a place in `HirDatabase::crates`.
 #[derive(Clone, Copy, PartialEq, Eq, PartialOrd, Ord, Hash, Debug)]
 pub struct Crate(pub u32);
@@ -24,4 +27,16 @@ pub struct BindingId(pub u32);
 #[derive(Clone, Copy, PartialEq, Eq, PartialOrd, Ord, Hash, Debug)]
 pub enum DefWithBodyId {
     ConstId(ConstId),
+}
+
+impl TryClone for ExprId {
+    fn try_clone(&self, _alloc: Global) -> Result<ExprId, NoMemory> {
+        Ok(*self)
+    }
+}
+
+impl TryClone for PatId {
+    fn try_clone(&self, _alloc: Global) -> Result<PatId, NoMemory> {
+        Ok(*self)
+    }
 }

@@ -1,6 +1,7 @@
 //! What type inference found of a body.
 
-use crate::{BindingId, ExprId, List, Map, PatId, Ty};
+use crate::{BindingId, ExprId, List, Map, NoMemory, PatId, TryClone, Ty};
+use std::alloc::Global;
 
 /// The types of a body's nodes, and what its paths and names stand for.
 #[derive(PartialEq, Eq, PartialOrd, Ord, Hash, Debug, Drop)]
@@ -31,4 +32,31 @@ pub enum ValueNs {
 #[derive(Clone, Copy, PartialEq, Eq, PartialOrd, Ord, Hash, Debug)]
 pub enum BindingMode {
     Move,
+}
+
+impl TryClone for InferenceResult {
+    fn try_clone(&self, alloc: Global) -> Result<InferenceResult, NoMemory> {
+        Ok(InferenceResult {
+            expr_types: self.expr_types.try_clone(alloc)?,
+            pat_types: self.pat_types.try_clone(alloc)?,
+            binding_types: self.binding_types.try_clone(alloc)?,
+            value_res: self.value_res.try_clone(alloc)?,
+            binding_modes: self.binding_modes.try_clone(alloc)?,
+            copy_types: self.copy_types.try_clone(alloc)?,
+            erroneous: self.erroneous,
+            mismatches: self.mismatches.try_clone(alloc)?,
+        })
+    }
+}
+
+impl TryClone for ValueNs {
+    fn try_clone(&self, _alloc: Global) -> Result<ValueNs, NoMemory> {
+        Ok(*self)
+    }
+}
+
+impl TryClone for BindingMode {
+    fn try_clone(&self, _alloc: Global) -> Result<BindingMode, NoMemory> {
+        Ok(*self)
+    }
 }

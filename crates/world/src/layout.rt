@@ -1,6 +1,7 @@
 //! How the values of a type lie in memory.
 
-use crate::List;
+use crate::{List, NoMemory, TryClone};
+use std::alloc::Global;
 
 /// The layout of a type.
 #[derive(PartialEq, Eq, PartialOrd, Ord, Hash, Debug, Drop)]
@@ -46,4 +47,38 @@ pub enum TagEncoding {
         niche_last: u32,
         niche_start: u128,
     },
+}
+
+impl TryClone for Layout {
+    fn try_clone(&self, alloc: Global) -> Result<Layout, NoMemory> {
+        Ok(Layout {
+            size: self.size,
+            align: self.align,
+            sized: self.sized,
+            offsets: self.offsets.try_clone(alloc)?,
+            variants: self.variants.try_clone(alloc)?,
+        })
+    }
+}
+
+impl TryClone for Variants {
+    fn try_clone(&self, alloc: Global) -> Result<Variants, NoMemory> {
+        match self {
+            Variants::Empty => Ok(Variants::Empty),
+            Variants::Single(variant) => Ok(Variants::Single(*variant)),
+            Variants::Multiple(multiple) => Ok(Variants::Multiple(multiple.try_clone(alloc)?)),
+        }
+    }
+}
+
+impl TryClone for MultiLayout {
+    fn try_clone(&self, alloc: Global) -> Result<MultiLayout, NoMemory> {
+        Ok(MultiLayout {
+            tag_offset: self.tag_offset,
+            tag_size: self.tag_size,
+            tag_signed: self.tag_signed,
+            encoding: self.encoding,
+            variants: self.variants.try_clone(alloc)?,
+        })
+    }
 }

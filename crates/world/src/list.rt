@@ -4,7 +4,7 @@ ghost use Rattle.std.specs.Hash as fed;
 ghost use Rattle.std.specs.Hash.{items_Alike};
 ghost use Rattle.std.specs.Option.{option_copied};
 
-use crate::NoMemory;
+use crate::{NoMemory, TryClone};
 use std::alloc::Global;
 use std::cmp::Ordering;
 use std::hash::{Hash, Hasher};
@@ -37,6 +37,13 @@ impl<T> List<T> {
         }
     }
 
+    /// The elements of a vector. It takes no memory.
+    pub fn from_vec(items: Vec<T>) -> List<T>
+        ensures { result ≡ items.items }
+    {
+        List { items }
+    }
+
     /// How many elements there are.
     pub fn len(&self) -> u64
         ensures { result ≡ length self.now }
@@ -67,6 +74,17 @@ impl<T: Drop> List<T> {
     {
         self.items.push(x)?;
         Ok(())
+    }
+}
+
+impl<T: TryClone + Drop> TryClone for List<T> {
+    fn try_clone(&self, alloc: Global) -> Result<List<T>, NoMemory> {
+        let mut copy = List::new(alloc);
+        let items = self.as_slice();
+        for item in items {
+            copy.push(item.try_clone(alloc)?)?;
+        }
+        Ok(copy)
     }
 }
 

@@ -8,7 +8,7 @@ ghost use Rattle.std.specs.Map.{lookup};
 ghost use Rattle.std.specs.Option.{option_copied, option_map};
 ghost use Rattle.std.specs.Ordering.{ordering_then, partial_ordering_then};
 
-use crate::NoMemory;
+use crate::{NoMemory, TryClone};
 use std::alloc::Global;
 use std::cmp::Ordering;
 use std::collections::BTreeMap;
@@ -72,6 +72,18 @@ impl<K: Ord + Drop, V: Drop> Map<K, V> {
         ensures err { OnErr result (self.new ≡ self.old) }
     {
         Ok(self.entries.insert(k, v)?)
+    }
+}
+
+impl<K: Ord + TryClone + Drop, V: TryClone + Drop> TryClone for Map<K, V> {
+    fn try_clone(&self, alloc: Global) -> Result<Map<K, V>, NoMemory> {
+        let mut copy = Map::new(alloc);
+        for (k, v) in self.entries.iter() {
+            let key = k.try_clone(alloc)?;
+            let value = v.try_clone(alloc)?;
+            copy.insert(key, value)?;
+        }
+        Ok(copy)
     }
 }
 

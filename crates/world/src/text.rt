@@ -7,7 +7,7 @@ ghost use Rattle.std.specs.Hash as fed;
 ghost use Rattle.std.specs.Ordering.{nat_cmp, as_partial_cmp};
 ghost use Rattle.std.proofs.Common.{rules};
 
-use crate::NoMemory;
+use crate::{NoMemory, TryClone};
 use std::alloc::Global;
 use std::cmp::Ordering;
 use std::hash::{Hash, Hasher};
@@ -42,6 +42,12 @@ impl Text {
         ensures { result.now ≡ self.now }
     {
         self.text.as_str()
+    }
+}
+
+impl TryClone for Text {
+    fn try_clone(&self, alloc: Global) -> Result<Text, NoMemory> {
+        Text::from_str(alloc, self.as_str())
     }
 }
 

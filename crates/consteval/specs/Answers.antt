@@ -1,0 +1,101 @@
+-- What the answer to a definition says: the value or the panic that its source means, and the cause of any other.
+use Rattle.std.specs.Prelude.{◌≡◌, ◌≢◌, ℕ, ◌≤◌, List, [], ◌⊎◌, Option, Some, None, Result, Ok, Err, Contains, IsSome, codes}
+use Rattle.world.specs.declared.database.BodyRow.{BodyRow}
+use Rattle.world.specs.declared.database.HirDatabase.{HirDatabase}
+use Rattle.world.specs.declared.ids.DefWithBodyId.{DefWithBodyId}
+use Rattle.world.specs.declared.ty.Const.{Const}
+use Rattle.world.specs.declared.ty.Const.TheVariants.{Value}
+use Rattle.world.specs.declared.ty.GenericArgs.{GenericArgs}
+use Rattle.world.specs.declared.ty.MemoryMap.TheVariants.{Empty}
+use Rattle.world.specs.declared.ty.Ty.{Ty}
+use Rattle.world.specs.Lookups.{body_row}
+use Rattle.mir.specs.declared.body.MirBody.{MirBody}
+use Rattle.mir.specs.declared.errors.ConstEvalError.{ConstEvalError}
+use Rattle.mir.specs.declared.errors.ConstEvalError.TheVariants as constant
+use Rattle.mir.specs.declared.errors.MirEvalError.{MirEvalError}
+use Rattle.mir.specs.declared.errors.MirEvalError as error
+use Rattle.mir.specs.declared.errors.MirLowerError.{MirLowerError}
+use Rattle.mir.specs.declared.errors.MirLowerError.TheVariants as refusal
+use Rattle.mir.specs.Errors.{from_lower_error, from_eval_error}
+use Rattle.mir.specs.Run.{begun}
+use Rattle.mir_eval.specs.Evaluators.{crate_of}
+use Rattle.mir_eval.specs.Machine.{pointer_bytes}
+use Rattle.mir_lower.specs.Refusals.{Refuses, HasTypingErrors}
+use Rattle.source_meaning.specs.Ends.{Cost, End, Go, Panic}
+use Rattle.source_meaning.specs.Meaning.{Gives}
+use Rattle.source_meaning.specs.Source.{Source, Store, node_type, root}
+use Rattle.source_meaning.specs.Valid.{HasDefinedCost}
+use Rattle.consteval.specs.Kept.{Kept, Ran, source_of}
+
+-- a constant of a type, with these bytes and no memory behind them
+abbrev pub constant_of : Ty → List ℕ → Const
+constant_of ty bytes = Value (record { ty = ty; memory = bytes; memory_map = Empty })
+
+-- the error of a panic that says a word
+abbrev pub panic_of : List ℕ → ConstEvalError
+panic_of word = constant.MirEvalError (error.InFunction (error.Panic word) [])
+
+-- the source means this value: the type of its root, and exactly these bytes
+pub record GivesValue (source : Source) (konst : Const) : Type 0 where
+  pub ty : Ty
+  pub typed : node_type source (root source) ≡ Some ty
+  pub bytes : List ℕ
+  pub store : Store
+  pub cost : Cost
+  pub gives : Gives source (Go bytes store cost)
+  pub same : konst ≡ constant_of ty bytes
+
+-- the source means a panic that says the word
+pub record GivesPanic (source : Source) (word : List ℕ) : Type 0 where
+  pub cost : Cost
+  pub gives : Gives source (Panic word cost)
+
+-- an answer is this one, or want of memory
+abbrev pub OrNoMemory : Result Const ConstEvalError → Result Const ConstEvalError → Type 0
+OrNoMemory answer expected = (answer ≡ expected) ⊎ (answer ≡ Err constant.NoMemory)
+
+-- within so many blocks the answer is what the source means, or want of memory
+pub record AnswersWithin (source : Source) (blocks : ℕ) (answer : Result Const ConstEvalError) : Type 0 where
+  pub value : (ty : Ty) (bytes : List ℕ) (store : Store) (cost : Cost) → node_type source (root source) ≡ Some ty →
+    Gives source (Go bytes store cost) → cost.turns ≤ blocks → OrNoMemory answer (Ok (constant_of ty bytes))
+  pub panic : (word : List ℕ) (cost : Cost) → Gives source (Panic word cost) → cost.turns ≤ blocks → OrNoMemory answer (Err (panic_of word))
+
+-- a machine's outcome as an answer
+abbrev pub carried : Result Const MirEvalError → Result Const ConstEvalError
+carried (Ok konst) = Ok konst
+carried (Err e) = Err (from_eval_error e)
+
+-- the body that is kept for the definition ran to the answer, over so many blocks
+pub record AnswersRun (kept : Kept) (def : DefWithBodyId) (blocks turns : ℕ) (answer : Result Const ConstEvalError) : Type 0 where
+  pub body : MirBody
+  pub is_kept : Contains kept.bodies (def, body)
+  pub outcome : Result Const MirEvalError
+  pub ran : Ran kept.world body blocks turns outcome
+  pub is : answer ≡ carried outcome
+
+-- the body could not be lowered: it has none, it was given arguments, or its lowering was refused
+abbrev pub RefusesBody : HirDatabase → DefWithBodyId → GenericArgs → MirLowerError → Type 0
+RefusesBody world def args e =
+    ((e ≡ refusal.IncompleteExpr) × (body_row world def ≡ None) × (args.0 ≡ []))
+    ⊎ ((e ≡ refusal.NotSupported (codes "form not built")) × (args.0 ≢ []))
+    ⊎ ((row : BodyRow) × (body_row world def ≡ Some row) × Refuses (source_of world row) e)
+
+-- the body that is kept could not begin: the crate's pointers, or a local that can have no cell
+abbrev pub RefusesRun : Kept → DefWithBodyId → MirEvalError → Type 0
+RefusesRun kept def e =
+    ((e ≡ error.TargetDataLayoutNotAvailable (crate_of kept.world def)) × (pointer_bytes kept.world def ≡ None))
+    ⊎ ((e ≡ error.NotSupported (codes "targets with different pointer size from host")) × (pointer_bytes kept.world def ≢ Some 8))
+    ⊎ ((body : MirBody) × Contains kept.bodies (def, body) × (begun kept.world body ≡ Err e))
+
+-- where no run began, the answer is a refusal that has its cause
+abbrev pub AnswersRefusal : Kept → DefWithBodyId → GenericArgs → Result Const ConstEvalError → Type 0
+AnswersRefusal kept def args answer =
+    ((e : MirLowerError) × (answer ≡ Err (from_lower_error e)) × RefusesBody kept.world def args e)
+    ⊎ ((e : MirEvalError) × (answer ≡ Err (from_eval_error e)) × RefusesRun kept def e)
+
+-- every answer but want of memory is that of a run of the kept body, or a refusal before any run
+abbrev pub HasCause : Kept → DefWithBodyId → GenericArgs → ℕ → ℕ → Result Const ConstEvalError → Type 0
+HasCause kept def args blocks turns answer =
+    AnswersRun kept def blocks turns answer
+    ⊎ ((turns ≡ 0) × AnswersRefusal kept def args answer)
+    ⊎ (answer ≡ Err constant.NoMemory)

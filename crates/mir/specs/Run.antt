@@ -1,0 +1,167 @@
+-- What a run of a body means: blocks entered one after another over one memory, under a budget of blocks.
+use Rattle.std.specs.Prelude.{ℕ, zero, suc, ◌-◌, List, [], ◌∷◌, drop, Option, Some, None, Result, Ok, Err, slice_get, option_map, option_and_then, codes}
+use Rattle.world.specs.declared.database.HirDatabase.{HirDatabase}
+use Rattle.world.specs.declared.ty.Const.TheVariants.{Value}
+use Rattle.world.specs.declared.ty.Const.{Const}
+use Rattle.world.specs.declared.ty.Ty.{Ty}
+use Rattle.numbers.specs.declared.operator.Operator.{Operator}
+use Rattle.numbers.specs.declared.operator.Operator.TheVariants as operator
+use Rattle.numbers.specs.Operators.{Answer, Computes, Panics, Undefined, computed, kind_of}
+use Rattle.mir.specs.declared.body.BasicBlock.{BasicBlock}
+use Rattle.mir.specs.declared.body.MirBody.{MirBody}
+use Rattle.mir.specs.declared.body.Terminator.{Terminator}
+use Rattle.mir.specs.declared.body.TerminatorKind.{TerminatorKind}
+use Rattle.mir.specs.declared.body.TerminatorKind.TheVariants.{Return, Drop}
+use Rattle.mir.specs.declared.errors.MirEvalError.{MirEvalError}
+use Rattle.mir.specs.declared.errors.MirEvalError as error
+use Rattle.mir.specs.declared.operand.BinOp.{BinOp}
+use Rattle.mir.specs.declared.operand.BinOp.TheVariants.{Add}
+use Rattle.mir.specs.declared.operand.OperandKind.{OperandKind}
+use Rattle.mir.specs.declared.operand.OperandKind.TheVariants.{Copy, Constant}
+use Rattle.mir.specs.declared.operand.Rvalue.{Rvalue}
+use Rattle.mir.specs.declared.operand.Rvalue.TheVariants.{Use, CheckedBinaryOp}
+use Rattle.mir.specs.declared.statement.Statement.{Statement}
+use Rattle.mir.specs.declared.statement.StatementKind.{StatementKind}
+use Rattle.mir.specs.declared.statement.StatementKind.TheVariants.{Assign, StorageLive, StorageDead}
+use Rattle.mir.specs.Memory.{Interval, Memory, first_memory, bytes_at, with_bytes, cells_of}
+
+-- a body that runs, and where its locals lie
+pub record Frame : Type 0 where
+  pub body : MirBody
+  pub cells : List Interval
+
+-- the bytes of a constant
+abbrev pub constant_bytes : Const → List ℕ
+constant_bytes (Value value) = value.memory
+
+-- the bytes that an operand has now
+unfoldable pub operand_bytes : Frame → Memory → OperandKind → Option (List ℕ)
+operand_bytes frame memory (Copy place) = option_and_then (bytes_at memory) (slice_get frame.cells place.local.0)
+operand_bytes frame memory (Constant konst ty) = Some (constant_bytes konst)
+
+-- the type of an operand
+unfoldable pub operand_type : MirBody → OperandKind → Option Ty
+operand_type body (Copy place) = option_map (λ local. local.ty) (slice_get body.locals place.local.0)
+operand_type body (Constant konst ty) = Some ty
+
+-- the operator of numbers
+unfoldable pub operator_of : BinOp → Operator
+operator_of Add = operator.Add
+
+-- a read outside the memory, or of a local that the body lacks
+abbrev pub bad_read : MirEvalError
+bad_read = error.UndefinedBehavior (codes "out of bound memory read")
+
+abbrev pub bad_write : MirEvalError
+bad_write = error.UndefinedBehavior (codes "out of bound memory write")
+
+-- what an operator's answer is in a run
+unfoldable pub answered : Answer → Result (List ℕ) MirEvalError
+answered (Computes bytes) = Ok bytes
+answered (Panics word) = Err (error.Panic word)
+answered Undefined = Err (error.NotSupported (codes "comparison of this type"))
+
+-- an operator on two operands, which are read left to right
+unfoldable pub operated : BinOp → Option Ty → Option Ty → Option (List ℕ) → Option (List ℕ) → Result (List ℕ) MirEvalError
+operated op left_type right_type (Some left) (Some right) =
+    answered (computed (operator_of op) (option_and_then kind_of left_type) (option_and_then kind_of right_type) left right)
+operated op left_type right_type (Some left) None = Err bad_read
+operated op left_type right_type None right = Err bad_read
+
+abbrev pub read : Option (List ℕ) → Result (List ℕ) MirEvalError
+read (Some bytes) = Ok bytes
+read None = Err bad_read
+
+-- the bytes that an assignment computes
+unfoldable pub rvalue_bytes : Frame → Memory → Rvalue → Result (List ℕ) MirEvalError
+rvalue_bytes frame memory (Use operand) = read (operand_bytes frame memory operand.kind)
+rvalue_bytes frame memory (CheckedBinaryOp op left right) =
+    operated op (operand_type frame.body left.kind) (operand_type frame.body right.kind)
+    (operand_bytes frame memory left.kind) (operand_bytes frame memory right.kind)
+
+-- the memory after bytes were copied to a cell
+unfoldable pub copied : Memory → Option Interval → Result (List ℕ) MirEvalError → Result Memory MirEvalError
+copied memory (Some cell) (Ok bytes) =
+    elim (with_bytes memory cell.address bytes) [ Some after ↦ Ok after | None ↦ Err bad_write ]
+copied memory (Some cell) (Err e) = Err e
+copied memory None bytes = Err bad_write
+
+-- the memory after a statement
+unfoldable pub after_statement : Frame → Memory → StatementKind → Result Memory MirEvalError
+after_statement frame memory (Assign place rvalue) = copied memory (slice_get frame.cells place.local.0) (rvalue_bytes frame memory rvalue)
+after_statement frame memory (StorageLive local) = Ok memory
+after_statement frame memory (StorageDead local) = Ok memory
+
+-- the memory after statements in order, up to the first that faults
+unfoldable pub after_statements : Frame → List Statement → Memory → Result Memory MirEvalError
+after_statements frame [] memory = Ok memory
+after_statements frame (statement ∷ statements) memory =
+    elim (after_statement frame memory statement.kind) [ Ok after ↦ after_statements frame statements after | Err e ↦ Err e ]
+
+-- how a run ends: with the bytes of the return slot, or in a fault
+pub data Ending : Type 0 where
+  Returned : List ℕ → Ending
+  Faulted : MirEvalError → Ending
+
+-- where a block leads: to an end, or to a block
+pub data Next : Type 0 where
+  Stops : Ending → Next
+  GoesTo : Memory → ℕ → Next
+
+-- the end of a run that returns
+abbrev pub returned : Option (List ℕ) → Ending
+returned (Some bytes) = Returned bytes
+returned None = Faulted bad_read
+
+-- what a terminator does
+unfoldable pub terminated : Frame → Memory → Option Terminator → Next
+terminated frame memory None = Stops (Faulted (error.NotSupported (codes "block without terminator")))
+terminated frame memory (Some terminator) =
+    elim terminator.kind [
+      | Return ↦ Stops (returned (option_and_then (bytes_at memory) (slice_get frame.cells 0)))
+      | Drop place target unwind ↦ GoesTo memory target.0
+    ]
+
+-- where a block leads from one of its statements on
+unfoldable pub next_from : Frame → Memory → Option BasicBlock → ℕ → Next
+next_from frame memory None index = Stops (Faulted (error.NotSupported (codes "block without terminator")))
+next_from frame memory (Some block) index =
+    elim (after_statements frame (drop index block.statements) memory) [
+      | Ok after ↦ terminated frame after block.terminator
+      | Err e ↦ Stops (Faulted e)
+    ]
+
+-- how a run ended, and how many blocks of its budget are left
+pub record Ended : Type 0 where
+  pub ending : Ending
+  pub left : ℕ
+
+-- the end of a run that may enter no more blocks
+abbrev pub out_of_blocks : Ended
+out_of_blocks = record { ending = Faulted error.ExecutionLimitExceeded; left = 0 }
+
+-- the run that enters a block and may enter so many blocks: each block entered takes one
+unfoldable pub entering : ℕ → Frame → Memory → ℕ → Ended
+entering zero frame memory block = out_of_blocks
+entering (suc budget) frame memory block =
+    elim (next_from frame memory (slice_get frame.body.basic_blocks block) 0) [
+      | Stops ending ↦ record { ending = ending; left = budget }
+      | GoesTo after target ↦ entering budget frame after target
+    ]
+
+-- the run that goes on where a block led
+unfoldable pub going_on : ℕ → Frame → Next → Ended
+going_on budget frame (Stops ending) = record { ending = ending; left = budget }
+going_on budget frame (GoesTo memory block) = entering budget frame memory block
+
+-- the run that goes on in a block that it entered before, from one of its statements on
+unfoldable pub running : ℕ → Frame → Memory → ℕ → ℕ → Ended
+running budget frame memory block index = going_on budget frame (next_from frame memory (slice_get frame.body.basic_blocks block) index)
+
+-- a body's frame and memory before its first block, or why it can't begin
+unfoldable pub begun : HirDatabase → MirBody → Result (Frame × Memory) MirEvalError
+begun world body =
+    elim (cells_of world body.locals first_memory) [
+      | Ok placed ↦ Ok (record { body = body; cells = placed.0 }, placed.1)
+      | Err e ↦ Err e
+    ]

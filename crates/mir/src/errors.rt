@@ -1,0 +1,125 @@
+//! Why a body could not be lowered, and how a run can end without a value.
+
+use crate::MirSpan;
+use world::{Box, Crate, DefWithBodyId, List, NoMemory, Text, Ty};
+
+/// Why a type has no layout.
+#[derive(Clone, Copy, PartialEq, Eq, Debug)]
+pub enum LayoutError {
+    /// The world's layouts have no entry for it.
+    Unknown,
+}
+
+/// Why a body could not be lowered.
+#[derive(PartialEq, Eq, Debug, Drop)]
+pub enum MirLowerError {
+    LayoutError(LayoutError),
+    IncompleteExpr,
+    HasErrors,
+    TypeError(Text),
+    NotSupported(Text),
+    NoMemory,
+}
+
+impl From<NoMemory> for MirLowerError {
+    ghost use Rattle.std.specs.Prelude.{◌≡◌};
+    ghost use Rattle.mir.specs.declared.errors.MirLowerError.TheVariants as lower;
+
+    ghost from_gives = { λ _ error. error ≡ lower.NoMemory };
+
+    fn from(_error: NoMemory) -> MirLowerError {
+        MirLowerError::NoMemory
+    }
+}
+
+impl From<LayoutError> for MirLowerError {
+    ghost use Rattle.std.specs.Prelude.{◌≡◌};
+    ghost use Rattle.mir.specs.declared.errors.MirLowerError.TheVariants as lower;
+
+    ghost from_gives = { λ layout error. error ≡ lower.LayoutError layout };
+
+    fn from(error: LayoutError) -> MirLowerError {
+        MirLowerError::LayoutError(error)
+    }
+}
+
+/// A frame that a fault passed through.
+#[derive(Clone, Copy, PartialEq, Eq, Debug)]
+pub struct TrailEntry {
+    pub span: MirSpan,
+    pub caller: DefWithBodyId,
+}
+
+/// How a run can end without a value.
+#[derive(PartialEq, Eq, Debug, Drop)]
+pub enum MirEvalError {
+    LayoutError(LayoutError, Ty),
+    TargetDataLayoutNotAvailable(Crate),
+    UndefinedBehavior(Text),
+    Panic(Text),
+    TypeIsUnsized(Ty, Text),
+    NotSupported(Text),
+    InFunction(Box<MirEvalError>, List<TrailEntry>),
+    ExecutionLimitExceeded,
+    NoMemory,
+}
+
+impl From<NoMemory> for MirEvalError {
+    ghost use Rattle.std.specs.Prelude.{◌≡◌};
+    ghost use Rattle.mir.specs.declared.errors.MirEvalError as eval;
+
+    ghost from_gives = { λ _ error. error ≡ eval.NoMemory };
+
+    fn from(_error: NoMemory) -> MirEvalError {
+        MirEvalError::NoMemory
+    }
+}
+
+/// Why a constant has no value.
+#[derive(PartialEq, Eq, Debug, Drop)]
+pub enum ConstEvalError {
+    MirLowerError(MirLowerError),
+    MirEvalError(MirEvalError),
+    NoMemory,
+}
+
+impl From<NoMemory> for ConstEvalError {
+    ghost use Rattle.std.specs.Prelude.{◌≡◌};
+    ghost use Rattle.mir.specs.declared.errors.ConstEvalError.TheVariants as constant;
+
+    ghost from_gives = { λ _ error. error ≡ constant.NoMemory };
+
+    fn from(_error: NoMemory) -> ConstEvalError {
+        ConstEvalError::NoMemory
+    }
+}
+
+/// Want of memory is passed on, and each other refusal is carried.
+impl From<MirLowerError> for ConstEvalError {
+    ghost use Rattle.mir.specs.Errors.{from_lower_error};
+    ghost use Rattle.std.specs.Prelude.{◌≡◌};
+
+    ghost from_gives = { λ error constant. constant ≡ from_lower_error error };
+
+    fn from(error: MirLowerError) -> ConstEvalError {
+        match error {
+            MirLowerError::NoMemory => ConstEvalError::NoMemory,
+            other => ConstEvalError::MirLowerError(other),
+        }
+    }
+}
+
+/// Want of memory is passed on, and each other fault is carried.
+impl From<MirEvalError> for ConstEvalError {
+    ghost use Rattle.mir.specs.Errors.{from_eval_error};
+    ghost use Rattle.std.specs.Prelude.{◌≡◌};
+
+    ghost from_gives = { λ error constant. constant ≡ from_eval_error error };
+
+    fn from(error: MirEvalError) -> ConstEvalError {
+        match error {
+            MirEvalError::NoMemory => ConstEvalError::NoMemory,
+            other => ConstEvalError::MirEvalError(other),
+        }
+    }
+}

@@ -1,0 +1,17 @@
+//! The middle representation: bodies as graphs of basic blocks over typed locals, the errors of
+//! lowering and running them, and, in `specs/`, what a run of a body means.
+#![tactic(auto)]
+
+mod body;
+mod errors;
+mod ids;
+mod operand;
+mod span;
+mod statement;
+
+pub use body::{BasicBlock, Local, MirBody, Terminator, TerminatorKind};
+pub use errors::{ConstEvalError, LayoutError, MirEvalError, MirLowerError, TrailEntry};
+pub use ids::{BasicBlockId, LocalId};
+pub use operand::{BinOp, Operand, OperandKind, Place, Rvalue};
+pub use span::MirSpan;
+pub use statement::{Statement, StatementKind};

@@ -1,0 +1,58 @@
+//! What statements read and compute.
+
+use crate::{LocalId, MirSpan};
+use world::{ArithOp, Const, Ty};
+
+/// Where a value lies: a local.
+#[derive(Clone, Copy, PartialEq, Eq, Hash, Debug)]
+pub struct Place {
+    pub local: LocalId,
+}
+
+impl From<LocalId> for Place {
+    ghost use Rattle.std.specs.Prelude.{◌≡◌};
+
+    ghost from_gives = { λ local place. place.local ≡ local };
+
+    fn from(local: LocalId) -> Place {
+        Place { local }
+    }
+}
+
+/// What an operation reads.
+#[derive(PartialEq, Eq, Debug, Drop)]
+pub struct Operand {
+    pub kind: OperandKind,
+    pub span: Option<MirSpan>,
+}
+
+/// A place, whose bytes are read when the operation runs, or a constant.
+#[derive(PartialEq, Eq, Debug, Drop)]
+pub enum OperandKind {
+    Copy(Place),
+    Constant { konst: Const, ty: Ty },
+}
+
+/// An operator on two operands.
+#[derive(Clone, Copy, PartialEq, Eq, Debug)]
+pub enum BinOp {
+    Add,
+}
+
+/// What an assignment computes.
+#[derive(PartialEq, Eq, Debug, Drop)]
+pub enum Rvalue {
+    Use(Operand),
+    CheckedBinaryOp(BinOp, Operand, Operand),
+}
+
+impl From<Operand> for Rvalue {
+    ghost use Rattle.std.specs.Prelude.{◌≡◌};
+    ghost use Rattle.mir.specs.declared.operand.Rvalue.TheVariants.{Use};
+
+    ghost from_gives = { λ operand rvalue. rvalue ≡ Use operand };
+
+    fn from(operand: Operand) -> Rvalue {
+        Rvalue::Use(operand)
+    }
+}

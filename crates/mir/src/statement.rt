@@ -1,0 +1,21 @@
+//! The statements of a block.
+
+use crate::{LocalId, MirSpan, Place, Rvalue};
+
+/// A statement, and what it was lowered from.
+#[derive(PartialEq, Eq, Debug, Drop)]
+pub struct Statement {
+    pub kind: StatementKind,
+    pub span: MirSpan,
+}
+
+/// What a statement does.
+#[derive(PartialEq, Eq, Debug, Drop)]
+pub enum StatementKind {
+    /// The place is found, the value is computed, and its bytes are copied.
+    Assign(Place, Rvalue),
+    /// From here on the local is in use. Running it does nothing.
+    StorageLive(LocalId),
+    /// The local is no longer in use. Running it does nothing.
+    StorageDead(LocalId),
+}

@@ -1,0 +1,78 @@
+-- The machine that runs a body, as its callers see it, and what its calls do.
+use Rattle.std.specs.Prelude.{◌≡◌, ℕ, zero, suc, ◌-◌, List, [], Option, Some, None, Result, Ok, Err, slice_get, option_map, option_and_then, codes, ◌⊎◌}
+use Rattle.world.specs.declared.database.HirDatabase.{HirDatabase}
+use Rattle.world.specs.declared.ty.Const.{Const}
+use Rattle.world.specs.declared.ty.Const.TheVariants.{Value}
+use Rattle.world.specs.declared.ty.MemoryMap.TheVariants.{Empty}
+use Rattle.world.specs.Lookups.{const_row}
+use Rattle.world.specs.declared.ids.DefWithBodyId.{DefWithBodyId}
+use Rattle.mir.specs.declared.body.MirBody.{MirBody}
+use Rattle.mir.specs.declared.errors.MirEvalError.{MirEvalError}
+use Rattle.mir.specs.declared.errors.MirEvalError as error
+use Rattle.mir.specs.Memory.{Memory}
+use Rattle.mir.specs.Run.{Frame, Ending, Returned, Faulted, Next, Stops, GoesTo, Ended, entering, next_from, out_of_blocks, bad_read}
+
+-- where a run is: not begun, about to enter a block with so many blocks left to enter, or over
+pub data State : Type 0 where
+  Fresh : State
+  Going : (frame : Frame) (memory : Memory) (block left : ℕ) → State
+  Over : (result : Result Const MirEvalError) (left : ℕ) → State
+
+-- what callers see of a machine
+pub record Machine : Type 0 where
+  pub world : HirDatabase
+  pub owner : DefWithBodyId
+  -- how many blocks a run may enter
+  pub blocks : ℕ
+  pub state : State
+
+-- the size of a pointer of the owner's crate, where it is known
+abbrev pub pointer_bytes : HirDatabase → DefWithBodyId → Option ℕ
+pointer_bytes world owner =
+    option_and_then (λ row. option_and_then (λ krate. krate.pointer_bytes) (slice_get world.crates row.krate.0)) (const_row world owner)
+
+-- the value of a body whose return slot has these bytes
+abbrev pub value_of : MirBody → List ℕ → Result Const MirEvalError
+value_of body bytes =
+    elim (slice_get body.locals 0) [
+      | Some slot ↦ Ok (Value (record { ty = slot.ty; memory = bytes; memory_map = Empty }))
+      | None ↦ Err (error.InFunction bad_read [])
+    ]
+
+-- what a run hands out at its end: the value, or the fault, wrapped once for the frame that it ended
+unfoldable pub outcome_of : MirBody → Ending → Result Const MirEvalError
+outcome_of body (Returned bytes) = value_of body bytes
+outcome_of body (Faulted e) = Err (error.InFunction e [])
+
+-- the state after one block
+unfoldable pub stepped : State → State
+stepped (Going frame memory block zero) = Over (outcome_of frame.body out_of_blocks.ending) 0
+stepped (Going frame memory block (suc left)) =
+    elim (next_from frame memory (slice_get frame.body.basic_blocks block) 0) [
+      | Stops ending ↦ Over (outcome_of frame.body ending) left
+      | GoesTo after target ↦ Going frame after target left
+    ]
+stepped Fresh = Fresh
+stepped (Over result left) = Over result left
+
+-- the state at the end of the run
+unfoldable pub finished : State → State
+finished (Going frame memory block left) =
+    let ended = entering left frame memory block in
+    Over (outcome_of frame.body ended.ending) ended.left
+finished Fresh = Fresh
+finished (Over result left) = Over result left
+
+-- the run ended for want of memory
+abbrev pub RanOutOfMemory : State → Type 0
+RanOutOfMemory state = (left : ℕ) × (state ≡ Over (Err error.NoMemory) left)
+
+-- how many blocks may still be entered
+abbrev pub blocks_left : ℕ → State → ℕ
+blocks_left blocks Fresh = blocks
+blocks_left blocks (Going frame memory block left) = left
+blocks_left blocks (Over result left) = left
+
+-- how many blocks were entered
+abbrev pub turns_of : Machine → ℕ
+turns_of machine = machine.blocks - blocks_left machine.blocks machine.state

@@ -1,0 +1,206 @@
+//! The machine as its callers use it: made, begun once, run to its end, and taken apart.
+
+ghost use Rattle.std.specs.Prelude.{◌≡◌, ◌↔◌, ◌⊎◌, [], slice_get, option_map, option_and_then, codes, IfOk, IfErr, OnErr, IsOk, IsSome, IsTrue};
+
+ghost use Rattle.world.specs.Lookups.{const_row};
+ghost use Rattle.mir_eval.specs.Start.{is_own_width};
+ghost use Rattle.mir.specs.declared.errors.MirEvalError as error;
+
+use crate::runs::{Phase, Run};
+use crate::{Limits, MirOutput};
+use mir::{MirBody, MirEvalError};
+use std::alloc::Global;
+use std::rc::Rc;
+use world::{Const, Crate, DefWithBodyId, HirDatabase, Text};
+
+/// How a run turned out.
+#[derive(Clone, Copy, PartialEq, Eq, Debug)]
+pub enum Turned {
+    /// It ended in a value.
+    Done,
+    /// It ended in a fault.
+    Fault,
+}
+
+/// The machine for one run of one body.
+#[derive(Drop)]
+pub struct Evaluator<'a> {
+    alloc: Global,
+    db: &'a HirDatabase,
+    owner: DefWithBodyId,
+    blocks: u64,
+    phase: Phase,
+}
+
+/// The size of a pointer of the crate that something belongs to, where it is known.
+fn pointer_bytes(db: &HirDatabase, krate: Option<Crate>) -> Option<u64>
+    ensures { result ≡ option_and_then (λ krate. option_and_then (λ row. row.pointer_bytes) (slice_get db.now.crates krate.0)) krate }
+{
+    match krate {
+        Some(krate) => match db.crates.get(krate.0 as u64) {
+            Some(row) => row.pointer_bytes,
+            None => None,
+        },
+        None => None,
+    }
+}
+
+/// The crate that something belongs to.
+fn crate_of(db: &HirDatabase, owner: DefWithBodyId) -> Option<Crate>
+    ensures { result ≡ option_map (λ row. row.krate) (const_row db.now owner) }
+{
+    let DefWithBodyId::ConstId(id) = owner;
+    match db.consts.get(id.0 as u64) {
+        Some(row) => Some(row.krate),
+        None => None,
+    }
+}
+
+/// Whether a pointer has as many bytes as the machine's own.
+fn is_own_width(bytes: Option<u64>) -> bool
+    ensures { result ≡ is_own_width bytes }
+{
+    match bytes {
+        Some(bytes) => bytes == 8,
+        None => false,
+    }
+}
+
+/// The refusal of a target whose pointers have another size than the machine's own.
+fn other_width(alloc: Global) -> MirEvalError
+    ensures { (result ≡ error.NoMemory) ⊎ (result ≡ error.NotSupported (codes "targets with different pointer size from host")) }
+{
+    match Text::from_str(alloc, "targets with different pointer size from host") {
+        Ok(text) => MirEvalError::NotSupported(text),
+        Err(_) => MirEvalError::NoMemory,
+    }
+}
+
+impl<'a> Evaluator<'a> {
+    ghost use Rattle.mir_eval.specs.Limits.{IsWithin};
+    ghost use Rattle.mir_eval.specs.Machine.{Fresh, pointer_bytes, stepped, finished, turns_of};
+    ghost use Rattle.mir_eval.specs.Start.{start_of};
+    ghost use Rattle.mir_eval.specs.Evaluators.{machine_of, crate_of, is_fresh, is_going, is_over, turned, outcome, Became};
+
+    /// A machine for a body that belongs to `owner`. It takes no memory. The refusal is
+    /// `TargetDataLayoutNotAvailable`, exactly where the size of a pointer of the owner's crate isn't
+    /// known.
+    pub fn new(
+        alloc: Global,
+        db: &'a HirDatabase,
+        owner: DefWithBodyId,
+        _assert_placeholder_ty_is_unused: bool,
+        limits: &Limits,
+    ) -> Result<Evaluator<'a>, MirEvalError>
+        requires { IsWithin limits.now }
+        ensures made { IfOk result (λ evaluator. machine_of evaluator ≡ record { world = db.now; owner = owner; blocks = limits.now.blocks; state = Fresh }) }
+        ensures refused { IfErr result (λ e. e ≡ error.TargetDataLayoutNotAvailable (crate_of db.now owner)) }
+        ensures variant { IsOk result ↔ IsSome (pointer_bytes db.now owner) }
+    {
+        let krate = crate_of(db, owner);
+        match pointer_bytes(db, krate) {
+            Some(_) => Ok(Evaluator {
+                alloc,
+                db,
+                owner,
+                blocks: limits.blocks,
+                phase: Phase::Fresh,
+            }),
+            None => Err(MirEvalError::TargetDataLayoutNotAvailable(
+                krate.unwrap_or(Crate(0)),
+            )),
+        }
+    }
+
+    /// Begins a run of the body. The refusals, in this order: `NotSupported` where the pointers of the
+    /// owner's crate have another size than 8 bytes; `LayoutError` or `TypeIsUnsized` for the first
+    /// local whose type has no layout or no size; `NoMemory`. After a refusal nothing was begun.
+    #[tactic(auto, unfolding(crate::specs::Start::start_of))]
+    pub fn begin(&mut self, body: Rc<MirBody>) -> Result<(), MirEvalError>
+        requires { IsTrue (is_fresh (machine_of self.old).state) }
+        ensures began { IfOk result (λ _. start_of (machine_of self.old) body.value ≡ Ok (machine_of self.new).state) }
+        ensures kept { machine_of self.new ≡ record (machine_of self.old) { state = (machine_of self.new).state } }
+        ensures refused { IfErr result (λ e. (e ≡ error.NoMemory) ⊎ (start_of (machine_of self.old) body.value ≡ Err e)) }
+        ensures unchanged { OnErr result (machine_of self.new ≡ machine_of self.old) }
+    {
+        if !is_own_width(pointer_bytes(self.db, crate_of(self.db, self.owner))) {
+            return Err(other_width(self.alloc));
+        }
+        match Run::start(self.alloc, self.db, body, self.blocks) {
+            Ok(run) => {
+                self.phase = Phase::Going(run);
+                Ok(())
+            }
+            Err(e) => Err(e),
+        }
+    }
+
+    /// Runs one block to its end. Want of memory ends the run.
+    pub fn advance(&mut self)
+        requires { IsTrue (is_going (machine_of self.old).state) }
+        ensures { Became (machine_of self.old) (machine_of self.new) (stepped (machine_of self.old).state) }
+    {
+        let alloc = self.alloc;
+        match &mut self.phase {
+            Phase::Going(run) => {
+                if let Some(phase) = run.step(alloc) {
+                    self.phase = phase;
+                }
+            }
+            Phase::Fresh => unreachable!(),
+            Phase::Over { .. } => unreachable!(),
+        }
+    }
+
+    /// Runs to the end, and tells whether that is a value or a fault. Want of memory is a fault.
+    pub fn run(&mut self) -> Turned
+        requires { IsTrue (is_going (machine_of self.old).state) }
+        ensures ended { Became (machine_of self.old) (machine_of self.new) (finished (machine_of self.old).state) }
+        ensures told { result ≡ turned (machine_of self.new).state }
+    {
+        let alloc = self.alloc;
+        let phase = match &mut self.phase {
+            Phase::Going(run) => run.finish(alloc),
+            Phase::Fresh => unreachable!(),
+            Phase::Over { .. } => unreachable!(),
+        };
+        let turned = match &phase {
+            Phase::Over { outcome: Ok(_), .. } => Turned::Done,
+            _ => Turned::Fault,
+        };
+        self.phase = phase;
+        turned
+    }
+
+    /// How many blocks were entered.
+    pub fn turns(&self) -> u64
+        ensures { result ≡ turns_of (machine_of self.now) }
+    {
+        match &self.phase {
+            Phase::Fresh => 0,
+            Phase::Going(run) => self.blocks.saturating_sub(run.left),
+            Phase::Over { left, .. } => self.blocks.saturating_sub(*left),
+        }
+    }
+
+    /// Whether the run has ended, in a value or in a fault.
+    pub fn is_over(&self) -> bool
+        ensures { result ≡ is_over (machine_of self.now).state }
+    {
+        matches!(&self.phase, Phase::Over { .. })
+    }
+
+    /// What the run ended in, and what it wrote. It takes no memory.
+    pub fn finish(self) -> (Result<Const, MirEvalError>, MirOutput)
+        requires { IsTrue (is_over (machine_of self).state) }
+        ensures ended { Some result.0 ≡ outcome (machine_of self.entry).state }
+        ensures wrote { result.1 ≡ ([], []) }
+    {
+        let Evaluator { alloc, phase, .. } = self;
+        match phase {
+            Phase::Over { outcome, left: _ } => (outcome, MirOutput::empty(alloc)),
+            Phase::Fresh => unreachable!(),
+            Phase::Going(_) => unreachable!(),
+        }
+    }
+}

@@ -1,0 +1,49 @@
+//! How a run can fault, before the words are made.
+
+ghost use Rattle.std.specs.Prelude.{◌≡◌, IfOk};
+ghost use Rattle.mir_eval.specs.Steps.{error_of};
+
+use mir::MirEvalError;
+use numbers::Operator;
+use std::alloc::Global;
+use world::{NoMemory, Text};
+
+/// How a run can fault.
+#[derive(Clone, Copy, PartialEq, Eq, Debug)]
+pub(crate) enum Fault {
+    BadRead,
+    BadWrite,
+    Panic(Operator),
+    Undefined,
+    NoTerminator,
+    OutOfBlocks,
+}
+
+/// The error that a fault is.
+pub(crate) fn to_error(alloc: Global, fault: Fault) -> Result<MirEvalError, NoMemory>
+    ensures { IfOk result (λ e. e ≡ error_of fault) }
+{
+    match fault {
+        Fault::BadRead => {
+            let text = Text::from_str(alloc, "out of bound memory read")?;
+            Ok(MirEvalError::UndefinedBehavior(text))
+        }
+        Fault::BadWrite => {
+            let text = Text::from_str(alloc, "out of bound memory write")?;
+            Ok(MirEvalError::UndefinedBehavior(text))
+        }
+        Fault::Panic(op) => {
+            let text = Text::from_str(alloc, op.panic_word())?;
+            Ok(MirEvalError::Panic(text))
+        }
+        Fault::Undefined => {
+            let text = Text::from_str(alloc, "comparison of this type")?;
+            Ok(MirEvalError::NotSupported(text))
+        }
+        Fault::NoTerminator => {
+            let text = Text::from_str(alloc, "block without terminator")?;
+            Ok(MirEvalError::NotSupported(text))
+        }
+        Fault::OutOfBlocks => Ok(MirEvalError::ExecutionLimitExceeded),
+    }
+}

@@ -1,0 +1,17 @@
+//! The machine: it runs a lowered body over one flat list of bytes, block by block, and gives the end
+//! that the meaning of the body's blocks has.
+#![tactic(auto)]
+
+mod cells;
+mod evaluator;
+mod faults;
+mod limits;
+mod outcomes;
+mod output;
+mod places;
+mod runs;
+mod steps;
+
+pub use evaluator::{Evaluator, Turned};
+pub use limits::Limits;
+pub use output::MirOutput;

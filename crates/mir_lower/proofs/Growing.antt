@@ -1,0 +1,140 @@
+-- Each step of the builder grows the graph, and keeps it sound.
+use Rattle.std.proofs.Common.{◌≡◌, ◌≢◌, ℕ, zero, suc, ◌+◌, ◌<◌, ◌≤◌, ◌⊎◌, ⊎_elim, List, [], ◌∷◌, ◌++◌, length, Option, Some, None, refl, sym, ap, ◌∙◌, subst, arith, length-append}
+use Rattle.std.specs.Prelude.{slice_get, slice_set, option_map, option_and_then, replicate}
+use Rattle.std.proofs.Math.ListN.{length-set}
+use Rattle.std.proofs.lemmas.Bool.{cases_eq}
+use Rattle.std.proofs.lemmas.Option.{option_and_then_some}
+use Rattle.world.specs.declared.ty.Ty.{Ty}
+use Rattle.mir.specs.declared.body.BasicBlock.{BasicBlock}
+use Rattle.mir.specs.declared.body.Local.{Local}
+use Rattle.mir.specs.declared.body.Terminator.{Terminator}
+use Rattle.mir.specs.declared.ids.LocalId.{LocalId}
+use Rattle.mir.specs.declared.statement.Statement.{Statement}
+use Rattle.source_meaning.specs.Source.{Source, node_type, root}
+use Rattle.mir_lower.specs.Graph.{Shape, no_statements, more_of, ended, with_current, with_statement, with_terminator, with_block, temp_of, with_temp, with_mark}
+use Rattle.mir_lower.specs.Growth.{statement_at, terminator_at, count_at, Grows, IsSound, IsOpen}
+use Rattle.mir_lower.proofs.Lists.{slice_get-front, slice_get-last, slice_get-set_same, slice_get-set_other, slice_get_in, slice_get_below}
+
+-- the statements that a block had, the block has
+pub record BlockGrows (old new : BasicBlock) : Type 0 where
+  pub statements : (i : ℕ) (statement : Statement) → slice_get old.statements i ≡ Some statement → slice_get new.statements i ≡ Some statement
+
+-- so have all blocks, and those that were ended stay
+pub record BlocksGrow (old new : List BasicBlock) : Type 0 where
+  pub each : (b : ℕ) (block : BasicBlock) → slice_get old b ≡ Some block → (later : BasicBlock) × (slice_get new b ≡ Some later) × BlockGrows block later
+  pub ended : (b : ℕ) (block : BasicBlock) (t : Terminator) → slice_get old b ≡ Some block → block.terminator ≡ Some t → slice_get new b ≡ Some block
+
+same_block : (block : BasicBlock) → BlockGrows block block
+same_block block = record { statements = λ i s h. h }
+
+same_blocks : (blocks : List BasicBlock) → BlocksGrow blocks blocks
+same_blocks blocks = record { each = λ b block there. (block, there, same_block block); ended = λ b block t there is. there }
+
+more_grows : (statement : Statement) (block : BasicBlock) → BlockGrows block (more_of statement block)
+more_grows statement block = record { statements = λ i s h. slice_get-front block.statements (statement ∷ []) i s h }
+
+ended_grows : (t : Terminator) (block : BasicBlock) → BlockGrows block (ended t block)
+ended_grows t block = record { statements = λ i s h. h }
+
+set_grows : (blocks : List BasicBlock) (at : ℕ) (old new : BasicBlock) → slice_get blocks at ≡ Some old → old.terminator ≡ None → BlockGrows old new → BlocksGrow blocks (slice_set blocks at new)
+set_grows blocks at old new found unended grows =
+    record {
+      each = λ b block there. ⊎_elim
+        (λ same. let is : old ≡ block = let there' : slice_get blocks at ≡ Some block = ap (slice_get blocks) (sym same) ∙ there in cc in
+          (new, ap (slice_get (slice_set blocks at new)) same ∙ slice_get-set_same blocks at new (slice_get_below blocks at old found), subst (λ x. BlockGrows x new) is grows))
+        (λ differ. (block, slice_get-set_other blocks at b new (λ e. differ (sym e)) ∙ there, same_block block))
+        (cases_eq b at);
+      ended = λ b block t there is. ⊎_elim
+        (λ same. let there' : slice_get blocks at ≡ Some block = ap (slice_get blocks) (sym same) ∙ there in
+          let one : old ≡ block = cc in
+          let none : block.terminator ≡ None = ap (λ (x : BasicBlock). x.terminator) (sym one) ∙ unended in cc)
+        (λ differ. slice_get-set_other blocks at b new (λ e. differ (sym e)) ∙ there)
+        (cases_eq b at);
+    }
+
+append_grows : (blocks more : List BasicBlock) → BlocksGrow blocks (blocks ++ more)
+append_grows blocks more =
+    record {
+      each = λ b block there. (block, slice_get-front blocks more b block there, same_block block);
+      ended = λ b block t there is. slice_get-front blocks more b block there;
+    }
+
+-- a graph grows where its blocks do, its locals stay, and its expressions keep their locals
+pub grows_by : (old new : Shape) → BlocksGrow old.blocks new.blocks → ((i : ℕ) (l : Local) → slice_get old.locals i ≡ Some l → slice_get new.locals i ≡ Some l) → ((e l : ℕ) → temp_of old e ≡ Some l → temp_of new e ≡ Some l) → Grows old new
+unfolding statement_at
+grows_by old new blocks locals temps =
+    record {
+      statements = λ b i s there. option_and_then_some (λ block. slice_get block.statements i) (slice_get old.blocks b) s there (λ block found at.
+        let later = blocks.each b block found in
+        ap (option_and_then (λ block. slice_get block.statements i)) later.1 ∙ later.2.statements i s at);
+      ended = λ b block t there is. blocks.ended b block t there is;
+      locals = locals;
+      temps = temps;
+    }
+
+pub grows-refl : (s : Shape) → Grows s s
+grows-refl s = record { statements = λ b i x h. h; ended = λ b block t h is. h; locals = λ i l h. h; temps = λ e l h. h }
+
+pub grows-trans : (a b c : Shape) → Grows a b → Grows b c → Grows a c
+grows-trans a b c first second =
+    record {
+      statements = λ k i x h. second.statements k i x (first.statements k i x h);
+      ended = λ k block t h is. second.ended k block t (first.ended k block t h is) is;
+      locals = λ i l h. second.locals i l (first.locals i l h);
+      temps = λ e l h. second.temps e l (first.temps e l h);
+    }
+
+-- the current block of an open graph
+pub current_of : (s : Shape) → IsOpen s → (block : BasicBlock) × (slice_get s.blocks s.current ≡ Some block) × (block.terminator ≡ None)
+unfolding terminator_at
+current_of s opened =
+    let found = slice_get_in s.blocks s.current opened.there in
+    (found.0, found.1, ap (option_and_then (λ block. block.terminator)) (sym found.1) ∙ opened.unended)
+
+-- one more statement
+pub with_statement-is : (statement : Statement) (s : Shape) (block : BasicBlock) → slice_get s.blocks s.current ≡ Some block → with_statement statement s ≡ record s { blocks = slice_set s.blocks s.current (more_of statement block) }
+unfolding with_statement
+with_statement-is statement s block found = ap (with_current (more_of statement) s) found
+
+pub with_terminator-is : (t : Terminator) (s : Shape) (block : BasicBlock) → slice_get s.blocks s.current ≡ Some block → with_terminator t s ≡ record s { blocks = slice_set s.blocks s.current (ended t block) }
+unfolding with_terminator
+with_terminator-is t s block found = ap (with_current (ended t) s) found
+
+pub with_statement-grows : (statement : Statement) (s : Shape) → IsOpen s → Grows s (with_statement statement s)
+unfolding temp_of
+with_statement-grows statement s opened =
+    let block = current_of s opened in
+    subst (λ (n : Shape). Grows s n) (sym (with_statement-is statement s block.0 block.1))
+      (grows_by s (record s { blocks = slice_set s.blocks s.current (more_of statement block.0) })
+        (set_grows s.blocks s.current block.0 (more_of statement block.0) block.1 block.2 (more_grows statement block.0)) (λ i l h. h) (λ e l h. h))
+
+pub with_terminator-grows : (t : Terminator) (s : Shape) → IsOpen s → Grows s (with_terminator t s)
+unfolding temp_of
+with_terminator-grows t s opened =
+    let block = current_of s opened in
+    subst (λ (n : Shape). Grows s n) (sym (with_terminator-is t s block.0 block.1))
+      (grows_by s (record s { blocks = slice_set s.blocks s.current (ended t block.0) })
+        (set_grows s.blocks s.current block.0 (ended t block.0) block.1 block.2 (ended_grows t block.0)) (λ i l h. h) (λ e l h. h))
+
+pub with_block-grows : (s : Shape) → Grows s (with_block s)
+unfolding with_block temp_of
+with_block-grows s = grows_by s (with_block s) (append_grows s.blocks (no_statements ∷ [])) (λ i l h. h) (λ e l h. h)
+
+pub with_mark-grows : (e : ℕ) (s : Shape) → Grows s (with_mark e s)
+unfolding temp_of
+with_mark-grows e s = grows_by s (with_mark e s) (same_blocks s.blocks) (λ i l h. h) (λ f l h. h)
+
+-- the locals of expressions after one was given a new one
+pub temp_of-with_temp_same : (e : ℕ) (ty : Ty) (s : Shape) → e < length s.temps → temp_of (with_temp e ty s) e ≡ Some (length s.locals)
+unfolding temp_of with_temp
+temp_of-with_temp_same e ty s within = ap (λ t. option_map (λ (l : LocalId). l.0) (option_and_then (λ temp. temp) t)) (slice_get-set_same s.temps e (Some (record { 0 = length s.locals })) within)
+
+pub temp_of-with_temp_other : (e f : ℕ) (ty : Ty) (s : Shape) → f ≢ e → temp_of (with_temp e ty s) f ≡ temp_of s f
+unfolding temp_of with_temp
+temp_of-with_temp_other e f ty s differ = ap (λ t. option_map (λ (l : LocalId). l.0) (option_and_then (λ temp. temp) t)) (slice_get-set_other s.temps e f (Some (record { 0 = length s.locals })) (λ same. differ (sym same)))
+
+pub with_temp-grows : (e : ℕ) (ty : Ty) (s : Shape) → temp_of s e ≡ None → Grows s (with_temp e ty s)
+unfolding with_temp
+with_temp-grows e ty s none =
+    grows_by s (with_temp e ty s) (same_blocks s.blocks) (λ i l h. slice_get-front s.locals (record { ty = ty } ∷ []) i l h)
+      (λ f l h. temp_of-with_temp_other e f ty s (λ same. let h' : temp_of s e ≡ Some l = ap (temp_of s) (sym same) ∙ h in cc) ∙ h)

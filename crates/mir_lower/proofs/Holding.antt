@@ -1,0 +1,81 @@
+-- Assigning to the local of a cell: afterwards memory and store agree again.
+use Rattle.std.proofs.Common.{◌≡◌, ◌≢◌, ℕ, zero, suc, ◌+◌, ◌<◌, ◌≤◌, ◌⊎◌, ⊎_elim, inl, inr, Bool, true, false, cond, List, [], ◌∷◌, ◌++◌, length, Option, Some, None, Result, Ok, Err, refl, sym, ap, ◌∙◌, subst, arith, eqb}
+use Rattle.std.specs.Prelude.{slice_get, option_and_then, ◌==◌}
+use Rattle.std.proofs.lemmas.Bool.{cases_eq}
+use Rattle.std.proofs.lemmas.Bool.Decides.{nat_tests}
+use Rattle.std.proofs.lemmas.Option.{option_and_then_some}
+use Rattle.mir.specs.declared.errors.MirEvalError.{MirEvalError}
+use Rattle.mir.specs.declared.operand.Place.{Place}
+use Rattle.mir.specs.declared.operand.Rvalue.{Rvalue}
+use Rattle.mir.specs.declared.statement.StatementKind.TheVariants.{Assign}
+use Rattle.mir.specs.Memory.{Interval, Memory, bytes_at, with_bytes}
+use Rattle.mir.specs.Run.{Frame, after_statement, copied, rvalue_bytes, bad_write}
+use Rattle.source_meaning.specs.Source.{Source, Cell, Result as Slot, Node, Store, same_cell, with_cell_bytes}
+use Rattle.mir_lower.specs.Does.{local_of, local_bytes, AreApart, IsFrameOf, Holds}
+use Rattle.mir_lower.specs.Graph.{Shape, temp_of}
+use Rattle.mir_lower.specs.Growth.{IsSound}
+use Rattle.mir_lower.proofs.Stack.{length-bytes_at, can_write, read-written, read-apart}
+
+-- one cell or two, and where it is one, `same_cell` says so
+same_cell-refl : (c : Cell) → same_cell c c ≡ true
+same_cell-refl Slot = refl
+same_cell-refl (Node e) = grind (arith, nat_tests)
+
+unequal : (m n : ℕ) → m ≢ n → eqb m n ≡ false
+unequal m n differ = grind (arith, nat_tests)
+
+cells : (c d : Cell) → ((c ≡ d) × (same_cell c d ≡ true)) ⊎ ((c ≢ d) × (same_cell c d ≡ false))
+cells Slot Slot = inl (refl, refl)
+cells Slot (Node e) = inr ((λ same. cc), refl)
+cells (Node e) Slot = inr ((λ same. cc), refl)
+cells (Node e) (Node f) =
+    ⊎_elim (λ same. inl (ap Node same, ap (λ g. same_cell (Node e) (Node g)) (sym same) ∙ same_cell-refl (Node e)))
+      (λ differ. inr ((λ same. differ (let parts : e ≡ f = cc in parts)), unequal e f differ)) (cases_eq e f)
+
+-- no two cells share a local
+local_of-own : (source : Source) (s : Shape) → IsSound source s → (c d : Cell) (l : ℕ) → local_of s c ≡ Some l → local_of s d ≡ Some l → c ≡ d
+local_of-own source s sound Slot Slot l h k = refl
+local_of-own source s sound Slot (Node f) l h k = let above = sound.above_result f l k in let zeroth : 0 ≡ l = cc in absurd (omega arith)
+local_of-own source s sound (Node e) Slot l h k = let above = sound.above_result e l h in let zeroth : 0 ≡ l = cc in absurd (omega arith)
+local_of-own source s sound (Node e) (Node f) l h k = ap Node (sound.own e f l h k)
+
+-- the interval of a local whose bytes are known
+pub interval-of : (frame : Frame) (memory : Memory) (l : ℕ) (bytes : List ℕ) → local_bytes frame memory l ≡ Some bytes → (cell : Interval) × (slice_get frame.cells l ≡ Some cell) × (bytes_at memory cell ≡ Some bytes)
+unfolding local_bytes
+interval-of frame memory l bytes h = option_and_then_some (bytes_at memory) (slice_get frame.cells l) bytes h (λ cell found at. (cell, found, at))
+
+local_bytes-at : (frame : Frame) (memory : Memory) (l : ℕ) (cell : Interval) → slice_get frame.cells l ≡ Some cell → local_bytes frame memory l ≡ bytes_at memory cell
+unfolding local_bytes
+local_bytes-at frame memory l cell found = ap (option_and_then (bytes_at memory)) found
+
+-- what reading another local gives after a write to one
+others-stay : (s : Shape) (frame : Frame) → IsFrameOf s frame → (memory later : Memory) (l k : ℕ) (cell : Interval) (bytes old : List ℕ) → l ≢ k → slice_get frame.cells l ≡ Some cell → with_bytes memory cell.address bytes ≡ Some later → length bytes ≡ cell.size → local_bytes frame memory k ≡ Some old → local_bytes frame later k ≡ Some old
+others-stay s frame is memory later l k cell bytes old differ found written size h =
+    let other = interval-of frame memory k old h in
+    local_bytes-at frame later k other.0 other.1
+    ∙ read-apart memory later cell other.0 bytes written size (is.apart l k cell other.0 differ found other.1)
+    ∙ other.2
+
+-- as many bytes as a cell holds can be assigned to its local, and memory then holds the store with them
+pub assigns : (source : Source) (s : Shape) (frame : Frame) → IsSound source s → IsFrameOf s frame → (store : Store) (memory : Memory) → Holds s frame store memory → (c : Cell) (place : Place) (rvalue : Rvalue) (bytes : List ℕ) → local_of s c ≡ Some place.local.0 → rvalue_bytes frame memory rvalue ≡ Ok bytes → length bytes ≡ length (store c) →
+  (later : Memory) × (after_statement frame memory (Assign place rvalue) ≡ Ok later) × Holds s frame (with_cell_bytes store c bytes) later
+unfolding after_statement copied
+assigns source s frame sound is store memory holds c place rvalue bytes local computed long =
+    let at = interval-of frame memory place.local.0 (store c) (holds.shows c place.local.0 local) in
+    let can = can_write memory at.0 (store c) bytes at.2 long in
+    let size : length bytes ≡ at.0.size = long ∙ length-bytes_at memory at.0 (store c) at.2 in
+    (can.0,
+     ap (λ o. copied memory o (rvalue_bytes frame memory rvalue)) at.1
+     ∙ ap (λ r. copied memory (Some at.0) r) computed
+     ∙ ap (λ (o : Option Memory). elim o [ Some after ↦ Ok after | None ↦ Err bad_write ]) can.1,
+     record {
+       shows = λ d k h. ⊎_elim
+         (λ one. let same : place.local.0 ≡ k = (let h' : local_of s c ≡ Some k = ap (local_of s) one.0 ∙ h in cc) in
+           ap (local_bytes frame can.0) (sym same)
+           ∙ local_bytes-at frame can.0 place.local.0 at.0 at.1
+           ∙ read-written memory can.0 at.0 bytes can.1 size
+           ∙ ap (λ b. Some (cond b bytes (store d))) (sym one.1))
+         (λ two. others-stay s frame is memory can.0 place.local.0 k at.0 bytes (store d) (λ same. two.0 (local_of-own source s sound c d place.local.0 local (h ∙ ap Some (sym same)))) at.1 can.1 size (holds.shows d k h)
+           ∙ ap (λ b. Some (cond b bytes (store d))) (sym two.1))
+         (cells c d);
+     })

@@ -1,0 +1,177 @@
+-- Leaving a scope: one block for each local that is dropped.
+use Rattle.std.proofs.Common.{◌≡◌, ◌≢◌, ℕ, zero, suc, ◌+◌, ◌<◌, ◌≤◌, List, [], ◌∷◌, ◌++◌, length, Option, Some, None, Result, Ok, Err, refl, sym, ap, ◌∙◌, subst, arith, drop}
+use Rattle.std.specs.Prelude.{slice_get, slice_set, option_and_then, unwrap_or, option_map}
+use Rattle.std.proofs.Math.ListN.{length-set}
+use Rattle.mir.specs.declared.body.BasicBlock.{BasicBlock}
+use Rattle.mir.specs.declared.body.Terminator.{Terminator}
+use Rattle.mir.specs.declared.body.TerminatorKind.TheVariants.{Return, Drop}
+use Rattle.mir.specs.declared.ids.BasicBlockId.{BasicBlockId}
+use Rattle.mir.specs.declared.ids.LocalId.{LocalId}
+use Rattle.mir.specs.declared.operand.Place.{Place}
+use Rattle.mir.specs.declared.span.MirSpan.{MirSpan}
+use Rattle.mir.specs.declared.statement.Statement.{Statement}
+use Rattle.mir.specs.declared.statement.StatementKind.TheVariants.{StorageDead}
+use Rattle.mir.specs.Memory.{Memory, bytes_at}
+use Rattle.mir.specs.Run.{Frame, Ended, Ending, Next, Stops, GoesTo, Faulted, Returned, returned, after_statement, after_statements, terminated, next_from, going_on, running, entering, out_of_blocks}
+use Rattle.source_meaning.specs.Source.{Source}
+use Rattle.mir_lower.specs.Does.{Point, here, run_from, local_bytes, IsFrameOf, Comes}
+use Rattle.mir_lower.specs.Graph.{Shape, no_statements, ended, with_statement, with_terminator, with_block, temp_of}
+use Rattle.mir_lower.specs.Growth.{terminator_at, statement_at, count_at, Grows, IsSound, IsOpen}
+use Rattle.mir_lower.specs.Leaving.{Leaves}
+use Rattle.mir_lower.specs.Simulates.{EndsWithin}
+use Rattle.mir_lower.proofs.Growing.{current_of, grows-refl, grows-trans, with_statement-grows, with_terminator-is, with_terminator-grows, with_block-grows}
+use Rattle.mir_lower.proofs.Lists.{slice_get-last, slice_get-set_same}
+use Rattle.mir_lower.proofs.Reaching.{comes-refl, comes-trans}
+use Rattle.mir_lower.proofs.Running.{here-is, comes-statement}
+use Rattle.mir_lower.proofs.Sound.{sound_by, with_statement-sound, with_statement-open, with_terminator-sound, with_block-sound, with_block-open}
+
+drop_all : {A : Type 0} (xs : List A) → drop (length xs) xs ≡ []
+drop_all [] = refl
+drop_all (x ∷ xs) = drop_all xs
+
+-- entering a block is running it from its first statement
+pub entering-suc : (budget : ℕ) (frame : Frame) (memory : Memory) (block : ℕ) → entering (suc budget) frame memory block ≡ running budget frame memory block 0
+unfolding entering running going_on
+entering-suc budget frame memory block = by_next (next_from frame memory (slice_get frame.body.basic_blocks block) 0) where
+  by_next : (next : Next) → elim next [ Stops ending ↦ record { ending = ending; left = budget } | GoesTo after target ↦ entering budget frame after target ] ≡ going_on budget frame next
+  by_next (Stops ending) = refl
+  by_next (GoesTo after target) = refl
+
+-- behind its last statement a block does what its terminator says
+next-at-end : (frame : Frame) (memory : Memory) (block : BasicBlock) → next_from frame memory (Some block) (length block.statements) ≡ terminated frame memory block.terminator
+unfolding next_from after_statements
+next-at-end frame memory block =
+    ap (λ (statements : List Statement). elim (after_statements frame statements memory) [ Ok after ↦ terminated frame after block.terminator | Err e ↦ Stops (Faulted e) ]) (drop_all block.statements)
+
+-- In a graph whose current block was just ended, and in each that it grew to, the run behind the block's last
+-- statement does what the terminator says.
+module _ (t : Terminator) (s whole : Shape) (frame : Frame) (opened : IsOpen s) (grows : Grows (with_terminator t s) whole) (is : IsFrameOf whole frame) where
+  ended-there : (b : (block : BasicBlock) × (slice_get s.blocks s.current ≡ Some block)) → slice_get frame.body.basic_blocks s.current ≡ Some (ended t b.0)
+  ended-there b =
+      ap (λ (blocks : List BasicBlock). slice_get blocks s.current) is.blocks
+      ∙ grows.ended s.current (ended t b.0) t
+          (ap (λ (n : Shape). slice_get n.blocks s.current) (with_terminator-is t s b.0 b.1) ∙ slice_get-set_same s.blocks s.current (ended t b.0) opened.there) refl
+
+  pub run-terminator : (memory : Memory) (budget : ℕ) → run_from frame memory (here s) budget ≡ going_on budget frame (terminated frame memory (Some t))
+  unfolding running
+  run-terminator memory budget =
+      let b = current_of s opened in
+      ap (λ (p : Point). run_from frame memory p budget) (here-is s b.0 b.1)
+      ∙ ap (λ o. going_on budget frame (next_from frame memory o (length b.0.statements))) (ended-there (b.0, b.1))
+      ∙ ap (going_on budget frame) (next-at-end frame memory (ended t b.0))
+
+-- a drop goes on at its target
+goes-on : (frame : Frame) (memory : Memory) (place : Place) (target : BasicBlockId) (unwind : Option BasicBlockId) (span : MirSpan) (budget : ℕ) → going_on budget frame (terminated frame memory (Some (record { span = span; kind = Drop place target unwind }))) ≡ entering budget frame memory target.0
+unfolding going_on terminated
+goes-on frame memory place target unwind span budget = refl
+
+here-with_block : (s : Shape) → here (with_block s) ≡ record { block = length s.blocks; index = 0 }
+unfolding with_block count_at
+here-with_block s = ap (λ (o : Option BasicBlock). record { block = length s.blocks; index = unwrap_or (option_map (λ (b : BasicBlock). length b.statements) o) 0 }) (slice_get-last s.blocks no_statements)
+
+pub entering-none : (frame : Frame) (memory : Memory) (block : ℕ) → entering 0 frame memory block ≡ out_of_blocks
+unfolding entering
+entering-none frame memory block = refl
+
+-- ending the current block by a drop, and opening the block that it goes to
+pub leaves-drop : (source : Source) (s new : Shape) (place : Place) (target : BasicBlockId) (unwind : Option BasicBlockId) (span : MirSpan) → IsSound source s → IsOpen s → target.0 ≡ length s.blocks → new ≡ with_block (with_terminator (record { span = span; kind = Drop place target unwind }) s) → Leaves source s new 1
+leaves-drop source s new place target unwind span sound opened at same =
+    let t : Terminator = record { span = span; kind = Drop place target unwind } in
+    let b = current_of s opened in
+    let many : length (with_terminator t s).blocks ≡ length s.blocks = ap (λ (n : Shape). length n.blocks) (with_terminator-is t s b.0 b.1) ∙ length-set s.blocks s.current (ended t b.0) in
+    subst (λ (n : Shape). Leaves source s n 1) (sym same)
+      (record {
+        grows = grows-trans s (with_terminator t s) (with_block (with_terminator t s)) (with_terminator-grows t s opened) (with_block-grows (with_terminator t s));
+        sound = with_block-sound source (with_terminator t s) (with_terminator-sound source t s opened sound);
+        «open» = with_block-open (with_terminator t s);
+        comes = λ whole frame grows is memory.
+          let grown = grows-trans (with_terminator t s) (with_block (with_terminator t s)) whole (with_block-grows (with_terminator t s)) grows in
+          let to : here (with_block (with_terminator t s)) ≡ record { block = target.0; index = 0 } =
+            here-with_block (with_terminator t s) ∙ ap (λ n. record { block = n; index = 0 }) (many ∙ sym at) in
+          record {
+            with_more = λ more.
+              let one : 1 + more ≡ suc more = omega arith in
+              ap (run_from frame memory (here s)) one
+              ∙ run-terminator t s whole frame opened grown is memory (suc more)
+              ∙ goes-on frame memory place target unwind span (suc more)
+              ∙ entering-suc more frame memory target.0
+              ∙ ap (λ (p : Point). run_from frame memory p more) (sym to);
+            with_fewer = λ fewer less.
+              let none : fewer ≡ 0 = omega arith in
+              ap (run_from frame memory (here s)) none
+              ∙ run-terminator t s whole frame opened grown is memory 0
+              ∙ goes-on frame memory place target unwind span 0
+              ∙ entering-none frame memory target.0;
+          };
+      })
+
+dead-does-nothing : (frame : Frame) (memory : Memory) (local : LocalId) → after_statement frame memory (StorageDead local) ≡ Ok memory
+unfolding after_statement
+dead-does-nothing frame memory local = refl
+
+-- ending a local's storage
+pub leaves-dead : (source : Source) (s new : Shape) (local : LocalId) (span : MirSpan) → IsSound source s → IsOpen s → new ≡ with_statement (record { kind = StorageDead local; span = span }) s → Leaves source s new 0
+leaves-dead source s new local span sound opened same =
+    let dead : Statement = record { kind = StorageDead local; span = span } in
+    subst (λ (n : Shape). Leaves source s n 0) (sym same)
+      (record {
+        grows = with_statement-grows dead s opened;
+        sound = with_statement-sound source dead s opened sound;
+        «open» = with_statement-open dead s opened;
+        comes = λ whole frame grows is memory. comes-statement dead s whole frame memory opened grows is memory (dead-does-nothing frame memory local);
+      })
+
+pub leaves-refl : (source : Source) (s : Shape) → IsSound source s → IsOpen s → Leaves source s s 0
+leaves-refl source s sound opened =
+    record { grows = grows-refl s; sound = sound; «open» = opened; comes = λ whole frame grows is memory. comes-refl frame (here s) memory }
+
+pub leaves-trans : (source : Source) (a b c : Shape) (first second : ℕ) → Leaves source a b first → Leaves source b c second → Leaves source a c (first + second)
+leaves-trans source a b c first second one two =
+    record {
+      grows = grows-trans a b c one.grows two.grows;
+      sound = two.sound;
+      «open» = two.«open»;
+      comes = λ whole frame grows is memory.
+        comes-trans frame first second (here a) (here b) memory memory (one.comes whole frame (grows-trans b c whole two.grows grows) is memory) (here c) memory (two.comes whole frame grows is memory);
+    }
+
+-- a run that comes to the end of a block that returns ends with the return slot's bytes
+pub ends-return : (s whole : Shape) (frame : Frame) (span : MirSpan) (memory : Memory) (bytes : List ℕ) → IsOpen s → Grows (with_terminator (record { span = span; kind = Return }) s) whole → IsFrameOf whole frame → local_bytes frame memory 0 ≡ Some bytes → EndsWithin 0 (Returned bytes) (run_from frame memory (here s))
+unfolding going_on terminated local_bytes
+ends-return s whole frame span memory bytes opened grows is slot =
+    record {
+      turns = 0;
+      bound = omega arith;
+      with_more = λ more.
+        let plain : 0 + more ≡ more = omega arith in
+        ap (run_from frame memory (here s)) plain
+        ∙ run-terminator (record { span = span; kind = Return }) s whole frame opened grows is memory more
+        ∙ ap (λ o. record { ending = returned o; left = more }) slot;
+      with_fewer = λ fewer less. absurd (omega arith);
+    }
+
+-- the scope itself counts for nothing
+pub sound-scope : (source : Source) (s : Shape) (scope : List ℕ) → IsSound source s → IsSound source (record s { scope = scope })
+sound-scope source s scope sound = sound_by source s (record s { scope = scope }) refl refl sound
+
+pub open-scope : (s : Shape) (scope : List ℕ) → IsOpen s → IsOpen (record s { scope = scope })
+unfolding terminator_at
+open-scope s scope opened = record { there = opened.there; unended = opened.unended }
+
+grows-scope : (s : Shape) (scope : List ℕ) → Grows s (record s { scope = scope })
+unfolding statement_at temp_of
+grows-scope s scope = record { statements = λ b i x h. h; ended = λ b block t h is. h; locals = λ i l h. h; temps = λ e l h. h }
+
+here-scope : (s : Shape) (scope : List ℕ) → here (record s { scope = scope }) ≡ here s
+unfolding count_at
+here-scope s scope = refl
+
+pub leaves-scope : (source : Source) (s new : Shape) (scope : List ℕ) (turns : ℕ) → IsOpen s → Leaves source (record s { scope = scope }) new turns → Leaves source s new turns
+leaves-scope source s new scope turns opened leaves =
+    record {
+      grows = grows-trans s (record s { scope = scope }) new (grows-scope s scope) leaves.grows;
+      sound = leaves.sound;
+      «open» = leaves.«open»;
+      comes = λ whole frame grows is memory.
+        subst (λ (p : Point). Comes frame turns p memory (here new) memory) (here-scope s scope) (leaves.comes whole frame grows is memory);
+    }

@@ -1,0 +1,133 @@
+-- Each step of the builder keeps a graph sound and open.
+use Rattle.std.proofs.Common.{◌≡◌, ◌≢◌, ℕ, zero, suc, ◌+◌, ◌<◌, ◌≤◌, ◌⊎◌, ⊎_elim, inl, inr, List, [], ◌∷◌, ◌++◌, length, Option, Some, None, refl, sym, ap, ◌∙◌, subst, arith, length-append}
+use Rattle.std.specs.Prelude.{slice_get, slice_set, option_map, option_and_then, replicate}
+use Rattle.std.proofs.Math.ListN.{length-set}
+use Rattle.std.proofs.lemmas.Bool.{cases_eq}
+use Rattle.world.specs.declared.ty.Ty.{Ty}
+use Rattle.mir.specs.declared.body.BasicBlock.{BasicBlock}
+use Rattle.mir.specs.declared.body.Local.{Local}
+use Rattle.mir.specs.declared.body.Terminator.{Terminator}
+use Rattle.mir.specs.declared.ids.LocalId.{LocalId}
+use Rattle.mir.specs.declared.statement.Statement.{Statement}
+use Rattle.source_meaning.specs.Source.{Source, node_type, root}
+use Rattle.mir_lower.specs.Graph.{Shape, no_statements, more_of, ended, with_statement, with_terminator, with_block, temp_of, with_temp, with_mark, first_shape}
+use Rattle.mir_lower.specs.Growth.{statement_at, terminator_at, count_at, Grows, IsSound, IsOpen}
+use Rattle.mir_lower.proofs.Lists.{slice_get-front, slice_get-last, slice_get-set_same, slice_get-set_other, slice_get_in, slice_get_below}
+use Rattle.mir_lower.proofs.Growing.{current_of, with_statement-is, with_terminator-is, temp_of-with_temp_same, temp_of-with_temp_other}
+
+-- only locals, and which of them hold expressions, count
+pub sound_by : (source : Source) (old new : Shape) → new.locals ≡ old.locals → new.temps ≡ old.temps → IsSound source old → IsSound source new
+unfolding temp_of
+sound_by source old new locals temps sound =
+    let at : (e : ℕ) → temp_of new e ≡ temp_of old e = λ e. ap (λ (t : List (Option LocalId)). option_map (λ (l : LocalId). l.0) (option_and_then (λ temp. temp) (slice_get t e))) temps in
+    let local : (i : ℕ) → slice_get new.locals i ≡ slice_get old.locals i = λ i. ap (λ (l : List Local). slice_get l i) locals in
+    record {
+      nodes = ap length temps ∙ sound.nodes;
+      slot = λ l h. sound.slot l (sym (local 0) ∙ h);
+      result = let n = ap length locals in let r = sound.result in omega arith;
+      above_result = λ e l h. sound.above_result e l (sym (at e) ∙ h);
+      within = λ e l h. let n = ap length locals in let r = sound.within e l (sym (at e) ∙ h) in omega arith;
+      own = λ e f l h k. sound.own e f l (sym (at e) ∙ h) (sym (at f) ∙ k);
+      typed = λ e i l h k. sound.typed e i l (sym (at e) ∙ h) (sym (local i) ∙ k);
+    }
+
+pub with_statement-locals : (statement : Statement) (s : Shape) → IsOpen s → (with_statement statement s).locals ≡ s.locals
+with_statement-locals statement s opened = let b = current_of s opened in ap (λ (n : Shape). n.locals) (with_statement-is statement s b.0 b.1)
+
+pub with_statement-temps : (statement : Statement) (s : Shape) → IsOpen s → (with_statement statement s).temps ≡ s.temps
+with_statement-temps statement s opened = let b = current_of s opened in ap (λ (n : Shape). n.temps) (with_statement-is statement s b.0 b.1)
+
+pub with_statement-scope : (statement : Statement) (s : Shape) → IsOpen s → (with_statement statement s).scope ≡ s.scope
+with_statement-scope statement s opened = let b = current_of s opened in ap (λ (n : Shape). n.scope) (with_statement-is statement s b.0 b.1)
+
+pub with_statement-current : (statement : Statement) (s : Shape) → IsOpen s → (with_statement statement s).current ≡ s.current
+with_statement-current statement s opened = let b = current_of s opened in ap (λ (n : Shape). n.current) (with_statement-is statement s b.0 b.1)
+
+pub with_statement-sound : (source : Source) (statement : Statement) (s : Shape) → IsOpen s → IsSound source s → IsSound source (with_statement statement s)
+with_statement-sound source statement s opened sound =
+    sound_by source s (with_statement statement s) (with_statement-locals statement s opened) (with_statement-temps statement s opened) sound
+
+pub with_statement-open : (statement : Statement) (s : Shape) → IsOpen s → IsOpen (with_statement statement s)
+unfolding terminator_at
+with_statement-open statement s opened =
+    let b = current_of s opened in
+    subst IsOpen (sym (with_statement-is statement s b.0 b.1)) (record {
+      there = let n = length-set s.blocks s.current (more_of statement b.0) in let h = opened.there in omega arith;
+      unended = ap (option_and_then (λ block. block.terminator)) (slice_get-set_same s.blocks s.current (more_of statement b.0) opened.there) ∙ b.2;
+    })
+
+pub with_terminator-sound : (source : Source) (t : Terminator) (s : Shape) → IsOpen s → IsSound source s → IsSound source (with_terminator t s)
+with_terminator-sound source t s opened sound =
+    let b = current_of s opened in
+    sound_by source s (with_terminator t s) (ap (λ (n : Shape). n.locals) (with_terminator-is t s b.0 b.1)) (ap (λ (n : Shape). n.temps) (with_terminator-is t s b.0 b.1)) sound
+
+pub with_block-sound : (source : Source) (s : Shape) → IsSound source s → IsSound source (with_block s)
+unfolding with_block
+with_block-sound source s sound = sound_by source s (with_block s) refl refl sound
+
+pub with_block-open : (s : Shape) → IsOpen (with_block s)
+unfolding with_block terminator_at
+with_block-open s =
+    record {
+      there = let n = length-append s.blocks (no_statements ∷ []) in omega arith;
+      unended = ap (option_and_then (λ block. block.terminator)) (slice_get-last s.blocks no_statements);
+    }
+
+pub with_mark-sound : (source : Source) (e : ℕ) (s : Shape) → IsSound source s → IsSound source (with_mark e s)
+with_mark-sound source e s sound = sound_by source s (with_mark e s) refl refl sound
+
+pub with_mark-open : (e : ℕ) (s : Shape) → IsOpen s → IsOpen (with_mark e s)
+unfolding terminator_at
+with_mark-open e s opened = record { there = opened.there; unended = opened.unended }
+
+pub with_temp-open : (e : ℕ) (ty : Ty) (s : Shape) → IsOpen s → IsOpen (with_temp e ty s)
+unfolding with_temp terminator_at
+with_temp-open e ty s opened = record { there = opened.there; unended = opened.unended }
+
+pub with_temp-locals : (e : ℕ) (ty : Ty) (s : Shape) → (with_temp e ty s).locals ≡ s.locals ++ record { ty = ty } ∷ []
+unfolding with_temp
+with_temp-locals e ty s = refl
+
+pub with_temp-scope : (e : ℕ) (ty : Ty) (s : Shape) → (with_temp e ty s).scope ≡ s.scope
+unfolding with_temp
+with_temp-scope e ty s = refl
+
+pub with_temp-nodes : (e : ℕ) (ty : Ty) (s : Shape) → length (with_temp e ty s).temps ≡ length s.temps
+unfolding with_temp
+with_temp-nodes e ty s = length-set s.temps e (Some (record { 0 = length s.locals }))
+
+-- an expression's local is the new one, or one that it had
+temp_cases : (e f l : ℕ) (ty : Ty) (s : Shape) → e < length s.temps → temp_of (with_temp e ty s) f ≡ Some l → ((f ≡ e) × (l ≡ length s.locals)) ⊎ ((f ≢ e) × (temp_of s f ≡ Some l))
+temp_cases e f l ty s within h =
+    ⊎_elim
+      (λ same. let new = temp_of-with_temp_same e ty s within in let h' : temp_of (with_temp e ty s) e ≡ Some l = ap (temp_of (with_temp e ty s)) (sym same) ∙ h in inl (same, cc))
+      (λ differ. inr (differ, sym (temp_of-with_temp_other e f ty s differ) ∙ h))
+      (cases_eq f e)
+
+pub with_temp-sound : (source : Source) (e : ℕ) (ty : Ty) (s : Shape) → e < length s.temps → node_type source e ≡ Some ty → IsSound source s → IsSound source (with_temp e ty s)
+with_temp-sound source e ty s within has sound =
+    let grown : (i : ℕ) (l : Local) → slice_get s.locals i ≡ Some l → slice_get (with_temp e ty s).locals i ≡ Some l =
+      λ i l h. ap (λ (ls : List Local). slice_get ls i) (with_temp-locals e ty s) ∙ slice_get-front s.locals (record { ty = ty } ∷ []) i l h in
+    let long : length (with_temp e ty s).locals ≡ length s.locals + 1 = ap length (with_temp-locals e ty s) ∙ length-append s.locals (record { ty = ty } ∷ []) in
+    let last : slice_get (with_temp e ty s).locals (length s.locals) ≡ Some (record { ty = ty }) =
+      ap (λ (ls : List Local). slice_get ls (length s.locals)) (with_temp-locals e ty s) ∙ slice_get-last s.locals (record { ty = ty }) in
+    record {
+      nodes = with_temp-nodes e ty s ∙ sound.nodes;
+      slot = λ l h. let first = slice_get_in s.locals 0 sound.result in
+        let there = grown 0 first.0 first.1 in
+        let same : first.0 ≡ l = cc in sound.slot l (first.1 ∙ ap Some same);
+      result = let r = sound.result in omega arith;
+      above_result = λ f l h. ⊎_elim (λ new. let r = sound.result in let n = new.1 in omega arith) (λ old. sound.above_result f l old.1) (temp_cases e f l ty s within h);
+      within = λ f l h. ⊎_elim (λ new. let n = new.1 in omega arith) (λ old. let r = sound.within f l old.1 in omega arith) (temp_cases e f l ty s within h);
+      own = λ f g l h k. ⊎_elim
+        (λ new. ⊎_elim (λ new'. new.0 ∙ sym new'.0) (λ old'. let r = sound.within g l old'.1 in let n = new.1 in absurd (omega arith)) (temp_cases e g l ty s within k))
+        (λ old. ⊎_elim (λ new'. let r = sound.within f l old.1 in let n = new'.1 in absurd (omega arith)) (λ old'. sound.own f g l old.1 old'.1) (temp_cases e g l ty s within k))
+        (temp_cases e f l ty s within h);
+      typed = λ f i l h k. ⊎_elim
+        (λ new. let k' : slice_get (with_temp e ty s).locals (length s.locals) ≡ Some l = ap (slice_get (with_temp e ty s).locals) (sym new.1) ∙ k in
+          let same : record { ty = ty } ≡ l = cc in ap (node_type source) new.0 ∙ has ∙ ap (λ (x : Local). Some x.ty) same)
+        (λ old. let found = slice_get_in s.locals i (sound.within f i old.1) in
+          let there = grown i found.0 found.1 in
+          let same : found.0 ≡ l = cc in sound.typed f i l old.1 (found.1 ∙ ap Some same))
+        (temp_cases e f i ty s within h);
+    }

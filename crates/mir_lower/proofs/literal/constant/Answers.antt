@@ -1,0 +1,12 @@
+-- The constant has the bytes, and the operand the type.
+use Rattle.std.proofs.Common.{refl, ap}
+use Rattle.mir.specs.declared.operand.OperandKind.TheVariants.{Constant}
+use Rattle.world.specs.declared.ty.Const.TheVariants.{Value}
+use Rattle.world.specs.declared.ty.MemoryMap.TheVariants.{Empty}
+use Rattle.mir_lower.proofs.literal.constant.Goals as goal
+
+pub returns-clause-lowered : goal.returns-clause-lowered
+returns-clause-lowered c =
+    (Value (record { ty = c.in_ok-try_clone.field-0; memory = c.args.memory; memory_map = Empty }),
+     ap (Constant (Value (record { ty = c.in_ok-try_clone.field-0; memory = c.args.memory; memory_map = Empty }))) c.in_ok-ty.ensures,
+     refl)

@@ -1,0 +1,10 @@
+pub mod Contexts
+pub mod Does
+pub mod Form
+pub mod Graph
+pub mod Growth
+pub mod Leaving
+pub mod Literals
+pub mod Lowered
+pub mod Refusals
+pub mod Simulates

@@ -1,0 +1,34 @@
+-- A graph does what a typed body means.
+use Rattle.std.specs.Prelude.{◌≡◌, ℕ, ◌+◌, ◌<◌, ◌≤◌, List, Option, Some, None, Result, Ok, Err, slice_get}
+use Rattle.world.specs.declared.database.HirDatabase.{HirDatabase}
+use Rattle.mir.specs.declared.body.Local.{Local}
+use Rattle.mir.specs.declared.body.MirBody.{MirBody}
+use Rattle.mir.specs.declared.errors.MirEvalError.{MirEvalError}
+use Rattle.mir.specs.declared.errors.MirEvalError as error
+use Rattle.mir.specs.Memory.{Memory}
+use Rattle.mir.specs.Run.{Frame, Ending, Returned, Faulted, Ended, out_of_blocks, entering, begun}
+use Rattle.source_meaning.specs.Ends.{End, Go, Panic, Stuck, More}
+use Rattle.source_meaning.specs.Meaning.{meaning_of}
+use Rattle.source_meaning.specs.Source.{Source, node_type, root}
+
+-- A run under every budget: it ends so, after so many blocks at most. With just as many blocks or more it ends
+-- so and leaves the rest, and with fewer it runs out of them.
+pub record EndsWithin (most : ℕ) (ending : Ending) (run : ℕ → Ended) : Type 0 where
+  pub turns : ℕ
+  pub bound : turns ≤ most
+  pub with_more : (more : ℕ) → run (turns + more) ≡ record { ending = ending; left = more }
+  pub with_fewer : (fewer : ℕ) → fewer < turns → run fewer ≡ out_of_blocks
+
+-- a run ends as the meaning does, within as many blocks as that counts
+abbrev pub EndsAs : End (List ℕ) → (ℕ → Ended) → Type 0
+EndsAs (Go bytes store cost) run = EndsWithin cost.turns (Returned bytes) run
+EndsAs (Panic word cost) run = EndsWithin cost.turns (Faulted (error.Panic word)) run
+EndsAs Stuck run = Unit {0}
+EndsAs (More cost) run = Unit {0}
+
+-- For every amount of fuel a run of the graph, where it can begin, ends as the source's meaning does. The return
+-- slot has the type of the body's root.
+pub record Simulates (source : Source) (body : MirBody) : Type 0 where
+  pub slot : (local : Local) × (slice_get body.locals 0 ≡ Some local) × (node_type source (root source) ≡ Some local.ty)
+  pub runs : (fuel : ℕ) (start : Frame × Memory) → begun source.world body ≡ Ok start →
+    EndsAs (meaning_of source fuel) (λ budget. entering budget start.0 start.1 body.start_block.0)

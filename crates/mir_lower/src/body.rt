@@ -1,0 +1,70 @@
+//! Lowering a whole body.
+
+ghost use Rattle.std.specs.Prelude.{◌≡◌, false, [], IfOk, IfErr, OnOk};
+ghost use Rattle.source_meaning.specs.Source.{Source};
+ghost use Rattle.world_check.specs.Checked.{IsChecked, IsCheckedBody};
+ghost use Rattle.source_meaning.specs.Source.{root};
+ghost use Rattle.mir_lower.specs.Contexts.{source_of};
+ghost use Rattle.mir_lower.specs.Refusals.{Refuses, RefusesAt};
+ghost use Rattle.mir_lower.specs.Simulates.{Simulates};
+
+use crate::context::Context;
+use crate::graph::Graph;
+use crate::leave::leave_scope;
+use crate::literal::node_ty;
+use crate::lower::lower_into;
+use mir::{LocalId, MirBody, MirLowerError, MirSpan, Place, Terminator, TerminatorKind};
+use std::alloc::Global;
+use world::{Body, DefWithBodyId, HirDatabase, InferenceResult, TryClone};
+
+/// The graph of a typed body: a run of it does what the body means. The refusals are `HasErrors` where
+/// inference met an error, that of an expression, and `NoMemory`.
+pub fn lower_to_mir(
+    alloc: Global,
+    db: &HirDatabase,
+    owner: DefWithBodyId,
+    body: &Body,
+    infer: &InferenceResult,
+) -> Result<MirBody, MirLowerError>
+    requires world { IsChecked db.now }
+    requires checked { IsCheckedBody body.now infer.now }
+    ensures simulates { IfOk result (Simulates (record { world = db.now; body = body.now; infer = infer.now })) }
+    ensures owner { IfOk result (λ lowered. lowered.owner ≡ owner) }
+    ensures errors { OnOk result ((infer.now.erroneous ≡ false) × (infer.now.mismatches ≡ [])) }
+    ensures refused { IfErr result (Refuses (record { world = db.now; body = body.now; infer = infer.now })) }
+{
+    if infer.erroneous || !infer.mismatches.as_slice().is_empty() {
+        return Err(MirLowerError::HasErrors);
+    }
+    let context = Context {
+        alloc,
+        db,
+        body,
+        infer,
+    };
+    lower_body(&context, owner)
+}
+
+/// The graph of a body without typing errors.
+fn lower_body(context: &Context<'_>, owner: DefWithBodyId) -> Result<MirBody, MirLowerError>
+    requires world { IsChecked context.now.db.now }
+    requires checked { IsCheckedBody context.now.body.now context.now.infer.now }
+    ensures simulates { IfOk result (Simulates (source_of context.now)) }
+    ensures owner { IfOk result (λ lowered. lowered.owner ≡ owner) }
+    ensures refused { IfErr result (RefusesAt (source_of context.now) (root (source_of context.now))) }
+{
+    let start = context.body.body_expr;
+    let Some(ty) = node_ty(context, start) else {
+        return Err(MirLowerError::NoMemory);
+    };
+    let ty = ty.try_clone(context.alloc)?;
+    let mut graph = Graph::new(context.alloc, ty, context.body.exprs.len())?;
+    let slot = Place { local: LocalId(0) };
+    lower_into(context, &mut graph, start, slot)?;
+    leave_scope(context, &mut graph, start)?;
+    graph.set_terminator(Terminator {
+        span: MirSpan::ExprId(start),
+        kind: TerminatorKind::Return,
+    });
+    Ok(graph.into_body(owner))
+}

@@ -1,0 +1,152 @@
+//! The graph that lowering builds: blocks, one of which is open, and locals.
+
+ghost use Rattle.std.specs.Prelude.{◌≡◌, ◌<◌, ◌^◌, ℕ, length, IfOk, OnOk, Some, None, slice_get};
+ghost use Rattle.mir_lower.specs.Graph.{shape, first_shape, with_statement, with_terminator, with_block, with_temp, with_mark, temp_of, no_statements};
+
+use mir::{BasicBlock, BasicBlockId, Local, LocalId, MirBody, Statement, Terminator};
+use std::alloc::Global;
+use world::{DefWithBodyId, ExprId, List, NoMemory, Ty};
+
+/// An expression that was given a local in the scope that is open.
+#[derive(Clone, Copy)]
+pub struct Marked {
+    pub node: ExprId,
+    pub local: LocalId,
+}
+
+/// The blocks and locals so far.
+#[derive(Drop)]
+pub struct Graph {
+    pub blocks: Vec<BasicBlock>,
+    /// The block that statements are added to.
+    pub current: BasicBlockId,
+    /// Local 0 is the return slot.
+    pub locals: List<Local>,
+    /// For each expression the local that holds its value.
+    pub temps: Vec<Option<LocalId>>,
+    pub scope: Vec<Marked>,
+}
+
+fn empty_block(alloc: Global) -> BasicBlock
+    ensures { result ≡ no_statements }
+{
+    BasicBlock {
+        statements: List::new(alloc),
+        terminator: None,
+        is_cleanup: false,
+    }
+}
+
+impl Graph {
+    /// One open block and the return slot, for a body of so many expressions.
+    pub fn new(alloc: Global, ty: Ty, nodes: u64) -> Result<Graph, NoMemory>
+        ensures { IfOk result (λ graph. shape graph ≡ first_shape ty nodes) }
+    {
+        let mut blocks = Vec::new(alloc);
+        blocks.push(empty_block(alloc))?;
+        let mut locals = List::new(alloc);
+        locals.push(Local { ty })?;
+        let none: Option<LocalId> = None;
+        let temps = vec![in alloc; none; nodes as usize]?;
+        Ok(Graph {
+            blocks,
+            current: BasicBlockId(0),
+            locals,
+            temps,
+            scope: Vec::new(alloc),
+        })
+    }
+
+    /// Adds a statement to the open block.
+    #[tactic(auto, unfolding(crate::specs::Graph::with_statement))]
+    pub fn push_statement(&mut self, statement: Statement) -> Result<(), NoMemory>
+        requires { self.old.current.0 < length self.old.blocks.items }
+        ensures { OnOk result (shape self.new ≡ with_statement statement (shape self.old)) }
+    {
+        let block = &mut self.blocks[self.current.0 as usize];
+        block.statements.push(statement)?;
+        Ok(())
+    }
+
+    /// Ends the open block.
+    #[tactic(auto, unfolding(crate::specs::Graph::with_terminator))]
+    pub fn set_terminator(&mut self, terminator: Terminator)
+        requires { self.old.current.0 < length self.old.blocks.items }
+        ensures { shape self.new ≡ with_terminator terminator (shape self.old) }
+    {
+        let block = &mut self.blocks[self.current.0 as usize];
+        block.terminator = Some(terminator);
+    }
+
+    /// Adds a block and opens it. The room for ids ends at 2^32 - 1.
+    #[tactic(auto, unfolding(crate::specs::Graph::with_block))]
+    pub fn open_block(&mut self, alloc: Global) -> Result<(), NoMemory>
+        ensures { OnOk result (shape self.new ≡ with_block (shape self.old)) }
+    {
+        let count = self.blocks.len();
+        if count >= u32::MAX as usize {
+            return Err(NoMemory);
+        }
+        self.blocks.push(empty_block(alloc))?;
+        self.current = BasicBlockId(count as u32);
+        Ok(())
+    }
+
+    /// A new local for an expression that has none yet. The room for ids ends at 2^32 - 1.
+    #[tactic(auto, unfolding(crate::specs::Graph::with_temp))]
+    fn new_temp(&mut self, node: ExprId, ty: Ty) -> Result<LocalId, NoMemory>
+        requires { node.0 < length self.old.temps.items }
+        ensures local { IfOk result (λ local. local.0 ≡ length self.old.locals) }
+        ensures added { OnOk result (shape self.new ≡ with_temp node.0 ty (shape self.old)) }
+    {
+        let count = self.locals.len();
+        if count >= u32::MAX as u64 {
+            return Err(NoMemory);
+        }
+        let local = LocalId(count as u32);
+        self.locals.push(Local { ty })?;
+        self.temps[node.0 as usize] = Some(local);
+        Ok(local)
+    }
+
+    /// Marks an expression as given a local in the open scope.
+    fn mark(&mut self, node: ExprId, local: LocalId) -> Result<(), NoMemory>
+        ensures { OnOk result (shape self.new ≡ with_mark node.0 (shape self.old)) }
+    {
+        self.scope.push(Marked { node, local })?;
+        Ok(())
+    }
+
+    /// The local of an expression in the scope that is open: the one that it has, or else a new one.
+    #[tactic(auto, unfolding(crate::specs::Graph::temp_of))]
+    pub fn temp_for(&mut self, node: ExprId, ty: Ty) -> Result<LocalId, NoMemory>
+        requires { node.0 < length self.old.temps.items }
+        ensures old { IfOk result (λ local. (l : ℕ) → temp_of (shape self.old) node.0 ≡ Some l
+            → (local.0 ≡ l) × (shape self.new ≡ with_mark node.0 (shape self.old))) }
+        ensures new { IfOk result (λ local. temp_of (shape self.old) node.0 ≡ None
+            → (local.0 ≡ length self.old.locals) × (shape self.new ≡ with_mark node.0 (with_temp node.0 ty (shape self.old)))) }
+    {
+        let local = match self.temps[node.0 as usize] {
+            Some(local) => local,
+            None => self.new_temp(node, ty)?,
+        };
+        self.mark(node, local)?;
+        Ok(local)
+    }
+
+    /// The body with these blocks and locals. It takes no memory.
+    pub fn into_body(self, owner: DefWithBodyId) -> MirBody
+        ensures blocks { result.basic_blocks ≡ (shape self).blocks }
+        ensures locals { result.locals ≡ (shape self).locals }
+        ensures start { result.start_block.0 ≡ 0 }
+        ensures owner { result.owner ≡ owner }
+    {
+        let Graph { blocks, locals, .. } = self;
+        MirBody {
+            basic_blocks: List::from_vec(blocks),
+            locals,
+            start_block: BasicBlockId(0),
+            owner,
+        }
+    }
+}

@@ -1,0 +1,5 @@
+use Rattle.numbers.proofs.Table.{length-compared}
+use Rattle.numbers.proofs.laws.comparisons_take_one_byte.Goals as goal
+
+pub returns : goal.returns
+returns c = length-compared

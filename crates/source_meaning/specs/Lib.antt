@@ -1,0 +1,5 @@
+pub mod Ends
+pub mod Laws
+pub mod Meaning
+pub mod Source
+pub mod Valid

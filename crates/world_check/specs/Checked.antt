@@ -1,0 +1,90 @@
+-- The facts that hold of a checked world.
+use Rattle.std.specs.Prelude.{◌≡◌, ◌≢◌, ℕ, ◌*◌, ◌^◌, ◌<◌, ◌≤◌, List, [], ◌∷◌, ◌++◌, length, Option, Some, None, slice_get, All, IfSome, flat_map}
+use Rattle.world.specs.declared.body.Body.{Body}
+use Rattle.world.specs.declared.body.Expr.{Expr}
+use Rattle.world.specs.declared.body.Expr.TheVariants as expr
+use Rattle.world.specs.declared.body.Statement.{Statement}
+use Rattle.world.specs.declared.body.Statement.TheVariants as statement
+use Rattle.world.specs.declared.database.BodyRow.{BodyRow}
+use Rattle.world.specs.declared.database.ConstRow.{ConstRow}
+use Rattle.world.specs.declared.database.HirDatabase.{HirDatabase}
+use Rattle.world.specs.declared.ids.ExprId.{ExprId}
+use Rattle.world.specs.declared.infer.InferenceResult.{InferenceResult}
+use Rattle.world.specs.declared.layout.Layout.{Layout}
+use Rattle.world.specs.declared.ty.IntTy.{IntTy}
+use Rattle.world.specs.declared.ty.IntTy.TheVariants as int
+use Rattle.world.specs.declared.ty.UintTy.{UintTy}
+use Rattle.world.specs.declared.ty.UintTy.TheVariants as uint
+use Rattle.world.specs.declared.ty.Ty.{Ty, Bool, Int, Uint, Tuple'}
+use Rattle.world.specs.Lookups.{expr_of}
+
+-- an optional expression's number
+abbrev pub optional : Option ExprId → List ℕ
+optional (Some e) = e.0 ∷ []
+optional None = []
+
+-- the expressions that a statement holds, in the order of its fields
+abbrev pub statement_children : Statement → List ℕ
+statement_children (statement.Let pat initializer else_branch) = optional initializer ++ optional else_branch
+statement_children (statement.Expr e has_semi) = e.0 ∷ []
+
+-- the expressions that an expression holds, in the order of its fields
+abbrev pub children_of : Expr → List ℕ
+children_of (expr.Path name) = []
+children_of (expr.Block statements tail) = flat_map statement_children statements ++ optional tail
+children_of (expr.UnaryOp e op) = e.0 ∷ []
+children_of (expr.BinaryOp lhs rhs op) = lhs.0 ∷ rhs.0 ∷ []
+children_of (expr.Literal literal) = []
+
+-- a typed body whose nodes are in order: each has a type, and an expression comes after those that it holds
+pub record IsCheckedBody (body : Body) (infer : InferenceResult) : Type 0 where
+  pub root : body.body_expr.0 < length body.exprs
+  pub expr_types : length infer.expr_types ≡ length body.exprs
+  pub pat_types : length infer.pat_types ≡ length body.pats
+  pub binding_types : length infer.binding_types ≡ length body.bindings
+  pub children : (e : ℕ) (node : Expr) → expr_of body e ≡ Some node → All (λ child. child < e) (children_of node)
+
+-- how many bytes an integer type has
+abbrev pub int_bytes : IntTy → ℕ
+int_bytes int.I8 = 1
+int_bytes int.I16 = 2
+int_bytes int.I32 = 4
+int_bytes int.I64 = 8
+int_bytes int.I128 = 16
+int_bytes int.Isize = 8
+
+abbrev pub uint_bytes : UintTy → ℕ
+uint_bytes uint.U8 = 1
+uint_bytes uint.U16 = 2
+uint_bytes uint.U32 = 4
+uint_bytes uint.U64 = 8
+uint_bytes uint.U128 = 16
+uint_bytes uint.Usize = 8
+
+-- the size that a type has in every world, where it has one
+abbrev pub fixed_size : Ty → Option ℕ
+fixed_size Bool = Some 1
+fixed_size (Int ty) = Some (int_bytes ty)
+fixed_size (Uint ty) = Some (uint_bytes ty)
+fixed_size (Tuple' _ _) = None
+
+-- an alignment: a power of two up to 8192
+abbrev pub IsAlignment : ℕ → Type 0
+IsAlignment align = (k : ℕ) × (k ≤ 13) × (align ≡ 2 ^ k)
+
+-- a type's layout is as every target has it
+pub record IsCheckedLayout (ty : Ty) (layout : Layout) : Type 0 where
+  pub align : IsAlignment layout.align
+  pub multiple : (k : ℕ) × (layout.size ≡ k * layout.align)
+  pub size : IfSome (fixed_size ty) (λ size. layout.size ≡ size)
+
+-- a constant's crate and body are rows of their tables
+pub record IsCheckedConst (world : HirDatabase) (row : ConstRow) : Type 0 where
+  pub krate : row.krate.0 < length world.crates
+  pub body : IfSome row.body (λ body. body < length world.bodies)
+
+-- the facts of a checked world that evaluation rests on
+pub record IsChecked (world : HirDatabase) : Type 0 where
+  pub consts : (i : ℕ) (row : ConstRow) → slice_get world.consts i ≡ Some row → IsCheckedConst world row
+  pub bodies : (i : ℕ) (row : BodyRow) → slice_get world.bodies i ≡ Some row → IsCheckedBody row.body row.infer
+  pub layouts : (i : ℕ) (row : Ty × Layout) → slice_get world.layouts i ≡ Some row → IsCheckedLayout row.0 row.1
