@@ -1,4 +1,4 @@
-//! Lists, pairs and options.
+//! Lists, tables, pairs and options.
 
 ghost use Rattle.std.specs.Prelude.{[], None};
 ghost use Rattle.serde_json.specs.View.{view, items_view};
@@ -9,7 +9,7 @@ use crate::NotAWorld;
 use crate::from_json::{FromJson, MayBeAbsent, below_item, here};
 use serde_json::Value;
 use std::alloc::Global;
-use world::List;
+use world::{List, Table, TryClone};
 
 /// The items of an array.
 fn items_of<T: FromJson + Drop>(alloc: Global, items: &[Value]) -> Result<List<T>, NotAWorld>
@@ -53,6 +53,40 @@ impl<T> MayBeAbsent for List<T> {
 
     fn absent(alloc: Global) -> List<T> {
         List::new(alloc)
+    }
+}
+
+/// The rows that are the items of an array.
+fn rows_of<K: FromJson + Ord + TryClone + Drop, V: FromJson + Drop>(
+    alloc: Global,
+    items: &[Value],
+) -> Result<Table<K, V>, NotAWorld>
+    ensures { Gives result (items_from (pair_of K.reads V.reads) 0 (items_view items.now)) }
+{
+    let mut table = Table::new(alloc);
+    for (place, item) in items.iter().enumerate() {
+        let (key, value) = item_at::<(K, V)>(alloc, item, place)?;
+        table.push(key, value)?;
+    }
+    Ok(table)
+}
+
+impl<K: FromJson + Ord + TryClone + Drop, V: FromJson + Drop> FromJson for Table<K, V> {
+    ghost reads = { list_of (pair_of K.reads V.reads) };
+
+    fn from_json(alloc: Global, tree: &Value) -> Result<Table<K, V>, NotAWorld> {
+        match tree.as_array() {
+            Some(items) => rows_of(alloc, items.as_slice()),
+            None => Err(here(alloc)),
+        }
+    }
+}
+
+impl<K: Ord, V> MayBeAbsent for Table<K, V> {
+    ghost left_out = { [] };
+
+    fn absent(alloc: Global) -> Table<K, V> {
+        Table::new(alloc)
     }
 }
 
