@@ -55,7 +55,8 @@ placed-sized ty layout memory found is sized =
     ap (λ f. placed ty f memory) is
     ∙ ap (λ b. cond b (Ok (with_cell layout memory)) (Err (error.TypeIsUnsized ty (codes "no unsized local in extending stack")))) sized
 
-HasLayout : HirDatabase → Local → Type 0
+-- a local's type has a layout, and a size
+abbrev HasLayout : HirDatabase → Local → Type 0
 HasLayout world local = (layout : Layout) × (layout_of world local.ty ≡ Some layout) × (layout.sized ≡ true)
 
 cells-there : (world : HirDatabase) (locals : List Local) (memory : Memory) → ((l : ℕ) (local : Local) → slice_get locals l ≡ Some local → HasLayout world local) → (all : List Interval × Memory) × (cells_of world locals memory ≡ Ok all)
@@ -85,8 +86,8 @@ begins source body simulates cost =
 
 -- why a body can't begin, which is no end of a frame
 abbrev IsFrameless : MirEvalError → Type 0
-IsFrameless (error.InFunction e trail) = ⊥
-IsFrameless e = Unit {0}
+IsFrameless (error.InFunction' p inner trail) = ⊥
+IsFrameless _ = Unit {0}
 
 abbrev FailsFrameless : {A : Type 0} → Result A MirEvalError → Type 0
 FailsFrameless (Ok a) = Unit {0}

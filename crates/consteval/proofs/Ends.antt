@@ -13,7 +13,7 @@ use Rattle.mir.specs.declared.errors.ConstEvalError.TheVariants as constant
 use Rattle.mir.specs.declared.errors.MirEvalError.{MirEvalError}
 use Rattle.mir.specs.declared.errors.MirEvalError as error
 use Rattle.mir.specs.Memory.{Memory}
-use Rattle.mir.specs.Run.{Frame, Ending, Returned, Faulted, Ended, out_of_blocks, begun}
+use Rattle.mir.specs.Run.{Frame, Ending, Returned, Faulted, Ended, out_of_blocks, bad_read, begun}
 use Rattle.mir_eval.specs.Machine.{outcome_of}
 use Rattle.mir_lower.specs.Simulates.{EndsWithin, EndsAs, Simulates}
 use Rattle.source_meaning.proofs.Fuel.{one_end}
@@ -42,11 +42,28 @@ runs-with most ending run ends blocks le =
 returned-outcome : (body : MirBody) (slot : Local) (bytes : List ℕ) → slice_get body.locals 0 ≡ Some slot → outcome_of body (Returned bytes) ≡ Ok (constant_of slot.ty bytes)
 unfolding outcome_of
 returned-outcome body slot bytes there =
-    ap (λ (found : Option Local). elim found [ Some s ↦ Ok (constant_of s.ty bytes) | None ↦ Err (error.InFunction _ []) ]) there
+    ap (λ (found : Option Local). elim found [ Some s ↦ Ok (constant_of s.ty bytes) | None ↦ Err (error.InFunction bad_read []) ]) there
 
 faulted-outcome : (body : MirBody) (e : MirEvalError) → outcome_of body (Faulted e) ≡ Err (error.InFunction e [])
 unfolding outcome_of
 faulted-outcome body e = refl
+
+-- the word that an answer says, where it is a panic inside a frame
+abbrev panic_word : MirEvalError → Option (List ℕ)
+panic_word (error.Panic word) = Some word
+panic_word _ = None
+
+abbrev framed_word : MirEvalError → Option (List ℕ)
+framed_word (error.InFunction' p inner trail) = panic_word inner
+framed_word _ = None
+
+abbrev constant_word : ConstEvalError → Option (List ℕ)
+constant_word (constant.MirEvalError e) = framed_word e
+constant_word _ = None
+
+abbrev answer_word : Result Const ConstEvalError → Option (List ℕ)
+answer_word (Ok konst) = None
+answer_word (Err e) = constant_word e
 
 -- values, panics and a lack of blocks are told apart
 value-is-no-fault : (konst : Const) (e : MirEvalError) → ◌≡◌ {A = Result Const MirEvalError} (Ok konst) (Err e) → ⊥
@@ -56,10 +73,10 @@ value-is-no-panic : (konst : Const) (word : List ℕ) → ◌≡◌ {A = Result 
 value-is-no-panic konst word h = cc
 
 panic-is-no-limit : (word : List ℕ) → ◌≡◌ {A = Result Const ConstEvalError} (Err (panic_of word)) (Err (constant.MirEvalError (error.InFunction error.ExecutionLimitExceeded []))) → ⊥
-panic-is-no-limit word h = cc
+panic-is-no-limit word h = let same : Some word ≡ None = ap answer_word h in cc
 
 same-panic : (word other : List ℕ) → ◌≡◌ {A = Result Const ConstEvalError} (Err (panic_of word)) (Err (panic_of other)) → word ≡ other
-same-panic word other h = cc
+same-panic word other h = let same : Some word ≡ Some other = ap answer_word h in cc
 
 same-constant : (konst other : Const) → ◌≡◌ {A = Result Const MirEvalError} (Ok konst) (Ok other) → konst ≡ other
 same-constant konst other h = cc

@@ -107,15 +107,15 @@ module _ (world : HirDatabase) (checked : IsChecked world) (def : DefWithBodyId)
 
     pub answer-value : (kept : Kept) → kept.world ≡ world → IsSound kept → HasCause kept def args blocks turns answer → (konst : Const) → answer ≡ Ok konst → GivesValue Of konst
     answer-value kept same sound cause konst is =
-        ⊎_elim (λ answers. body-value answers.0 (subst (λ w. IsLowered w def answers.0) same (sound.bodies def answers.0 answers.1)) (subst (λ w. AnswersBody w def answers.0 blocks turns answer) same answers.2) konst is)
+        ⊎_elim (λ answers. body-value answers.1 (subst (λ w. IsLowered w def answers.1) same (sound.bodies def answers.1 answers.2)) (subst (λ w. AnswersBody w def answers.1 blocks turns answer) same answers.3) konst is)
           (⊎_elim (λ refused. let err = refused.2.0 in absurd cc) (λ none. absurd cc)) cause
 
     pub answer-panic : (kept : Kept) → kept.world ≡ world → IsSound kept → HasCause kept def args blocks turns answer → (word : List ℕ) → answer ≡ Err (panic_of word) → GivesPanic Of word
     answer-panic kept same sound cause word is =
-        ⊎_elim (λ answers. body-panic answers.0 (subst (λ w. IsLowered w def answers.0) same (sound.bodies def answers.0 answers.1)) (subst (λ w. AnswersBody w def answers.0 blocks turns answer) same answers.2) word is)
+        ⊎_elim (λ answers. body-panic answers.1 (subst (λ w. IsLowered w def answers.1) same (sound.bodies def answers.1 answers.2)) (subst (λ w. AnswersBody w def answers.1 blocks turns answer) same answers.3) word is)
           (⊎_elim (λ refused. let err = refused.2.0 in let panics : from_lower_error refused.1 ≡ panic_of word = cc in absurd (lower-error-is-no-panic refused.1 word panics)) (λ none. absurd cc)) cause
 
     pub answer-completes : (kept : Kept) → kept.world ≡ world → IsSound kept → HasDefinedCost Of → HasCause kept def args blocks turns answer → AnswersWithin Of blocks answer
     answer-completes kept same sound cost cause =
-        ⊎_elim (λ answers. body-completes answers.0 (subst (λ w. IsLowered w def answers.0) same (sound.bodies def answers.0 answers.1)) cost (subst (λ w. AnswersBody w def answers.0 blocks turns answer) same answers.2))
+        ⊎_elim (λ answers. body-completes answers.1 (subst (λ w. IsLowered w def answers.1) same (sound.bodies def answers.1 answers.2)) cost (subst (λ w. AnswersBody w def answers.1 blocks turns answer) same answers.3))
           (⊎_elim (λ refused. out-of-memory (refused.2.0 ∙ ap (λ e. Err (from_lower_error e)) (lowering-is-not-refused world def args row refused.1 checked valid cost (subst (λ w. RefusesBody w def args refused.1) same refused.2.1)))) (λ none. out-of-memory none)) cause

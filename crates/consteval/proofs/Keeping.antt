@@ -1,6 +1,6 @@
 -- What is kept stays right when more is kept.
-use Rattle.std.proofs.Common.{◌≡◌, ℕ, ◌⊎◌, ⊎_elim, List, [], ◌∷◌, ◌++◌, Ok, refl, sym, ap, ◌∙◌, subst}
-use Rattle.std.specs.Prelude.{Contains}
+use Rattle.std.proofs.Common.{◌≡◌, ℕ, zero, suc, ◌<◌, arith, ◌⊎◌, ⊎_elim, List, [], ◌∷◌, ◌++◌, Some, Ok, refl, sym, ap, ◌∙◌, subst}
+use Rattle.std.specs.Prelude.{Contains, slice_get}
 use Rattle.std.proofs.lemmas.List.Elements.{Contains-push, Contains-push_cases, Contains-append_left}
 use Rattle.world.specs.declared.database.HirDatabase.{HirDatabase}
 use Rattle.world.specs.declared.ids.DefWithBodyId.{DefWithBodyId}
@@ -56,7 +56,7 @@ value-stays before after stays def konst is =
 pub first-sound : (world : HirDatabase) → IsSound (record { world = world; bodies = []; values = [] })
 first-sound world = record { bodies = λ def body h. none (def, body) h; values = λ def konst h. none (def, konst) h } where
   none : {X : Type 0} {P : Type 0} (x : X) → Contains [] x → P
-  none x h = absurd h
+  none x h = absurd (let below = h.1 in omega arith)
 
 pub with_body-sound : (def : DefWithBodyId) (body : MirBody) (kept : Kept) → IsLowered kept.world def body → IsSound kept → IsSound (with_body def body kept)
 with_body-sound def body kept lowered sound =
@@ -77,3 +77,9 @@ with_value-sound def konst kept is sound =
     } where
   moved : (other : DefWithBodyId) (old : Const) → ◌≡◌ {A = DefWithBodyId × Const} (def, konst) (other, old) → IsValueOf kept other old
   moved other old same = subst (λ (pair : DefWithBodyId × Const). IsValueOf kept pair.0 pair.1) same is
+
+-- what stands at a place is contained
+pub contains-at : {X : Type 0} (xs : List X) (i : ℕ) (x : X) → slice_get xs i ≡ Some x → Contains xs x
+contains-at [] i x h = absurd cc
+contains-at (y ∷ xs) zero x h = let same : y ≡ x = cc in (0, omega arith, same)
+contains-at (y ∷ xs) (suc i) x h = let rest = contains-at xs i x h in (suc rest.0, (let below = rest.1 in omega arith), rest.2)

@@ -1,6 +1,6 @@
 -- What a valid body with a defined cost is refused for: want of memory alone.
 use Rattle.std.proofs.Common.{◌≡◌, ◌≢◌, ℕ, ◌<◌, ◌⊎◌, ⊎_elim, Bool, true, false, List, [], Option, Some, None, Result, Ok, Err, refl, sym, ap, ◌∙◌, subst, arith}
-use Rattle.std.specs.Prelude.{IsTrue, option_and_then, codes}
+use Rattle.std.specs.Prelude.{IsTrue, option_and_then, codes, ◌==◌, ◌||◌}
 use Rattle.world.specs.declared.body.ArithOp.TheVariants.{Add}
 use Rattle.world.specs.declared.body.BinaryOp.TheVariants.{ArithOp}
 use Rattle.world.specs.declared.body.Expr.{Expr}
@@ -51,7 +51,7 @@ eval-error-is-no-panic (error.UndefinedBehavior text) word differs h = cc
 eval-error-is-no-panic (error.Panic text) word differs h = cc
 eval-error-is-no-panic (error.TypeIsUnsized ty text) word differs h = cc
 eval-error-is-no-panic (error.NotSupported text) word differs h = cc
-eval-error-is-no-panic (error.InFunction e trail) word differs h = differs (let same : ◌≡◌ {A = ConstEvalError} (constant.MirEvalError (error.InFunction e trail)) (panic_of word) = h in cc)
+eval-error-is-no-panic (error.InFunction' p e trail) word differs h = differs (let same : ◌≡◌ {A = ConstEvalError} (constant.MirEvalError (error.InFunction' p e trail)) (panic_of word) = h in cc)
 eval-error-is-no-panic error.ExecutionLimitExceeded word differs h = cc
 eval-error-is-no-panic error.NoMemory word differs h = cc
 
@@ -69,7 +69,16 @@ run-is-not-refused world def args row body e valid simulates cost =
 
 -- the size of an integer is at most 16 bytes
 wide-is-no-width : (size : ℕ) → is_width size ≡ true → 16 < size → ⊥
-wide-is-no-width size is wide = absurd (omega arith)
+wide-is-no-width size is wide =
+    let one : (size == 1) ≡ false = eqb-false size 1 (omega arith) in
+    let two : (size == 2) ≡ false = eqb-false size 2 (omega arith) in
+    let four : (size == 4) ≡ false = eqb-false size 4 (omega arith) in
+    let eight : (size == 8) ≡ false = eqb-false size 8 (omega arith) in
+    let sixteen : (size == 16) ≡ false = eqb-false size 16 (omega arith) in
+    let none : is_width size ≡ false =
+      ap (λ b. b || size == 2 || size == 4 || size == 8 || size == 16) one ∙ ap (λ b. b || size == 4 || size == 8 || size == 16) two
+      ∙ ap (λ b. b || size == 8 || size == 16) four ∙ ap (λ b. b || size == 16) eight ∙ sixteen in
+    cc
 
 -- no plain form lacks an operator, or is unbuilt
 plain-has-operator : (source : Source) (form : Option Expr) (ty : Ty) → HasPlainForm source form ty → LacksOperator form → ⊥
@@ -101,8 +110,8 @@ refuses-node source e (refusal.LayoutError layout_error) checked plain sized ref
 refuses-node source e refusal.IncompleteExpr checked plain sized refuses = absurd (plain-has-operator source (node source e) plain.ty plain.form refuses)
 refuses-node source e refusal.HasErrors checked plain sized refuses = absurd refuses
 refuses-node source e (refusal.TypeError text) checked plain sized refuses =
-    let layout : layout_of source.world plain.ty ≡ Some refuses.2.0 = ap (option_and_then (layout_of source.world)) (sym plain.has_type) ∙ refuses.2.1 in
-    absurd (wide-is-no-width refuses.2.0.size (integer_is_width source.world plain.ty refuses.2.0 checked (number-is-integer source (node source e) plain.ty plain.form refuses.1) layout) refuses.2.2)
+    let layout : layout_of source.world plain.ty ≡ Some refuses.2.1 = ap (option_and_then (layout_of source.world)) (sym plain.has_type) ∙ refuses.2.2 in
+    absurd (wide-is-no-width refuses.2.1.size (integer_is_width source.world plain.ty refuses.2.1 checked (number-is-integer source (node source e) plain.ty plain.form refuses.1) layout) refuses.2.3)
 refuses-node source e (refusal.NotSupported text) checked plain sized refuses = absurd (plain-is-built source (node source e) plain.ty plain.form refuses.1)
 refuses-node source e refusal.NoMemory checked plain sized refuses = refl
 

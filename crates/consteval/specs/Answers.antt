@@ -92,9 +92,9 @@ AnswersBody world def body blocks turns answer =
     ⊎ ((turns ≡ 0) × (e : MirEvalError) × (answer ≡ Err (from_eval_error e)) × RefusesRun world def body e)
     ⊎ (answer ≡ Err constant.NoMemory)
 
--- every answer but want of memory is that of the kept body, or the refusal to lower one
+-- every answer but want of memory is that of the kept body, without arguments, or the refusal to lower one
 abbrev pub HasCause : Kept → DefWithBodyId → GenericArgs → ℕ → ℕ → Result Const ConstEvalError → Type 0
 HasCause kept def args blocks turns answer =
-    ((body : MirBody) × Contains kept.bodies (def, body) × AnswersBody kept.world def body blocks turns answer)
+    ((args.0 ≡ []) × (body : MirBody) × Contains kept.bodies (def, body) × AnswersBody kept.world def body blocks turns answer)
     ⊎ ((turns ≡ 0) × (e : MirLowerError) × (answer ≡ Err (from_lower_error e)) × RefusesBody kept.world def args e)
     ⊎ (answer ≡ Err constant.NoMemory)

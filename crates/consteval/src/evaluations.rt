@@ -1,5 +1,7 @@
 //! Evaluations over one checked world, and what they keep.
 
+ghost use Rattle.std.specs.Prelude.{◌≡◌, IfOk};
+
 use crate::Evaluated;
 use crate::kept::{find, keep};
 use crate::lowering::lower;
@@ -37,6 +39,20 @@ impl<'w> Model for Evaluations<'w> {
     ghost invariant = { λ e. IsSound (kept_of e.world.now e.bodies.items e.values.items) };
 }
 
+/// A lowered body that can be shared.
+fn shared(alloc: Global, body: MirBody) -> Result<Rc<MirBody>, NoMemory>
+    ensures { IfOk result (λ made. made.value ≡ body) }
+{
+    Ok(Rc::new(alloc, body)?)
+}
+
+/// The same body once more.
+fn share(body: &Rc<MirBody>) -> Result<Rc<MirBody>, NoMemory>
+    ensures { IfOk result (λ same. same.value ≡ body.now.value) }
+{
+    Ok(Rc::clone(body)?)
+}
+
 impl<'w> Evaluations<'w> {
     ghost use Rattle.std.specs.Prelude.{◌≡◌, ◌⊎◌, ◌≤◌, [], Some, Ok, Err, IfOk, IfErr, OnOk, IsOk, IsSome, Contains};
     ghost use Rattle.mir.specs.declared.errors.MirLowerError.TheVariants as refusal;
@@ -48,8 +64,8 @@ impl<'w> Evaluations<'w> {
 
     /// Evaluations that have kept nothing yet. It takes no memory.
     pub fn new(alloc: Global, world: &'w CheckedWorld) -> Result<Evaluations<'w>, NoMemory>
-        ensures { IfOk result (λ e. e ≡ record { world = world.now; bodies = []; values = [] }) }
-        ensures { IsOk result }
+        ensures empty { IfOk result (λ e. e ≡ record { world = world.now; bodies = []; values = [] }) }
+        ensures made { IsOk result }
     {
         Ok(Evaluations {
             alloc,
@@ -75,19 +91,19 @@ impl<'w> Evaluations<'w> {
         args: &GenericArgs,
     ) -> Result<Rc<MirBody>, MirLowerError>
         ensures found { IfOk result (λ body. Contains self.new.bodies (def, body.value)) }
+        ensures given { OnOk result (args.now.0 ≡ []) }
         ensures refused { IfErr result (λ e. (e ≡ refusal.NoMemory) ⊎ RefusesBody self.old.world def args.now e) }
         ensures stays { Stays self.old self.new }
     {
         if args.0.as_slice().is_empty() {
             if let Some(body) = find(&self.body_places, self.bodies.as_slice(), def) {
-                return Ok(Rc::clone(body));
+                return Ok(share(body)?);
             }
         }
         let body = lower(self.alloc, self.world, def, args)?;
-        let Ok(body) = Rc::new(self.alloc, body) else {
-            return Err(MirLowerError::NoMemory);
-        };
-        keep(&mut self.body_places, &mut self.bodies, def, Rc::clone(&body))?;
+        let body = shared(self.alloc, body)?;
+        let kept = share(&body)?;
+        keep(&mut self.body_places, &mut self.bodies, def, kept)?;
         Ok(body)
     }
 

@@ -1,9 +1,18 @@
 //! Lists of what is kept, in the order of keeping, with a map of places that makes look-ups fast. A
 //! place is only a hint: the definition that stands there says whether it is right.
 
-ghost use Rattle.std.specs.Prelude.{◌≡◌, ◌∷◌, ◌++◌, [], IfSome, OnOk, OnErr, Contains};
+ghost use Rattle.std.specs.Prelude.{◌≡◌, ◌∷◌, ◌++◌, [], IsTrue, IfSome, OnOk, OnErr, Contains};
 
 use world::{DefWithBodyId, Map, NoMemory};
+
+/// Whether two definitions are the same.
+fn is_same(one: DefWithBodyId, other: DefWithBodyId) -> bool
+    ensures { IsTrue result → one ≡ other }
+{
+    let DefWithBodyId::ConstId(one) = one;
+    let DefWithBodyId::ConstId(other) = other;
+    one.0 == other.0
+}
 
 /// What is kept of a definition.
 pub(crate) fn find<'a, V>(
@@ -16,10 +25,10 @@ pub(crate) fn find<'a, V>(
     let Some(place) = places.get(&def) else {
         return None;
     };
-    match kept.get(*place as usize) {
-        Some((key, value)) if *key == def => Some(value),
-        _ => None,
-    }
+    let Some(entry) = kept.get(*place as usize) else {
+        return None;
+    };
+    if is_same(entry.0, def) { Some(&entry.1) } else { None }
 }
 
 /// Keeps a value for a definition, after those that are kept.

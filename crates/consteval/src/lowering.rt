@@ -1,6 +1,6 @@
 //! From a definition to its lowered body.
 
-ghost use Rattle.std.specs.Prelude.{◌≡◌, ◌⊎◌, IfOk, IfErr, codes};
+ghost use Rattle.std.specs.Prelude.{◌≡◌, ◌⊎◌, [], IfOk, IfErr, OnOk, codes};
 ghost use Rattle.mir.specs.declared.errors.MirLowerError.TheVariants as refusal;
 ghost use Rattle.consteval.specs.Answers.{RefusesBody};
 ghost use Rattle.consteval.specs.Kept.{IsLowered};
@@ -30,6 +30,7 @@ pub(crate) fn lower(
     args: &GenericArgs,
 ) -> Result<MirBody, MirLowerError>
     ensures lowered { IfOk result (IsLowered world.now def) }
+    ensures given { OnOk result (args.now.0 ≡ []) }
     ensures refused { IfErr result (λ e. (e ≡ refusal.NoMemory) ⊎ RefusesBody world.now def args.now e) }
 {
     if !args.0.as_slice().is_empty() {

@@ -67,12 +67,12 @@ module _ (source : Source) (s whole : Shape) (frame : Frame) (place : Place) (rv
   assigned-bytes : (bytes : List ℕ) → rvalue_bytes frame memory rvalue ≡ Ok bytes → Reaches frame (here s) (here (with_statement added s)) memory Claims (put store (record { cell = c }) bytes)
   assigned-bytes bytes computes =
       ⊎_elim
-        (λ fits.
-          let done = assigns source whole frame sound is store memory holds c place rvalue bytes local computes fits.0 in
-          subst (Reaches frame (here s) (here (with_statement added s)) memory Claims) (sym fits.1)
-            (0, done.0, omega arith, comes-statement added s whole frame memory opened grows is done.0 done.1, done.2))
-        (λ stuck. subst (Reaches frame (here s) (here (with_statement added s)) memory Claims) (sym stuck) tt)
-        (put-cases store (record { cell = c }) bytes)
+      (λ fits.
+      let done = assigns source whole frame sound is store memory holds c place rvalue bytes local computes fits.0 in
+      subst (Reaches frame (here s) (here (with_statement added s)) memory Claims) (sym fits.1)
+      (0, done.0, omega arith, comes-statement added s whole frame memory opened grows is done.0 done.1, done.2))
+      (λ stuck. subst (Reaches frame (here s) (here (with_statement added s)) memory Claims) (sym stuck) tt)
+      (put-cases store (record { cell = c }) bytes)
 
   faults : (e : MirEvalError) → rvalue_bytes frame memory rvalue ≡ Err e → after_statement frame memory (Assign place rvalue) ≡ Err e
   unfolding after_statement copied
@@ -100,9 +100,9 @@ unfolding level_at
 literal-operand source whole frame s e literal operand form is zero store memory holds = tt
 literal-operand source whole frame s e literal operand form is (suc fuel) store memory holds =
     let gives : operand_of source (level_at source fuel) e (node source e) store ≡ Go (Literally (constant_bytes is.konst)) store no_cost =
-      ap (λ f. operand_of source (level_at source fuel) e f store) form ∙ ap (literal_operand store) is.bytes in
+    ap (λ f. operand_of source (level_at source fuel) e f store) form ∙ ap (literal_operand store) is.bytes in
     subst (Reaches frame (here s) (here s) memory (λ value after later. Holds whole frame after later × Fits source whole frame e value operand)) (sym gives)
-      (0, memory, omega arith, comes-refl frame (here s) memory, (holds, literal-fits source whole frame e literal operand is))
+    (0, memory, omega arith, comes-refl frame (here s) memory, (holds, literal-fits source whole frame e literal operand is))
 
 literal-marks : (source : Source) (e : ℕ) (literal : Literal) → node source e ≡ Some (expr.Literal literal) → marked_as_operand source (marks source) e ≡ []
 literal-marks source e literal form = ap (λ f. cond (is_literal f) [] (e ∷ marks source e)) form
@@ -112,7 +112,9 @@ pub lowers-literal-operand : (source : Source) (s : Shape) (e : ℕ) (literal : 
 lowers-literal-operand source s e literal operand sound opened form is =
     record {
       keeps = record {
-        grows = grows-refl s; sound = sound; «open» = opened;
+        grows = grows-refl s;
+        sound = sound;
+        «open» = opened;
         scope = sym (ap (λ m. s.scope ++ m) (literal-marks source e literal form) ∙ append-nil s.scope);
       };
       does = record { reaches = λ whole frame grows whole-sound frame-is fuel store memory holds. literal-operand source whole frame s e literal operand form is fuel store memory holds };
@@ -124,11 +126,11 @@ unfolding level_at rvalue_bytes answered
 literal-into source s whole frame e literal place operand span c opened sound frame-is grows local form is zero store memory holds = tt
 literal-into source s whole frame e literal place operand span c opened sound frame-is grows local form is (suc fuel) store memory holds =
     let gives : into_of source (level_at source fuel) e (node source e) (record { cell = c }) store ≡ put_answer store (record { cell = c }) (Computes (constant_bytes is.konst)) =
-      ap (λ f. into_of source (level_at source fuel) e f (record { cell = c }) store) form ∙ ap (put_if_any store (record { cell = c })) is.bytes in
+    ap (λ f. into_of source (level_at source fuel) e f (record { cell = c }) store) form ∙ ap (put_if_any store (record { cell = c })) is.bytes in
     let bytes : rvalue_bytes frame memory (Use operand) ≡ answered (Computes (constant_bytes is.konst)) =
-      ap read ((literal-fits source whole frame e literal operand.kind is).bytes store memory holds) in
+    ap read ((literal-fits source whole frame e literal operand.kind is).bytes store memory holds) in
     subst (Reaches frame (here s) (here (with_statement (record { kind = Assign place (Use operand); span = span }) s)) memory (λ _ after later. Holds whole frame after later)) (sym gives)
-      (assigned-answer source s whole frame place (Use operand) span opened sound frame-is grows c local store memory holds (Computes (constant_bytes is.konst)) bytes)
+    (assigned-answer source s whole frame place (Use operand) span opened sound frame-is grows c local store memory holds (Computes (constant_bytes is.konst)) bytes)
 
 literal-no-marks : (source : Source) (e : ℕ) (literal : Literal) → node source e ≡ Some (expr.Literal literal) → marks source e ≡ []
 literal-no-marks source e literal form = marked_in_literal source (length source.body.exprs) e literal form
@@ -137,19 +139,19 @@ pub lowers-literal : (source : Source) (s new : Shape) (e : ℕ) (literal : Lite
 lowers-literal source s new e literal place operand span sound opened form is same c local =
     let st : Statement = record { kind = Assign place (Use operand); span = span } in
     subst (λ (n : Shape). LowersInto source s n e c) (sym same)
-      (record {
-        keeps = record {
-          grows = with_statement-grows st s opened;
-          sound = with_statement-sound source st s opened sound;
-          «open» = with_statement-open st s opened;
-          scope = with_statement-scope st s opened ∙ sym (ap (λ m. s.scope ++ m) (literal-no-marks source e literal form) ∙ append-nil s.scope);
-        };
-        does = record {
-          reaches = λ whole frame grows whole-sound frame-is fuel store memory holds.
+    (record {
+      keeps = record {
+        grows = with_statement-grows st s opened;
+        sound = with_statement-sound source st s opened sound;
+        «open» = with_statement-open st s opened;
+        scope = with_statement-scope st s opened ∙ sym (ap (λ m. s.scope ++ m) (literal-no-marks source e literal form) ∙ append-nil s.scope);
+      };
+      does = record {
+        reaches = λ whole frame grows whole-sound frame-is fuel store memory holds.
             literal-into source s whole frame e literal place operand span c opened whole-sound frame-is grows
-              (local_of-grows s whole (grows-trans s (with_statement st s) whole (with_statement-grows st s opened) grows) c place.local.0 local) form is fuel store memory holds;
-        };
-      })
+            (local_of-grows s whole (grows-trans s (with_statement st s) whole (with_statement-grows st s opened) grows) c place.local.0 local) form is fuel store memory holds;
+      };
+    })
 
 -- an expression's place as an operand
 place-fits : (source : Source) (whole : Shape) (frame : Frame) (e : ℕ) (place : Place) → IsSound source whole → IsFrameOf whole frame → temp_of whole e ≡ Some place.local.0 → Fits source whole frame e (At (record { cell = Node e })) (Copy place)
@@ -158,10 +160,10 @@ place-fits source whole frame e place sound is found =
     record {
       bytes = λ store memory holds. holds.shows (Node e) place.local.0 found;
       ty =
-        let there = slice_get_in whole.locals place.local.0 (sound.within e place.local.0 found) in
-        ap (λ locals. option_map (λ l. l.ty) (slice_get locals place.local.0)) is.locals
-        ∙ ap (option_map (λ l. l.ty)) there.1
-        ∙ sym (sound.typed e place.local.0 there.0 found there.1);
+          let there = slice_get_in whole.locals place.local.0 (sound.within e place.local.0 found) in
+          ap (λ locals. option_map (λ l. l.ty) (slice_get locals place.local.0)) is.locals
+          ∙ ap (option_map (λ l. l.ty)) there.1
+          ∙ sym (sound.typed e place.local.0 there.0 found there.1);
     }
 
 place-operand : (source : Source) (old new whole : Shape) (frame : Frame) (e : ℕ) (place : Place) → IsSound source whole → IsFrameOf whole frame → Grows new whole → DoesPlace source old new e place.local.0 → is_literal (node source e) ≡ false → (fuel : ℕ) (store : Store) (memory : Memory) → Holds whole frame store memory → Reaches frame (here old) (here new) memory (λ value after later. Holds whole frame after later × Fits source whole frame e value (Copy place)) ((level_at source fuel).operand e store)
@@ -169,22 +171,31 @@ unfolding level_at
 place-operand source old new whole frame e place sound is grows does form zero store memory holds = tt
 place-operand source old new whole frame e place sound is grows does form (suc fuel) store memory holds =
     subst (Reaches frame (here old) (here new) memory (λ value after later. Holds whole frame after later × Fits source whole frame e value (Copy place)))
-      (sym (no-literal (node source e) form))
-      (reaches-then frame (here old) (here new) (here new) memory (λ path after later. Holds whole frame after later × (path ≡ record { cell = Node e })) (λ value after later. Holds whole frame after later × Fits source whole frame e value (Copy place))
-        ((level_at source fuel).place e store) (λ path later. Go (At path) later no_cost)
-        (does.reaches whole frame grows sound is fuel store memory holds)
-        (λ path after middle claims.
-          (0, middle, omega arith, comes-refl frame (here new) middle, (claims.0,
-           subst (λ (p : Path). Fits source whole frame e (At p) (Copy place)) (sym claims.1) (place-fits source whole frame e place sound is (grows.temps e place.local.0 does.found)))))) where
-  no-literal : (form : Option Expr) → is_literal form ≡ false → operand_of source (level_at source fuel) e form store ≡ then_do ((level_at source fuel).place e store) (λ path later. Go (At path) later no_cost)
-  no-literal (Some (expr.Literal literal)) is = cc
-  no-literal _ is = refl
+    (sym (no-literal (node source e) form))
+    (reaches-then frame (here old) (here new) (here new) memory (λ path after later. Holds whole frame after later × (path ≡ record { cell = Node e })) (λ value after later. Holds whole frame after later × Fits source whole frame e value (Copy place))
+    ((level_at source fuel).place e store) (λ path later. Go (At path) later no_cost)
+    (does.reaches whole frame grows sound is fuel store memory holds)
+    (λ path after middle claims. (
+      0,
+      middle,
+      omega arith,
+      comes-refl frame (here new) middle,
+      (
+        claims.0,
+        subst (λ (p : Path). Fits source whole frame e (At p) (Copy place)) (sym claims.1) (place-fits source whole frame e place sound is (grows.temps e place.local.0 does.found)),
+      ),
+    ))) where
+      no-literal : (form : Option Expr) → is_literal form ≡ false → operand_of source (level_at source fuel) e form store ≡ then_do ((level_at source fuel).place e store) (λ path later. Go (At path) later no_cost)
+      no-literal (Some (expr.Literal literal)) is = cc
+      no-literal _ is = refl
 
 pub lowers-place-operand : (source : Source) (old new : Shape) (e : ℕ) (place : Place) → LowersPlace source old new e place.local.0 → is_literal (node source e) ≡ false → LowersOperand source old new e (Copy place)
 lowers-place-operand source old new e place lowers form =
     record {
       keeps = record {
-        grows = lowers.keeps.grows; sound = lowers.keeps.sound; «open» = lowers.keeps.«open»;
+        grows = lowers.keeps.grows;
+        sound = lowers.keeps.sound;
+        «open» = lowers.keeps.«open»;
         scope = lowers.keeps.scope ∙ ap (λ b. old.scope ++ cond b [] (e ∷ marks source e)) (sym form);
       };
       does = record { reaches = λ whole frame grows sound is fuel store memory holds. place-operand source old new whole frame e place sound is grows lowers.does form fuel store memory holds };
@@ -204,13 +215,13 @@ unfolding level_at
 into-place source from middle new whole frame e does grows sound is live zero store memory holds = tt
 into-place source from middle new whole frame e does grows sound is live (suc fuel) store memory holds =
     reaches-then frame (here from) (here new) (here new) memory (λ _ after later. Holds whole frame after later) (λ path after later. Holds whole frame after later × (path ≡ record { cell = Node e }))
-      ((level_at source fuel).into e (record { cell = Node e }) store) (λ _ later. Go (record { cell = Node e }) later no_cost)
-      (reaches-from (here from) (here middle) (live memory) ((level_at source fuel).into e (record { cell = Node e }) store) (does.reaches whole frame grows sound is fuel store memory holds))
-      (λ value after later claims. (0, later, omega arith, comes-refl frame (here new) later, (claims, refl))) where
-  reaches-from : (p q : Point) → Comes frame 0 p memory q memory → (end : End (Unit {0})) → Reaches frame q (here new) memory (λ _ after later. Holds whole frame after later) end → Reaches frame p (here new) memory (λ _ after later. Holds whole frame after later) end
-  reaches-from p q comes end reaches =
-      subst (Reaches frame p (here new) memory (λ _ after later. Holds whole frame after later)) (no-cost-before end)
-        (reaches-after frame 0 p q (here new) memory memory (λ _ after later. Holds whole frame after later) no_cost (omega arith) comes end reaches)
+    ((level_at source fuel).into e (record { cell = Node e }) store) (λ _ later. Go (record { cell = Node e }) later no_cost)
+    (reaches-from (here from) (here middle) (live memory) ((level_at source fuel).into e (record { cell = Node e }) store) (does.reaches whole frame grows sound is fuel store memory holds))
+    (λ value after later claims. (0, later, omega arith, comes-refl frame (here new) later, (claims, refl))) where
+      reaches-from : (p q : Point) → Comes frame 0 p memory q memory → (end : End (Unit {0})) → Reaches frame q (here new) memory (λ _ after later. Holds whole frame after later) end → Reaches frame p (here new) memory (λ _ after later. Holds whole frame after later) end
+      reaches-from p q comes end reaches =
+          subst (Reaches frame p (here new) memory (λ _ after later. Holds whole frame after later)) (no-cost-before end)
+          (reaches-after frame 0 p q (here new) memory memory (λ _ after later. Holds whole frame after later) no_cost (omega arith) comes end reaches)
 
 -- an expression was given a local in the open scope, and nothing else was done
 pub record Given (source : Source) (old new : Shape) (e local : ℕ) : Type 0 where
@@ -235,7 +246,8 @@ given-temp source s e ty sound opened within has reached none =
     let next = given-mark source (with_temp e ty s) e (length s.locals) (with_temp-sound source e ty s within has reached sound) (with_temp-open e ty s opened) (temp_of-with_temp_same e ty s within) in
     record {
       grows = grows-trans s (with_temp e ty s) (with_mark e (with_temp e ty s)) (with_temp-grows e ty s none) next.grows;
-      sound = next.sound; «open» = next.«open»;
+      sound = next.sound;
+      «open» = next.«open»;
       same_here = next.same_here ∙ same-here-temp e ty s;
       scope = next.scope ∙ ap (λ scope. scope ++ e ∷ []) (with_temp-scope e ty s);
       found = next.found;
@@ -274,10 +286,10 @@ lowers-place source s0 s1 s2 s3 e local span given same into =
       does = record {
         found = later.temps e local.0 given.found;
         reaches = λ whole frame grows sound is fuel store memory holds.
-          into-place source s0 s2 s3 whole frame e into.does grows sound is
+            into-place source s0 s2 s3 whole frame e into.does grows sound is
             (λ m. subst (λ (p : Point). Comes frame 0 p m (here s2) m) given.same_here
-              (subst (λ (n : Shape). Comes frame 0 (here s1) m (here n) m) (sym same)
-                (comes-statement live s1 whole frame m given.«open» (subst (λ (n : Shape). Grows n whole) same (grows-trans s2 s3 whole into.keeps.grows grows)) is m (live-does-nothing frame m local))))
+            (subst (λ (n : Shape). Comes frame 0 (here s1) m (here n) m) (sym same)
+            (comes-statement live s1 whole frame m given.«open» (subst (λ (n : Shape). Grows n whole) same (grows-trans s2 s3 whole into.keeps.grows grows)) is m (live-does-nothing frame m local))))
             fuel store memory holds;
       };
     }
@@ -300,14 +312,14 @@ sum-into source s0 s1 s2 whole frame e lhs rhs x y place span c opened sound is 
     let below = level_at source fuel in
     let path : Path = record { cell = c } in
     subst (Reaches frame (here s0) to memory (λ _ after later. Holds whole frame after later)) (sym (ap (λ f. into_of source below e f path store) form))
-      (reaches-then frame (here s0) (here s1) to memory (λ value after later. Holds whole frame after later × Fits source whole frame lhs.0 value x.kind) (λ _ after later. Holds whole frame after later) (below.operand lhs.0 store) _
-        (left.reaches whole frame grows1 sound is fuel store memory holds)
-        (λ l store1 memory1 claims1.
-          reaches-then frame (here s1) (here s2) to memory1 (λ value after later. Holds whole frame after later × Fits source whole frame rhs.0 value y.kind) (λ _ after later. Holds whole frame after later) (below.operand rhs.0 store1) _
-            (right.reaches whole frame grows2 sound is fuel store1 memory1 claims1.0)
-            (λ r store2 memory2 claims2.
-              assigned-answer source s2 whole frame place (CheckedBinaryOp Add x y) span opened sound is grows c local store2 memory2 claims2.0 _
-                (sum-bytes source whole frame lhs.0 rhs.0 l r x y store2 memory2 claims2.0 claims1.1 claims2.1))))
+    (reaches-then frame (here s0) (here s1) to memory (λ value after later. Holds whole frame after later × Fits source whole frame lhs.0 value x.kind) (λ _ after later. Holds whole frame after later) (below.operand lhs.0 store) _
+    (left.reaches whole frame grows1 sound is fuel store memory holds)
+    (λ l store1 memory1 claims1.
+    reaches-then frame (here s1) (here s2) to memory1 (λ value after later. Holds whole frame after later × Fits source whole frame rhs.0 value y.kind) (λ _ after later. Holds whole frame after later) (below.operand rhs.0 store1) _
+    (right.reaches whole frame grows2 sound is fuel store1 memory1 claims1.0)
+    (λ r store2 memory2 claims2.
+    assigned-answer source s2 whole frame place (CheckedBinaryOp Add x y) span opened sound is grows c local store2 memory2 claims2.0 _
+    (sum-bytes source whole frame lhs.0 rhs.0 l r x y store2 memory2 claims2.0 claims1.1 claims2.1))))
 
 -- a sum: its operands, and then an assignment
 pub lowers-sum : (source : Source) (s0 s1 s2 s3 : Shape) (e : ℕ) (lhs rhs : ExprId) (x y : MirOperand) (place : Place) (span : MirSpan) → IsCheckedBody source.body source.infer → e < length source.body.exprs → node source e ≡ Some (expr.BinaryOp lhs rhs (Some (ArithOp arith_op.Add))) → LowersOperand source s0 s1 lhs.0 x.kind → LowersOperand source s1 s2 rhs.0 y.kind → s3 ≡ with_statement (record { kind = Assign place (CheckedBinaryOp Add x y); span = span }) s2 → (c : Cell) → local_of s0 c ≡ Some place.local.0 → LowersInto source s0 s3 e c
@@ -318,20 +330,20 @@ lowers-sum source s0 s1 s2 s3 e lhs rhs x y place span checked within form left 
     let later : Grows s1 (with_statement st s2) = grows-trans s1 s2 (with_statement st s2) right.keeps.grows last in
     let all : Grows s0 (with_statement st s2) = grows-trans s0 s1 (with_statement st s2) left.keeps.grows later in
     subst (λ (n : Shape). LowersInto source s0 n e c) (sym same)
-      (record {
-        keeps = record {
-          grows = all;
-          sound = with_statement-sound source st s2 opened right.keeps.sound;
-          «open» = with_statement-open st s2 opened;
-          scope =
+    (record {
+      keeps = record {
+        grows = all;
+        sound = with_statement-sound source st s2 opened right.keeps.sound;
+        «open» = with_statement-open st s2 opened;
+        scope =
             with_statement-scope st s2 opened ∙ right.keeps.scope
             ∙ ap (λ scope. scope ++ marked_as_operand source (marks source) rhs.0) left.keeps.scope
             ∙ append_assoc s0.scope (marked_as_operand source (marks source) lhs.0) (marked_as_operand source (marks source) rhs.0)
             ∙ ap (λ m. s0.scope ++ m) (sym (marked_in_sum source checked (length source.body.exprs) e lhs rhs form within));
-        };
-        does = record {
-          reaches = λ whole frame grows sound is fuel store memory holds.
+      };
+      does = record {
+        reaches = λ whole frame grows sound is fuel store memory holds.
             sum-into source s0 s1 s2 whole frame e lhs rhs x y place span c opened sound is (grows-trans s1 (with_statement st s2) whole later grows) (grows-trans s2 (with_statement st s2) whole last grows) grows left.does right.does
-              (local_of-grows s0 whole (grows-trans s0 (with_statement st s2) whole all grows) c place.local.0 local) form fuel store memory holds;
-        };
-      })
+            (local_of-grows s0 whole (grows-trans s0 (with_statement st s2) whole all grows) c place.local.0 local) form fuel store memory holds;
+      };
+    })

@@ -38,16 +38,16 @@ set_grows : (blocks : List BasicBlock) (at : ℕ) (old new : BasicBlock) → sli
 set_grows blocks at old new found unended grows =
     record {
       each = λ b block there. ⊎_elim
-        (λ same. let is : old ≡ block = let there' : slice_get blocks at ≡ Some block = ap (slice_get blocks) (sym same) ∙ there in cc in
+          (λ same. let is : old ≡ block = let there' : slice_get blocks at ≡ Some block = ap (slice_get blocks) (sym same) ∙ there in cc in
           (new, ap (slice_get (slice_set blocks at new)) same ∙ slice_get-set_same blocks at new (slice_get_below blocks at old found), subst (λ x. BlockGrows x new) is grows))
-        (λ differ. (block, slice_get-set_other blocks at b new (λ e. differ (sym e)) ∙ there, same_block block))
-        (cases_eq b at);
+          (λ differ. (block, slice_get-set_other blocks at b new (λ e. differ (sym e)) ∙ there, same_block block))
+          (cases_eq b at);
       ended = λ b block t there is. ⊎_elim
-        (λ same. let there' : slice_get blocks at ≡ Some block = ap (slice_get blocks) (sym same) ∙ there in
+          (λ same. let there' : slice_get blocks at ≡ Some block = ap (slice_get blocks) (sym same) ∙ there in
           let one : old ≡ block = cc in
           let none : block.terminator ≡ None = ap (λ (x : BasicBlock). x.terminator) (sym one) ∙ unended in cc)
-        (λ differ. slice_get-set_other blocks at b new (λ e. differ (sym e)) ∙ there)
-        (cases_eq b at);
+          (λ differ. slice_get-set_other blocks at b new (λ e. differ (sym e)) ∙ there)
+          (cases_eq b at);
     }
 
 append_grows : (blocks more : List BasicBlock) → BlocksGrow blocks (blocks ++ more)
@@ -63,8 +63,8 @@ unfolding statement_at
 grows_by old new blocks locals temps =
     record {
       statements = λ b i s there. option_and_then_some (λ block. slice_get block.statements i) (slice_get old.blocks b) s there (λ block found at.
-        let later = blocks.each b block found in
-        ap (option_and_then (λ block. slice_get block.statements i)) later.1 ∙ later.2.statements i s at);
+          let later = blocks.each b block found in
+          ap (option_and_then (λ block. slice_get block.statements i)) later.1 ∙ later.2.statements i s at);
       ended = λ b block t there is. blocks.ended b block t there is;
       locals = locals;
       temps = temps;
@@ -103,16 +103,16 @@ unfolding temp_of
 with_statement-grows statement s opened =
     let block = current_of s opened in
     subst (λ (n : Shape). Grows s n) (sym (with_statement-is statement s block.0 block.1))
-      (grows_by s (record s { blocks = slice_set s.blocks s.current (more_of statement block.0) })
-        (set_grows s.blocks s.current block.0 (more_of statement block.0) block.1 block.2 (more_grows statement block.0)) (λ i l h. h) (λ e l h. h))
+    (grows_by s (record s { blocks = slice_set s.blocks s.current (more_of statement block.0) })
+    (set_grows s.blocks s.current block.0 (more_of statement block.0) block.1 block.2 (more_grows statement block.0)) (λ i l h. h) (λ e l h. h))
 
 pub with_terminator-grows : (t : Terminator) (s : Shape) → IsOpen s → Grows s (with_terminator t s)
 unfolding temp_of
 with_terminator-grows t s opened =
     let block = current_of s opened in
     subst (λ (n : Shape). Grows s n) (sym (with_terminator-is t s block.0 block.1))
-      (grows_by s (record s { blocks = slice_set s.blocks s.current (ended t block.0) })
-        (set_grows s.blocks s.current block.0 (ended t block.0) block.1 block.2 (ended_grows t block.0)) (λ i l h. h) (λ e l h. h))
+    (grows_by s (record s { blocks = slice_set s.blocks s.current (ended t block.0) })
+    (set_grows s.blocks s.current block.0 (ended t block.0) block.1 block.2 (ended_grows t block.0)) (λ i l h. h) (λ e l h. h))
 
 pub with_block-grows : (s : Shape) → Grows s (with_block s)
 unfolding with_block temp_of
@@ -135,4 +135,4 @@ pub with_temp-grows : (e : ℕ) (ty : Ty) (s : Shape) → temp_of s e ≡ None �
 unfolding with_temp
 with_temp-grows e ty s none =
     grows_by s (with_temp e ty s) (same_blocks s.blocks) (λ i l h. slice_get-front s.locals (record { ty = ty } ∷ []) i l h)
-      (λ f l h. temp_of-with_temp_other e f ty s (λ same. let h' : temp_of s e ≡ Some l = ap (temp_of s) (sym same) ∙ h in cc) ∙ h)
+    (λ f l h. temp_of-with_temp_other e f ty s (λ same. let h' : temp_of s e ≡ Some l = ap (temp_of s) (sym same) ∙ h in cc) ∙ h)

@@ -29,7 +29,7 @@ cells Slot (Node e) = inr ((λ same. cc), refl)
 cells (Node e) Slot = inr ((λ same. cc), refl)
 cells (Node e) (Node f) =
     ⊎_elim (λ same. inl (ap Node same, ap (λ g. same_cell (Node e) (Node g)) (sym same) ∙ same_cell-refl (Node e)))
-      (λ differ. inr ((λ same. differ (let parts : e ≡ f = cc in parts)), unequal e f differ)) (cases_eq e f)
+    (λ differ. inr ((λ same. differ (let parts : e ≡ f = cc in parts)), unequal e f differ)) (cases_eq e f)
 
 -- no two cells share a local
 local_of-own : (source : Source) (s : Shape) → IsSound source s → (c d : Cell) (l : ℕ) → local_of s c ≡ Some l → local_of s d ≡ Some l → c ≡ d
@@ -57,24 +57,25 @@ others-stay s frame is memory later l k cell bytes old differ found written size
 
 -- as many bytes as a cell holds can be assigned to its local, and memory then holds the store with them
 pub assigns : (source : Source) (s : Shape) (frame : Frame) → IsSound source s → IsFrameOf s frame → (store : Store) (memory : Memory) → Holds s frame store memory → (c : Cell) (place : Place) (rvalue : Rvalue) (bytes : List ℕ) → local_of s c ≡ Some place.local.0 → rvalue_bytes frame memory rvalue ≡ Ok bytes → length bytes ≡ length (store c) →
-  (later : Memory) × (after_statement frame memory (Assign place rvalue) ≡ Ok later) × Holds s frame (with_cell_bytes store c bytes) later
+    (later : Memory) × (after_statement frame memory (Assign place rvalue) ≡ Ok later) × Holds s frame (with_cell_bytes store c bytes) later
 unfolding after_statement copied
 assigns source s frame sound is store memory holds c place rvalue bytes local computed long =
     let at = interval-of frame memory place.local.0 (store c) (holds.shows c place.local.0 local) in
     let can = can_write memory at.0 (store c) bytes at.2 long in
-    let size : length bytes ≡ at.0.size = long ∙ length-bytes_at memory at.0 (store c) at.2 in
-    (can.0,
-     ap (λ o. copied memory o (rvalue_bytes frame memory rvalue)) at.1
-     ∙ ap (λ r. copied memory (Some at.0) r) computed
-     ∙ ap (λ (o : Option Memory). elim o [ Some after ↦ Ok after | None ↦ Err bad_write ]) can.1,
-     record {
-       shows = λ d k h. ⊎_elim
-         (λ one. let same : place.local.0 ≡ k = (let h' : local_of s c ≡ Some k = ap (local_of s) one.0 ∙ h in cc) in
-           ap (local_bytes frame can.0) (sym same)
-           ∙ local_bytes-at frame can.0 place.local.0 at.0 at.1
-           ∙ read-written memory can.0 at.0 bytes can.1 size
-           ∙ ap (λ b. Some (cond b bytes (store d))) (sym one.1))
-         (λ two. others-stay s frame is memory can.0 place.local.0 k at.0 bytes (store d) (λ same. two.0 (local_of-own source s sound c d place.local.0 local (h ∙ ap Some (sym same)))) at.1 can.1 size (holds.shows d k h)
-           ∙ ap (λ b. Some (cond b bytes (store d))) (sym two.1))
-         (cells c d);
-     })
+    let size : length bytes ≡ at.0.size = long ∙ length-bytes_at memory at.0 (store c) at.2 in (
+      can.0,
+      ap (λ o. copied memory o (rvalue_bytes frame memory rvalue)) at.1
+          ∙ ap (λ r. copied memory (Some at.0) r) computed
+          ∙ ap (λ (o : Option Memory). elim o [ Some after ↦ Ok after | None ↦ Err bad_write ]) can.1,
+      record {
+        shows = λ d k h. ⊎_elim
+            (λ one. let same : place.local.0 ≡ k = (let h' : local_of s c ≡ Some k = ap (local_of s) one.0 ∙ h in cc) in
+            ap (local_bytes frame can.0) (sym same)
+            ∙ local_bytes-at frame can.0 place.local.0 at.0 at.1
+            ∙ read-written memory can.0 at.0 bytes can.1 size
+            ∙ ap (λ b. Some (cond b bytes (store d))) (sym one.1))
+            (λ two. others-stay s frame is memory can.0 place.local.0 k at.0 bytes (store d) (λ same. two.0 (local_of-own source s sound c d place.local.0 local (h ∙ ap Some (sym same)))) at.1 can.1 size (holds.shows d k h)
+            ∙ ap (λ b. Some (cond b bytes (store d))) (sym two.1))
+            (cells c d);
+      },
+    )

@@ -50,7 +50,7 @@ module _ (t : Terminator) (s whole : Shape) (frame : Frame) (opened : IsOpen s) 
   ended-there b =
       ap (λ (blocks : List BasicBlock). slice_get blocks s.current) is.blocks
       ∙ grows.ended s.current (ended t b.0) t
-          (ap (λ (n : Shape). slice_get n.blocks s.current) (with_terminator-is t s b.0 b.1) ∙ slice_get-set_same s.blocks s.current (ended t b.0) opened.there) refl
+      (ap (λ (n : Shape). slice_get n.blocks s.current) (with_terminator-is t s b.0 b.1) ∙ slice_get-set_same s.blocks s.current (ended t b.0) opened.there) refl
 
   pub run-terminator : (memory : Memory) (budget : ℕ) → run_from frame memory (here s) budget ≡ going_on budget frame (terminated frame memory (Some t))
   unfolding running
@@ -80,30 +80,30 @@ leaves-drop source s new place target unwind span sound opened at same =
     let b = current_of s opened in
     let many : length (with_terminator t s).blocks ≡ length s.blocks = ap (λ (n : Shape). length n.blocks) (with_terminator-is t s b.0 b.1) ∙ length-set s.blocks s.current (ended t b.0) in
     subst (λ (n : Shape). Leaves source s n 1) (sym same)
-      (record {
-        grows = grows-trans s (with_terminator t s) (with_block (with_terminator t s)) (with_terminator-grows t s opened) (with_block-grows (with_terminator t s));
-        sound = with_block-sound source (with_terminator t s) (with_terminator-sound source t s opened sound);
-        «open» = with_block-open (with_terminator t s);
-        comes = λ whole frame grows is memory.
+    (record {
+      grows = grows-trans s (with_terminator t s) (with_block (with_terminator t s)) (with_terminator-grows t s opened) (with_block-grows (with_terminator t s));
+      sound = with_block-sound source (with_terminator t s) (with_terminator-sound source t s opened sound);
+      «open» = with_block-open (with_terminator t s);
+      comes = λ whole frame grows is memory.
           let grown = grows-trans (with_terminator t s) (with_block (with_terminator t s)) whole (with_block-grows (with_terminator t s)) grows in
           let to : here (with_block (with_terminator t s)) ≡ record { block = target.0; index = 0 } =
-            here-with_block (with_terminator t s) ∙ ap (λ n. record { block = n; index = 0 }) (many ∙ sym at) in
+          here-with_block (with_terminator t s) ∙ ap (λ n. record { block = n; index = 0 }) (many ∙ sym at) in
           record {
             with_more = λ more.
-              let one : 1 + more ≡ suc more = omega arith in
-              ap (run_from frame memory (here s)) one
-              ∙ run-terminator t s whole frame opened grown is memory (suc more)
-              ∙ goes-on frame memory place target unwind span (suc more)
-              ∙ entering-suc more frame memory target.0
-              ∙ ap (λ (p : Point). run_from frame memory p more) (sym to);
+                let one : 1 + more ≡ suc more = omega arith in
+                ap (run_from frame memory (here s)) one
+                ∙ run-terminator t s whole frame opened grown is memory (suc more)
+                ∙ goes-on frame memory place target unwind span (suc more)
+                ∙ entering-suc more frame memory target.0
+                ∙ ap (λ (p : Point). run_from frame memory p more) (sym to);
             with_fewer = λ fewer less.
-              let none : fewer ≡ 0 = omega arith in
-              ap (run_from frame memory (here s)) none
-              ∙ run-terminator t s whole frame opened grown is memory 0
-              ∙ goes-on frame memory place target unwind span 0
-              ∙ entering-none frame memory target.0;
+                let none : fewer ≡ 0 = omega arith in
+                ap (run_from frame memory (here s)) none
+                ∙ run-terminator t s whole frame opened grown is memory 0
+                ∙ goes-on frame memory place target unwind span 0
+                ∙ entering-none frame memory target.0;
           };
-      })
+    })
 
 dead-does-nothing : (frame : Frame) (memory : Memory) (local : LocalId) → after_statement frame memory (StorageDead local) ≡ Ok memory
 unfolding after_statement
@@ -114,12 +114,12 @@ pub leaves-dead : (source : Source) (s new : Shape) (local : LocalId) (span : Mi
 leaves-dead source s new local span sound opened same =
     let dead : Statement = record { kind = StorageDead local; span = span } in
     subst (λ (n : Shape). Leaves source s n 0) (sym same)
-      (record {
-        grows = with_statement-grows dead s opened;
-        sound = with_statement-sound source dead s opened sound;
-        «open» = with_statement-open dead s opened;
-        comes = λ whole frame grows is memory. comes-statement dead s whole frame memory opened grows is memory (dead-does-nothing frame memory local);
-      })
+    (record {
+      grows = with_statement-grows dead s opened;
+      sound = with_statement-sound source dead s opened sound;
+      «open» = with_statement-open dead s opened;
+      comes = λ whole frame grows is memory. comes-statement dead s whole frame memory opened grows is memory (dead-does-nothing frame memory local);
+    })
 
 pub leaves-refl : (source : Source) (s : Shape) → IsSound source s → IsOpen s → Leaves source s s 0
 leaves-refl source s sound opened =
@@ -132,7 +132,7 @@ leaves-trans source a b c first second one two =
       sound = two.sound;
       «open» = two.«open»;
       comes = λ whole frame grows is memory.
-        comes-trans frame first second (here a) (here b) memory memory (one.comes whole frame (grows-trans b c whole two.grows grows) is memory) (here c) memory (two.comes whole frame grows is memory);
+          comes-trans frame first second (here a) (here b) memory memory (one.comes whole frame (grows-trans b c whole two.grows grows) is memory) (here c) memory (two.comes whole frame grows is memory);
     }
 
 -- a run that comes to the end of a block that returns ends with the return slot's bytes
@@ -143,10 +143,10 @@ ends-return s whole frame span memory bytes opened grows is slot =
       turns = 0;
       bound = omega arith;
       with_more = λ more.
-        let plain : 0 + more ≡ more = omega arith in
-        ap (run_from frame memory (here s)) plain
-        ∙ run-terminator (record { span = span; kind = Return }) s whole frame opened grows is memory more
-        ∙ ap (λ o. record { ending = returned o; left = more }) slot;
+          let plain : 0 + more ≡ more = omega arith in
+          ap (run_from frame memory (here s)) plain
+          ∙ run-terminator (record { span = span; kind = Return }) s whole frame opened grows is memory more
+          ∙ ap (λ o. record { ending = returned o; left = more }) slot;
       with_fewer = λ fewer less. absurd (omega arith);
     }
 
@@ -173,5 +173,5 @@ leaves-scope source s new scope turns opened leaves =
       sound = leaves.sound;
       «open» = leaves.«open»;
       comes = λ whole frame grows is memory.
-        subst (λ (p : Point). Comes frame turns p memory (here new) memory) (here-scope s scope) (leaves.comes whole frame grows is memory);
+          subst (λ (p : Point). Comes frame turns p memory (here new) memory) (here-scope s scope) (leaves.comes whole frame grows is memory);
     }

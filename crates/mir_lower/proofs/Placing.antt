@@ -125,30 +125,38 @@ module _ (world : HirDatabase) (are : AreAligned world) where
         above = each-above cell above end rest;
         apart = all-apart cell size end rest;
       } where
-    each-local : (cell : Interval) (layout' : Layout) → cell.size ≡ layout.size → length (with_cell layout memory).1.stack ≡ cell.address + layout.size → bytes_at (with_cell layout memory).1 cell ≡ Some (replicate layout.size 0) → Placing world locals (with_cell layout memory).1 cells last → (i : ℕ) (l : Local) → slice_get (local ∷ locals) i ≡ Some l → HasCell world l (cell ∷ cells) i last
-    each-local cell layout' size end bytes rest zero l h =
-        let same : local ≡ l = cc in
-        subst (λ (x : Local). HasCell world x (cell ∷ cells) 0 last) same
-          (record { cell = cell; layout = layout; there = refl; found = found; sized = sized;
-            zeroed = read-longer (with_cell layout memory).1 last rest.rest (replicate layout.size 0) cell rest.longer (omega arith) bytes })
-    each-local cell layout' size end bytes rest (suc i) l h =
-        let other = rest.each i l h in
-        record { cell = other.cell; layout = other.layout; there = other.there; found = other.found; sized = other.sized; zeroed = other.zeroed }
-    each-above : (cell : Interval) → length memory.stack ≤ cell.address → length (with_cell layout memory).1.stack ≡ cell.address + layout.size → Placing world locals (with_cell layout memory).1 cells last → (i : ℕ) (c : Interval) → slice_get (cell ∷ cells) i ≡ Some c → length memory.stack ≤ c.address
-    each-above cell above end rest zero c h = let same : cell ≡ c = cc in subst (λ (x : Interval). length memory.stack ≤ x.address) same above
-    each-above cell above end rest (suc i) c h = let later = rest.above i c h in omega arith
-    all-apart : (cell : Interval) → cell.size ≡ layout.size → length (with_cell layout memory).1.stack ≡ cell.address + layout.size → Placing world locals (with_cell layout memory).1 cells last → AreApart (cell ∷ cells)
-    all-apart cell size end rest zero zero a b differ h k = absurd (differ refl)
-    all-apart cell size end rest zero (suc j) a b differ h k = let same : cell ≡ a = cc in let later = rest.above j b k in subst (λ (x : Interval). (x.address + x.size ≤ b.address) ⊎ (b.address + b.size ≤ x.address)) same (inl (omega arith))
-    all-apart cell size end rest (suc i) zero a b differ h k = let same : cell ≡ b = cc in let later = rest.above i a h in subst (λ (x : Interval). (a.address + a.size ≤ x.address) ⊎ (x.address + x.size ≤ a.address)) same (inr (omega arith))
-    all-apart cell size end rest (suc i) (suc j) a b differ h k = rest.apart i j a b (λ same. differ (ap suc same)) h k
+        each-local : (cell : Interval) (layout' : Layout) → cell.size ≡ layout.size → length (with_cell layout memory).1.stack ≡ cell.address + layout.size → bytes_at (with_cell layout memory).1 cell ≡ Some (replicate layout.size 0) → Placing world locals (with_cell layout memory).1 cells last → (i : ℕ) (l : Local) → slice_get (local ∷ locals) i ≡ Some l → HasCell world l (cell ∷ cells) i last
+        each-local cell layout' size end bytes rest zero l h =
+            let same : local ≡ l = cc in
+            subst (λ (x : Local). HasCell world x (cell ∷ cells) 0 last) same
+            (record {
+              cell = cell;
+              layout = layout;
+              there = refl;
+              found = found;
+              sized = sized;
+              zeroed = read-longer (with_cell layout memory).1 last rest.rest (replicate layout.size 0) cell rest.longer (omega arith) bytes;
+            })
+        each-local cell layout' size end bytes rest (suc i) l h =
+            let other = rest.each i l h in
+            record { cell = other.cell; layout = other.layout; there = other.there; found = other.found; sized = other.sized; zeroed = other.zeroed }
+
+        each-above : (cell : Interval) → length memory.stack ≤ cell.address → length (with_cell layout memory).1.stack ≡ cell.address + layout.size → Placing world locals (with_cell layout memory).1 cells last → (i : ℕ) (c : Interval) → slice_get (cell ∷ cells) i ≡ Some c → length memory.stack ≤ c.address
+        each-above cell above end rest zero c h = let same : cell ≡ c = cc in subst (λ (x : Interval). length memory.stack ≤ x.address) same above
+        each-above cell above end rest (suc i) c h = let later = rest.above i c h in omega arith
+
+        all-apart : (cell : Interval) → cell.size ≡ layout.size → length (with_cell layout memory).1.stack ≡ cell.address + layout.size → Placing world locals (with_cell layout memory).1 cells last → AreApart (cell ∷ cells)
+        all-apart cell size end rest zero zero a b differ h k = absurd (differ refl)
+        all-apart cell size end rest zero (suc j) a b differ h k = let same : cell ≡ a = cc in let later = rest.above j b k in subst (λ (x : Interval). (x.address + x.size ≤ b.address) ⊎ (b.address + b.size ≤ x.address)) same (inl (omega arith))
+        all-apart cell size end rest (suc i) zero a b differ h k = let same : cell ≡ b = cc in let later = rest.above i a h in subst (λ (x : Interval). (a.address + a.size ≤ x.address) ⊎ (x.address + x.size ≤ a.address)) same (inr (omega arith))
+        all-apart cell size end rest (suc i) (suc j) a b differ h k = rest.apart i j a b (λ same. differ (ap suc same)) h k
 
   pub places-all : (locals : List Local) (memory : Memory) (all : List Interval × Memory) → cells_of world locals memory ≡ Ok all → Placing world locals memory all.0 all.1
   unfolding cells_of
   places-all [] memory all h =
       let same : ◌≡◌ {A = List Interval × Memory} ([], memory) all = cc in
       subst (λ (a : List Interval × Memory). Placing world [] memory a.0 a.1) same
-        (record { rest = []; longer = sym (append-nil memory.stack); each = λ i l k. cc; above = λ i c k. cc; apart = λ i j a b differ k m. cc })
+      (record { rest = []; longer = sym (append-nil memory.stack); each = λ i l k. cc; above = λ i c k. cc; apart = λ i j a b differ k m. cc })
   places-all (local ∷ locals) memory all h =
       let first = first-ok (placed local.ty (layout_of world local.ty) memory) (λ first. cell_before first.0 (cells_of world locals first.1)) all h in
       let cell = placed-ok local.ty (layout_of world local.ty) memory first.0 first.1 in
@@ -156,4 +164,4 @@ module _ (world : HirDatabase) (are : AreAligned world) where
       let rest = places-all locals first.0.1 next.0 next.1 in
       let rest' : Placing world locals (with_cell cell.0 memory).1 next.0.0 next.0.1 = subst (λ (m : Memory). Placing world locals m next.0.0 next.0.1) (ap (λ (p : Interval × Memory). p.1) cell.3) rest in
       subst (λ (a : List Interval × Memory). Placing world (local ∷ locals) memory a.0 a.1) (sym next.2)
-        (places-first local locals memory first.0.0 next.0.0 cell.0 cell.1 cell.2 (ap (λ (p : Interval × Memory). p.0) cell.3) next.0.1 rest')
+      (places-first local locals memory first.0.0 next.0.0 cell.0 cell.1 cell.2 (ap (λ (p : Interval × Memory). p.0) cell.3) next.0.1 rest')

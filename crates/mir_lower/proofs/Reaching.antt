@@ -20,17 +20,17 @@ module _ (frame : Frame) (first second : ℕ) (from at : Point) (memory middle :
   fewer-than-both : (next : ℕ → Ended) → ((fewer : ℕ) → fewer < second → run_from frame middle at fewer ≡ out_of_blocks) → (fewer : ℕ) → fewer < first + second → run_from frame memory from fewer ≡ out_of_blocks
   fewer-than-both next rest fewer less =
       ⊎_elim (λ few. comes.with_fewer fewer few)
-        (λ many.
-          let parts : fewer ≡ first + (fewer - first) = omega arith in
-          ap (run_from frame memory from) parts ∙ comes.with_more (fewer - first) ∙ rest (fewer - first) (omega arith))
-        (cases_lt fewer first)
+      (λ many.
+      let parts : fewer ≡ first + (fewer - first) = omega arith in
+      ap (run_from frame memory from) parts ∙ comes.with_more (fewer - first) ∙ rest (fewer - first) (omega arith))
+      (cases_lt fewer first)
 
   pub comes-trans : (to : Point) (later : Memory) → Comes frame second at middle to later → Comes frame (first + second) from memory to later
   comes-trans to later next =
       record {
         with_more = λ more.
-          let parts : first + second + more ≡ first + (second + more) = omega arith in
-          ap (run_from frame memory from) parts ∙ comes.with_more (second + more) ∙ next.with_more more;
+            let parts : first + second + more ≡ first + (second + more) = omega arith in
+            ap (run_from frame memory from) parts ∙ comes.with_more (second + more) ∙ next.with_more more;
         with_fewer = fewer-than-both (run_from frame middle at) next.with_fewer;
       }
 
@@ -40,8 +40,8 @@ ends-after frame first from at memory middle comes most most' ending bound next 
       turns = first + next.turns;
       bound = let b = next.bound in omega arith;
       with_more = λ more.
-        let parts : first + next.turns + more ≡ first + (next.turns + more) = omega arith in
-        ap (run_from frame memory from) parts ∙ comes.with_more (next.turns + more) ∙ next.with_more more;
+          let parts : first + next.turns + more ≡ first + (next.turns + more) = omega arith in
+          ap (run_from frame memory from) parts ∙ comes.with_more (next.turns + more) ∙ next.with_more more;
       with_fewer = fewer-than-both frame first next.turns from at memory middle comes (run_from frame middle at) next.with_fewer;
     }
 

@@ -29,15 +29,15 @@ next-statement : (frame : Frame) (memory later : Memory) (block : BasicBlock) (i
 unfolding next_from
 next-statement frame memory later block i statement found ok =
     ap (λ r. elim r [ Ok after ↦ terminated frame after block.terminator | Err e ↦ Stops (Faulted e) ])
-      (ap (λ (statements : List Statement). after_statements frame statements memory) (drop-at block.statements i statement found)
-      ∙ after-first frame memory later statement (drop (suc i) block.statements) ok)
+    (ap (λ (statements : List Statement). after_statements frame statements memory) (drop-at block.statements i statement found)
+    ∙ after-first frame memory later statement (drop (suc i) block.statements) ok)
 
 next-fault : (frame : Frame) (memory : Memory) (block : BasicBlock) (i : ℕ) (statement : Statement) (e : MirEvalError) → slice_get block.statements i ≡ Some statement → after_statement frame memory statement.kind ≡ Err e → next_from frame memory (Some block) i ≡ Stops (Faulted e)
 unfolding next_from
 next-fault frame memory block i statement e found err =
     ap (λ r. elim r [ Ok after ↦ terminated frame after block.terminator | Err e ↦ Stops (Faulted e) ])
-      (ap (λ (statements : List Statement). after_statements frame statements memory) (drop-at block.statements i statement found)
-      ∙ after-fault frame memory statement (drop (suc i) block.statements) e err)
+    (ap (λ (statements : List Statement). after_statements frame statements memory) (drop-at block.statements i statement found)
+    ∙ after-fault frame memory statement (drop (suc i) block.statements) e err)
 
 -- a statement at a place of a block of the frame's body
 pub statement-block : (s : Shape) (b i : ℕ) (statement : Statement) → statement_at s b i ≡ Some statement → (block : BasicBlock) × (slice_get s.blocks b ≡ Some block) × (slice_get block.statements i ≡ Some statement)
@@ -73,7 +73,7 @@ here-with_statement statement s block found within =
     ap here (with_statement-is statement s block found)
     ∙ here-is (record s { blocks = slice_set s.blocks s.current (more_of statement block) }) (more_of statement block) (slice_get-set_same s.blocks s.current (more_of statement block) within)
     ∙ (let long : length (block.statements ++ statement ∷ []) ≡ suc (length block.statements) = (let n = length-append block.statements (statement ∷ []) in omega arith) in
-       ap (λ (n : ℕ). record { block = s.current; index = n }) long)
+    ap (λ (n : ℕ). record { block = s.current; index = n }) long)
 
 pub statement-added : (statement : Statement) (s : Shape) (block : BasicBlock) → slice_get s.blocks s.current ≡ Some block → s.current < length s.blocks → statement_at (with_statement statement s) s.current (length block.statements) ≡ Some statement
 unfolding statement_at
@@ -92,11 +92,11 @@ module _ (statement : Statement) (s whole : Shape) (frame : Frame) (memory : Mem
       let b = current_of s opened in
       record {
         with_more = λ more.
-          let plain : 0 + more ≡ more = omega arith in
-          ap (run_from frame memory (here s)) plain
-          ∙ ap (λ (p : Point). run_from frame memory p more) (here-is s b.0 b.1)
-          ∙ run-statement whole frame memory later s.current (length b.0.statements) statement is.blocks (there (b.0, b.1)) ok more
-          ∙ ap (λ (p : Point). run_from frame later p more) (sym (here-with_statement statement s b.0 b.1 opened.there));
+            let plain : 0 + more ≡ more = omega arith in
+            ap (run_from frame memory (here s)) plain
+            ∙ ap (λ (p : Point). run_from frame memory p more) (here-is s b.0 b.1)
+            ∙ run-statement whole frame memory later s.current (length b.0.statements) statement is.blocks (there (b.0, b.1)) ok more
+            ∙ ap (λ (p : Point). run_from frame later p more) (sym (here-with_statement statement s b.0 b.1 opened.there));
         with_fewer = λ fewer less. absurd (omega arith);
       }
 
@@ -108,9 +108,9 @@ module _ (statement : Statement) (s whole : Shape) (frame : Frame) (memory : Mem
         turns = 0;
         bound = omega arith;
         with_more = λ more.
-          let plain : 0 + more ≡ more = omega arith in
-          ap (run_from frame memory (here s)) plain
-          ∙ ap (λ (p : Point). run_from frame memory p more) (here-is s b.0 b.1)
-          ∙ run-fault whole frame memory s.current (length b.0.statements) statement e is.blocks (there (b.0, b.1)) err more;
+            let plain : 0 + more ≡ more = omega arith in
+            ap (run_from frame memory (here s)) plain
+            ∙ ap (λ (p : Point). run_from frame memory p more) (here-is s b.0 b.1)
+            ∙ run-fault whole frame memory s.current (length b.0.statements) statement e is.blocks (there (b.0, b.1)) err more;
         with_fewer = λ fewer less. absurd (omega arith);
       }

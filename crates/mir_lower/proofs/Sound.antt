@@ -101,43 +101,43 @@ with_temp-nodes e ty s = length-set s.temps e (Some (record { 0 = length s.local
 temp_cases : (e f l : ℕ) (ty : Ty) (s : Shape) → e < length s.temps → temp_of (with_temp e ty s) f ≡ Some l → ((f ≡ e) × (l ≡ length s.locals)) ⊎ ((f ≢ e) × (temp_of s f ≡ Some l))
 temp_cases e f l ty s within h =
     ⊎_elim
-      (λ same. let new = temp_of-with_temp_same e ty s within in let h' : temp_of (with_temp e ty s) e ≡ Some l = ap (temp_of (with_temp e ty s)) (sym same) ∙ h in inl (same, cc))
-      (λ differ. inr (differ, sym (temp_of-with_temp_other e f ty s differ) ∙ h))
-      (cases_eq f e)
+    (λ same. let new = temp_of-with_temp_same e ty s within in let h' : temp_of (with_temp e ty s) e ≡ Some l = ap (temp_of (with_temp e ty s)) (sym same) ∙ h in inl (same, cc))
+    (λ differ. inr (differ, sym (temp_of-with_temp_other e f ty s differ) ∙ h))
+    (cases_eq f e)
 
 pub with_temp-sound : (source : Source) (e : ℕ) (ty : Ty) (s : Shape) → e < length s.temps → node_type source e ≡ Some ty → Evaluates source (root source) e → IsSound source s → IsSound source (with_temp e ty s)
 with_temp-sound source e ty s within has reached sound =
     let grown : (i : ℕ) (l : Local) → slice_get s.locals i ≡ Some l → slice_get (with_temp e ty s).locals i ≡ Some l =
-      λ i l h. ap (λ (ls : List Local). slice_get ls i) (with_temp-locals e ty s) ∙ slice_get-front s.locals (record { ty = ty } ∷ []) i l h in
+    λ i l h. ap (λ (ls : List Local). slice_get ls i) (with_temp-locals e ty s) ∙ slice_get-front s.locals (record { ty = ty } ∷ []) i l h in
     let long : length (with_temp e ty s).locals ≡ length s.locals + 1 = ap length (with_temp-locals e ty s) ∙ length-append s.locals (record { ty = ty } ∷ []) in
     let last : slice_get (with_temp e ty s).locals (length s.locals) ≡ Some (record { ty = ty }) =
-      ap (λ (ls : List Local). slice_get ls (length s.locals)) (with_temp-locals e ty s) ∙ slice_get-last s.locals (record { ty = ty }) in
+    ap (λ (ls : List Local). slice_get ls (length s.locals)) (with_temp-locals e ty s) ∙ slice_get-last s.locals (record { ty = ty }) in
     record {
       nodes = with_temp-nodes e ty s ∙ sound.nodes;
       slot = λ l h. let first = slice_get_in s.locals 0 sound.result in
-        let there = grown 0 first.0 first.1 in
-        let same : first.0 ≡ l = cc in sound.slot l (first.1 ∙ ap Some same);
+          let there = grown 0 first.0 first.1 in
+          let same : first.0 ≡ l = cc in sound.slot l (first.1 ∙ ap Some same);
       result = let r = sound.result in omega arith;
       cells = λ l x h. ⊎_elim
-        (λ old. let found = slice_get_in s.locals l old in
+          (λ old. let found = slice_get_in s.locals l old in
           let there = grown l found.0 found.1 in
           let same : found.0 ≡ x = cc in sound.cells l x (found.1 ∙ ap Some same))
-        (λ past. let below = slice_get_below (with_temp e ty s).locals l x h in
+          (λ past. let below = slice_get_below (with_temp e ty s).locals l x h in
           let new : l ≡ length s.locals = omega arith in
           let h' : slice_get (with_temp e ty s).locals (length s.locals) ≡ Some x = ap (slice_get (with_temp e ty s).locals) (sym new) ∙ h in
           let same : record { ty = ty } ≡ x = cc in (e, reached, has ∙ ap (λ (y : Local). Some y.ty) same))
-        (cases_lt l (length s.locals));
+          (cases_lt l (length s.locals));
       above_result = λ f l h. ⊎_elim (λ new. let r = sound.result in let n = new.1 in omega arith) (λ old. sound.above_result f l old.1) (temp_cases e f l ty s within h);
       within = λ f l h. ⊎_elim (λ new. let n = new.1 in omega arith) (λ old. let r = sound.within f l old.1 in omega arith) (temp_cases e f l ty s within h);
       own = λ f g l h k. ⊎_elim
-        (λ new. ⊎_elim (λ new'. new.0 ∙ sym new'.0) (λ old'. let r = sound.within g l old'.1 in let n = new.1 in absurd (omega arith)) (temp_cases e g l ty s within k))
-        (λ old. ⊎_elim (λ new'. let r = sound.within f l old.1 in let n = new'.1 in absurd (omega arith)) (λ old'. sound.own f g l old.1 old'.1) (temp_cases e g l ty s within k))
-        (temp_cases e f l ty s within h);
+          (λ new. ⊎_elim (λ new'. new.0 ∙ sym new'.0) (λ old'. let r = sound.within g l old'.1 in let n = new.1 in absurd (omega arith)) (temp_cases e g l ty s within k))
+          (λ old. ⊎_elim (λ new'. let r = sound.within f l old.1 in let n = new'.1 in absurd (omega arith)) (λ old'. sound.own f g l old.1 old'.1) (temp_cases e g l ty s within k))
+          (temp_cases e f l ty s within h);
       typed = λ f i l h k. ⊎_elim
-        (λ new. let k' : slice_get (with_temp e ty s).locals (length s.locals) ≡ Some l = ap (slice_get (with_temp e ty s).locals) (sym new.1) ∙ k in
+          (λ new. let k' : slice_get (with_temp e ty s).locals (length s.locals) ≡ Some l = ap (slice_get (with_temp e ty s).locals) (sym new.1) ∙ k in
           let same : record { ty = ty } ≡ l = cc in ap (node_type source) new.0 ∙ has ∙ ap (λ (x : Local). Some x.ty) same)
-        (λ old. let found = slice_get_in s.locals i (sound.within f i old.1) in
+          (λ old. let found = slice_get_in s.locals i (sound.within f i old.1) in
           let there = grown i found.0 found.1 in
           let same : found.0 ≡ l = cc in sound.typed f i l old.1 (found.1 ∙ ap Some same))
-        (temp_cases e f i ty s within h);
+          (temp_cases e f i ty s within h);
     }

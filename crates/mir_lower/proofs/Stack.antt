@@ -31,8 +31,8 @@ length-bytes_at memory cell bytes found =
     let parts = cond_some _ _ _ found in
     let within : cell.address + cell.size ≤ length memory.stack = leb-true _ _ parts.0 in
     ap length (sym parts.1) ∙ length_part memory.stack cell.size cell.address within where
-  length_part : (s : List ℕ) (size a : ℕ) → a + size ≤ length s → length (take size (drop a s)) ≡ size
-  length_part s size a h = grind (arith, places)
+      length_part : (s : List ℕ) (size a : ℕ) → a + size ≤ length s → length (take size (drop a s)) ≡ size
+      length_part s size a h = grind (arith, places)
 
 -- as many bytes as can be read from a cell can be written to it
 pub can_write : (memory : Memory) (cell : Interval) (old bytes : List ℕ) → bytes_at memory cell ≡ Some old → length bytes ≡ length old → (later : Memory) × (with_bytes memory cell.address bytes ≡ Some later)
@@ -68,4 +68,4 @@ read-apart memory later cell other bytes written size apart =
     let long : length later.stack ≡ length memory.stack = ap length stack ∙ same_length memory.stack bytes cell.address within in
     ap (λ n. cond (leb (other.address + other.size) n) (Some (take other.size (drop other.address later.stack))) None) long
     ∙ same_read memory.stack bytes cell.address other.address other.size later.stack within stack
-      (⊎_elim (λ h. inl (omega arith)) (λ h. inr h) apart) (leb (other.address + other.size) (length memory.stack)) refl
+    (⊎_elim (λ h. inl (omega arith)) (λ h. inr h) apart) (leb (other.address + other.size) (length memory.stack)) refl

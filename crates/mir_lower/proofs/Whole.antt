@@ -55,13 +55,13 @@ entered frame memory block most ending ends =
       turns = suc ends.turns;
       bound = let b = ends.bound in omega arith;
       with_more = λ more.
-        let one : suc ends.turns + more ≡ suc (ends.turns + more) = omega arith in
-        ap (λ budget. entering budget frame memory block) one ∙ entering-suc (ends.turns + more) frame memory block ∙ ends.with_more more;
+          let one : suc ends.turns + more ≡ suc (ends.turns + more) = omega arith in
+          ap (λ budget. entering budget frame memory block) one ∙ entering-suc (ends.turns + more) frame memory block ∙ ends.with_more more;
       with_fewer = fewer-blocks ends.turns ends.with_fewer;
     } where
-  fewer-blocks : (turns : ℕ) → ((fewer : ℕ) → fewer < turns → run_from frame memory (record { block = block; index = 0 }) fewer ≡ out_of_blocks) → (fewer : ℕ) → fewer < suc turns → entering fewer frame memory block ≡ out_of_blocks
-  fewer-blocks turns rest zero less = entering-none frame memory block
-  fewer-blocks turns rest (suc fewer) less = entering-suc fewer frame memory block ∙ rest fewer (omega arith)
+      fewer-blocks : (turns : ℕ) → ((fewer : ℕ) → fewer < turns → run_from frame memory (record { block = block; index = 0 }) fewer ≡ out_of_blocks) → (fewer : ℕ) → fewer < suc turns → entering fewer frame memory block ≡ out_of_blocks
+      fewer-blocks turns rest zero less = entering-none frame memory block
+      fewer-blocks turns rest (suc fewer) less = entering-suc fewer frame memory block ∙ rest fewer (omega arith)
 
 ends-as-entered : (frame : Frame) (memory : Memory) (block : ℕ) (end : End (List ℕ)) → EndsAs end (run_from frame memory (record { block = block; index = 0 })) → EndsAs (after (so_many_turns 1) end) (λ budget. entering budget frame memory block)
 unfolding after
@@ -82,20 +82,21 @@ starts-zeroed : (source : Source) (s : Shape) (frame : Frame) (memory : Memory) 
 unfolding local_bytes
 starts-zeroed source s frame memory sound placing =
     record { shows = λ cell l found. shows-cell cell l (local-of-cell cell l found) } where
-  local-of-cell : (cell : Cell) (l : ℕ) → local_of s cell ≡ Some l → (local : Local) × (slice_get s.locals l ≡ Some local) × (node_type source (cell_node source cell) ≡ Some local.ty)
-  local-of-cell Slot l found =
-      let zeroth : 0 ≡ l = cc in
-      let first = slice_get_in s.locals 0 sound.result in
-      (first.0, ap (slice_get s.locals) (sym zeroth) ∙ first.1, sound.slot first.0 first.1)
-  local-of-cell (Node e) l found =
-      let there = slice_get_in s.locals l (sound.within e l found) in
-      (there.0, there.1, sound.typed e l there.0 found there.1)
-  shows-cell : (cell : Cell) (l : ℕ) → (local : Local) × (slice_get s.locals l ≡ Some local) × (node_type source (cell_node source cell) ≡ Some local.ty) → option_and_then (bytes_at memory) (slice_get frame.cells l) ≡ Some (zeroed source cell)
-  shows-cell cell l local =
-      let placed = placing.each l local.0 local.1 in
-      let layout : node_layout source (cell_node source cell) ≡ Some placed.layout = ap (option_and_then (layout_of source.world)) local.2 ∙ placed.found in
-      ap (option_and_then (bytes_at memory)) placed.there ∙ placed.zeroed
-      ∙ ap (λ (o : Option Layout). Some (replicate (unwrap_or (option_map (λ (layout : Layout). layout.size) o) 0) 0)) (sym layout)
+      local-of-cell : (cell : Cell) (l : ℕ) → local_of s cell ≡ Some l → (local : Local) × (slice_get s.locals l ≡ Some local) × (node_type source (cell_node source cell) ≡ Some local.ty)
+      local-of-cell Slot l found =
+          let zeroth : 0 ≡ l = cc in
+          let first = slice_get_in s.locals 0 sound.result in
+          (first.0, ap (slice_get s.locals) (sym zeroth) ∙ first.1, sound.slot first.0 first.1)
+      local-of-cell (Node e) l found =
+          let there = slice_get_in s.locals l (sound.within e l found) in
+          (there.0, there.1, sound.typed e l there.0 found there.1)
+
+      shows-cell : (cell : Cell) (l : ℕ) → (local : Local) × (slice_get s.locals l ≡ Some local) × (node_type source (cell_node source cell) ≡ Some local.ty) → option_and_then (bytes_at memory) (slice_get frame.cells l) ≡ Some (zeroed source cell)
+      shows-cell cell l local =
+          let placed = placing.each l local.0 local.1 in
+          let layout : node_layout source (cell_node source cell) ≡ Some placed.layout = ap (option_and_then (layout_of source.world)) local.2 ∙ placed.found in
+          ap (option_and_then (bytes_at memory)) placed.there ∙ placed.zeroed
+          ∙ ap (λ (o : Option Layout). Some (replicate (unwrap_or (option_map (λ (layout : Layout). layout.size) o) 0) 0)) (sym layout)
 
 here-first : (ty : Ty) (nodes : ℕ) → here (first_shape ty nodes) ≡ record { block = 0; index = 0 }
 unfolding count_at
@@ -109,7 +110,7 @@ returns-after source s1 s2 frame span turns leaves is store memory holds =
     let returned = ends-return s2 whole frame span memory (store Slot) leaves.«open» (grows-refl whole) is (holds.shows Slot 0 refl) in
     let plain : turns + 0 ≡ turns = omega arith in
     subst (λ (n : ℕ). EndsWithin n (Returned (store Slot)) (run_from frame memory (here s1))) plain
-      (ends-after frame turns (here s1) (here s2) memory memory comes turns 0 (Returned (store Slot)) (omega arith) returned)
+    (ends-after frame turns (here s1) (here s2) memory memory comes turns 0 (Returned (store Slot)) (omega arith) returned)
 
 -- the run of a body from its frame on
 runs-whole : (source : Source) (ty : Ty) (nodes : ℕ) (s1 s2 : Shape) (span : MirSpan) (frame : Frame) (memory : Memory) → IsSound source (with_terminator (record { span = span; kind = Return }) s2) → LowersInto source (first_shape ty nodes) s1 (root source) Slot → Leaves source s1 s2 (leaving_turns source) → IsFrameOf (with_terminator (record { span = span; kind = Return }) s2) frame → Holds (with_terminator (record { span = span; kind = Return }) s2) frame (zeroed source) memory → (fuel : ℕ) → EndsAs (meaning_of source fuel) (λ budget. entering budget frame memory 0)
@@ -120,10 +121,10 @@ runs-whole source ty nodes s1 s2 span frame memory sound into leaves is holds fu
     let evaluates : End (Unit {0}) = (level_at source fuel).into (root source) (record { cell = Slot }) (zeroed source) in
     let next : Unit {0} → Store → End (List ℕ) = λ _ store. Go (store Slot) store (so_many_turns (leaving_turns source)) in
     ends-as-entered frame memory 0 (then_do evaluates next)
-      (subst (λ (p : Point). EndsAs (then_do evaluates next) (run_from frame memory p)) (here-first ty nodes)
-        (ends-as-then frame (here (first_shape ty nodes)) (here s1) memory (λ _ store later. Holds whole frame store later) evaluates next
-          (into.does.reaches whole frame grows sound is fuel (zeroed source) memory holds)
-          (λ value store middle claims. returns-after source s1 s2 frame span (leaving_turns source) leaves is store middle claims)))
+    (subst (λ (p : Point). EndsAs (then_do evaluates next) (run_from frame memory p)) (here-first ty nodes)
+    (ends-as-then frame (here (first_shape ty nodes)) (here s1) memory (λ _ store later. Holds whole frame store later) evaluates next
+    (into.does.reaches whole frame grows sound is fuel (zeroed source) memory holds)
+    (λ value store middle claims. returns-after source s1 s2 frame span (leaving_turns source) leaves is store middle claims)))
 
 -- the graph of a body does what the body means
 pub whole-simulates : (source : Source) (ty : Ty) (nodes : ℕ) (s1 s2 : Shape) (span : MirSpan) (body : MirBody) → AreAligned source.world → LowersInto source (first_shape ty nodes) s1 (root source) Slot → Leaves source s1 s2 (leaving_turns source) → body.basic_blocks ≡ (with_terminator (record { span = span; kind = Return }) s2).blocks → body.locals ≡ (with_terminator (record { span = span; kind = Return }) s2).locals → body.start_block.0 ≡ 0 → Simulates source body
@@ -135,14 +136,14 @@ whole-simulates source ty nodes s1 s2 span body aligned into leaves blocks local
       slot = (first.0, ap (λ (l : List Local). slice_get l 0) locals ∙ first.1, sound.slot first.0 first.1);
       cells = λ l local h. sound.cells l local (ap (λ (ls : List Local). slice_get ls l) (sym locals) ∙ h);
       runs = λ fuel begin h.
-        let all = begun-cells source.world body begin h in
-        let frame : Frame = record { body = body; cells = all.0.0 } in
-        let placing = places-all source.world aligned body.locals first_memory all.0 all.1 in
-        let placing' : Placing source.world whole.locals first_memory all.0.0 all.0.1 = subst (λ (l : List Local). Placing source.world l first_memory all.0.0 all.0.1) locals placing in
-        let is : IsFrameOf whole frame = record { blocks = blocks; locals = locals; apart = placing.apart } in
-        subst (λ (b : Frame × Memory). EndsAs (meaning_of source fuel) (λ budget. entering budget b.0 b.1 body.start_block.0)) (sym all.2)
+          let all = begun-cells source.world body begin h in
+          let frame : Frame = record { body = body; cells = all.0.0 } in
+          let placing = places-all source.world aligned body.locals first_memory all.0 all.1 in
+          let placing' : Placing source.world whole.locals first_memory all.0.0 all.0.1 = subst (λ (l : List Local). Placing source.world l first_memory all.0.0 all.0.1) locals placing in
+          let is : IsFrameOf whole frame = record { blocks = blocks; locals = locals; apart = placing.apart } in
+          subst (λ (b : Frame × Memory). EndsAs (meaning_of source fuel) (λ budget. entering budget b.0 b.1 body.start_block.0)) (sym all.2)
           (subst (λ (n : ℕ). EndsAs (meaning_of source fuel) (λ budget. entering budget frame all.0.1 n)) (sym start)
-            (runs-whole source ty nodes s1 s2 span frame all.0.1 sound into leaves is (starts-zeroed source whole frame all.0.1 sound placing') fuel));
+          (runs-whole source ty nodes s1 s2 span frame all.0.1 sound into leaves is (starts-zeroed source whole frame all.0.1 sound placing') fuel));
     }
 
 -- what lowering begins with
@@ -159,13 +160,14 @@ first-sound source ty nodes many typed =
       own = λ e f l h k. absurd (no-temp nodes e l h);
       typed = λ e i l h k. absurd (no-temp nodes e i h);
     } where
-  only-slot : (l : ℕ) (local : Local) → slice_get (first_shape ty nodes).locals l ≡ Some local → (e : ℕ) × Evaluates source (root source) e × (node_type source e ≡ Some local.ty)
-  only-slot zero local h = (let same : record { ty = ty } ≡ local = cc in (root source, itself, typed ∙ ap (λ (l : Local). Some l.ty) same))
-  only-slot (suc l) local h = cc
-  no-temp : (n e l : ℕ) → option_map (λ (local : LocalId). local.0) (option_and_then (λ temp. temp) (slice_get (replicate n None) e)) ≡ Some l → ⊥
-  no-temp zero e l h = cc
-  no-temp (suc n) zero l h = cc
-  no-temp (suc n) (suc e) l h = no-temp n e l h
+      only-slot : (l : ℕ) (local : Local) → slice_get (first_shape ty nodes).locals l ≡ Some local → (e : ℕ) × Evaluates source (root source) e × (node_type source e ≡ Some local.ty)
+      only-slot zero local h = (let same : record { ty = ty } ≡ local = cc in (root source, itself, typed ∙ ap (λ (l : Local). Some l.ty) same))
+      only-slot (suc l) local h = cc
+
+      no-temp : (n e l : ℕ) → option_map (λ (local : LocalId). local.0) (option_and_then (λ temp. temp) (slice_get (replicate n None) e)) ≡ Some l → ⊥
+      no-temp zero e l h = cc
+      no-temp (suc n) zero l h = cc
+      no-temp (suc n) (suc e) l h = no-temp n e l h
 
 pub first-open : (ty : Ty) (nodes : ℕ) → IsOpen (first_shape ty nodes)
 unfolding terminator_at

@@ -66,8 +66,8 @@ Reaches frame from to memory claim (More cost) = Unit {0}
 -- points evaluates the expression into the cell.
 pub record Does (source : Source) (old new : Shape) (e : ℕ) (cell : Cell) : Type 0 where
   pub reaches : (whole : Shape) (frame : Frame) → Grows new whole → IsSound source whole → IsFrameOf whole frame →
-    (fuel : ℕ) (store : Store) (memory : Memory) → Holds whole frame store memory →
-    Reaches frame (here old) (here new) memory (λ _ after later. Holds whole frame after later) ((level_at source fuel).into e (record { cell = cell }) store)
+      (fuel : ℕ) (store : Store) (memory : Memory) → Holds whole frame store memory →
+      Reaches frame (here old) (here new) memory (λ _ after later. Holds whole frame after later) ((level_at source fuel).into e (record { cell = cell }) store)
 
 -- an operand of the graph has the bytes of the source's operand whenever store and memory agree, and its type
 pub record Fits (source : Source) (whole : Shape) (frame : Frame) (e : ℕ) (value : Operand) (operand : OperandKind) : Type 0 where
@@ -77,12 +77,12 @@ pub record Fits (source : Source) (whole : Shape) (frame : Frame) (e : ℕ) (val
 -- the same for an expression evaluated as an operand
 pub record DoesOperand (source : Source) (old new : Shape) (e : ℕ) (operand : OperandKind) : Type 0 where
   pub reaches : (whole : Shape) (frame : Frame) → Grows new whole → IsSound source whole → IsFrameOf whole frame →
-    (fuel : ℕ) (store : Store) (memory : Memory) → Holds whole frame store memory →
-    Reaches frame (here old) (here new) memory (λ value after later. Holds whole frame after later × Fits source whole frame e value operand) ((level_at source fuel).operand e store)
+      (fuel : ℕ) (store : Store) (memory : Memory) → Holds whole frame store memory →
+      Reaches frame (here old) (here new) memory (λ value after later. Holds whole frame after later × Fits source whole frame e value operand) ((level_at source fuel).operand e store)
 
 -- and for one evaluated as a place
 pub record DoesPlace (source : Source) (old new : Shape) (e local : ℕ) : Type 0 where
   pub found : local_of new (Node e) ≡ Some local
   pub reaches : (whole : Shape) (frame : Frame) → Grows new whole → IsSound source whole → IsFrameOf whole frame →
-    (fuel : ℕ) (store : Store) (memory : Memory) → Holds whole frame store memory →
-    Reaches frame (here old) (here new) memory (λ path after later. Holds whole frame after later × (path ≡ record { cell = Node e })) ((level_at source fuel).place e store)
+      (fuel : ℕ) (store : Store) (memory : Memory) → Holds whole frame store memory →
+      Reaches frame (here old) (here new) memory (λ path after later. Holds whole frame after later × (path ≡ record { cell = Node e })) ((level_at source fuel).place e store)

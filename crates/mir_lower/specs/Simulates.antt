@@ -32,4 +32,4 @@ pub record Simulates (source : Source) (body : MirBody) : Type 0 where
   pub slot : (local : Local) × (slice_get body.locals 0 ≡ Some local) × (node_type source (root source) ≡ Some local.ty)
   pub cells : (l : ℕ) (local : Local) → slice_get body.locals l ≡ Some local → (e : ℕ) × Evaluates source (root source) e × (node_type source e ≡ Some local.ty)
   pub runs : (fuel : ℕ) (start : Frame × Memory) → begun source.world body ≡ Ok start →
-    EndsAs (meaning_of source fuel) (λ budget. entering budget start.0 start.1 body.start_block.0)
+      EndsAs (meaning_of source fuel) (λ budget. entering budget start.0 start.1 body.start_block.0)

@@ -14,8 +14,7 @@ use crate::context::Context;
 use crate::graph::{Graph, Marked};
 use crate::literal::node_ty;
 use mir::{
-    BasicBlockId, LocalId, MirSpan, Place, Statement, StatementKind, Terminator,
-    TerminatorKind,
+    BasicBlockId, LocalId, MirSpan, Place, Statement, StatementKind, Terminator, TerminatorKind,
 };
 use std::alloc::Global;
 use std::mem;
@@ -25,7 +24,12 @@ use world::{ExprId, NoMemory, Ty};
 fn is_copy(context: &Context<'_>, ty: &Ty) -> bool
     ensures { result ≡ is_copy_type context.now.infer.now ty.now }
 {
-    context.infer.copy_types.as_slice().iter().any(|copy| *ty == *copy)
+    context
+        .infer
+        .copy_types
+        .as_slice()
+        .iter()
+        .any(|copy| *ty == *copy)
 }
 
 /// Whether an expression's value is dropped at the end of its scope.

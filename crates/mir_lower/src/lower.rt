@@ -21,7 +21,9 @@ use crate::context::Context;
 use crate::form::{Form, form_of};
 use crate::graph::Graph;
 use crate::literal::{form_not_built, lower_literal, node_ty};
-use mir::{BinOp, MirLowerError, MirSpan, Operand, OperandKind, Place, Rvalue, Statement, StatementKind};
+use mir::{
+    BinOp, MirLowerError, MirSpan, Operand, OperandKind, Place, Rvalue, Statement, StatementKind,
+};
 use world::{ExprId, TryClone};
 
 /// The form of an expression of the body.
@@ -60,11 +62,7 @@ pub(crate) fn lower_operand(
 
 /// An expression that is no place goes into a local of its own, which is then its place.
 #[cycle(lower)]
-fn lower_place(
-    context: &Context<'_>,
-    graph: &mut Graph,
-    e: ExprId,
-) -> Result<Place, MirLowerError>
+fn lower_place(context: &Context<'_>, graph: &mut Graph, e: ExprId) -> Result<Place, MirLowerError>
     requires checked { IsCheckedBody context.now.body.now context.now.infer.now }
     requires sound { IsSound (source_of context.now) (shape graph.old) }
     requires opened { IsOpen (shape graph.old) }
@@ -137,7 +135,12 @@ fn lower_sum(
 {
     let left = lower_operand(context, graph, lhs)?;
     let right = lower_operand(context, graph, rhs)?;
-    assign(graph, place, Rvalue::CheckedBinaryOp(BinOp::Add, left, right), e)
+    assign(
+        graph,
+        place,
+        Rvalue::CheckedBinaryOp(BinOp::Add, left, right),
+        e,
+    )
 }
 
 /// Adds an assignment.

@@ -51,6 +51,6 @@ returns-clause-simulates c =
     let into : LowersInto source (first_shape c.in_ok-ty.ty c.len.result) s1 (root source) Result = subst (λ (s : Shape). LowersInto source s s1 (root source) Result) c.in_ok-graph.ensures (c.in_ok-lower_into.ensures.lowered Result refl) in
     let leaves = subst (λ (scope : List ℕ). Leaves source s1 s2 (drops source scope)) into.keeps.scope c.in_ok-leave_scope.ensures in
     whole-simulates source c.in_ok-ty.ty c.len.result s1 s2 (ExprId c.args.context.now.body.now.body_expr) c.into_body.result (are-aligned source.world c.requires.world) into leaves
-      (c.into_body.ensures.blocks ∙ ap (λ (s : Shape). s.blocks) c.set_terminator.ensures)
-      (c.into_body.ensures.locals ∙ ap (λ (s : Shape). s.locals) c.set_terminator.ensures)
-      c.into_body.ensures.start
+    (c.into_body.ensures.blocks ∙ ap (λ (s : Shape). s.blocks) c.set_terminator.ensures)
+    (c.into_body.ensures.locals ∙ ap (λ (s : Shape). s.locals) c.set_terminator.ensures)
+    c.into_body.ensures.start

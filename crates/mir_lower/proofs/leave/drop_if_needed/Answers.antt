@@ -13,12 +13,12 @@ pub returns-then-needed : goal.returns-then-needed
 returns-then-needed c =
     let source = source_of c.args.context.now in
     on_ok_weaker c.drop_local.result
-      (λ h. subst (λ (b : Bool). Leaves source (shape c.args.graph.now) (shape c.drop_local.new.graph) (one_if b)) (sym c.if-needed.true ∙ c.drops_node-needed.ensures)
-        (leaves-drop source (shape c.args.graph.now) (shape c.drop_local.new.graph) (record { local = c.args.marked.local }) h.0 None (ExprId c.args.root) c.requires.sound c.requires.opened h.1 h.2))
-      c.drop_local.ensures
+    (λ h. subst (λ (b : Bool). Leaves source (shape c.args.graph.now) (shape c.drop_local.new.graph) (one_if b)) (sym c.if-needed.true ∙ c.drops_node-needed.ensures)
+    (leaves-drop source (shape c.args.graph.now) (shape c.drop_local.new.graph) (record { local = c.args.marked.local }) h.0 None (ExprId c.args.root) c.requires.sound c.requires.opened h.1 h.2))
+    c.drop_local.ensures
 
 pub returns-else-needed : goal.returns-else-needed
 returns-else-needed c =
     let source = source_of c.args.context.now in
     subst (λ (b : Bool). Leaves source (shape c.args.graph.now) (shape c.args.graph.now) (one_if b)) (sym c.if-needed.false ∙ c.drops_node-needed.ensures)
-      (leaves-refl source (shape c.args.graph.now) c.requires.sound c.requires.opened)
+    (leaves-refl source (shape c.args.graph.now) c.requires.sound c.requires.opened)

@@ -16,10 +16,11 @@ loop-marked-preserved c =
     let source = source_of c.args.context.now in
     let before = c.loop-marked.invariant in
     let last = drops-last source c.loop-marked.scope.items c.pop.new.self.items c.in-Some.marked c.in-Some.ensures.items in
-    let turns = one_if (is_dropped source c.in-Some.marked.node.0) in
-    (before.0 + turns,
-     leaves-trans source (shape c.args.graph.now) (shape c.loop-marked.graph) (shape c.leave_local.new.graph) before.0 turns before.1 c.in_ok-leave_local.ensures,
-     (let sum = before.2 in omega (arith, last, sum)))
+    let turns = one_if (is_dropped source c.in-Some.marked.node.0) in (
+      before.0 + turns,
+      leaves-trans source (shape c.args.graph.now) (shape c.loop-marked.graph) (shape c.leave_local.new.graph) before.0 turns before.1 c.in_ok-leave_local.ensures,
+      (let sum = before.2 in omega (arith, last, sum)),
+    )
 
 pub returns : goal.returns
 returns c =

@@ -19,7 +19,7 @@ returns c =
     let first : Leaves source (shape c.args.graph.now) (shape c.drop_if_needed.new.graph) turns = c.in_ok-drop_if_needed.ensures in
     let plain : turns + 0 ≡ turns = omega arith in
     on_ok_weaker c.push_statement.result
-      (λ same. subst (λ (n : ℕ). Leaves source (shape c.args.graph.now) (shape c.push_statement.new.self) n) plain
-        (leaves-trans source (shape c.args.graph.now) (shape c.drop_if_needed.new.graph) (shape c.push_statement.new.self) turns 0 first
-          (leaves-dead source (shape c.drop_if_needed.new.graph) (shape c.push_statement.new.self) c.args.marked.local (ExprId c.args.root) first.sound first.«open» same)))
-      c.push_statement.ensures
+    (λ same. subst (λ (n : ℕ). Leaves source (shape c.args.graph.now) (shape c.push_statement.new.self) n) plain
+    (leaves-trans source (shape c.args.graph.now) (shape c.drop_if_needed.new.graph) (shape c.push_statement.new.self) turns 0 first
+    (leaves-dead source (shape c.drop_if_needed.new.graph) (shape c.push_statement.new.self) c.args.marked.local (ExprId c.args.root) first.sound first.«open» same)))
+    c.push_statement.ensures

@@ -18,6 +18,6 @@ pub returns : goal.returns
 returns c =
     let source = source_of c.args.context.now in
     on_ok_weaker c.leave_all.result
-      (λ left. subst (λ (scope : List Marked). Leaves source (shape c.args.graph.now) (shape c.leave_all.new.graph) (drops source (nodes_of scope))) (ap (λ v. v.items) c.replace-scope.ensures.value)
-        (leaves-scope source (shape c.args.graph.now) (shape c.leave_all.new.graph) (nodes_of c.replace-scope.new.dest.items) _ c.requires.opened left))
-      c.leave_all.ensures
+    (λ left. subst (λ (scope : List Marked). Leaves source (shape c.args.graph.now) (shape c.leave_all.new.graph) (drops source (nodes_of scope))) (ap (λ v. v.items) c.replace-scope.ensures.value)
+    (leaves-scope source (shape c.args.graph.now) (shape c.leave_all.new.graph) (nodes_of c.replace-scope.new.dest.items) _ c.requires.opened left))
+    c.leave_all.ensures

@@ -6,7 +6,8 @@ use Rattle.world.specs.declared.ty.MemoryMap.TheVariants.{Empty}
 use Rattle.mir_lower.proofs.literal.constant.Goals as goal
 
 pub returns-clause-lowered : goal.returns-clause-lowered
-returns-clause-lowered c =
-    (Value (record { ty = c.in_ok-try_clone.field-0; memory = c.args.memory; memory_map = Empty }),
-     ap (Constant (Value (record { ty = c.in_ok-try_clone.field-0; memory = c.args.memory; memory_map = Empty }))) c.in_ok-ty.ensures,
-     refl)
+returns-clause-lowered c = (
+  Value (record { ty = c.in_ok-try_clone.field-0; memory = c.args.memory; memory_map = Empty }),
+  ap (Constant (Value (record { ty = c.in_ok-try_clone.field-0; memory = c.args.memory; memory_map = Empty }))) c.in_ok-ty.ensures,
+  refl,
+)

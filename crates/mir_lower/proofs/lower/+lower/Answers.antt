@@ -20,14 +20,14 @@ use Rattle.mir_lower.proofs.lower.+lower.Goals as goal
 pub lower_into-returns-in_err-operand-in-Literal-clause-refused : goal.lower_into-returns-in_err-operand-in-Literal-clause-refused
 lower_into-returns-in_err-operand-in-Literal-clause-refused t c =
     refused-exit (RefusesAt (source_of c.args.context.now) c.args.e.0) _ c.from_residual.result c.from_residual.ensures.1
-      (λ error same. subst (RefusesAt (source_of c.args.context.now) c.args.e.0) (sym same) (refuses-here (source_of c.args.context.now) c.args.e.0 _ c.in_err-operand-in-Literal.ensures.refused))
+    (λ error same. subst (RefusesAt (source_of c.args.context.now) c.args.e.0) (sym same) (refuses-here (source_of c.args.context.now) c.args.e.0 _ c.in_err-operand-in-Literal.ensures.refused))
 
 pub lower_into-returns-in_ok-operand-in-Literal-clause-lowered : goal.lower_into-returns-in_ok-operand-in-Literal-clause-lowered
 lower_into-returns-in_ok-operand-in-Literal-clause-lowered t c =
     let source = source_of c.args.context.now in
     on_ok_weaker c.assign.result
-      (λ added cell local. lowers-literal source (shape c.args.graph.now) (shape c.assign.new.graph) c.args.e.0 c.in-Literal.literal.now c.args.place c.in_ok-operand-in-Literal.operand (ExprId c.args.e) c.requires.sound c.requires.opened c.in-Literal.ensures c.in_ok-operand-in-Literal.ensures.lowered added cell local)
-      c.assign.ensures.added
+    (λ added cell local. lowers-literal source (shape c.args.graph.now) (shape c.assign.new.graph) c.args.e.0 c.in-Literal.literal.now c.args.place c.in_ok-operand-in-Literal.operand (ExprId c.args.e) c.requires.sound c.requires.opened c.in-Literal.ensures c.in_ok-operand-in-Literal.ensures.lowered added cell local)
+    c.assign.ensures.added
 
 pub lower_into-returns-in_ok-operand-in-Literal-clause-refused : goal.lower_into-returns-in_ok-operand-in-Literal-clause-refused
 lower_into-returns-in_ok-operand-in-Literal-clause-refused t c =
@@ -43,8 +43,8 @@ pub lower_operand-returns-in-Literal-clause-lowered : goal.lower_operand-returns
 lower_operand-returns-in-Literal-clause-lowered t c =
     let source = source_of c.args.context.now in
     IfOk-weaker c.lower_literal.result _ _
-      (λ operand is. lowers-literal-operand source (shape c.args.graph.now) c.args.e.0 c.in-Literal.literal.now operand.kind c.requires.sound c.requires.opened c.in-Literal.ensures is)
-      c.lower_literal.ensures.lowered
+    (λ operand is. lowers-literal-operand source (shape c.args.graph.now) c.args.e.0 c.in-Literal.literal.now operand.kind c.requires.sound c.requires.opened c.in-Literal.ensures is)
+    c.lower_literal.ensures.lowered
 
 pub lower_operand-returns-in-Literal-clause-refused : goal.lower_operand-returns-in-Literal-clause-refused
 lower_operand-returns-in-Literal-clause-refused t c =
@@ -54,7 +54,7 @@ pub lower_operand-returns-in_ok-place-in_default : goal.lower_operand-returns-in
 lower_operand-returns-in_ok-place-in_default t c =
     record {
       lowered = lowers-place-operand (source_of c.args.context.now) (shape c.args.graph.now) (shape c.lower_place.new.graph) c.args.e.0 c.in_ok-place-in_default.place c.in_ok-place-in_default.ensures.lowered
-        (no-literal _ c.form_at.result c.form_at.ensures c.in_default.not-Literal);
+          (no-literal _ c.form_at.result c.form_at.ensures c.in_default.not-Literal);
       refused = tt;
     }
 
@@ -78,10 +78,19 @@ lower_place-returns-in_err-push_statement-clause-refused t c =
 pub lower_place-lower_into-requires : goal.lower_place-lower_into-requires
 lower_place-lower_into-requires t c =
     let given = given-local (source_of c.args.context.now) (shape c.args.graph.now) (shape c.temp_for.new.self) c.args.e.0 c.in_ok-local.local.0 c.in_ok-ty.ty c.requires.sound c.requires.opened c.requires.within (sym c.in-Some.ensures ∙ ap Some (sym c.in_ok-ty.ensures)) c.requires.reached c.in_ok-local.ensures.old c.in_ok-local.ensures.new in
-    let live : Statement = record { kind = StorageLive c.in_ok-local.local; span = ExprId c.args.e } in
-    (omega arith, (c.requires.checked, (
-      subst (IsSound (source_of c.args.context.now)) (sym c.in_ok-push_statement.ensures) (with_statement-sound (source_of c.args.context.now) live (shape c.temp_for.new.self) given.«open» given.sound), (
-      subst IsOpen (sym c.in_ok-push_statement.ensures) (with_statement-open live (shape c.temp_for.new.self) given.«open»), (c.requires.within, c.requires.reached)))))
+    let live : Statement = record { kind = StorageLive c.in_ok-local.local; span = ExprId c.args.e } in (
+      omega arith,
+      (
+        c.requires.checked,
+        (
+          subst (IsSound (source_of c.args.context.now)) (sym c.in_ok-push_statement.ensures) (with_statement-sound (source_of c.args.context.now) live (shape c.temp_for.new.self) given.«open» given.sound),
+          (
+            subst IsOpen (sym c.in_ok-push_statement.ensures) (with_statement-open live (shape c.temp_for.new.self) given.«open»),
+            (c.requires.within, c.requires.reached),
+          ),
+        ),
+      ),
+    )
 
 pub lower_place-returns-clause-lowered : goal.lower_place-returns-clause-lowered
 lower_place-returns-clause-lowered t c =
@@ -89,7 +98,7 @@ lower_place-returns-clause-lowered t c =
     let live : Statement = record { kind = StorageLive c.in_ok-local.local; span = ExprId c.args.e } in
     let found = ap (λ (s : Shape). temp_of s c.args.e.0) c.in_ok-push_statement.ensures ∙ (with_statement-grows live (shape c.temp_for.new.self) given.«open»).temps c.args.e.0 c.in_ok-local.local.0 given.found in
     lowers-place (source_of c.args.context.now) (shape c.args.graph.now) (shape c.temp_for.new.self) (shape c.push_statement.new.self) (shape c.lower_into.new.graph) c.args.e.0 c.in_ok-local.local (ExprId c.args.e) given c.in_ok-push_statement.ensures
-      (c.in_ok-lower_into.ensures.lowered (Node c.args.e.0) found)
+    (c.in_ok-lower_into.ensures.lowered (Node c.args.e.0) found)
 
 pub lower_sum-lower_operand-requires : goal.lower_sum-lower_operand-requires
 lower_sum-lower_operand-requires t c =
@@ -100,7 +109,7 @@ lower_sum-lower_operand-requires t c =
 pub lower_sum-returns-in_err-left-clause-refused : goal.lower_sum-returns-in_err-left-clause-refused
 lower_sum-returns-in_err-left-clause-refused t c =
     refused-exit (RefusesAt (source_of c.args.context.now) c.args.e.0) _ c.from_residual.result c.from_residual.ensures.1
-      (λ error same. subst (RefusesAt (source_of c.args.context.now) c.args.e.0) (sym same) (refuses-left (source_of c.args.context.now) c.args.e.0 c.args.lhs c.args.rhs _ c.requires.form c.in_err-left.ensures.refused))
+    (λ error same. subst (RefusesAt (source_of c.args.context.now) c.args.e.0) (sym same) (refuses-left (source_of c.args.context.now) c.args.e.0 c.args.lhs c.args.rhs _ c.requires.form c.in_err-left.ensures.refused))
 
 pub lower_sum-lower_operand-requires-2 : goal.lower_sum-lower_operand-requires-2
 lower_sum-lower_operand-requires-2 t c =
@@ -111,13 +120,13 @@ lower_sum-lower_operand-requires-2 t c =
 pub lower_sum-returns-in_err-right-clause-refused : goal.lower_sum-returns-in_err-right-clause-refused
 lower_sum-returns-in_err-right-clause-refused t c =
     refused-exit (RefusesAt (source_of c.args.context.now) c.args.e.0) _ c.from_residual-in_err-right.result c.from_residual-in_err-right.ensures.1
-      (λ error same. subst (RefusesAt (source_of c.args.context.now) c.args.e.0) (sym same) (refuses-right (source_of c.args.context.now) c.args.e.0 c.args.lhs c.args.rhs _ c.requires.form c.in_err-right.ensures.refused))
+    (λ error same. subst (RefusesAt (source_of c.args.context.now) c.args.e.0) (sym same) (refuses-right (source_of c.args.context.now) c.args.e.0 c.args.lhs c.args.rhs _ c.requires.form c.in_err-right.ensures.refused))
 
 pub lower_sum-returns-clause-lowered : goal.lower_sum-returns-clause-lowered
 lower_sum-returns-clause-lowered t c =
     on_ok_weaker c.assign.result
-      (λ added cell local. lowers-sum (source_of c.args.context.now) (shape c.args.graph.now) (shape c.lower_operand.new.graph) (shape c.lower_operand-2.new.graph) (shape c.assign.new.graph) c.args.e.0 c.args.lhs c.args.rhs c.in_ok-left.left c.in_ok-right.right c.args.place (ExprId c.args.e) c.requires.checked c.requires.within c.requires.form c.in_ok-left.ensures.lowered c.in_ok-right.ensures.lowered added cell local)
-      c.assign.ensures.added
+    (λ added cell local. lowers-sum (source_of c.args.context.now) (shape c.args.graph.now) (shape c.lower_operand.new.graph) (shape c.lower_operand-2.new.graph) (shape c.assign.new.graph) c.args.e.0 c.args.lhs c.args.rhs c.in_ok-left.left c.in_ok-right.right c.args.place (ExprId c.args.e) c.requires.checked c.requires.within c.requires.form c.in_ok-left.ensures.lowered c.in_ok-right.ensures.lowered added cell local)
+    c.assign.ensures.added
 
 pub lower_sum-returns-clause-refused : goal.lower_sum-returns-clause-refused
 lower_sum-returns-clause-refused t c =
