@@ -10,7 +10,10 @@ work=$(mktemp -d)
 trap 'rm -rf "$work"' EXIT
 
 # Proves and builds the program, and runs it once on the sample of the repository.
-(cd "$crate" && rt run < stdin > "$work/sample")
+if ! (cd "$crate" && rt run < stdin > "$work/sample"); then
+    cat "$work/sample"
+    exit 2
+fi
 
 python3 "$here/many_constants.py" "$count" > "$work/input"
 echo "constants: $count"
