@@ -64,10 +64,11 @@ unfolding cells_of
 cells-there world [] memory sized = (([], memory), refl)
 cells-there world (local ∷ locals) memory sized =
     let first = sized 0 local refl in
-    let rest = cells-there world locals (with_cell first.0 memory).1 (λ l other there. sized (suc l) other there) in
-    (((with_cell first.0 memory).0 ∷ rest.0.0, rest.0.1),
+    let rest = cells-there world locals (with_cell first.0 memory).1 (λ l other there. sized (suc l) other there) in (
+      ((with_cell first.0 memory).0 ∷ rest.0.0, rest.0.1),
       ap (λ (r : Result (Interval × Memory) MirEvalError). elim r [ Ok cell ↦ cell_before cell.0 (cells_of world locals cell.1) | Err e ↦ Err e ]) (placed-sized local.ty first.0 memory (layout_of world local.ty) first.1 first.2)
-      ∙ ap (cell_before (with_cell first.0 memory).0) rest.1)
+          ∙ ap (cell_before (with_cell first.0 memory).0) rest.1,
+    )
 
 begun-from : (world : HirDatabase) (body : MirBody) (all : List Interval × Memory) → cells_of world body.locals first_memory ≡ Ok all → begun world body ≡ Ok (record { body = body; cells = all.0 }, all.1)
 unfolding begun
@@ -78,11 +79,11 @@ pub begins : (source : Source) (body : MirBody) → Simulates source body → Ha
 begins source body simulates cost =
     let all = cells-there source.world body.locals first_memory sized in
     ((record { body = body; cells = all.0.0 }, all.0.1), begun-from source.world body all.0 all.1) where
-  sized : (l : ℕ) (local : Local) → slice_get body.locals l ≡ Some local → HasLayout source.world local
-  sized l local there =
-      let cell = simulates.cells l local there in
-      let layout = cost cell.0 cell.1 in
-      (layout.layout, ap (option_and_then (layout_of source.world)) (sym cell.2) ∙ layout.found, layout.sized)
+      sized : (l : ℕ) (local : Local) → slice_get body.locals l ≡ Some local → HasLayout source.world local
+      sized l local there =
+          let cell = simulates.cells l local there in
+          let layout = cost cell.0 cell.1 in
+          (layout.layout, ap (option_and_then (layout_of source.world)) (sym cell.2) ∙ layout.found, layout.sized)
 
 -- why a body can't begin, which is no end of a frame
 abbrev IsFrameless : MirEvalError → Type 0
@@ -114,7 +115,7 @@ unfolding cells_of
 cells-frameless world [] memory = tt
 cells-frameless world (local ∷ locals) memory =
     then-frameless (placed local.ty (layout_of world local.ty) memory) (λ first. cell_before first.0 (cells_of world locals first.1)) (placed-frameless local.ty (layout_of world local.ty) memory)
-      (λ first. before-frameless first.0 (cells_of world locals first.1) (cells-frameless world locals first.1))
+    (λ first. before-frameless first.0 (cells_of world locals first.1) (cells-frameless world locals first.1))
 
 begun-frameless : (world : HirDatabase) (body : MirBody) → FailsFrameless (begun world body)
 unfolding begun

@@ -88,34 +88,34 @@ module _ (source : Source) (body : MirBody) (simulates : Simulates source body) 
   value-of-end : (end : End (List ℕ)) → Gives source end → EndsAs end Run → end ≢ Stuck → (konst : Const) → Ok konst ≡ outcome_of body (Run blocks).ending → GivesValue source konst
   value-of-end (Go bytes store cost) gives ends unstuck konst h =
       ⊎_elim (λ out. absurd (value-is-no-fault konst _ (h ∙ ap (λ (ended : Ended). outcome_of body ended.ending) out ∙ faulted-outcome body _)))
-        (λ returned. record {
-          ty = simulates.slot.0.ty;
-          typed = simulates.slot.2;
-          bytes = bytes;
-          store = store;
-          cost = cost;
-          gives = gives;
-          same = same-constant konst _ (h ∙ ap (outcome_of body) returned ∙ returned-outcome body simulates.slot.0 bytes simulates.slot.1);
-        })
-        (runs-under cost.turns (Returned bytes) Run ends blocks)
+      (λ returned. record {
+        ty = simulates.slot.0.ty;
+        typed = simulates.slot.2;
+        bytes = bytes;
+        store = store;
+        cost = cost;
+        gives = gives;
+        same = same-constant konst _ (h ∙ ap (outcome_of body) returned ∙ returned-outcome body simulates.slot.0 bytes simulates.slot.1);
+      })
+      (runs-under cost.turns (Returned bytes) Run ends blocks)
   value-of-end (Panic word cost) gives ends unstuck konst h =
       ⊎_elim (λ out. absurd (value-is-no-fault konst _ (h ∙ ap (λ (ended : Ended). outcome_of body ended.ending) out ∙ faulted-outcome body _)))
-        (λ faulted. absurd (value-is-no-fault konst _ (h ∙ ap (outcome_of body) faulted ∙ faulted-outcome body _)))
-        (runs-under cost.turns (Faulted (error.Panic word)) Run ends blocks)
+      (λ faulted. absurd (value-is-no-fault konst _ (h ∙ ap (outcome_of body) faulted ∙ faulted-outcome body _)))
+      (runs-under cost.turns (Faulted (error.Panic word)) Run ends blocks)
   value-of-end Stuck gives ends unstuck konst h = absurd (unstuck refl)
   value-of-end (More cost) gives ends unstuck konst h = absurd gives.over
 
   panic-of-end : (end : End (List ℕ)) → Gives source end → EndsAs end Run → end ≢ Stuck → (word : List ℕ) → Err (panic_of word) ≡ carried (outcome_of body (Run blocks).ending) → GivesPanic source word
   panic-of-end (Go bytes store cost) gives ends unstuck word h =
       ⊎_elim (λ out. absurd (panic-is-no-limit word (h ∙ ap (λ (ended : Ended). carried (outcome_of body ended.ending)) out ∙ ap carried (faulted-outcome body _))))
-        (λ returned. absurd (value-is-no-panic _ word (h ∙ ap (λ ending. carried (outcome_of body ending)) returned ∙ ap carried (returned-outcome body simulates.slot.0 bytes simulates.slot.1))))
-        (runs-under cost.turns (Returned bytes) Run ends blocks)
+      (λ returned. absurd (value-is-no-panic _ word (h ∙ ap (λ ending. carried (outcome_of body ending)) returned ∙ ap carried (returned-outcome body simulates.slot.0 bytes simulates.slot.1))))
+      (runs-under cost.turns (Returned bytes) Run ends blocks)
   panic-of-end (Panic said cost) gives ends unstuck word h =
       ⊎_elim (λ out. absurd (panic-is-no-limit word (h ∙ ap (λ (ended : Ended). carried (outcome_of body ended.ending)) out ∙ ap carried (faulted-outcome body _))))
-        (λ faulted.
-          let same = same-panic word said (h ∙ ap (λ ending. carried (outcome_of body ending)) faulted ∙ ap carried (faulted-outcome body _)) in
-          subst (GivesPanic source) (sym same) (record { cost = cost; gives = gives }))
-        (runs-under cost.turns (Faulted (error.Panic said)) Run ends blocks)
+      (λ faulted.
+      let same = same-panic word said (h ∙ ap (λ ending. carried (outcome_of body ending)) faulted ∙ ap carried (faulted-outcome body _)) in
+      subst (GivesPanic source) (sym same) (record { cost = cost; gives = gives }))
+      (runs-under cost.turns (Faulted (error.Panic said)) Run ends blocks)
   panic-of-end Stuck gives ends unstuck word h = absurd (unstuck refl)
   panic-of-end (More cost) gives ends unstuck word h = absurd gives.over
 

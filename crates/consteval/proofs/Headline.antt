@@ -67,7 +67,7 @@ module _ (world : HirDatabase) (checked : IsChecked world) (def : DefWithBodyId)
         let cost = has-cost Of body ran.start checked simulates ran.began valid.plain in
         let end = ended in
         gives-value Of body simulates ran.start ran.began blocks (meaning_of Of end.0) (record { fuel = end.0; reached = refl; over = end.1 }) (never-stuck cost end.0) konst
-          (carried-value runs.outcome konst (sym is ∙ runs.is) ∙ ran.ended)
+        (carried-value runs.outcome konst (sym is ∙ runs.is) ∙ ran.ended)
 
     run-panic : (body : MirBody) → IsLowered world def body → RunsTo world body blocks turns answer → (word : List ℕ) → answer ≡ Err (panic_of word) → GivesPanic Of word
     run-panic body lowered runs word is =
@@ -76,7 +76,7 @@ module _ (world : HirDatabase) (checked : IsChecked world) (def : DefWithBodyId)
         let cost = has-cost Of body ran.start checked simulates ran.began valid.plain in
         let end = ended in
         gives-panic Of body simulates ran.start ran.began blocks (meaning_of Of end.0) (record { fuel = end.0; reached = refl; over = end.1 }) (never-stuck cost end.0) word
-          (sym is ∙ runs.is ∙ ap carried ran.ended)
+        (sym is ∙ runs.is ∙ ap carried ran.ended)
 
     run-completes : (body : MirBody) → IsLowered world def body → RunsTo world body blocks turns answer → AnswersWithin Of blocks answer
     run-completes body lowered runs =
@@ -93,29 +93,29 @@ module _ (world : HirDatabase) (checked : IsChecked world) (def : DefWithBodyId)
     body-value : (body : MirBody) → IsLowered world def body → AnswersBody world def body blocks turns answer → (konst : Const) → answer ≡ Ok konst → GivesValue Of konst
     body-value body lowered answers konst is =
         ⊎_elim (λ runs. run-value body lowered runs konst is)
-          (⊎_elim (λ refused. let err = refused.2.0 in absurd cc) (λ none. absurd cc)) answers
+        (⊎_elim (λ refused. let err = refused.2 in absurd cc) (λ none. absurd cc)) answers
 
     body-panic : (body : MirBody) → IsLowered world def body → AnswersBody world def body blocks turns answer → (word : List ℕ) → answer ≡ Err (panic_of word) → GivesPanic Of word
     body-panic body lowered answers word is =
         ⊎_elim (λ runs. run-panic body lowered runs word is)
-          (⊎_elim (λ refused. let err = refused.2.0 in let same : from_eval_error refused.1 ≡ panic_of word = cc in absurd (refused-run-is-no-panic world def body refused.1 word refused.2.1 same)) (λ none. absurd cc)) answers
+        (⊎_elim (λ refused. let err = refused.2 in let same : from_eval_error refused.1 ≡ panic_of word = cc in absurd (refused-run-is-no-panic world def body refused.1 word refused.3 same)) (λ none. absurd cc)) answers
 
     body-completes : (body : MirBody) → IsLowered world def body → HasDefinedCost Of → AnswersBody world def body blocks turns answer → AnswersWithin Of blocks answer
     body-completes body lowered cost answers =
         ⊎_elim (λ runs. run-completes body lowered runs)
-          (⊎_elim (λ refused. absurd (run-is-not-refused world def args row body refused.1 valid (simulated body lowered) cost refused.2.1)) (λ none. out-of-memory none)) answers
+        (⊎_elim (λ refused. absurd (run-is-not-refused world def args row body refused.1 valid (simulated body lowered) cost refused.3)) (λ none. out-of-memory none)) answers
 
     pub answer-value : (kept : Kept) → kept.world ≡ world → IsSound kept → HasCause kept def args blocks turns answer → (konst : Const) → answer ≡ Ok konst → GivesValue Of konst
     answer-value kept same sound cause konst is =
         ⊎_elim (λ answers. body-value answers.1 (subst (λ w. IsLowered w def answers.1) same (sound.bodies def answers.1 answers.2)) (subst (λ w. AnswersBody w def answers.1 blocks turns answer) same answers.3) konst is)
-          (⊎_elim (λ refused. let err = refused.2.0 in absurd cc) (λ none. absurd cc)) cause
+        (⊎_elim (λ refused. let err = refused.2 in absurd cc) (λ none. absurd cc)) cause
 
     pub answer-panic : (kept : Kept) → kept.world ≡ world → IsSound kept → HasCause kept def args blocks turns answer → (word : List ℕ) → answer ≡ Err (panic_of word) → GivesPanic Of word
     answer-panic kept same sound cause word is =
         ⊎_elim (λ answers. body-panic answers.1 (subst (λ w. IsLowered w def answers.1) same (sound.bodies def answers.1 answers.2)) (subst (λ w. AnswersBody w def answers.1 blocks turns answer) same answers.3) word is)
-          (⊎_elim (λ refused. let err = refused.2.0 in let panics : from_lower_error refused.1 ≡ panic_of word = cc in absurd (lower-error-is-no-panic refused.1 word panics)) (λ none. absurd cc)) cause
+        (⊎_elim (λ refused. let err = refused.2 in let panics : from_lower_error refused.1 ≡ panic_of word = cc in absurd (lower-error-is-no-panic refused.1 word panics)) (λ none. absurd cc)) cause
 
     pub answer-completes : (kept : Kept) → kept.world ≡ world → IsSound kept → HasDefinedCost Of → HasCause kept def args blocks turns answer → AnswersWithin Of blocks answer
     answer-completes kept same sound cost cause =
         ⊎_elim (λ answers. body-completes answers.1 (subst (λ w. IsLowered w def answers.1) same (sound.bodies def answers.1 answers.2)) cost (subst (λ w. AnswersBody w def answers.1 blocks turns answer) same answers.3))
-          (⊎_elim (λ refused. out-of-memory (refused.2.0 ∙ ap (λ e. Err (from_lower_error e)) (lowering-is-not-refused world def args row refused.1 checked valid cost (subst (λ w. RefusesBody w def args refused.1) same refused.2.1)))) (λ none. out-of-memory none)) cause
+        (⊎_elim (λ refused. out-of-memory (refused.2 ∙ ap (λ e. Err (from_lower_error e)) (lowering-is-not-refused world def args row refused.1 checked valid cost (subst (λ w. RefusesBody w def args refused.1) same refused.3)))) (λ none. out-of-memory none)) cause

@@ -1,5 +1,5 @@
 -- What a valid body with a defined cost is refused for: want of memory alone.
-use Rattle.std.proofs.Common.{◌≡◌, ◌≢◌, ℕ, ◌<◌, ◌⊎◌, ⊎_elim, Bool, true, false, List, [], Option, Some, None, Result, Ok, Err, refl, sym, ap, ◌∙◌, subst, arith}
+use Rattle.std.proofs.Common.{◌≡◌, ◌≢◌, ℕ, ◌<◌, ◌≤◌, ◌⊎◌, ⊎_elim, eqb-true, Bool, true, false, List, [], Option, Some, None, Result, Ok, Err, refl, sym, ap, ◌∙◌, subst, arith}
 use Rattle.std.specs.Prelude.{IsTrue, option_and_then, codes, ◌==◌, ◌||◌}
 use Rattle.world.specs.declared.body.ArithOp.TheVariants.{Add}
 use Rattle.world.specs.declared.body.BinaryOp.TheVariants.{ArithOp}
@@ -58,26 +58,34 @@ eval-error-is-no-panic error.NoMemory word differs h = cc
 pub refused-run-is-no-panic : (world : HirDatabase) (def : DefWithBodyId) (body : MirBody) (e : MirEvalError) (word : List ℕ) → RefusesRun world def body e → from_eval_error e ≡ panic_of word → ⊥
 refused-run-is-no-panic world def body e word refuses =
     eval-error-is-no-panic e word (λ framed.
-      ⊎_elim (λ data_layout. let is = data_layout.0 in absurd cc)
-        (⊎_elim (λ other. let is = other.0 in absurd cc) (λ is. begun-is-frameless world body e (error.Panic word) [] is framed)) refuses)
+    ⊎_elim (λ data_layout. let is = data_layout.0 in absurd cc)
+    (⊎_elim (λ other. let is = other.0 in absurd cc) (λ is. begun-is-frameless world body e (error.Panic word) [] is framed)) refuses)
 
 -- a valid body with a defined cost can begin
 pub run-is-not-refused : (world : HirDatabase) (def : DefWithBodyId) (args : GenericArgs) (row : BodyRow) (body : MirBody) (e : MirEvalError) → IsValid world def args row → Simulates (source_of world row) body → HasDefinedCost (source_of world row) → RefusesRun world def body e → ⊥
 run-is-not-refused world def args row body e valid simulates cost =
     ⊎_elim (λ none. let is = none.1 in let there = valid.pointers in cc)
-      (⊎_elim (λ other. other.1 valid.pointers) (λ refused. let can = begins (source_of world row) body simulates cost in let is = can.1 in cc))
+    (⊎_elim (λ other. other.1 valid.pointers) (λ refused. let can = begins (source_of world row) body simulates cost in let is = can.1 in cc))
+
+-- two numbers that differ are told apart
+not-by : (size width : ℕ) (b : Bool) → (size == width) ≡ b → width < size → b ≡ false
+not-by size width true is less = let same = eqb-true size width is in absurd (omega arith)
+not-by size width false is less = refl
+
+is-not : (size width : ℕ) → 16 < size → width ≤ 16 → (size == width) ≡ false
+is-not size width wide le = not-by size width (size == width) refl (omega arith)
 
 -- the size of an integer is at most 16 bytes
 wide-is-no-width : (size : ℕ) → is_width size ≡ true → 16 < size → ⊥
 wide-is-no-width size is wide =
-    let one : (size == 1) ≡ false = eqb-false size 1 (omega arith) in
-    let two : (size == 2) ≡ false = eqb-false size 2 (omega arith) in
-    let four : (size == 4) ≡ false = eqb-false size 4 (omega arith) in
-    let eight : (size == 8) ≡ false = eqb-false size 8 (omega arith) in
-    let sixteen : (size == 16) ≡ false = eqb-false size 16 (omega arith) in
+    let one = is-not size 1 wide (omega arith) in
+    let two = is-not size 2 wide (omega arith) in
+    let four = is-not size 4 wide (omega arith) in
+    let eight = is-not size 8 wide (omega arith) in
+    let sixteen = is-not size 16 wide (omega arith) in
     let none : is_width size ≡ false =
-      ap (λ b. b || size == 2 || size == 4 || size == 8 || size == 16) one ∙ ap (λ b. b || size == 4 || size == 8 || size == 16) two
-      ∙ ap (λ b. b || size == 8 || size == 16) four ∙ ap (λ b. b || size == 16) eight ∙ sixteen in
+    ap (λ b. b || size == 2 || size == 4 || size == 8 || size == 16) one ∙ ap (λ b. b || size == 4 || size == 8 || size == 16) two
+    ∙ ap (λ b. b || size == 8 || size == 16) four ∙ ap (λ b. b || size == 16) eight ∙ sixteen in
     cc
 
 -- no plain form lacks an operator, or is unbuilt
@@ -110,8 +118,8 @@ refuses-node source e (refusal.LayoutError layout_error) checked plain sized ref
 refuses-node source e refusal.IncompleteExpr checked plain sized refuses = absurd (plain-has-operator source (node source e) plain.ty plain.form refuses)
 refuses-node source e refusal.HasErrors checked plain sized refuses = absurd refuses
 refuses-node source e (refusal.TypeError text) checked plain sized refuses =
-    let layout : layout_of source.world plain.ty ≡ Some refuses.2.1 = ap (option_and_then (layout_of source.world)) (sym plain.has_type) ∙ refuses.2.2 in
-    absurd (wide-is-no-width refuses.2.1.size (integer_is_width source.world plain.ty refuses.2.1 checked (number-is-integer source (node source e) plain.ty plain.form refuses.1) layout) refuses.2.3)
+    let layout : layout_of source.world plain.ty ≡ Some refuses.2 = ap (option_and_then (layout_of source.world)) (sym plain.has_type) ∙ refuses.3 in
+    absurd (wide-is-no-width refuses.2.size (integer_is_width source.world plain.ty refuses.2 checked (number-is-integer source (node source e) plain.ty plain.form refuses.1) layout) refuses.4)
 refuses-node source e (refusal.NotSupported text) checked plain sized refuses = absurd (plain-is-built source (node source e) plain.ty plain.form refuses.1)
 refuses-node source e refusal.NoMemory checked plain sized refuses = refl
 
@@ -123,8 +131,8 @@ no-typing-errors world row inferred fitting = ⊎_elim (λ erroneous. cc) (λ so
 pub lowering-is-not-refused : (world : HirDatabase) (def : DefWithBodyId) (args : GenericArgs) (row : BodyRow) (e : MirLowerError) → IsChecked world → IsValid world def args row → HasDefinedCost (source_of world row) → RefusesBody world def args e → e ≡ refusal.NoMemory
 lowering-is-not-refused world def args row e checked valid cost =
     ⊎_elim (λ missing. absurd (let is = missing.1 in let there = valid.body in cc))
-      (⊎_elim (λ given. absurd (given.1 valid.no_args)) (λ refused.
-        let same : refused.0 ≡ row = (let is = refused.1 in let there = valid.body in cc) in
-        ⊎_elim (λ errors. absurd (no-typing-errors world row valid.inferred valid.fitting errors.1))
-          (λ at. refuses-node (source_of world row) at.0 e checked (valid.plain at.0 at.1) (cost at.0 at.1) at.2)
-          (subst (λ (r : BodyRow). Refuses (source_of world r) e) same refused.2)))
+    (⊎_elim (λ given. absurd (given.1 valid.no_args)) (λ refused.
+    let same : refused.0 ≡ row = (let is = refused.1 in let there = valid.body in cc) in
+    ⊎_elim (λ errors. absurd (no-typing-errors world row valid.inferred valid.fitting errors.1))
+    (λ at. refuses-node (source_of world row) at.0 e checked (valid.plain at.0 at.1) (cost at.0 at.1) at.2)
+    (subst (λ (r : BodyRow). Refuses (source_of world r) e) same refused.2)))

@@ -57,7 +57,7 @@ OrNoMemory answer expected = (answer ≡ expected) ⊎ (answer ≡ Err constant.
 -- within so many blocks the answer is what the source means, or want of memory
 pub record AnswersWithin (source : Source) (blocks : ℕ) (answer : Result Const ConstEvalError) : Type 0 where
   pub value : (ty : Ty) (bytes : List ℕ) (store : Store) (cost : Cost) → node_type source (root source) ≡ Some ty →
-    Gives source (Go bytes store cost) → cost.turns ≤ blocks → OrNoMemory answer (Ok (constant_of ty bytes))
+      Gives source (Go bytes store cost) → cost.turns ≤ blocks → OrNoMemory answer (Ok (constant_of ty bytes))
   pub panic : (word : List ℕ) (cost : Cost) → Gives source (Panic word cost) → cost.turns ≤ blocks → OrNoMemory answer (Err (panic_of word))
 
 -- a machine's outcome as an answer

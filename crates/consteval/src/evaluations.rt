@@ -54,11 +54,12 @@ fn share(body: &Rc<MirBody>) -> Result<Rc<MirBody>, NoMemory>
 }
 
 impl<'w> Evaluations<'w> {
-    ghost use Rattle.std.specs.Prelude.{◌≡◌, ◌⊎◌, ◌≤◌, [], Some, Ok, Err, IfOk, IfErr, OnOk, IsOk, IsSome, Contains};
+    ghost use Rattle.std.specs.Prelude.{◌≡◌, ◌⊎◌, ◌≤◌, [], Some, Ok, Err, IfOk, IfErr, IfSome, OnOk, IsOk, Contains};
     ghost use Rattle.mir.specs.declared.errors.MirLowerError.TheVariants as refusal;
     ghost use Rattle.mir_eval.specs.Limits.{IsWithin};
     ghost use Rattle.source_meaning.specs.Valid.{HasDefinedCost};
-    ghost use Rattle.consteval.specs.Kept.{source_of, IsValueOf, IsKept, Stays};
+    ghost use Rattle.world_check.specs.Checked.{IsChecked};
+    ghost use Rattle.consteval.specs.Kept.{IsKept, IsSound, IsValueOf, Stays, source_of};
     ghost use Rattle.consteval.specs.Valid.{IsValid};
     ghost use Rattle.consteval.specs.Answers.{GivesValue, GivesPanic, AnswersWithin, HasCause, RefusesBody, panic_of};
 
@@ -84,6 +85,45 @@ impl<'w> Evaluations<'w> {
         self.world
     }
 
+    /// Lowers the body of a definition, and keeps it.
+    fn new_body(
+        &mut self,
+        def: DefWithBodyId,
+        args: &GenericArgs,
+    ) -> Result<Rc<MirBody>, MirLowerError>
+        ensures found { IfOk result (λ body. Contains self.new.bodies (def, body.value)) }
+        ensures given { OnOk result (args.now.0 ≡ []) }
+        ensures refused { IfErr result (λ e. (e ≡ refusal.NoMemory) ⊎ RefusesBody self.old.world def args.now e) }
+        ensures stays { Stays self.old self.new }
+        ensures sound { IsSound self.new }
+    {
+        let body = match lower(self.alloc, self.world, def, args) {
+            Ok(body) => body,
+            Err(error) => return Err(error),
+        };
+        let Ok(body) = shared(self.alloc, body) else {
+            return Err(MirLowerError::NoMemory);
+        };
+        let Ok(more) = share(&body) else {
+            return Err(MirLowerError::NoMemory);
+        };
+        match keep(&mut self.body_places, &mut self.bodies, def, more) {
+            Ok(()) => Ok(body),
+            Err(_) => Err(MirLowerError::NoMemory),
+        }
+    }
+
+    /// The lowered body of a definition that is given no arguments, where it is kept.
+    fn old_body(&self, def: DefWithBodyId, args: &GenericArgs) -> Option<&Rc<MirBody>>
+        ensures { IfSome result (λ body. Contains self.now.bodies (def, body.now.value) × (args.now.0 ≡ [])) }
+    {
+        if args.0.as_slice().is_empty() {
+            find(&self.body_places, self.bodies.as_slice(), def)
+        } else {
+            None
+        }
+    }
+
     /// The lowered body of a definition: the kept one, or a new one, which is then kept.
     fn body_of(
         &mut self,
@@ -94,17 +134,31 @@ impl<'w> Evaluations<'w> {
         ensures given { OnOk result (args.now.0 ≡ []) }
         ensures refused { IfErr result (λ e. (e ≡ refusal.NoMemory) ⊎ RefusesBody self.old.world def args.now e) }
         ensures stays { Stays self.old self.new }
+        ensures sound { IsSound self.new }
     {
-        if args.0.as_slice().is_empty() {
-            if let Some(body) = find(&self.body_places, self.bodies.as_slice(), def) {
-                return Ok(share(body)?);
-            }
+        if let Some(body) = self.old_body(def, args) {
+            return match share(body) {
+                Ok(body) => Ok(body),
+                Err(_) => Err(MirLowerError::NoMemory),
+            };
         }
-        let body = lower(self.alloc, self.world, def, args)?;
-        let body = shared(self.alloc, body)?;
-        let kept = share(&body)?;
-        keep(&mut self.body_places, &mut self.bodies, def, kept)?;
-        Ok(body)
+        self.new_body(def, args)
+    }
+
+    /// The answer of a run of the definition's body, before its value is kept.
+    fn answer(&mut self, def: DefWithBodyId, args: &GenericArgs, limits: &Limits) -> Evaluated
+        requires { IsWithin limits.now }
+        ensures printed { result.output ≡ ([], []) }
+        ensures cause { HasCause self.new def args.now limits.now.blocks result.turns result.result }
+        ensures turns { result.turns ≤ limits.now.blocks }
+        ensures stays { Stays self.old self.new }
+        ensures sound { IsSound self.new }
+        ensures checked { IsChecked self.new.world }
+    {
+        match self.body_of(def, args) {
+            Ok(body) => run_body(self.alloc, self.world.db(), def, body, limits),
+            Err(error) => refused(self.alloc, ConstEvalError::from(error)),
+        }
     }
 
     /// Keeps the value of a definition, unless one is kept.
@@ -113,21 +167,32 @@ impl<'w> Evaluations<'w> {
         ensures kept { OnOk result (IsKept self.new.values def) }
         ensures stays { Stays self.old self.new }
     {
-        if find(&self.value_places, self.values.as_slice(), def).is_some() {
+        if let Some(_) = find(&self.value_places, self.values.as_slice(), def) {
             return Ok(());
         }
         let konst = konst.try_clone(self.alloc)?;
         keep(&mut self.value_places, &mut self.values, def, konst)
     }
 
-    /// Evaluates a definition. It always runs the definition's body afresh; that body is lowered at most
-    /// once. A value is kept, unless one is kept already.
-    pub fn eval_def(
+    /// Keeps what an answer is, where it is a value.
+    fn keep_answer(
         &mut self,
         def: DefWithBodyId,
-        args: &GenericArgs,
-        limits: &Limits,
-    ) -> Evaluated
+        answer: &Result<Const, ConstEvalError>,
+    ) -> Result<(), NoMemory>
+        requires { IfOk answer.now (IsValueOf self.old def) }
+        ensures kept { OnOk result (IsOk answer.now → IsKept self.new.values def) }
+        ensures stays { Stays self.old self.new }
+    {
+        match answer {
+            Ok(konst) => self.keep_value(def, konst),
+            Err(_) => Ok(()),
+        }
+    }
+
+    /// Evaluates a definition. It always runs the definition's body afresh; that body is lowered at most
+    /// once. A value is kept, unless one is kept already.
+    pub fn eval_def(&mut self, def: DefWithBodyId, args: &GenericArgs, limits: &Limits) -> Evaluated
         requires { IsWithin limits.now }
         ensures printed { result.output ≡ ([], []) }
         ensures value { (row : _) (konst : _) → IsValid self.old.world def args.now row → result.result ≡ Ok konst → GivesValue (source_of self.old.world row) konst }
@@ -136,19 +201,13 @@ impl<'w> Evaluations<'w> {
             → AnswersWithin (source_of self.old.world row) limits.now.blocks result.result }
         ensures cause { HasCause self.new def args.now limits.now.blocks result.turns result.result }
         ensures turns { result.turns ≤ limits.now.blocks }
-        ensures stays { Stays self.old self.new }
-        ensures kept { IsOk result.result → IsKept self.new.values def }
+        ensures world { self.new.world ≡ self.old.world }
+        ensures bodies_stay { (key : _) (body : _) → Contains self.old.bodies (key, body) → Contains self.new.bodies (key, body) }
+        ensures values_stay { (key : _) (konst : _) → Contains self.old.values (key, konst) → Contains self.new.values (key, konst) }
+        ensures kept { IsOk result.result → (konst : _) × Contains self.new.values (def, konst) }
     {
-        let body = match self.body_of(def, args) {
-            Ok(body) => body,
-            Err(error) => return refused(self.alloc, ConstEvalError::from(error)),
-        };
-        let evaluated = run_body(self.alloc, self.world.db(), def, body, limits);
-        let keeping = match &evaluated.result {
-            Ok(konst) => self.keep_value(def, konst),
-            Err(_) => Ok(()),
-        };
-        match keeping {
+        let evaluated = self.answer(def, args, limits);
+        match self.keep_answer(def, &evaluated.result) {
             Ok(()) => evaluated,
             Err(_) => Evaluated {
                 result: Err(ConstEvalError::NoMemory),

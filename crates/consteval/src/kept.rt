@@ -28,7 +28,11 @@ pub(crate) fn find<'a, V>(
     let Some(entry) = kept.get(*place as usize) else {
         return None;
     };
-    if is_same(entry.0, def) { Some(&entry.1) } else { None }
+    if is_same(entry.0, def) {
+        Some(&entry.1)
+    } else {
+        None
+    }
 }
 
 /// Keeps a value for a definition, after those that are kept.

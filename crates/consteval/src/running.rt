@@ -4,7 +4,7 @@ ghost use Rattle.std.specs.Prelude.{◌≡◌, ◌⊎◌, ◌≤◌, [], Err, If
 ghost use Rattle.mir.specs.declared.errors.MirEvalError as error;
 ghost use Rattle.mir_eval.specs.Evaluators.{machine_of};
 ghost use Rattle.mir_eval.specs.Limits.{IsWithin};
-ghost use Rattle.consteval.specs.Answers.{AnswersBody, RefusesRun};
+ghost use Rattle.consteval.specs.Answers.{AnswersBody, RefusesRun, carried};
 ghost use Rattle.consteval.specs.Kept.{HasBegun};
 
 use crate::Evaluated;
@@ -12,7 +12,7 @@ use mir::{ConstEvalError, MirBody, MirEvalError};
 use mir_eval::{Evaluator, Limits, MirOutput};
 use std::alloc::Global;
 use std::rc::Rc;
-use world::{DefWithBodyId, HirDatabase};
+use world::{Const, DefWithBodyId, HirDatabase};
 
 /// The answer where no run began.
 pub(crate) fn refused(alloc: Global, error: ConstEvalError) -> Evaluated
@@ -22,6 +22,16 @@ pub(crate) fn refused(alloc: Global, error: ConstEvalError) -> Evaluated
         result: Err(error),
         output: MirOutput::empty(alloc),
         turns: 0,
+    }
+}
+
+/// A machine's outcome as an answer.
+fn carried(outcome: Result<Const, MirEvalError>) -> Result<Const, ConstEvalError>
+    ensures { result ≡ carried outcome }
+{
+    match outcome {
+        Ok(konst) => Ok(konst),
+        Err(error) => Err(ConstEvalError::from(error)),
     }
 }
 
@@ -37,9 +47,14 @@ fn begun<'a>(
     ensures began { IfOk result (λ evaluator. HasBegun db.now def body.value limits.now.blocks (machine_of evaluator)) }
     ensures refused { IfErr result (λ e. (e ≡ error.NoMemory) ⊎ RefusesRun db.now def body.value e) }
 {
-    let mut evaluator = Evaluator::new(alloc, db, def, false, limits)?;
-    evaluator.begin(body)?;
-    Ok(evaluator)
+    let mut evaluator = match Evaluator::new(alloc, db, def, false, limits) {
+        Ok(evaluator) => evaluator,
+        Err(error) => return Err(error),
+    };
+    match evaluator.begin(body) {
+        Ok(()) => Ok(evaluator),
+        Err(error) => Err(error),
+    }
 }
 
 /// Runs a body to its end.
@@ -60,12 +75,8 @@ pub(crate) fn run_body(
             evaluator.run();
             let turns = evaluator.turns();
             let (outcome, output) = evaluator.finish();
-            let result = match outcome {
-                Ok(konst) => Ok(konst),
-                Err(error) => Err(ConstEvalError::from(error)),
-            };
             Evaluated {
-                result,
+                result: carried(outcome),
                 output,
                 turns,
             }
