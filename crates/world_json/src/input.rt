@@ -1,0 +1,87 @@
+//! The whole input.
+
+ghost use Rattle.std.specs.Prelude.{◌≡◌};
+ghost use Rattle.serde_json.specs.View.{view};
+ghost use Rattle.world_json.specs.Fit.{Gives};
+ghost use Rattle.world_json.specs.Input.{version_of, input_of, world_of, without_dot, IsAtRoot};
+
+use crate::from_json::{FromJson, here};
+use crate::keys::{members_of, optional, required, with_no_other};
+use crate::{Goal, NotAWorld};
+use serde_json::Value;
+use std::alloc::Global;
+use world::{HirDatabase, List, Text};
+
+/// The version of the form that is read here.
+#[derive(Clone, Copy)]
+pub(crate) struct Version;
+
+impl FromJson for Version {
+    ghost reads = { version_of };
+
+    fn from_json(alloc: Global, tree: &Value) -> Result<Version, NotAWorld> {
+        let number = u64::from_json(alloc, tree)?;
+        if number == 1 {
+            Ok(Version)
+        } else {
+            Err(here(alloc))
+        }
+    }
+}
+
+/// The parts of the input.
+#[derive(Drop)]
+pub(crate) struct Input {
+    pub(crate) db: HirDatabase,
+    pub(crate) goals: List<Goal>,
+}
+
+/// The parts of the input, with paths from the root on.
+#[tactic(auto, unfolding(crate::specs::Input::input_of))]
+fn read_input(alloc: Global, tree: &Value) -> Result<Input, NotAWorld>
+    ensures { Gives result (input_of (view tree.now)) }
+{
+    let members = members_of(alloc, tree)?;
+    let _version: Version = required(alloc, tree, "version")?;
+    let db = required(alloc, tree, "world")?;
+    let goals = optional(alloc, tree, "goals")?;
+    let value = Input { db, goals };
+    let names = ["version", "world", "goals"];
+    with_no_other(alloc, members, &names, value)
+}
+
+/// A path without the dot before its first key.
+#[tactic(auto, using(crate::proofs::Root::dot_stripped))]
+fn without_dot(path: &str) -> &str
+    ensures { result.now ≡ without_dot path.now }
+{
+    match path.strip_prefix('.') {
+        Some(rest) => rest,
+        None => path,
+    }
+}
+
+/// The fault with the path as a user reads it, where the first step has no dot.
+fn at_root(alloc: Global, fault: NotAWorld) -> NotAWorld
+    ensures { IsAtRoot fault result }
+{
+    match fault {
+        NotAWorld::At(path) => match Text::from_str(alloc, without_dot(path.as_str())) {
+            Ok(path) => NotAWorld::At(path),
+            Err(_) => NotAWorld::NoMemory,
+        },
+        NotAWorld::NoMemory => NotAWorld::NoMemory,
+    }
+}
+
+/// Reads the world and the goals that a tree stands for. `At` has the path of the first place that
+/// doesn't fit, as `world.consts[0].ty`: keys go in the order of the type's fields, unknown ones after
+/// the known ones of their object, and the root itself has the empty path.
+pub fn read_world(alloc: Global, tree: &Value) -> Result<(HirDatabase, List<Goal>), NotAWorld>
+    ensures { Gives result (world_of (view tree.now)) }
+{
+    match read_input(alloc, tree) {
+        Ok(input) => Ok((input.db, input.goals)),
+        Err(fault) => Err(at_root(alloc, fault)),
+    }
+}

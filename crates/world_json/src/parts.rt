@@ -1,0 +1,112 @@
+//! Lists, pairs and options.
+
+ghost use Rattle.std.specs.Prelude.{[], None};
+ghost use Rattle.serde_json.specs.View.{view, items_view};
+ghost use Rattle.world_json.specs.Fit.{Gives, GivesBy, below, found, item_step};
+ghost use Rattle.world_json.specs.Parts.{items_from, list_of, option_of, pair_of, two_items, two_of};
+
+use crate::NotAWorld;
+use crate::from_json::{FromJson, MayBeAbsent, below_item, here};
+use serde_json::Value;
+use std::alloc::Global;
+use world::List;
+
+/// The items of an array.
+fn items_of<T: FromJson + Drop>(alloc: Global, items: &[Value]) -> Result<List<T>, NotAWorld>
+    ensures { Gives result (items_from T.reads 0 (items_view items.now)) }
+{
+    let mut list = List::new(alloc);
+    for (place, item) in items.iter().enumerate() {
+        let x = item_at(alloc, item, place)?;
+        list.push(x)?;
+    }
+    Ok(list)
+}
+
+/// An item of an array, which stands at this place.
+pub(crate) fn item_at<T: FromJson>(
+    alloc: Global,
+    item: &Value,
+    place: usize,
+) -> Result<T, NotAWorld>
+    ensures { Gives result (below (item_step place) (T.reads (view item.now))) }
+{
+    match T::from_json(alloc, item) {
+        Ok(x) => Ok(x),
+        Err(fault) => Err(below_item(alloc, place, fault)),
+    }
+}
+
+impl<T: FromJson + Drop> FromJson for List<T> {
+    ghost reads = { list_of T.reads };
+
+    fn from_json(alloc: Global, tree: &Value) -> Result<List<T>, NotAWorld> {
+        match tree.as_array() {
+            Some(items) => items_of(alloc, items),
+            None => Err(here(alloc)),
+        }
+    }
+}
+
+impl<T> MayBeAbsent for List<T> {
+    ghost left_out = { [] };
+
+    fn absent(alloc: Global) -> List<T> {
+        List::new(alloc)
+    }
+}
+
+impl<T: FromJson + Drop> FromJson for Option<T> {
+    ghost reads = { option_of T.reads };
+
+    fn from_json(alloc: Global, tree: &Value) -> Result<Option<T>, NotAWorld> {
+        if tree.is_null() {
+            Ok(None)
+        } else {
+            let x = T::from_json(alloc, tree)?;
+            Ok(Some(x))
+        }
+    }
+}
+
+impl<T> MayBeAbsent for Option<T> {
+    ghost left_out = { None };
+
+    fn absent(_alloc: Global) -> Option<T> {
+        None
+    }
+}
+
+/// The two items of an array of two.
+fn two<'a>(alloc: Global, tree: &'a Value) -> Result<(&'a Value, &'a Value), NotAWorld>
+    ensures { GivesBy (λ both. (view both.0.now, view both.1.now)) result (two_of (view tree.now)) }
+{
+    match tree.as_array() {
+        Some(items) => both(alloc, items.as_slice()),
+        None => Err(here(alloc)),
+    }
+}
+
+/// The items, where there are two.
+#[tactic(auto, using(crate::proofs::Items::two_some, crate::proofs::Items::two_none))]
+fn both(alloc: Global, items: &[Value]) -> Result<(&Value, &Value), NotAWorld>
+    ensures { GivesBy (λ both. (view both.0.now, view both.1.now)) result (found (two_items (items_view items.now))) }
+{
+    if items.len() == 2 {
+        Ok((&items[0], &items[1]))
+    } else {
+        Err(here(alloc))
+    }
+}
+
+impl<A: FromJson + Drop, B: FromJson + Drop> FromJson for (A, B) {
+    ghost reads = { pair_of A.reads B.reads };
+
+    #[tactic(auto, unfolding(crate::specs::Parts::pair_of))]
+    fn from_json(alloc: Global, tree: &Value) -> Result<(A, B), NotAWorld> {
+        let (first, second) = two(alloc, tree)?;
+        let x = item_at(alloc, first, 0)?;
+        let y = item_at(alloc, second, 1)?;
+        Ok((x, y))
+    }
+}
