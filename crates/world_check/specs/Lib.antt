@@ -1,1 +1,4 @@
 pub mod Checked
+pub mod Places
+pub mod Sites
+pub mod Rows

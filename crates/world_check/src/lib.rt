@@ -1,1 +1,16 @@
+//! The check of a world: that ids are in range, bodies are trees, and layouts are as every target
+//! has them.
 #![tactic(auto)]
+
+mod checked_world;
+mod children;
+mod fault;
+mod layouts;
+mod place;
+mod ranges;
+mod rows;
+
+pub use checked_world::CheckedWorld;
+pub use fault::{CheckFault, CheckRow, InvalidWorld};
+pub use place::{NodeKind, Place, TableName};
+pub use rows::check;

@@ -1,0 +1,48 @@
+-- The rows of the check, and what a refusal names.
+use Rattle.std.specs.Prelude.{◌≡◌, ℕ, List, [], ◌∷◌, Option, None, Some}
+use Rattle.world.specs.declared.database.HirDatabase.{HirDatabase}
+use Rattle.world_check.specs.Checked.{IsChecked}
+use Rattle.world_check.specs.Places.{place_text}
+use Rattle.world_check.specs.Sites.{Site, first_failing, range_sites, tree_sites, layout_sites}
+use Rattle.world_check.specs.declared.fault.CheckFault.{CheckFault}
+use Rattle.world_check.specs.declared.fault.CheckFault.TheVariants.{InvalidWorld, NoMemory}
+use Rattle.world_check.specs.declared.fault.CheckRow.{CheckRow}
+use Rattle.world_check.specs.declared.fault.CheckRow.TheVariants.{C1, C2, C3, C4, C5, C6, C7}
+use Rattle.world_check.specs.declared.place.Place.{Place}
+
+-- the sites of a row of the table, in the order of their places
+abbrev pub sites : CheckRow → HirDatabase → List Site
+sites C1 world = range_sites world
+sites C2 world = tree_sites world
+sites C3 world = []
+sites C4 world = []
+sites C5 world = layout_sites world
+sites C6 world = []
+sites C7 world = []
+
+abbrev pub all_rows : List CheckRow
+all_rows = C1 ∷ C2 ∷ C3 ∷ C4 ∷ C5 ∷ C6 ∷ C7 ∷ []
+
+-- a row with the place where it fails, or else what comes of the rows after it
+abbrev pub row_failure : CheckRow → Option Place → Option (CheckRow × List ℕ) → Option (CheckRow × List ℕ)
+row_failure row (Some place) later = Some (row, place_text place)
+row_failure row None later = later
+
+abbrev pub first_failure_among : List CheckRow → HirDatabase → Option (CheckRow × List ℕ)
+first_failure_among [] world = None
+first_failure_among (row ∷ rows) world =
+    row_failure row (first_failing (sites row world)) (first_failure_among rows world)
+
+-- the first row that fails, and the text of the first place where it does
+abbrev pub first_failure : HirDatabase → Option (CheckRow × List ℕ)
+first_failure world = first_failure_among all_rows world
+
+-- a refusal names the first failure; memory may run out in any world
+abbrev pub IsRefusal : HirDatabase → CheckFault → Type 0
+IsRefusal world (InvalidWorld invalid) = first_failure world ≡ Some (invalid.row, invalid.place)
+IsRefusal world NoMemory = Unit {0}
+
+-- what holds of a world that the check has passed
+pub record IsAccepted (world : HirDatabase) : Type 0 where
+  pub checked : IsChecked world
+  pub passes : first_failure world ≡ None
