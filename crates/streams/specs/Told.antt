@@ -1,5 +1,5 @@
 -- What the sources and sinks over bytes in memory tell.
-use Rattle.std.specs.Prelude.{ℕ, ◌-◌, List, length, take, drop}
+use Rattle.std.specs.Prelude.{ℕ, ◌-◌, List, length, drop}
 use Rattle.streams.specs.declared.bytes_source.BytesSource.{BytesSource}
 use Rattle.streams.specs.declared.bytes_sink.BytesSink.{BytesSink}
 use Rattle.streams.specs.declared.steady.SteadySource.{SteadySource}

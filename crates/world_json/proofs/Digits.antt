@@ -1,5 +1,5 @@
 -- What std's parsing of digits gives is what a numeral stands for.
-use Rattle.std.proofs.Common.{◌≡◌, ◌≢◌, ℕ, suc, ◌^◌, ◌<◌, ◌≤◌, ◌==◌, ◌&&◌, ◌||◌, Bool, true, false, cond, not, List, [], ◌∷◌, length, get_or, drop, Option, Some, None, Result, Ok, Err, nat_lt, nat_le, refl, sym, ap, subst, ◌∙◌, arith}
+use Rattle.std.proofs.Common.{◌≡◌, ◌≢◌, ℕ, ◌^◌, ◌<◌, ◌≤◌, ◌==◌, ◌&&◌, ◌||◌, Bool, true, false, cond, not, List, length, get_or, drop, Option, Result, Ok, Err, nat_lt, nat_le, refl, ap, subst, arith}
 use Rattle.std.specs.Prelude.{OkIff, ℤ, pos, neg_ℤ, slice_index}
 use Rattle.std.specs.Int.{w128}
 use Rattle.std.specs.Result.{result_ok}
@@ -8,8 +8,8 @@ use Rattle.std.specs.Str.Parse.{digits_value, ParsesUnsigned, ParsesSigned}
 use Rattle.std.proofs.lemmas.Bool.{eqb-true, ltb-true, lt-ltb, leb-true, le-leb}
 use Rattle.std.proofs.lemmas.List.{get_or-drop, length-drop}
 use Rattle.std.proofs.lemmas.Str.Parse.{IsNumeralModel, numerals_by_value, tells_all_ascii_digits, parse_plain, parse_signed_plain, parse_signed_minus}
-use Rattle.world_json.specs.Fit.{Fit, misfit, found}
-use Rattle.world_json.specs.Numerals.{begins_plainly, is_numeral, unsigned_of, nonnegative_of, negative_of}
+use Rattle.world_json.specs.Fit.{misfit, found}
+use Rattle.world_json.specs.Numerals.{begins_plainly, unsigned_of, nonnegative_of, negative_of}
 
 own : IsNumeralModel (λ ds. all_ascii_digits ds ≡ true) (digits_value 10)
 own = numerals_by_value (λ ds. all_ascii_digits ds ≡ true) tells_all_ascii_digits

@@ -1,5 +1,5 @@
 -- The members of an object, as a map of values has them.
-use Rattle.std.proofs.Common.{◌≡◌, ℕ, List, [], ◌∷◌, length, map, Option, Some, None, option_map, Bool, true, false, not, cond, bytes_eq, String, Global, string_bytes, Bor, refl, sym, ap, subst, ◌∙◌, arith}
+use Rattle.std.proofs.Common.{◌≡◌, ℕ, List, [], ◌∷◌, length, map, Option, Some, None, option_map, Bool, true, false, not, cond, bytes_eq, String, Global, string_bytes, Bor, refl, ap, ◌∙◌, arith}
 use Rattle.std.specs.Prelude.{slice_get}
 use Rattle.std.specs.List.{find, list_any}
 use Rattle.std.specs.Map.{keys_of}

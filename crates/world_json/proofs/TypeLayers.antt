@@ -1,13 +1,13 @@
 -- A type's reader, one layer at a time, and how deep the parts of a tree are.
-use Rattle.std.proofs.Common.{◌≡◌, ℕ, zero, suc, ◌+◌, ◌*◌, ◌≤◌, ◌<◌, max, List, [], ◌∷◌, length, get_or, Option, Some, None, option_map, Result, Ok, Err, refl, sym, ap, subst, ◌∙◌, arith}
-use Rattle.serde_json.specs.Data.{Data, null, boolean, number, string, array, object, Items, no_items, item, Members, no_members, member, depth, items_depth}
+use Rattle.std.proofs.Common.{◌≡◌, ℕ, zero, suc, ◌+◌, ◌*◌, ◌<◌, List, [], ◌∷◌, length, get_or, Option, Some, None, Result, Ok, Err, refl, subst, arith}
+use Rattle.serde_json.specs.Data.{Data, null, boolean, number, string, array, object, Items, no_items, item, no_members, member, depth, items_depth}
 use Rattle.serde_json.specs.Find.{as_array}
 use Rattle.serde_json.specs.View.{view, items_view}
 use Rattle.serde_json.specs.declared.value.Value.{Value}
 use Rattle.world.specs.declared.ty.Ty.{Ty}
 use Rattle.world_json.specs.declared.misfit.NotAWorld.{NotAWorld}
 use Rattle.world_json.specs.declared.misfit.NotAWorld.TheVariants.{At, NoMemory}
-use Rattle.world_json.specs.Fit.{Fit, ◌>>=◌, Gives, GivesBy, Fails, IsBelow, IsInside, below, item_step}
+use Rattle.world_json.specs.Fit.{Fit, Gives, Fails, IsBelow, IsInside, below}
 use Rattle.world_json.specs.Parts.{items_from, list_of}
 use Rattle.world_json.specs.Types.{ty_of, tys_of, tys_from, ty_rows}
 use Rattle.world_json.specs.Variants.{Named, variant_of, enum_of}

@@ -1,5 +1,5 @@
 -- Readers of bodies.
-use Rattle.std.specs.Prelude.{ℕ, [], ◌∷◌, codes, None, false}
+use Rattle.std.specs.Prelude.{[], ◌∷◌, codes, None, false}
 use Rattle.serde_json.specs.Data.{Data}
 use Rattle.world.specs.declared.body.Body.{Body}
 use Rattle.world.specs.declared.body.Binding.{Binding}

@@ -2,7 +2,6 @@
 use Rattle.std.specs.Prelude.{◌≡◌, ℕ, List, [], ◌∷◌, ◌++◌, Option, Some, None, Result, Ok, Err, String, string_bytes, decimal}
 use Rattle.std.specs.declared.alloc.AllocError.{AllocError}
 use Rattle.std.specs.declared.alloc.Global.{Global}
-use Rattle.world.specs.declared.text.Text.{Text}
 use Rattle.world_json.specs.declared.misfit.NotAWorld.{NotAWorld}
 use Rattle.world_json.specs.declared.misfit.NotAWorld.TheVariants.{At, NoMemory}
 

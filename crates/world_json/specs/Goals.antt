@@ -1,5 +1,5 @@
 -- Readers of goals.
-use Rattle.std.specs.Prelude.{ℕ, [], ◌∷◌, codes}
+use Rattle.std.specs.Prelude.{[], ◌∷◌, codes}
 use Rattle.serde_json.specs.Data.{Data}
 use Rattle.world_json.specs.declared.goal.Goal.{Goal}
 use Rattle.world_json.specs.Fit.{Fit, ◌>>=◌}

@@ -1,5 +1,5 @@
 -- Readers of what names an item or a node: its number.
-use Rattle.std.specs.Prelude.{ℕ, [], ◌∷◌, codes, Ok}
+use Rattle.std.specs.Prelude.{[], ◌∷◌, codes, Ok}
 use Rattle.serde_json.specs.Data.{Data}
 use Rattle.world.specs.declared.ids.Crate.{Crate}
 use Rattle.world.specs.declared.ids.ConstId.{ConstId as ConstName}

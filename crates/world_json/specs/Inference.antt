@@ -1,5 +1,5 @@
 -- Readers of typing tables.
-use Rattle.std.specs.Prelude.{ℕ, [], ◌∷◌, codes, false}
+use Rattle.std.specs.Prelude.{[], ◌∷◌, codes, false}
 use Rattle.std.specs.Ordering.{nat_cmp}
 use Rattle.serde_json.specs.Data.{Data}
 use Rattle.world.specs.declared.ids.ExprId.{ExprId}

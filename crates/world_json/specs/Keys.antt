@@ -1,10 +1,10 @@
 -- Readers of objects whose keys are the fields of a struct.
-use Rattle.std.specs.Prelude.{ℕ, List, [], ◌∷◌, Option, Some, None, Ok, Err, Bool, if◌then◌else◌}
+use Rattle.std.specs.Prelude.{ℕ, List, Option, Some, None, Ok, Err, Bool, if◌then◌else◌}
 use Rattle.std.specs.List.{list_any}
 use Rattle.std.specs.Str.{bytes_eq}
-use Rattle.serde_json.specs.Data.{Data, null, boolean, number, string, array, object, Members, no_members, member}
+use Rattle.serde_json.specs.Data.{Data, Members, no_members, member}
 use Rattle.serde_json.specs.Find.{get, as_object}
-use Rattle.world_json.specs.Fit.{Fit, misfit, found, ◌>>=◌, below, key_step}
+use Rattle.world_json.specs.Fit.{Fit, misfit, found, below, key_step}
 
 -- the members of an object
 abbrev pub members_of : Data → Fit Members

@@ -1,5 +1,5 @@
 -- Readers of layouts.
-use Rattle.std.specs.Prelude.{ℕ, [], ◌∷◌, codes, false}
+use Rattle.std.specs.Prelude.{[], ◌∷◌, codes, false}
 use Rattle.serde_json.specs.Data.{Data}
 use Rattle.world.specs.declared.layout.Layout.{Layout}
 use Rattle.world.specs.declared.layout.MultiLayout.{MultiLayout}

@@ -1,5 +1,5 @@
 -- Readers of literals and operators.
-use Rattle.std.specs.Prelude.{ℕ, [], ◌∷◌, codes, None, false}
+use Rattle.std.specs.Prelude.{[], ◌∷◌, codes, None, false}
 use Rattle.serde_json.specs.Data.{Data}
 use Rattle.world.specs.declared.body.Literal.{Literal}
 use Rattle.world.specs.declared.body.Literal.TheVariants as literals

@@ -1,5 +1,5 @@
 -- Readers of arrays, pairs and options, made from readers of their parts.
-use Rattle.std.specs.Prelude.{ℕ, ◌+◌, List, [], ◌∷◌, Option, Some, None, Ok, Err}
+use Rattle.std.specs.Prelude.{ℕ, ◌+◌, List, [], ◌∷◌, Option, Some, None, Ok}
 use Rattle.serde_json.specs.Data.{Data, null, boolean, number, string, array, object, Items, no_items, item}
 use Rattle.world_json.specs.Fit.{Fit, misfit, found, ◌>>=◌, below, item_step}
 

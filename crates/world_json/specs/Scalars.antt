@@ -1,5 +1,5 @@
 -- Readers of numbers, texts and truth values.
-use Rattle.std.specs.Prelude.{ℕ, ◌^◌, List, Option, Some, None, Ok, Err, Bool, nat_lt, if◌then◌else◌, option_and_then}
+use Rattle.std.specs.Prelude.{ℕ, ◌^◌, List, Some, None, Ok, Bool, nat_lt, if◌then◌else◌, option_and_then}
 use Rattle.serde_json.specs.Data.{Data}
 use Rattle.serde_json.specs.Find.{as_number, as_u64, as_str, as_bool}
 use Rattle.world_json.specs.Fit.{Fit, misfit, found}

@@ -1,5 +1,5 @@
 -- Readers of the world's tables.
-use Rattle.std.specs.Prelude.{ℕ, [], ◌∷◌, codes, None}
+use Rattle.std.specs.Prelude.{[], ◌∷◌, codes, None}
 use Rattle.serde_json.specs.Data.{Data}
 use Rattle.world.specs.declared.database.BodyRow.{BodyRow}
 use Rattle.world.specs.declared.database.ConstRow.{ConstRow}

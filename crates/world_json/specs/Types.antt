@@ -1,6 +1,6 @@
 -- Readers of types.
 use Rattle.std.specs.Prelude.{ℕ, ◌+◌, List, [], ◌∷◌, codes, Some, None, Option, Ok}
-use Rattle.serde_json.specs.Data.{Data, null, boolean, number, string, array, object, Items, no_items, item, Members, no_members, member}
+use Rattle.serde_json.specs.Data.{Data, null, boolean, number, string, array, object, Items, no_items, item, no_members, member}
 use Rattle.world.specs.declared.ty.IntTy.{IntTy}
 use Rattle.world.specs.declared.ty.IntTy.TheVariants.{I8, I16, I32, I64, I128, Isize}
 use Rattle.world.specs.declared.ty.UintTy.{UintTy}

@@ -2,7 +2,6 @@
 use Rattle.std.specs.Prelude.{ℕ, List, [], ◌∷◌, ◌&&◌, Option, Some, None, is_none, option_map, Ok, Err, Bool, if◌then◌else◌}
 use Rattle.std.specs.Str.{bytes_eq}
 use Rattle.serde_json.specs.Data.{Data, null, boolean, number, string, array, object, Members, no_members, member}
-use Rattle.serde_json.specs.View.{view}
 use Rattle.world_json.specs.Fit.{Fit, misfit, found, ◌>>=◌, below, key_step}
 
 -- a variant's name, and its payload where there is one

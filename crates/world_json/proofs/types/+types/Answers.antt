@@ -1,10 +1,9 @@
-use Rattle.std.proofs.Common.{option_map, ◌≡◌, ◌++◌, ◌∷◌, [], sym, subst, arith}
+use Rattle.std.proofs.Common.{option_map, arith}
 use Rattle.std.proofs.lemmas.Result.{err_from_is_err_and}
 use Rattle.serde_json.specs.View.{view, items_view}
 use Rattle.world_json.specs.Fit.{Gives, item_step}
-use Rattle.world_json.specs.Parts.{items_from, list_of}
-use Rattle.world_json.specs.Types.{ty_of, ty_rows}
-use Rattle.world_json.specs.Variants.{enum_of}
+use Rattle.world_json.specs.Parts.{items_from}
+use Rattle.world_json.specs.Types.{ty_of}
 use Rattle.world_json.proofs.Items.{goes_on, ends, is_done}
 use Rattle.world_json.proofs.TypeLayers.{ty_of-unrolled, inside_gives, payload_smaller, item_smaller}
 use Rattle.world_json.proofs.types.+types.Goals as goal

@@ -1,4 +1,4 @@
-use Rattle.std.proofs.Common.{◌≡◌, ℕ, ◌+◌, ◌*◌, option_map}
+use Rattle.std.proofs.Common.{◌≡◌, ◌+◌, ◌*◌, option_map}
 use Rattle.serde_json.specs.Data.{depth, items_depth}
 use Rattle.serde_json.specs.View.{view, items_view}
 use Rattle.world_json.specs.Parts.{items_from}
