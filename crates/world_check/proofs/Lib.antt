@@ -1,1 +1,3 @@
+pub mod CheckedFacts
+pub mod Heights
 pub mod Walks

@@ -42,6 +42,11 @@ abbrev pub IsRefusal : HirDatabase → CheckFault → Type 0
 IsRefusal world (InvalidWorld invalid) = first_failure world ≡ Some (invalid.row, invalid.place)
 IsRefusal world NoMemory = Unit {0}
 
+-- a refusal names a row and a place
+abbrev pub IsRefusalAt : CheckRow → Place → CheckFault → Type 0
+IsRefusalAt row place (InvalidWorld invalid) = (invalid.row ≡ row) × (invalid.place ≡ place_text place)
+IsRefusalAt row place NoMemory = Unit {0}
+
 -- what holds of a world that the check has passed
 pub record IsAccepted (world : HirDatabase) : Type 0 where
   pub checked : IsChecked world

@@ -1,5 +1,5 @@
 -- The sites of the check: at each place of a world, a test that must hold there.
-use Rattle.std.specs.Prelude.{ℕ, zero, suc, ◌+◌, ◌^◌, ◌%◌, ◌==◌, ◌&&◌, ◌||◌, if◌then◌else◌, nat_lt, nat_le, Bool, true, false, not, List, [], ◌∷◌, ◌++◌, length, take, flat_map, map, count_by, Option, Some, None}
+use Rattle.std.specs.Prelude.{ℕ, zero, suc, ◌+◌, ◌^◌, ◌%◌, ◌==◌, ◌&&◌, ◌||◌, if◌then◌else◌, nat_lt, nat_le, Bool, true, not, List, [], ◌∷◌, ◌++◌, length, take, flat_map, count_by, Option, Some, None}
 use Rattle.std.specs.List.{list_any, list_all, slice_get}
 use Rattle.world.specs.declared.body.Body.{Body}
 use Rattle.world.specs.declared.body.Expr.{Expr}
@@ -177,23 +177,29 @@ abbrev pub children_at : Body → ℕ → List ℕ
 children_at body i = children_of_some (slice_get body.exprs i)
 
 -- whether a path of so many steps leads from a node down to what it holds
-abbrev pub has_path : Body → ℕ → ℕ → Bool
+unfoldable pub has_path : Body → ℕ → ℕ → Bool
 has_path body zero i = true
 has_path body (suc steps) i = list_any (has_path body steps) (children_at body i)
 
-abbrev pub expr_tree_sites : Body → ℕ → ℕ → Expr → List Site
-expr_tree_sites body b i node =
+-- an expression is in order: `held` is what the body's expressions hold
+abbrev pub expr_tree_sites : Body → List ℕ → ℕ → ℕ → Expr → List Site
+expr_tree_sites body held b i node =
     site (Node b Exprs i) (list_all (λ child. nat_lt child i) (children_of node))
-    ∷ site (Node b Exprs i) (i == body.body_expr.0 || has_one_parent (held_exprs body) i)
+    ∷ site (Node b Exprs i) (i == body.body_expr.0 || has_one_parent held i)
     ∷ site (Node b Exprs i) (not (has_path body 401 i))
     ∷ []
 
-abbrev pub pat_tree_sites : Body → ℕ → ℕ → Pat → List Site
-pat_tree_sites body b i pat = site (Node b Pats i) (has_one_parent (held_pats body) i) ∷ []
+abbrev pub pat_tree_sites : List ℕ → ℕ → ℕ → Pat → List Site
+pat_tree_sites held b i pat = site (Node b Pats i) (has_one_parent held i) ∷ []
+
+abbrev pub expr_list_sites : ℕ → Body → List Site
+expr_list_sites b body = each (expr_tree_sites body (held_exprs body) b) 0 body.exprs
+
+abbrev pub pat_list_sites : ℕ → Body → List Site
+pat_list_sites b body = each (pat_tree_sites (held_pats body) b) 0 body.pats
 
 abbrev pub body_tree_sites : ℕ → BodyRow → List Site
-body_tree_sites b row =
-    each (expr_tree_sites row.body b) 0 row.body.exprs ++ each (pat_tree_sites row.body b) 0 row.body.pats
+body_tree_sites b row = expr_list_sites b row.body ++ pat_list_sites b row.body
 
 abbrev pub tree_sites : HirDatabase → List Site
 tree_sites world = each body_tree_sites 0 world.bodies

@@ -1,6 +1,5 @@
 //! Why a world is refused.
 
-use std::alloc::{AllocError, AllocFailed};
 use world::{NoMemory, Text};
 
 /// A row of the check's table. A refusal names the first that fails.
@@ -38,19 +37,12 @@ pub enum CheckFault {
 }
 
 impl From<NoMemory> for CheckFault {
+    ghost use Rattle.std.specs.Prelude.{◌≡◌};
+    ghost use Rattle.world_check.specs.declared.fault.CheckFault.TheVariants as fault;
+
+    ghost from_gives = { λ _ error. error ≡ fault.NoMemory };
+
     fn from(_error: NoMemory) -> CheckFault {
-        CheckFault::NoMemory
-    }
-}
-
-impl From<AllocError> for CheckFault {
-    fn from(_error: AllocError) -> CheckFault {
-        CheckFault::NoMemory
-    }
-}
-
-impl<T: Drop> From<AllocFailed<T>> for CheckFault {
-    fn from(_error: AllocFailed<T>) -> CheckFault {
         CheckFault::NoMemory
     }
 }

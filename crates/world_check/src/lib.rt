@@ -5,12 +5,17 @@
 mod checked_world;
 mod children;
 mod fault;
+mod keys;
 mod layouts;
 mod place;
 mod ranges;
 mod rows;
+mod trees;
 
 pub use checked_world::CheckedWorld;
 pub use fault::{CheckFault, CheckRow, InvalidWorld};
 pub use place::{NodeKind, Place, TableName};
 pub use rows::check;
+
+#[cfg(test)]
+mod tests;

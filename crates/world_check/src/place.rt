@@ -1,4 +1,9 @@
 //! The places of a world that a refusal can name.
+ghost use Rattle.std.specs.Prelude.{◌≡◌, IfOk, string_bytes};
+ghost use Rattle.world_check.specs.Places.{indexed, kind_text, nodes_text, place_text, table_text};
+
+use std::alloc::Global;
+use world::{NoMemory, Text};
 
 /// A table of the world.
 #[derive(Clone, Copy, PartialEq, Eq, PartialOrd, Ord, Hash, Debug)]
@@ -28,4 +33,60 @@ pub enum Place {
     Nodes(u64, NodeKind),
     /// A node of a body, as `bodies[0].exprs[2]`.
     Node(u64, NodeKind, u64),
+}
+
+/// The name of a table.
+fn table_text(table: TableName) -> &'static str
+    ensures { result.now ≡ table_text table }
+{
+    match table {
+        TableName::Crates => "crates",
+        TableName::Consts => "consts",
+        TableName::Bodies => "bodies",
+        TableName::Layouts => "layouts",
+    }
+}
+
+/// The name of a list of nodes.
+fn kind_text(kind: NodeKind) -> &'static str
+    ensures { result.now ≡ kind_text kind }
+{
+    match kind {
+        NodeKind::Exprs => "exprs",
+        NodeKind::Pats => "pats",
+        NodeKind::Bindings => "bindings",
+    }
+}
+
+/// A place in a list, as `consts[3]`.
+fn indexed(alloc: Global, list: &str, i: u64) -> Result<String, NoMemory>
+    ensures { IfOk result (λ text. string_bytes text ≡ indexed list.now i) }
+{
+    Ok(format!(in alloc; "{list}[{i}]")?)
+}
+
+/// A list of a body's nodes, as `bodies[0].exprs`.
+fn nodes_text(alloc: Global, body: u64, kind: NodeKind) -> Result<String, NoMemory>
+    ensures { IfOk result (λ text. string_bytes text ≡ nodes_text body kind) }
+{
+    let mut text = indexed(alloc, table_text(TableName::Bodies), body)?;
+    text.push_str(".")?;
+    text.push_str(kind_text(kind))?;
+    Ok(text)
+}
+
+/// The text of a place.
+pub(crate) fn place_text(alloc: Global, place: Place) -> Result<Text, NoMemory>
+    ensures { IfOk result (λ text. text ≡ place_text place) }
+{
+    let text = match place {
+        Place::Table(table) => String::from_str(alloc, table_text(table))?,
+        Place::Row(table, i) => indexed(alloc, table_text(table), i)?,
+        Place::Nodes(body, kind) => nodes_text(alloc, body, kind)?,
+        Place::Node(body, kind, i) => {
+            let list = nodes_text(alloc, body, kind)?;
+            indexed(alloc, list.as_str(), i)?
+        }
+    };
+    Text::from_str(alloc, text.as_str())
 }

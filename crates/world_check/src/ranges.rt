@@ -1,13 +1,14 @@
 //! Ids are in range, and lists are short enough to be named by them.
 ghost use Rattle.std.specs.Prelude.{◌≡◌, ◌^◌, nat_lt, IfOk};
 ghost use Rattle.std.specs.List.{list_all};
-ghost use Rattle.world_check.specs.Sites.{first_failing, each, binding_of, is_nameable, is_none_or_in_range, is_resolution_in_range, is_mode_in_range, const_sites, expr_range_sites, exprs_range_sites, pat_range_sites, pats_range_sites, infer_range_sites, rest_range_sites, body_range_sites, consts_range_sites, bodies_range_sites};
+ghost use Rattle.world_check.specs.Sites.{first_failing, each, is_resolution_in_range, is_mode_in_range, const_sites, expr_range_sites, exprs_range_sites, pat_range_sites, pats_range_sites, infer_range_sites, rest_range_sites, body_range_sites, consts_range_sites, bodies_range_sites, range_sites};
 
 use crate::children::{push_children, push_patterns};
+use crate::keys::first_repeated_key;
 use crate::{NodeKind, Place, TableName};
 use std::alloc::Global;
 use world::{
-    BindingMode, Body, BodyRow, ConstRow, Expr, ExprId, HirDatabase, InferenceResult, List, Map,
+    BindingMode, Body, BodyRow, ConstRow, Expr, ExprId, HirDatabase, InferenceResult, Map,
     NoMemory, Pat, PatId, ValueNs,
 };
 
@@ -136,19 +137,34 @@ fn wrong_pats(b: u64, body: &Body) -> Option<Place>
     }
 }
 
+/// Whether an expression, and what it names, are nodes of the body.
+fn is_resolution_in_range(body: &Body, expr: ExprId, value: ValueNs) -> bool
+    ensures { result ≡ is_resolution_in_range body.now (expr, value) }
+{
+    let ValueNs::LocalBinding(binding) = value;
+    (expr.0 as u64) < body.exprs.len() && (binding.0 as u64) < body.bindings.len()
+}
+
 /// Whether every name that was resolved is a node of the body.
 fn are_resolutions_in_range(body: &Body, entries: &Map<ExprId, ValueNs>) -> bool
     ensures { result ≡ list_all (is_resolution_in_range body.now) entries.now }
 {
     for i in 0..entries.len() {
-        if let Some((expr, ValueNs::LocalBinding(binding))) = entries.at(i) {
-            let expr_in_range = (expr.0 as u64) < body.exprs.len();
-            if !(expr_in_range && (binding.0 as u64) < body.bindings.len()) {
-                return false;
-            }
+        let Some((expr, value)) = entries.at(i) else {
+            return true;
+        };
+        if !is_resolution_in_range(body, *expr, *value) {
+            return false;
         }
     }
     true
+}
+
+/// Whether a pattern with a mode is a node of the body.
+fn is_mode_in_range(body: &Body, pat: PatId, _mode: BindingMode) -> bool
+    ensures { result ≡ is_mode_in_range body.now (pat, _mode) }
+{
+    (pat.0 as u64) < body.pats.len()
 }
 
 /// Whether every pattern with a mode is a node of the body.
@@ -156,10 +172,11 @@ fn are_modes_in_range(body: &Body, entries: &Map<PatId, BindingMode>) -> bool
     ensures { result ≡ list_all (is_mode_in_range body.now) entries.now }
 {
     for i in 0..entries.len() {
-        if let Some((pat, _)) = entries.at(i) {
-            if (pat.0 as u64) >= body.pats.len() {
-                return false;
-            }
+        let Some((pat, mode)) = entries.at(i) else {
+            return true;
+        };
+        if !is_mode_in_range(body, *pat, *mode) {
+            return false;
         }
     }
     true
@@ -249,4 +266,17 @@ fn wrong_bodies(alloc: Global, db: &HirDatabase) -> Result<Option<Place>, NoMemo
     } else {
         Ok(Some(Place::Table(TableName::Bodies)))
     }
+}
+
+/// The first place where an id is out of range, a list is too long, or a key is repeated.
+pub(crate) fn first_out_of_range(alloc: Global, db: &HirDatabase) -> Result<Option<Place>, NoMemory>
+    ensures { IfOk result (λ found. found ≡ first_failing (range_sites db.now)) }
+{
+    if let Some(place) = wrong_consts(db) {
+        return Ok(Some(place));
+    }
+    if let Some(place) = wrong_bodies(alloc, db)? {
+        return Ok(Some(place));
+    }
+    Ok(first_repeated_key(db.layouts.as_slice()))
 }

@@ -5,11 +5,11 @@ use Rattle.world_check.proofs.layouts.first_wrong_layout.Goals as goal
 
 pub returns-in-Some : goal.returns-in-Some
 returns-in-Some c =
-    each_found layout_row_sites c.args.rows.now c.loop-i.i c.index-rows-i.result _ c.in-Some.place c.loop-i-test.true c.index-rows-i.is (sym c.in-Some.ensures) c.loop-i.invariant
+    each_found layout_row_sites c.args.rows.now c.loop-i.i c.index-rows-i.result c.index-rows-i.result _ c.in-Some.place c.loop-i-test.true c.index-rows-i.is (sym c.in-Some.ensures) c.loop-i.invariant
 
 pub loop-i-preserved : goal.loop-i-preserved
 loop-i-preserved c =
-    each_next layout_row_sites c.args.rows.now c.loop-i.i c.index-rows-i.result _ c.loop-i-test.true c.index-rows-i.is (sym c.in_default.ensures) c.loop-i.invariant
+    each_next layout_row_sites c.args.rows.now c.loop-i.i c.index-rows-i.result c.index-rows-i.result _ c.loop-i-test.true c.index-rows-i.is (sym c.in_default.ensures) c.loop-i.invariant
 
 pub returns : goal.returns
 returns c = each_end layout_row_sites c.args.rows.now c.loop-i.i _ c.loop-i-test.false c.loop-i.invariant

@@ -1,0 +1,189 @@
+//! The constant `const GOAL: usize = 2 + 2`, as it is and with one thing wrong in it.
+
+use crate::{CheckFault, CheckRow, CheckedWorld, check};
+use std::alloc::Global;
+use std::test::Fail;
+use world::{
+    ArithOp, BinaryOp, Body, BodyRow, ConstId, ConstRow, Crate, CrateRow, DefWithBodyId, Expr,
+    ExprId, HirDatabase, InferenceResult, Layout, List, Literal, Map, NoMemory, Table, Text, Ty,
+    UintTy, UnaryOp, Variants,
+};
+
+/// What is wrong in a world.
+#[derive(Clone, Copy, PartialEq, Eq, Debug)]
+enum Change {
+    Nothing,
+    NoCrate,
+    NoBody,
+    NoOperand,
+    NoType,
+    TwoLayouts,
+    OwnOperand,
+    SharedOperand,
+    OddAlignment,
+    OddSize,
+}
+
+/// The sum of `2` and `2`.
+fn sum(alloc: Global, change: Change) -> Result<List<Expr>, NoMemory> {
+    let mut exprs = List::new(alloc);
+    exprs.push(Expr::Literal(Literal::Uint(2, None)))?;
+    exprs.push(Expr::Literal(Literal::Uint(2, None)))?;
+    let lhs = match change {
+        Change::NoOperand => 7,
+        Change::OwnOperand => 2,
+        _ => 0,
+    };
+    let rhs = if change == Change::SharedOperand {
+        0
+    } else {
+        1
+    };
+    exprs.push(Expr::BinaryOp {
+        lhs: ExprId(lhs),
+        rhs: ExprId(rhs),
+        op: Some(BinaryOp::ArithOp(ArithOp::Add)),
+    })?;
+    Ok(exprs)
+}
+
+/// So many types, each `usize`.
+fn types(alloc: Global, count: usize) -> Result<List<Ty>, NoMemory> {
+    let mut types = List::new(alloc);
+    for _ in 0..count {
+        types.push(Ty::Uint(UintTy::Usize))?;
+    }
+    Ok(types)
+}
+
+/// A body of expressions alone.
+fn body(
+    alloc: Global,
+    exprs: List<Expr>,
+    root: u32,
+    type_count: usize,
+) -> Result<BodyRow, NoMemory> {
+    let infer = InferenceResult {
+        expr_types: types(alloc, type_count)?,
+        pat_types: List::new(alloc),
+        binding_types: List::new(alloc),
+        value_res: Map::new(alloc),
+        binding_modes: Map::new(alloc),
+        copy_types: List::new(alloc),
+        erroneous: false,
+        mismatches: List::new(alloc),
+    };
+    let body = Body {
+        exprs,
+        pats: List::new(alloc),
+        bindings: List::new(alloc),
+        body_expr: ExprId(root),
+    };
+    Ok(BodyRow { body, infer })
+}
+
+/// The layout of `usize`.
+fn layout(alloc: Global, change: Change) -> Layout {
+    Layout {
+        size: if change == Change::OddSize { 12 } else { 8 },
+        align: if change == Change::OddAlignment { 3 } else { 8 },
+        sized: true,
+        offsets: List::new(alloc),
+        variants: Variants::Single(0),
+    }
+}
+
+/// The world of one body.
+fn world_of(alloc: Global, row: BodyRow, change: Change) -> Result<HirDatabase, NoMemory> {
+    let mut crates = List::new(alloc);
+    crates.push(CrateRow {
+        pointer_bytes: Some(8),
+    })?;
+    let mut consts = List::new(alloc);
+    consts.push(ConstRow {
+        name: Some(Text::from_str(alloc, "GOAL")?),
+        krate: Crate(if change == Change::NoCrate { 1 } else { 0 }),
+        ty: Ty::Uint(UintTy::Usize),
+        body: Some(if change == Change::NoBody { 5 } else { 0 }),
+    })?;
+    let mut bodies = List::new(alloc);
+    bodies.push(row)?;
+    let mut layouts = Table::new(alloc);
+    layouts.push(Ty::Uint(UintTy::Usize), layout(alloc, change))?;
+    if change == Change::TwoLayouts {
+        layouts.push(Ty::Uint(UintTy::Usize), layout(alloc, change))?;
+    }
+    Ok(HirDatabase {
+        crates,
+        consts,
+        bodies,
+        layouts,
+    })
+}
+
+/// The constant with one thing wrong.
+fn goal(alloc: Global, change: Change) -> Result<HirDatabase, NoMemory> {
+    let type_count = if change == Change::NoType { 2 } else { 3 };
+    let row = body(alloc, sum(alloc, change)?, 2, type_count)?;
+    world_of(alloc, row, change)
+}
+
+/// A body of so many expressions, each but the first the negation of the one before.
+fn chain(alloc: Global, count: u32) -> Result<HirDatabase, NoMemory> {
+    let mut exprs = List::new(alloc);
+    exprs.push(Expr::Literal(Literal::Uint(2, None)))?;
+    for child in 0..count {
+        exprs.push(Expr::UnaryOp {
+            expr: ExprId(child),
+            op: UnaryOp::Neg,
+        })?;
+    }
+    let type_count = exprs.len() as usize;
+    let row = body(alloc, exprs, count, type_count)?;
+    world_of(alloc, row, Change::Nothing)
+}
+
+#[test]
+fn good_worlds_pass(rt: HostRuntime) -> Result<(), Fail> {
+    let alloc = rt.alloc();
+    assert_eq!(rt; check(alloc, &goal(alloc, Change::Nothing)?), Ok(()));
+    assert_eq!(rt; check(alloc, &chain(alloc, 400)?), Ok(()));
+    let world = CheckedWorld::new(alloc, goal(alloc, Change::Nothing)?);
+    let world = world.ok().ok_or("refused")?;
+    assert_eq!(rt; world.db(), &goal(alloc, Change::Nothing)?);
+    assert!(rt; world.has(DefWithBodyId::ConstId(ConstId(0))));
+    assert!(rt; !world.has(DefWithBodyId::ConstId(ConstId(1))));
+    Ok(())
+}
+
+#[test]
+fn refusals_name_row_and_place(rt: HostRuntime) -> Result<(), Fail> {
+    let alloc = rt.alloc();
+    for (change, row, place) in [
+        (Change::NoCrate, CheckRow::C1, "consts[0]"),
+        (Change::NoBody, CheckRow::C1, "consts[0]"),
+        (Change::NoOperand, CheckRow::C1, "bodies[0].exprs[2]"),
+        (Change::NoType, CheckRow::C1, "bodies[0]"),
+        (Change::TwoLayouts, CheckRow::C1, "layouts[1]"),
+        (Change::OwnOperand, CheckRow::C2, "bodies[0].exprs[2]"),
+        (Change::SharedOperand, CheckRow::C2, "bodies[0].exprs[0]"),
+        (Change::OddAlignment, CheckRow::C5, "layouts[0]"),
+        (Change::OddSize, CheckRow::C5, "layouts[0]"),
+    ] {
+        match check(alloc, &goal(alloc, change)?) {
+            Err(CheckFault::InvalidWorld(invalid)) => {
+                assert_eq!(rt; invalid.row, row, "at {change:?}");
+                assert_eq!(rt; invalid.place.as_str(), place, "at {change:?}");
+            }
+            _ => assert!(rt; false, "at {change:?}"),
+        }
+    }
+    match check(alloc, &chain(alloc, 401)?) {
+        Err(CheckFault::InvalidWorld(invalid)) => {
+            assert_eq!(rt; invalid.row, CheckRow::C2);
+            assert_eq!(rt; invalid.place.as_str(), "bodies[0].exprs[401]");
+        }
+        _ => assert!(rt; false, "too deep"),
+    }
+    Ok(())
+}
