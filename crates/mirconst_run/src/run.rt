@@ -16,14 +16,14 @@ use world::Bytes;
 
 /// What is to be written, and whether each goal has a value.
 #[derive(Drop)]
-struct Answered {
+struct Output {
     text: Bytes,
     all: bool,
 }
 
 /// The report of the goals that bytes stand for.
-fn answered(alloc: Global, bytes: &[u8]) -> Result<Answered, Status>
-    ensures reports { IfOk result (λ answered. IsReportOf bytes.now answered.text answered.all) }
+fn answered(alloc: Global, bytes: &[u8]) -> Result<Output, Status>
+    ensures reports { IfOk result (λ output. IsReportOf bytes.now output.text output.all) }
     ensures stops { IfErr result (λ status. IsStop status) }
 {
     let (world, goals) = input(alloc, bytes)?;
@@ -32,7 +32,7 @@ fn answered(alloc: Global, bytes: &[u8]) -> Result<Answered, Status>
     };
     let all = all_have_values(outcomes.as_slice());
     match report(alloc, world.db(), &outcomes) {
-        Ok(text) => Ok(Answered { text, all }),
+        Ok(text) => Ok(Output { text, all }),
         Err(_) => Err(Status::NoMemory),
     }
 }

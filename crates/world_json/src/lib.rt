@@ -14,6 +14,7 @@ mod misfit;
 mod numerals;
 mod operators;
 mod parts;
+mod rows;
 mod scalars;
 mod tables;
 mod types;

@@ -23,7 +23,7 @@ fn the_sample_is_read(rt: HostRuntime) -> Result<(), Fail> {
     assert_eq!(rt; body.body.exprs.len(), 3);
     assert!(rt; body.body.body_expr == ExprId(2));
     assert_eq!(rt; body.infer.expr_types.len(), 3);
-    let (ty, layout) = db.layouts.get(0).ok_or("a layout")?;
+    let (ty, layout) = db.layouts.at(0).ok_or("a layout")?;
     assert!(rt; *ty == Ty::Uint(UintTy::Usize));
     assert_eq!(rt; layout.size, 8);
     assert!(rt; layout.variants == Variants::Single(0));
