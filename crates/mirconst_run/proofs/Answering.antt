@@ -4,7 +4,8 @@ use Rattle.std.proofs.lemmas.List.{take_more}
 use Rattle.consteval.specs.Kept.{Kept}
 use Rattle.consteval.specs.declared.evaluated.Evaluated.{Evaluated}
 use Rattle.world_json.specs.declared.goal.Goal.{Goal}
-use Rattle.mirconst_run.specs.Answers.{AreAnswers, IsGoalAnswer}
+use Rattle.mirconst_run.specs.Answers.{AreAnswers, IsGoalAnswer, nothing_kept}
+use Rattle.world.specs.declared.database.HirDatabase.{HirDatabase}
 
 -- answers to goals, and then the answer to one more
 last_too : (before between after : Kept) (goals : List Goal) (answers : List Evaluated) (goal : Goal) (answer : Evaluated) →
@@ -16,10 +17,15 @@ last_too before between after (g ∷ goals) [] goal answer same one = absurd sam
 last_too before between after (g ∷ goals) (a ∷ answers) goal answer (next, (first, others)) one =
     (next, (first, last_too next between after goals answers goal answer others one))
 
-pub one_more : (before between after : Kept) (goals : List Goal) (answers : List Evaluated) (i : ℕ) (goal : Goal) (answer : Evaluated) →
-  i < length goals → goal ≡ get_or goals i goal → AreAnswers before (take i goals) answers between → IsGoalAnswer between after goal answer →
-  AreAnswers before (take (i + 1) goals) (answers ++ answer ∷ []) after
-one_more before between after goals answers i goal answer within is firsts one =
+pub one_more : (before between after : Kept) (goals : List Goal) (answers answers' : List Evaluated) (i : ℕ) (goal : Goal) (answer : Evaluated) →
+  i < length goals → goal ≡ get_or goals i goal → answers' ≡ answers ++ answer ∷ [] → AreAnswers before (take i goals) answers between →
+  IsGoalAnswer between after goal answer → AreAnswers before (take (i + 1) goals) answers' after
+one_more before between after goals answers answers' i goal answer within is more firsts one =
     let whole = last_too before between after (take i goals) answers goal answer firsts one in
     let longer : take i goals ++ goal ∷ [] ≡ take (i + 1) goals = ap (λ (last : Goal). take i goals ++ last ∷ []) is ∙ sym (take_more goals i goal within) in
-    subst (λ (firsts : List Goal). AreAnswers before firsts (answers ++ answer ∷ []) after) longer whole
+    rw (sym longer, more) whole
+
+-- the answers over evaluations that have kept nothing yet
+pub from_nothing : (world : HirDatabase) (before after : Kept) (goals : List Goal) (answers : List Evaluated) → before ≡ nothing_kept world →
+  AreAnswers before goals answers after → (after : Kept) × AreAnswers (nothing_kept world) goals answers after
+from_nothing world before after goals answers same are = (after, subst (λ (kept : Kept). AreAnswers kept goals answers after) same are)

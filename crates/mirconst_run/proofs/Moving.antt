@@ -4,11 +4,11 @@ use Rattle.std.proofs.lemmas.List.{take-append-drop, append-nil}
 use Rattle.mirconst_run.specs.Input.{Moves}
 
 -- the first bytes of what was left were taken
-pub piece_moves : (taken part : List ℕ) (left left' : Option (List ℕ)) (n : ℕ) →
-  IfSome left (λ all. part ≡ take n all) → left' ≡ option_map (drop n) left → Moves taken left (taken ++ part) left'
-piece_moves taken part None left' n is rest = rw rest refl
-piece_moves taken part (Some all) left' n is rest =
-    rw (rest, is, append_assoc taken (take n all) (drop n all), take-append-drop n all) refl
+pub piece_moves : (taken taken' part : List ℕ) (left left' : Option (List ℕ)) (n : ℕ) →
+  IfSome left (λ all. part ≡ take n all) → left' ≡ option_map (drop n) left → taken' ≡ taken ++ part → Moves taken left taken' left'
+piece_moves taken taken' part None left' n is rest more = rw rest refl
+piece_moves taken taken' part (Some all) left' n is rest more =
+    rw (rest, more, is, append_assoc taken (take n all) (drop n all), take-append-drop n all) refl
 
 -- where nothing was left, nothing is left
 pub ends : (left left' : Option (List ℕ)) (n : ℕ) → IfSome left (λ all. all ≡ []) → left' ≡ option_map (drop n) left →

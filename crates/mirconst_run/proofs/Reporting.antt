@@ -16,12 +16,12 @@ next outcomes i outcome within is =
     let more : suc i ≡ i + 1 = omega arith in
     drop-cons outcomes i outcome within ∙ ap (λ (n : ℕ). get_or outcomes i outcome ∷ drop n outcomes) more ∙ ap (λ (first : Evaluated). first ∷ drop (i + 1) outcomes) (sym is)
 
-pub one_more : (out whole : List ℕ) (outcomes : List Evaluated) (i : ℕ) (outcome : Evaluated) → i < length outcomes → outcome ≡ get_or outcomes i outcome →
-  out ++ report_from i (drop i outcomes) ≡ whole →
-  (out ++ lines i outcome) ++ report_from (i + 1) (drop (i + 1) outcomes) ≡ whole
-one_more out whole outcomes i outcome within is so_far =
+pub one_more : (out out' whole : List ℕ) (outcomes : List Evaluated) (i : ℕ) (outcome : Evaluated) → i < length outcomes → outcome ≡ get_or outcomes i outcome →
+  out' ≡ out ++ lines i outcome → out ++ report_from i (drop i outcomes) ≡ whole → out' ++ report_from (i + 1) (drop (i + 1) outcomes) ≡ whole
+one_more out out' whole outcomes i outcome within is more so_far =
     let split : report_from i (drop i outcomes) ≡ lines i outcome ++ report_from (i + 1) (drop (i + 1) outcomes) = rw (next outcomes i outcome within is) refl in
-    append_assoc out (lines i outcome) (report_from (i + 1) (drop (i + 1) outcomes)) ∙ ap (λ (rest : List ℕ). out ++ rest) (sym split) ∙ so_far
+    ap (λ (text : List ℕ). text ++ report_from (i + 1) (drop (i + 1) outcomes)) more
+      ∙ append_assoc out (lines i outcome) (report_from (i + 1) (drop (i + 1) outcomes)) ∙ ap (λ (rest : List ℕ). out ++ rest) (sym split) ∙ so_far
 
 pub all_done : (out whole : List ℕ) (outcomes : List Evaluated) (i : ℕ) → length outcomes ≤ i →
   out ++ report_from i (drop i outcomes) ≡ whole → out ≡ whole

@@ -62,6 +62,7 @@ fn answer_all(
 }
 
 /// The answers to the goals of a world, one for each in order.
+#[tactic(auto, using(crate::proofs::Answering::from_nothing))]
 pub(crate) fn answers(
     alloc: Global,
     world: &CheckedWorld,

@@ -54,8 +54,17 @@ fn checked(alloc: Global, db: HirDatabase) -> Result<CheckedWorld, Status>
 {
     match CheckedWorld::new(alloc, db) {
         Ok(world) => Ok(world),
-        Err((_, CheckFault::InvalidWorld(invalid))) => Err(Status::BadWorld(invalid)),
-        Err((_, CheckFault::NoMemory)) => Err(Status::NoMemory),
+        Err((_db, fault)) => Err(refused(fault)),
+    }
+}
+
+/// The status of a world that fails the check.
+fn refused(fault: CheckFault) -> Status
+    ensures { IsStop result }
+{
+    match fault {
+        CheckFault::InvalidWorld(invalid) => Status::BadWorld(invalid),
+        CheckFault::NoMemory => Status::NoMemory,
     }
 }
 
@@ -100,6 +109,7 @@ fn misfit_path(alloc: Global, i: u64) -> Result<Text, NoMemory>
 
 /// The world and the goals that bytes stand for, once the world has passed the check and the goals are
 /// in it.
+#[tactic(auto, using(crate::proofs::Running::stands_for))]
 pub(crate) fn input(alloc: Global, bytes: &[u8]) -> Result<(CheckedWorld, List<Goal>), Status>
     ensures stands { IfOk result (λ input. StandsFor bytes.now input.0 input.1) }
     ensures stops { IfErr result (λ status. IsStop status) }

@@ -5,13 +5,13 @@
 mod answers;
 mod input;
 mod reading;
-mod report;
-mod run;
+mod reports;
+mod runs;
 mod status;
 mod words;
 mod writing;
 
 pub use input::goals_fit;
-pub use report::report;
-pub use run::run;
+pub use reports::report;
+pub use runs::run;
 pub use status::Status;

@@ -46,7 +46,7 @@ fn read_piece<S: Source>(
 }
 
 /// Reads the input to its end, in pieces, and never past the first byte that is too many.
-#[tactic(auto, using(crate::proofs::Moving::all_moved))]
+#[tactic(auto, using(crate::proofs::Moving::all_moved, crate::proofs::Moving::none_left))]
 pub(crate) fn read_input<S: Source>(alloc: Global, src: &mut S) -> Result<Vec<u8>, Status>
     ensures all { IfOk result (λ bytes. IfSome (S.left src.old) (λ all. all ≡ bytes.items)) }
     ensures end { IfOk result (λ bytes. IfSome (S.left src.old) (λ all. S.left src.new ≡ Some [])) }

@@ -22,6 +22,7 @@ struct Output {
 }
 
 /// The report of the goals that bytes stand for.
+#[tactic(auto, using(crate::proofs::Running::reports))]
 fn answered(alloc: Global, bytes: &[u8]) -> Result<Output, Status>
     ensures reports { IfOk result (λ output. IsReportOf bytes.now output.text output.all) }
     ensures stops { IfErr result (λ status. IsStop status) }
