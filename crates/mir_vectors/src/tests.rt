@@ -5,29 +5,31 @@ use streams::{BytesSink, BytesSource};
 use world::{Bytes, List, NoMemory};
 
 /// `const GOAL: usize = 2 + 2`.
-const SUM: &str = r#"{"version":1,"world":{"crates":[{"pointer_bytes":8}],"consts":[{"name":"GOAL","krate":0,"ty":{"Uint":"Usize"},"body":0}],"bodies":[{"body":{"exprs":[{"Literal":{"Int":["2",null]}},{"Literal":{"Int":["2",null]}},{"BinaryOp":{"lhs":0,"rhs":1,"op":{"ArithOp":"Add"}}}],"body_expr":2},"infer":{"expr_types":[{"Uint":"Usize"},{"Uint":"Usize"},{"Uint":"Usize"}],"copy_types":[{"Uint":"Usize"}]}}],"layouts":[[{"Uint":"Usize"},{"size":8,"align":8,"sized":true,"offsets":[],"variants":{"Single":0}}]]},"goals":[{"def":{"ConstId":0}}]}"#;
+const SUM: &str =
+    r#"{"version":1,"world":{"crates":[{"pointer_bytes":8}],"consts":[{"name":"GOAL","krate":0,"ty":{"Uint":"Usize"},"body":0}],"bodies":[{"body":{"exprs":[{"Literal":{"Int":["2",null]}},{"Literal":{"Int":["2",null]}},{"BinaryOp":{"lhs":0,"rhs":1,"op":{"ArithOp":"Add"}}}],"body_expr":2},"infer":{"expr_types":[{"Uint":"Usize"},{"Uint":"Usize"},{"Uint":"Usize"}],"copy_types":[{"Uint":"Usize"}]}}],"layouts":[[{"Uint":"Usize"},{"size":8,"align":8,"sized":true,"offsets":[],"variants":{"Single":0}}]]},"goals":[{"def":{"ConstId":0}}]}"#;
 
 /// `const GOAL: u8 = 255 + 1`.
-const OVERFLOW: &str = r#"{"version":1,"world":{"crates":[{"pointer_bytes":8}],"consts":[{"name":"GOAL","krate":0,"ty":{"Uint":"U8"},"body":0}],"bodies":[{"body":{"exprs":[{"Literal":{"Int":["255",null]}},{"Literal":{"Int":["1",null]}},{"BinaryOp":{"lhs":0,"rhs":1,"op":{"ArithOp":"Add"}}}],"body_expr":2},"infer":{"expr_types":[{"Uint":"U8"},{"Uint":"U8"},{"Uint":"U8"}],"copy_types":[{"Uint":"U8"}]}}],"layouts":[[{"Uint":"U8"},{"size":1,"align":1,"sized":true,"offsets":[],"variants":{"Single":0}}]]},"goals":[{"def":{"ConstId":0}}]}"#;
+const OVERFLOW: &str =
+    r#"{"version":1,"world":{"crates":[{"pointer_bytes":8}],"consts":[{"name":"GOAL","krate":0,"ty":{"Uint":"U8"},"body":0}],"bodies":[{"body":{"exprs":[{"Literal":{"Int":["255",null]}},{"Literal":{"Int":["1",null]}},{"BinaryOp":{"lhs":0,"rhs":1,"op":{"ArithOp":"Add"}}}],"body_expr":2},"infer":{"expr_types":[{"Uint":"U8"},{"Uint":"U8"},{"Uint":"U8"}],"copy_types":[{"Uint":"U8"}]}}],"layouts":[[{"Uint":"U8"},{"size":1,"align":1,"sized":true,"offsets":[],"variants":{"Single":0}}]]},"goals":[{"def":{"ConstId":0}}]}"#;
 
 /// The sum without goals.
-const NO_GOALS: &str = r#"{"version":1,"world":{"crates":[{"pointer_bytes":8}],"consts":[{"name":"GOAL","krate":0,"ty":{"Uint":"Usize"},"body":0}],"bodies":[{"body":{"exprs":[{"Literal":{"Int":["2",null]}},{"Literal":{"Int":["2",null]}},{"BinaryOp":{"lhs":0,"rhs":1,"op":{"ArithOp":"Add"}}}],"body_expr":2},"infer":{"expr_types":[{"Uint":"Usize"},{"Uint":"Usize"},{"Uint":"Usize"}],"copy_types":[{"Uint":"Usize"}]}}],"layouts":[[{"Uint":"Usize"},{"size":8,"align":8,"sized":true,"offsets":[],"variants":{"Single":0}}]]},"goals":[]}"#;
+const NO_GOALS: &str =
+    r#"{"version":1,"world":{"crates":[{"pointer_bytes":8}],"consts":[{"name":"GOAL","krate":0,"ty":{"Uint":"Usize"},"body":0}],"bodies":[{"body":{"exprs":[{"Literal":{"Int":["2",null]}},{"Literal":{"Int":["2",null]}},{"BinaryOp":{"lhs":0,"rhs":1,"op":{"ArithOp":"Add"}}}],"body_expr":2},"infer":{"expr_types":[{"Uint":"Usize"},{"Uint":"Usize"},{"Uint":"Usize"}],"copy_types":[{"Uint":"Usize"}]}}],"layouts":[[{"Uint":"Usize"},{"size":8,"align":8,"sized":true,"offsets":[],"variants":{"Single":0}}]]},"goals":[]}"#;
 
 /// The sum with a crate that is no number in range.
-const NO_WORLD: &str = r#"{"version":1,"world":{"crates":[{"pointer_bytes":8}],"consts":[{"name":"GOAL","krate":-1,"ty":{"Uint":"Usize"},"body":0}],"bodies":[{"body":{"exprs":[{"Literal":{"Int":["2",null]}},{"Literal":{"Int":["2",null]}},{"BinaryOp":{"lhs":0,"rhs":1,"op":{"ArithOp":"Add"}}}],"body_expr":2},"infer":{"expr_types":[{"Uint":"Usize"},{"Uint":"Usize"},{"Uint":"Usize"}],"copy_types":[{"Uint":"Usize"}]}}],"layouts":[[{"Uint":"Usize"},{"size":8,"align":8,"sized":true,"offsets":[],"variants":{"Single":0}}]]},"goals":[{"def":{"ConstId":0}}]}"#;
+const NO_WORLD: &str =
+    r#"{"version":1,"world":{"crates":[{"pointer_bytes":8}],"consts":[{"name":"GOAL","krate":-1,"ty":{"Uint":"Usize"},"body":0}],"bodies":[{"body":{"exprs":[{"Literal":{"Int":["2",null]}},{"Literal":{"Int":["2",null]}},{"BinaryOp":{"lhs":0,"rhs":1,"op":{"ArithOp":"Add"}}}],"body_expr":2},"infer":{"expr_types":[{"Uint":"Usize"},{"Uint":"Usize"},{"Uint":"Usize"}],"copy_types":[{"Uint":"Usize"}]}}],"layouts":[[{"Uint":"Usize"},{"size":8,"align":8,"sized":true,"offsets":[],"variants":{"Single":0}}]]},"goals":[{"def":{"ConstId":0}}]}"#;
 
 /// The sum with a node that is its own child.
-const NO_TREE: &str = r#"{"version":1,"world":{"crates":[{"pointer_bytes":8}],"consts":[{"name":"GOAL","krate":0,"ty":{"Uint":"Usize"},"body":0}],"bodies":[{"body":{"exprs":[{"Literal":{"Int":["2",null]}},{"Literal":{"Int":["2",null]}},{"BinaryOp":{"lhs":2,"rhs":1,"op":{"ArithOp":"Add"}}}],"body_expr":2},"infer":{"expr_types":[{"Uint":"Usize"},{"Uint":"Usize"},{"Uint":"Usize"}],"copy_types":[{"Uint":"Usize"}]}}],"layouts":[[{"Uint":"Usize"},{"size":8,"align":8,"sized":true,"offsets":[],"variants":{"Single":0}}]]},"goals":[{"def":{"ConstId":0}}]}"#;
+const NO_TREE: &str =
+    r#"{"version":1,"world":{"crates":[{"pointer_bytes":8}],"consts":[{"name":"GOAL","krate":0,"ty":{"Uint":"Usize"},"body":0}],"bodies":[{"body":{"exprs":[{"Literal":{"Int":["2",null]}},{"Literal":{"Int":["2",null]}},{"BinaryOp":{"lhs":2,"rhs":1,"op":{"ArithOp":"Add"}}}],"body_expr":2},"infer":{"expr_types":[{"Uint":"Usize"},{"Uint":"Usize"},{"Uint":"Usize"}],"copy_types":[{"Uint":"Usize"}]}}],"layouts":[[{"Uint":"Usize"},{"size":8,"align":8,"sized":true,"offsets":[],"variants":{"Single":0}}]]},"goals":[{"def":{"ConstId":0}}]}"#;
 
 /// The sum with a goal that is no constant of the world.
-const NO_SUCH_GOAL: &str = r#"{"version":1,"world":{"crates":[{"pointer_bytes":8}],"consts":[{"name":"GOAL","krate":0,"ty":{"Uint":"Usize"},"body":0}],"bodies":[{"body":{"exprs":[{"Literal":{"Int":["2",null]}},{"Literal":{"Int":["2",null]}},{"BinaryOp":{"lhs":0,"rhs":1,"op":{"ArithOp":"Add"}}}],"body_expr":2},"infer":{"expr_types":[{"Uint":"Usize"},{"Uint":"Usize"},{"Uint":"Usize"}],"copy_types":[{"Uint":"Usize"}]}}],"layouts":[[{"Uint":"Usize"},{"size":8,"align":8,"sized":true,"offsets":[],"variants":{"Single":0}}]]},"goals":[{"def":{"ConstId":1}}]}"#;
+const NO_SUCH_GOAL: &str =
+    r#"{"version":1,"world":{"crates":[{"pointer_bytes":8}],"consts":[{"name":"GOAL","krate":0,"ty":{"Uint":"Usize"},"body":0}],"bodies":[{"body":{"exprs":[{"Literal":{"Int":["2",null]}},{"Literal":{"Int":["2",null]}},{"BinaryOp":{"lhs":0,"rhs":1,"op":{"ArithOp":"Add"}}}],"body_expr":2},"infer":{"expr_types":[{"Uint":"Usize"},{"Uint":"Usize"},{"Uint":"Usize"}],"copy_types":[{"Uint":"Usize"}]}}],"layouts":[[{"Uint":"Usize"},{"size":8,"align":8,"sized":true,"offsets":[],"variants":{"Single":0}}]]},"goals":[{"def":{"ConstId":1}}]}"#;
 
 /// Runs over these bytes, and gives the status and what was written.
-fn run_over(
-    alloc: Global,
-    words: &[&str],
-    input: &[u8],
-) -> Result<(Status, Bytes), NoMemory> {
+fn run_over(alloc: Global, words: &[&str], input: &[u8]) -> Result<(Status, Bytes), NoMemory> {
     let mut owned = Vec::new(alloc);
     for word in words {
         owned.push(String::from_str(alloc, *word)?)?;
@@ -41,8 +43,20 @@ fn run_over(
 
 /// Words, the input, the exit code, the line of the status, and what is written.
 const RUNS: [(&[&str], &str, u8, &str, &str); 9] = [
-    (&[], SUM, 0, "", "goal 0 value usize 0400000000000000\n  turns 1\n"),
-    (&["eval"], SUM, 0, "", "goal 0 value usize 0400000000000000\n  turns 1\n"),
+    (
+        &[],
+        SUM,
+        0,
+        "",
+        "goal 0 value usize 0400000000000000\n  turns 1\n",
+    ),
+    (
+        &["eval"],
+        SUM,
+        0,
+        "",
+        "goal 0 value usize 0400000000000000\n  turns 1\n",
+    ),
     (
         &[],
         OVERFLOW,

@@ -3,10 +3,10 @@
 #![tactic(auto)]
 
 use mirconst_run::{Status, run};
-use std::env;
-use std::io;
 use std::io::ErrorKind;
 use std::process::ExitCode;
+use std::rt::Env;
+use std::{env, io};
 use streams::{StdSink, StdSource};
 
 /// The words after the program's name. An argument that is no text is a bad word.

@@ -19,8 +19,8 @@ use Rattle.mirconst_run.specs.declared.status.Status.{Status}
 use Rattle.mirconst_run.specs.declared.status.Status.TheVariants.{Values, Errors, BadWords, NotJson, NotAWorld, BadWorld, TooLong, ReadFault, WriteFault, NoMemory}
 
 pub answered : (left left' written written' : Option (List ℕ)) (bytes text : List ℕ) (all : Bool) →
-  IfSome left (λ whole. whole ≡ bytes) → IfSome left (λ whole. left' ≡ Some []) → IsReportOf bytes text all →
-  written' ≡ option_map (λ before. before ++ text) written → IsAnswered left left' written written' all
+    IfSome left (λ whole. whole ≡ bytes) → IfSome left (λ whole. left' ≡ Some []) → IsReportOf bytes text all →
+    written' ≡ option_map (λ before. before ++ text) written → IsAnswered left left' written written' all
 answered None left' written written' bytes text all same end reports appended = tt
 answered (Some whole) left' written written' bytes text all same end reports appended =
     (end, record { text = text; is_report = rw same reports; appended = appended })
@@ -40,13 +40,13 @@ stop_means left left' written written' NoMemory stops = tt
 
 -- what bytes stand for, from what each step found
 pub stands_for : (bytes : List ℕ) (tree : Data) (world db : HirDatabase) (goals : List Goal) → IsUtf8 bytes → read bytes ≡ Some tree →
-  world_of tree ≡ Ok (db, goals) → world ≡ db → first_failure db ≡ None → position (is_misfit world) goals ≡ None → StandsFor bytes world goals
+    world_of tree ≡ Ok (db, goals) → world ≡ db → first_failure db ≡ None → position (is_misfit world) goals ≡ None → StandsFor bytes world goals
 stands_for bytes tree world db goals utf8 json stands same passes fit =
     record { tree = tree; utf8 = utf8; json = json; stands = rw same stands; passes = rw same passes; fit = fit }
 
 -- the report of the goals that bytes stand for
 pub reports : (bytes text : List ℕ) (world : HirDatabase) (goals : List Goal) (outcomes : List Evaluated) (all : Bool) → StandsFor bytes world goals →
-  ((after : Kept) × AreAnswers (nothing_kept world) goals outcomes after) → all ≡ list_all has_value outcomes → text ≡ report_text outcomes → IsReportOf bytes text all
+    ((after : Kept) × AreAnswers (nothing_kept world) goals outcomes after) → all ≡ list_all has_value outcomes → text ≡ report_text outcomes → IsReportOf bytes text all
 reports bytes text world goals outcomes all input answers valued reported = record {
   outcomes = outcomes;
   are = record { world = world; goals = goals; input = input; after = answers.0; answers = answers.1 };

@@ -21,11 +21,11 @@ use Rattle.world_json.specs.declared.goal.Goal.{Goal}
 pub record IsAnswer (before after : Kept) (def : DefWithBodyId) (args : GenericArgs) (blocks : ℕ) (answer : Evaluated) : Type 0 where
   pub printed : answer.output ≡ ([], [])
   pub value : (row : BodyRow) (konst : Const) → IsValid before.world def args row → answer.result ≡ Ok konst →
-    GivesValue (source_of before.world row) konst
+      GivesValue (source_of before.world row) konst
   pub panic : (row : BodyRow) (word : List ℕ) → IsValid before.world def args row → answer.result ≡ Err (panic_of word) →
-    GivesPanic (source_of before.world row) word
+      GivesPanic (source_of before.world row) word
   pub complete : (row : BodyRow) → IsValid before.world def args row → HasDefinedCost (source_of before.world row) →
-    AnswersWithin (source_of before.world row) blocks answer.result
+      AnswersWithin (source_of before.world row) blocks answer.result
   pub cause : HasCause after def args blocks answer.turns answer.result
   pub world : after.world ≡ before.world
   pub bodies_stay : (key : DefWithBodyId) (body : MirBody) → Contains before.bodies (key, body) → Contains after.bodies (key, body)

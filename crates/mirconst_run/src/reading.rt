@@ -23,11 +23,7 @@ fn piece(alloc: Global) -> Result<Vec<u8>, AllocError>
 
 /// Reads some bytes and adds them at the end; how many they are.
 #[tactic(auto, using(crate::proofs::Moving::piece_moves, crate::proofs::Moving::ends))]
-fn read_piece<S: Source>(
-    src: &mut S,
-    room: &mut [u8],
-    bytes: &mut Vec<u8>,
-) -> Result<usize, Status>
+fn read_piece<S: Source>(src: &mut S, room: &mut [u8], bytes: &mut Vec<u8>) -> Result<usize, Status>
     requires { 0 < length room.old }
     ensures moves { OnOk result (Moves bytes.old.items (S.left src.old) bytes.new.items (S.left src.new)) }
     ensures grows { IfOk result (λ n. length bytes.new.items ≡ length bytes.old.items + n) }

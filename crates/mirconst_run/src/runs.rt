@@ -40,11 +40,7 @@ fn answered(alloc: Global, bytes: &[u8]) -> Result<Output, Status>
 
 /// Reads the input, and writes the report of its goals; whether each has a value.
 #[tactic(auto, using(crate::proofs::Running::answered))]
-fn answer_input<S: Source, K: Sink>(
-    alloc: Global,
-    src: &mut S,
-    out: &mut K,
-) -> Result<bool, Status>
+fn answer_input<S: Source, K: Sink>(alloc: Global, src: &mut S, out: &mut K) -> Result<bool, Status>
     ensures answers { IfOk result (λ all. IsAnswered (S.left src.old) (S.left src.new) (K.written out.old) (K.written out.new) all) }
     ensures stops { IfErr result (λ status. IsStop status) }
 {

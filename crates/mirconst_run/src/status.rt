@@ -81,7 +81,9 @@ impl fmt::Display for Status {
             Status::Values => Ok(()),
             Status::Errors => Ok(()),
             Status::BadWords => {
-                f.write_str("usage: mirconst [eval [--blocks N] [--nesting N] [--bytes N] | make N]")
+                f.write_str(
+                    "usage: mirconst [eval [--blocks N] [--nesting N] [--bytes N] | make N]",
+                )
             }
             Status::NotJson => f.write_str("mirconst: input is not JSON"),
             Status::NotAWorld(path) => {
