@@ -75,15 +75,18 @@ fn is_misfit(world: &CheckedWorld, goal: &Goal) -> bool
     !world.has(goal.def)
 }
 
+/// The place of the first goal whose definition is out of range.
+fn first_misfit(world: &CheckedWorld, goals: &[Goal]) -> Option<usize>
+    ensures { result ≡ position (is_misfit world.now) goals.now }
+{
+    goals.iter().position(|goal| is_misfit(world, goal))
+}
+
 /// The first goal whose definition is out of range.
 pub fn goals_fit(world: &CheckedWorld, goals: &List<Goal>) -> Option<u64>
     ensures { result ≡ position (is_misfit world.now) goals.now }
 {
-    let first = goals
-        .as_slice()
-        .iter()
-        .position(|goal| is_misfit(world, goal));
-    match first {
+    match first_misfit(world, goals.as_slice()) {
         Some(i) => Some(i as u64),
         None => None,
     }
