@@ -1,5 +1,5 @@
 -- A run, from its parts.
-use Rattle.std.proofs.Common.{◌≡◌, ℕ, Bool, List, [], ◌++◌, Option, None, Some, option_map, IfSome, sym, Ok}
+use Rattle.std.proofs.Common.{◌≡◌, ℕ, Bool, List, [], ◌++◌, Option, None, Some, option_map, IfSome, sym, subst, Ok}
 use Rattle.std.specs.List.{list_all}
 use Rattle.std.specs.Prelude.{IsUtf8, position}
 use Rattle.serde_json.specs.Data.{Data}
@@ -42,7 +42,14 @@ stop_means left left' written written' NoMemory stops = tt
 pub stands_for : (bytes : List ℕ) (tree : Data) (world db : HirDatabase) (goals : List Goal) → IsUtf8 bytes → read bytes ≡ Some tree →
     world_of tree ≡ Ok (db, goals) → world ≡ db → first_failure db ≡ None → position (is_misfit world) goals ≡ None → StandsFor bytes world goals
 stands_for bytes tree world db goals utf8 json stands same passes fit =
-    record { tree = tree; utf8 = utf8; json = json; stands = rw same stands; passes = rw same passes; fit = fit }
+    record {
+      tree = tree;
+      utf8 = utf8;
+      json = json;
+      stands = subst (λ (passed : HirDatabase). world_of tree ≡ Ok (passed, goals)) (sym same) stands;
+      passes = subst (λ (passed : HirDatabase). first_failure passed ≡ None) (sym same) passes;
+      fit = fit;
+    }
 
 -- the report of the goals that bytes stand for
 pub reports : (bytes text : List ℕ) (world : HirDatabase) (goals : List Goal) (outcomes : List Evaluated) (all : Bool) → StandsFor bytes world goals →

@@ -43,7 +43,6 @@ fn answer(
 }
 
 /// The answers to goals, one for each in order.
-#[tactic(auto, using(crate::proofs::Answering::one_more))]
 fn answer_all(
     alloc: Global,
     evaluations: &mut Evaluations,
