@@ -1,5 +1,5 @@
 -- Answers, one goal after another.
-use Rattle.std.proofs.Common.{◌≡◌, ℕ, ◌+◌, ◌<◌, List, [], ◌∷◌, ◌++◌, length, get_or, take, refl, sym, ap, subst, ◌∙◌}
+use Rattle.std.proofs.Common.{◌≡◌, ℕ, ◌+◌, ◌<◌, List, [], ◌∷◌, ◌++◌, length, get_or, take, refl, sym, subst}
 use Rattle.std.proofs.lemmas.List.{take_more}
 use Rattle.consteval.specs.Kept.{Kept}
 use Rattle.consteval.specs.declared.evaluated.Evaluated.{Evaluated}

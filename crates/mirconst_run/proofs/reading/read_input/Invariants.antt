@@ -1,4 +1,4 @@
-use Rattle.std.proofs.Common.{◌≡◌, ℕ, ◌-◌, ◌≤◌, [], length}
+use Rattle.std.proofs.Common.{◌≡◌, ◌-◌, ◌≤◌, [], length}
 use Rattle.mirconst_run.specs.Input.{Moves}
 use Rattle.mirconst_run.proofs.reading.read_input.Given as goal
 

@@ -1,4 +1,4 @@
-use Rattle.std.proofs.Common.{◌≡◌, ℕ, ◌++◌, length, option_map}
+use Rattle.std.proofs.Common.{◌≡◌, ◌++◌, length, option_map}
 use Rattle.mirconst_run.proofs.writing.write_whole.Given as goal
 
 abbrev pub invariant-loop-rest : goal.invariant-loop-rest
