@@ -1,0 +1,4 @@
+pub mod Answering
+pub mod Moving
+pub mod Reporting
+pub mod Running

@@ -1,0 +1,68 @@
+-- What the answers to the goals are.
+use Rattle.std.specs.Prelude.{◌≡◌, ◌≤◌, ℕ, Bool, true, false, List, [], ◌∷◌, Result, Ok, Err, Contains, IsOk, is_ok, is_none}
+use Rattle.mir.specs.declared.errors.ConstEvalError.{ConstEvalError}
+use Rattle.mir.specs.declared.errors.ConstEvalError.TheVariants as constant
+use Rattle.mir.specs.declared.body.MirBody.{MirBody}
+use Rattle.mir_eval.specs.Limits.{default_limits}
+use Rattle.source_meaning.specs.Valid.{HasDefinedCost}
+use Rattle.consteval.specs.Kept.{Kept, source_of}
+use Rattle.consteval.specs.Valid.{IsValid}
+use Rattle.consteval.specs.Answers.{GivesValue, GivesPanic, AnswersWithin, HasCause, panic_of}
+use Rattle.consteval.specs.declared.evaluated.Evaluated.{Evaluated}
+use Rattle.world.specs.declared.database.BodyRow.{BodyRow}
+use Rattle.world.specs.declared.database.HirDatabase.{HirDatabase}
+use Rattle.world.specs.declared.ids.DefWithBodyId.{DefWithBodyId}
+use Rattle.world.specs.declared.ty.Const.{Const}
+use Rattle.world.specs.declared.ty.GenericArgs.{GenericArgs}
+use Rattle.world.specs.Lookups.{const_row}
+use Rattle.world_json.specs.declared.goal.Goal.{Goal}
+
+-- an answer to a definition, and what was kept before and after it
+pub record IsAnswer (before after : Kept) (def : DefWithBodyId) (args : GenericArgs) (blocks : ℕ) (answer : Evaluated) : Type 0 where
+  pub printed : answer.output ≡ ([], [])
+  pub value : (row : BodyRow) (konst : Const) → IsValid before.world def args row → answer.result ≡ Ok konst →
+      GivesValue (source_of before.world row) konst
+  pub panic : (row : BodyRow) (word : List ℕ) → IsValid before.world def args row → answer.result ≡ Err (panic_of word) →
+      GivesPanic (source_of before.world row) word
+  pub complete : (row : BodyRow) → IsValid before.world def args row → HasDefinedCost (source_of before.world row) →
+      AnswersWithin (source_of before.world row) blocks answer.result
+  pub cause : HasCause after def args blocks answer.turns answer.result
+  pub turns : answer.turns ≤ blocks
+  pub world : after.world ≡ before.world
+  pub bodies_stay : (key : DefWithBodyId) (body : MirBody) → Contains before.bodies (key, body) → Contains after.bodies (key, body)
+  pub values_stay : (key : DefWithBodyId) (konst : Const) → Contains before.values (key, konst) → Contains after.values (key, konst)
+  pub kept : IsOk answer.result → (konst : Const) × Contains after.values (def, konst)
+
+-- whether there was no memory for a result
+abbrev pub is_want_of_memory : Result Const ConstEvalError → Bool
+is_want_of_memory (Ok konst) = false
+is_want_of_memory (Err constant.NoMemory) = true
+is_want_of_memory (Err (constant.MirLowerError error)) = false
+is_want_of_memory (Err (constant.MirEvalError error)) = false
+
+abbrev pub no_args : GenericArgs
+no_args = record { 0 = [] }
+
+-- an answer to a goal under the limits of a run for which none were asked, with enough memory
+pub record IsGoalAnswer (before after : Kept) (goal : Goal) (answer : Evaluated) : Type 0 where
+  pub answers : IsAnswer before after goal.def no_args default_limits.blocks answer
+  pub in_memory : is_want_of_memory answer.result ≡ false
+
+-- answers to goals, one for each in order, where each evaluation begins with what the one before has kept
+abbrev pub AreAnswers : Kept → List Goal → List Evaluated → Kept → Type 0
+AreAnswers before [] [] after = before ≡ after
+AreAnswers before [] (answer ∷ answers) after = ⊥
+AreAnswers before (goal ∷ goals) [] after = ⊥
+AreAnswers before (goal ∷ goals) (answer ∷ answers) after =
+    (between : Kept) × IsGoalAnswer before between goal answer × AreAnswers between goals answers after
+
+-- nothing is kept yet
+abbrev pub nothing_kept : HirDatabase → Kept
+nothing_kept world = record { world = world; bodies = []; values = [] }
+
+abbrev pub has_value : Evaluated → Bool
+has_value answer = is_ok answer.result
+
+-- whether a goal's definition is out of range
+abbrev pub is_misfit : HirDatabase → Goal → Bool
+is_misfit world goal = is_none (const_row world goal.def)

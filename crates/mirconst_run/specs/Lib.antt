@@ -1,0 +1,5 @@
+pub mod Answers
+pub mod Input
+pub mod Report
+pub mod Runs
+pub mod Statuses

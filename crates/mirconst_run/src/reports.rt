@@ -1,0 +1,53 @@
+//! The report.
+
+ghost use Rattle.std.specs.Prelude.{◌≡◌, ◌++◌, IfOk, OnOk};
+ghost use Rattle.mirconst_run.specs.Report.{report_text};
+ghost use Rattle.report_text.specs.Goals.{goal_text};
+
+use consteval::Evaluated;
+use report_text::goal_text;
+use std::alloc::Global;
+use world::{Bytes, HirDatabase, List, NoMemory};
+
+/// Adds the lines of an outcome.
+fn push_goal(
+    alloc: Global,
+    out: &mut Vec<u8>,
+    number: u64,
+    outcome: &Evaluated,
+) -> Result<(), NoMemory>
+    ensures { OnOk result (out.new.items ≡ out.old.items ++ goal_text number outcome.now.result outcome.now.output outcome.now.turns) }
+{
+    let text = goal_text(
+        alloc,
+        number,
+        &outcome.result,
+        &outcome.output,
+        outcome.turns,
+    )?;
+    out.extend_from_slice(text.as_slice())?;
+    Ok(())
+}
+
+/// The lines of outcomes.
+#[tactic(auto, using(crate::proofs::Reporting::one_more, crate::proofs::Reporting::all_done))]
+fn report_of(alloc: Global, outcomes: &[Evaluated]) -> Result<Bytes, NoMemory>
+    ensures { IfOk result (λ text. text ≡ report_text outcomes.now) }
+{
+    let mut out = Vec::new(alloc);
+    for i in 0..outcomes.len() {
+        push_goal(alloc, &mut out, i as u64, &outcomes[i])?;
+    }
+    Ok(Bytes::from_vec(out))
+}
+
+/// The report of the outcomes of goals, in their order. No name of the world is printed yet.
+pub fn report(
+    alloc: Global,
+    _db: &HirDatabase,
+    outcomes: &List<Evaluated>,
+) -> Result<Bytes, NoMemory>
+    ensures { IfOk result (λ text. text ≡ report_text outcomes.now) }
+{
+    report_of(alloc, outcomes.as_slice())
+}

@@ -1,0 +1,74 @@
+//! A whole run.
+
+ghost use Rattle.std.specs.Prelude.{IfOk, IfErr};
+ghost use Rattle.mirconst_run.specs.Runs.{IsReportOf, IsAnswered, Means};
+ghost use Rattle.mirconst_run.specs.Statuses.{IsStop};
+
+use crate::answers::{all_have_values, answers};
+use crate::input::input;
+use crate::reading::read_input;
+use crate::words::is_command;
+use crate::writing::write_whole;
+use crate::{Status, report};
+use std::alloc::Global;
+use streams::{Sink, Source};
+use world::Bytes;
+
+/// What is to be written, and whether each goal has a value.
+#[derive(Drop)]
+struct Output {
+    text: Bytes,
+    all: bool,
+}
+
+/// The report of the goals that bytes stand for.
+#[tactic(auto, using(crate::proofs::Running::reports))]
+fn answered(alloc: Global, bytes: &[u8]) -> Result<Output, Status>
+    ensures reports { IfOk result (λ output. IsReportOf bytes.now output.text output.all) }
+    ensures stops { IfErr result (λ status. IsStop status) }
+{
+    let (world, goals) = input(alloc, bytes)?;
+    let Ok(outcomes) = answers(alloc, &world, &goals) else {
+        return Err(Status::NoMemory);
+    };
+    let all = all_have_values(outcomes.as_slice());
+    match report(alloc, world.db(), &outcomes) {
+        Ok(text) => Ok(Output { text, all }),
+        Err(_) => Err(Status::NoMemory),
+    }
+}
+
+/// Reads the input, and writes the report of its goals; whether each has a value.
+#[tactic(auto, using(crate::proofs::Running::answered))]
+fn answer_input<S: Source, K: Sink>(alloc: Global, src: &mut S, out: &mut K) -> Result<bool, Status>
+    ensures answers { IfOk result (λ all. IsAnswered (S.left src.old) (S.left src.new) (K.written out.old) (K.written out.new) all) }
+    ensures stops { IfErr result (λ status. IsStop status) }
+{
+    let bytes = read_input(alloc, src)?;
+    let answered = answered(alloc, bytes.as_slice())?;
+    match write_whole(out, answered.text.as_slice()) {
+        Ok(()) => Ok(answered.all),
+        Err(_) => Err(Status::WriteFault),
+    }
+}
+
+/// Runs the program: reads the world and its goals, evaluates the goals in order, and writes the report.
+/// The words are none, or `eval` alone.
+#[tactic(auto, using(crate::proofs::Running::stop_means))]
+pub fn run<S: Source, K: Sink>(
+    alloc: Global,
+    words: &Vec<String>,
+    src: &mut S,
+    out: &mut K,
+) -> Status
+    ensures { Means (S.left src.old) (S.left src.new) (K.written out.old) (K.written out.new) result }
+{
+    if !is_command(words) {
+        return Status::BadWords;
+    }
+    match answer_input(alloc, src, out) {
+        Ok(true) => Status::Values,
+        Ok(false) => Status::Errors,
+        Err(status) => status,
+    }
+}

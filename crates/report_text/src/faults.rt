@@ -1,0 +1,177 @@
+//! The texts of faults.
+
+ghost use Rattle.std.specs.Prelude.{◌≡◌, [], ◌∷◌, codes, map, IfOk};
+ghost use Rattle.report_text.specs.Texts.{named, quoted};
+ghost use Rattle.report_text.specs.Types.{type_text};
+ghost use Rattle.report_text.specs.Faults.{layout_error_text, span_text, def_text, crate_text, entry_text, trail_text, lower_error_text, eval_error_text, fault_text};
+
+use crate::texts::{bracketed, enclosed, joined, named_one, named_two, numbered, quoted};
+use crate::types::type_text;
+use mir::{ConstEvalError, LayoutError, MirEvalError, MirLowerError, MirSpan, TrailEntry};
+use std::alloc::Global;
+use world::{Bytes, Crate, DefWithBodyId, List, NoMemory, Text, Ty};
+
+/// Why a type has no layout.
+fn layout_error_text(alloc: Global, error: LayoutError) -> Result<Bytes, NoMemory>
+    ensures { IfOk result (λ text. text ≡ layout_error_text error) }
+{
+    match error {
+        LayoutError::Unknown => Bytes::from_slice(alloc, b"Unknown"),
+    }
+}
+
+/// A place in the source.
+fn span_text(alloc: Global, span: MirSpan) -> Result<Bytes, NoMemory>
+    ensures { IfOk result (λ text. text ≡ span_text span) }
+{
+    match span {
+        MirSpan::ExprId(id) => numbered(alloc, b"expr#", id.0 as u64),
+        MirSpan::Unknown => Bytes::from_slice(alloc, b"unknown"),
+    }
+}
+
+/// A definition.
+fn def_text(alloc: Global, def: DefWithBodyId) -> Result<Bytes, NoMemory>
+    ensures { IfOk result (λ text. text ≡ def_text def) }
+{
+    let DefWithBodyId::ConstId(id) = def;
+    numbered(alloc, b"const#", id.0 as u64)
+}
+
+/// A crate.
+fn crate_text(alloc: Global, krate: Crate) -> Result<Bytes, NoMemory>
+    ensures { IfOk result (λ text. text ≡ crate_text krate.0) }
+{
+    numbered(alloc, b"crate#", krate.0 as u64)
+}
+
+/// A frame that a fault passed through.
+fn entry_text(alloc: Global, entry: TrailEntry) -> Result<Bytes, NoMemory>
+    ensures { IfOk result (λ text. text ≡ entry_text entry) }
+{
+    let span = span_text(alloc, entry.span)?;
+    let caller = def_text(alloc, entry.caller)?;
+    enclosed(alloc, span.as_slice(), b" of ", caller.as_slice())
+}
+
+/// Frames that a fault passed through.
+fn entry_texts(alloc: Global, trail: &[TrailEntry]) -> Result<List<Bytes>, NoMemory>
+    ensures { IfOk result (λ texts. texts ≡ map entry_text trail.now) }
+{
+    let mut texts = List::new(alloc);
+    for entry in trail {
+        texts.push(entry_text(alloc, *entry)?)?;
+    }
+    Ok(texts)
+}
+
+/// A trail of frames, in brackets.
+fn trail_text(alloc: Global, trail: &List<TrailEntry>) -> Result<Bytes, NoMemory>
+    ensures { IfOk result (λ text. text ≡ trail_text trail.now) }
+{
+    let texts = entry_texts(alloc, trail.as_slice())?;
+    bracketed(alloc, texts.as_slice())
+}
+
+/// A name with a text in quotes.
+fn with_quoted(alloc: Global, name: &[u8], text: &Text) -> Result<Bytes, NoMemory>
+    ensures { IfOk result (λ whole. whole ≡ named name.now (quoted text.now ∷ [])) }
+{
+    let part = quoted(alloc, text.as_str())?;
+    named_one(alloc, name, part)
+}
+
+/// Why a body could not be lowered.
+fn lower_error_text(alloc: Global, error: &MirLowerError) -> Result<Bytes, NoMemory>
+    ensures { IfOk result (λ text. text ≡ lower_error_text error.now) }
+{
+    match error {
+        MirLowerError::LayoutError(error) => {
+            let part = layout_error_text(alloc, *error)?;
+            named_one(alloc, b"LayoutError", part)
+        }
+        MirLowerError::IncompleteExpr => Bytes::from_slice(alloc, b"IncompleteExpr"),
+        MirLowerError::HasErrors => Bytes::from_slice(alloc, b"HasErrors"),
+        MirLowerError::TypeError(text) => with_quoted(alloc, b"TypeError", text),
+        MirLowerError::NotSupported(text) => with_quoted(alloc, b"NotSupported", text),
+        MirLowerError::NoMemory => Bytes::from_slice(alloc, b"NoMemory"),
+    }
+}
+
+/// A type without a layout.
+fn no_layout_text(alloc: Global, error: LayoutError, ty: &Ty) -> Result<Bytes, NoMemory>
+    ensures { IfOk result (λ text. text ≡ named (codes "LayoutError") (layout_error_text error ∷ type_text ty.now ∷ [])) }
+{
+    let error = layout_error_text(alloc, error)?;
+    let ty = type_text(alloc, ty)?;
+    named_two(alloc, b"LayoutError", error, ty)
+}
+
+/// A type without a size.
+fn unsized_text(alloc: Global, ty: &Ty, what: &Text) -> Result<Bytes, NoMemory>
+    ensures { IfOk result (λ text. text ≡ named (codes "TypeIsUnsized") (type_text ty.now ∷ quoted what.now ∷ [])) }
+{
+    let ty = type_text(alloc, ty)?;
+    let what = quoted(alloc, what.as_str())?;
+    named_two(alloc, b"TypeIsUnsized", ty, what)
+}
+
+/// A crate whose pointers are not known.
+fn no_target_text(alloc: Global, krate: Crate) -> Result<Bytes, NoMemory>
+    ensures { IfOk result (λ text. text ≡ named (codes "TargetDataLayoutNotAvailable") (crate_text krate.0 ∷ [])) }
+{
+    let part = crate_text(alloc, krate)?;
+    named_one(alloc, b"TargetDataLayoutNotAvailable", part)
+}
+
+/// A fault inside a function, whose text is known.
+fn in_function_text(
+    alloc: Global,
+    inner: Bytes,
+    trail: &List<TrailEntry>,
+) -> Result<Bytes, NoMemory>
+    ensures { IfOk result (λ text. text ≡ named (codes "InFunction") (inner ∷ trail_text trail.now ∷ [])) }
+{
+    let trail = trail_text(alloc, trail)?;
+    named_two(alloc, b"InFunction", inner, trail)
+}
+
+/// How a run ended without a value.
+#[tactic(auto, unfolding(crate::specs::Faults::eval_error_text))]
+fn eval_error_text(alloc: Global, error: &MirEvalError) -> Result<Bytes, NoMemory>
+    ensures { IfOk result (λ text. text ≡ eval_error_text error.now) }
+{
+    match error {
+        MirEvalError::LayoutError(error, ty) => no_layout_text(alloc, *error, ty),
+        MirEvalError::TargetDataLayoutNotAvailable(krate) => no_target_text(alloc, *krate),
+        MirEvalError::UndefinedBehavior(text) => with_quoted(alloc, b"UndefinedBehavior", text),
+        MirEvalError::Panic(text) => with_quoted(alloc, b"Panic", text),
+        MirEvalError::TypeIsUnsized(ty, text) => unsized_text(alloc, ty, text),
+        MirEvalError::NotSupported(text) => with_quoted(alloc, b"NotSupported", text),
+        MirEvalError::InFunction(inner, trail) => {
+            let inner = eval_error_text(alloc, inner.as_ref())?;
+            in_function_text(alloc, inner, trail)
+        }
+        MirEvalError::ExecutionLimitExceeded => {
+            Bytes::from_slice(alloc, b"ExecutionLimitExceeded")
+        }
+        MirEvalError::NoMemory => Bytes::from_slice(alloc, b"NoMemory"),
+    }
+}
+
+/// Why a constant has no value.
+pub(crate) fn fault_text(alloc: Global, fault: &ConstEvalError) -> Result<Bytes, NoMemory>
+    ensures { IfOk result (λ text. text ≡ fault_text fault.now) }
+{
+    match fault {
+        ConstEvalError::MirLowerError(error) => {
+            let text = lower_error_text(alloc, error)?;
+            joined(alloc, b"lower ", text.as_slice())
+        }
+        ConstEvalError::MirEvalError(error) => {
+            let text = eval_error_text(alloc, error)?;
+            joined(alloc, b"eval ", text.as_slice())
+        }
+        ConstEvalError::NoMemory => Bytes::from_slice(alloc, b"eval NoMemory"),
+    }
+}

@@ -1,0 +1,105 @@
+//! The lines of a goal.
+
+ghost use Rattle.std.specs.Prelude.{◌≡◌, codes, IfOk};
+ghost use Rattle.report_text.specs.Goals.{const_text, result_text, output_line, output_lines, turns_line, answer_line, goal_text};
+
+use crate::faults::fault_text;
+use crate::texts::{digits_or_dash, enclosed, joined, numbered};
+use crate::types::type_text;
+use mir::ConstEvalError;
+use mir_eval::MirOutput;
+use std::alloc::Global;
+use world::{Bytes, Const, NoMemory};
+
+/// A constant: its type and its bytes.
+fn const_text(alloc: Global, konst: &Const) -> Result<Bytes, NoMemory>
+    ensures { IfOk result (λ text. text ≡ const_text konst.now) }
+{
+    let Const::Value(value) = konst;
+    let ty = type_text(alloc, &value.ty)?;
+    let digits = digits_or_dash(alloc, value.memory.as_slice())?;
+    enclosed(alloc, ty.as_slice(), b" ", digits.as_slice())
+}
+
+/// A value or a fault.
+fn result_text(alloc: Global, answer: &Result<Const, ConstEvalError>) -> Result<Bytes, NoMemory>
+    ensures { IfOk result (λ text. text ≡ result_text answer.now) }
+{
+    match answer {
+        Ok(konst) => {
+            let text = const_text(alloc, konst)?;
+            joined(alloc, b"value ", text.as_slice())
+        }
+        Err(fault) => {
+            let text = fault_text(alloc, fault)?;
+            joined(alloc, b"error ", text.as_slice())
+        }
+    }
+}
+
+/// The line of what was written to one of the outputs, where that is anything.
+fn output_line(alloc: Global, name: &[u8], bytes: &[u8]) -> Result<Bytes, NoMemory>
+    ensures { IfOk result (λ text. text ≡ output_line name.now bytes.now) }
+{
+    match bytes {
+        [] => Ok(Bytes::new(alloc)),
+        [_, ..] => {
+            let digits = digits_or_dash(alloc, bytes)?;
+            let rest = enclosed(alloc, b" ", digits.as_slice(), b"\n")?;
+            enclosed(alloc, b"  ", name, rest.as_slice())
+        }
+    }
+}
+
+/// The lines of what was written to the standard output and the standard error.
+fn output_lines(alloc: Global, output: &MirOutput) -> Result<Bytes, NoMemory>
+    ensures { IfOk result (λ text. text ≡ output_lines output.now) }
+{
+    let stdout = output_line(alloc, b"stdout", output.stdout_bytes())?;
+    let stderr = output_line(alloc, b"stderr", output.stderr_bytes())?;
+    joined(alloc, stdout.as_slice(), stderr.as_slice())
+}
+
+/// The line with the number of blocks that were entered.
+fn turns_line(alloc: Global, turns: u64) -> Result<Bytes, NoMemory>
+    ensures { IfOk result (λ text. text ≡ turns_line turns) }
+{
+    let digits = turns.to_string(alloc)?;
+    enclosed(alloc, b"  turns ", digits.as_str().as_bytes(), b"\n")
+}
+
+/// The line with a goal's answer.
+fn answer_line(
+    alloc: Global,
+    number: u64,
+    answer: &Result<Const, ConstEvalError>,
+) -> Result<Bytes, NoMemory>
+    ensures { IfOk result (λ text. text ≡ answer_line number answer.now) }
+{
+    let digits = number.to_string(alloc)?;
+    let text = result_text(alloc, answer)?;
+    let rest = enclosed(alloc, b" ", text.as_slice(), b"\n")?;
+    enclosed(alloc, b"goal ", digits.as_str().as_bytes(), rest.as_slice())
+}
+
+/// The lines of a goal, which is counted from 0: its answer, how many blocks were entered, and what
+/// was written.
+pub fn goal_text(
+    alloc: Global,
+    number: u64,
+    answer: &Result<Const, ConstEvalError>,
+    output: &MirOutput,
+    turns: u64,
+) -> Result<Bytes, NoMemory>
+    ensures { IfOk result (λ text. text ≡ goal_text number answer.now output.now turns) }
+{
+    let first = answer_line(alloc, number, answer)?;
+    let second = turns_line(alloc, turns)?;
+    let others = output_lines(alloc, output)?;
+    enclosed(
+        alloc,
+        first.as_slice(),
+        second.as_slice(),
+        others.as_slice(),
+    )
+}
