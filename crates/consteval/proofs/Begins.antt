@@ -1,9 +1,6 @@
 -- When a run of a lowered body can begin.
-use Rattle.std.proofs.Common.{◌≡◌, ◌≢◌, ℕ, zero, suc, Bool, true, false, cond, List, [], ◌∷◌, Option, Some, None, Result, Ok, Err, refl, sym, ap, ◌∙◌, subst}
+use Rattle.std.proofs.Common.{◌≡◌, ◌≢◌, ℕ, suc, Bool, true, false, cond, List, [], ◌∷◌, Option, Some, None, Result, Ok, Err, refl, sym, ap, ◌∙◌, subst}
 use Rattle.std.specs.Prelude.{slice_get, option_and_then, codes}
-use Rattle.world.specs.declared.body.ArithOp.TheVariants.{Add}
-use Rattle.world.specs.declared.body.BinaryOp.TheVariants.{ArithOp}
-use Rattle.world.specs.declared.body.Expr.TheVariants as expr
 use Rattle.world.specs.declared.database.HirDatabase.{HirDatabase}
 use Rattle.world.specs.declared.layout.Layout.{Layout}
 use Rattle.world.specs.declared.ty.Ty.{Ty}
@@ -20,8 +17,8 @@ use Rattle.mir_lower.specs.Simulates.{Simulates}
 use Rattle.mir_lower.proofs.Aligned.{are-aligned}
 use Rattle.mir_lower.proofs.Placing.{places-all}
 use Rattle.mir_lower.proofs.Whole.{begun-cells}
-use Rattle.source_meaning.specs.Source.{Source, node, node_type, node_layout, root}
-use Rattle.source_meaning.specs.Valid.{Evaluates, itself, left, right, HasPlainForm, IsPlain, IsPlainNode, HasSizedLayout, HasDefinedCost}
+use Rattle.source_meaning.specs.Source.{Source, node_type, root}
+use Rattle.source_meaning.specs.Valid.{Evaluates, itself, left, right, HasPlainForm, IsPlain, IsPlainNode, HasDefinedCost}
 
 -- the expressions of a plain body all have the type of its root
 pub same-type : (source : Source) (e f : ℕ) → Evaluates source e f → ((g : ℕ) → Evaluates source e g → IsPlainNode source g) → node_type source f ≡ node_type source e

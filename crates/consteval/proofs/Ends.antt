@@ -1,26 +1,26 @@
 -- How a run of a lowered body ends, by what its source means.
-use Rattle.std.proofs.Common.{◌≡◌, ◌≢◌, ℕ, ◌+◌, ◌-◌, ◌<◌, ◌≤◌, ◌⊎◌, ⊎_elim, inl, inr, List, [], Option, Some, None, Result, Ok, Err, refl, sym, ap, ◌∙◌, subst, arith}
+use Rattle.std.proofs.Common.{◌≡◌, ◌≢◌, ℕ, ◌+◌, ◌-◌, ◌≤◌, ◌⊎◌, ⊎_elim, inl, inr, List, [], Option, Some, None, Result, Ok, Err, refl, sym, ap, ◌∙◌, subst, arith}
 use Rattle.std.specs.Prelude.{slice_get}
 use Rattle.std.proofs.lemmas.Bool.{cases_lt}
 use Rattle.world.specs.declared.ty.Const.{Const}
-use Rattle.world.specs.declared.ty.Const.TheVariants.{Value}
-use Rattle.world.specs.declared.ty.MemoryMap.TheVariants.{Empty}
 use Rattle.world.specs.declared.ty.Ty.{Ty}
 use Rattle.mir.specs.declared.body.Local.{Local}
 use Rattle.mir.specs.declared.body.MirBody.{MirBody}
 use Rattle.mir.specs.declared.errors.ConstEvalError.{ConstEvalError}
 use Rattle.mir.specs.declared.errors.ConstEvalError.TheVariants as constant
-use Rattle.mir.specs.declared.errors.MirEvalError.{MirEvalError}
+use Rattle.mir.specs.declared.errors.MirEvalError.{MirEvalError, MirEvalError-F, fold-MirEvalError, fold-roll-MirEvalError}
+use Rattle.mir.specs.declared.errors.MirEvalError.TheOpen as layer
+use Rattle.mir.specs.declared.errors.MirEvalError.TheVariants.{rolls-InFunction, rolls-Panic, rolls-ExecutionLimitExceeded}
+use Rattle.mir.specs.declared.errors.TrailEntry.{TrailEntry}
 use Rattle.mir.specs.declared.errors.MirEvalError as error
 use Rattle.mir.specs.Memory.{Memory}
 use Rattle.mir.specs.Run.{Frame, Ending, Returned, Faulted, Ended, out_of_blocks, bad_read, begun}
 use Rattle.mir_eval.specs.Machine.{outcome_of}
 use Rattle.mir_lower.specs.Simulates.{EndsWithin, EndsAs, Simulates}
-use Rattle.source_meaning.proofs.Fuel.{one_end}
-use Rattle.source_meaning.specs.Ends.{Cost, End, Go, Panic, Stuck, More, IsOver}
-use Rattle.source_meaning.specs.Meaning.{meaning_of, Gives}
+use Rattle.source_meaning.specs.Ends.{Cost, End, Go, Panic, Stuck, More}
+use Rattle.source_meaning.specs.Meaning.{Gives}
 use Rattle.source_meaning.specs.Source.{Source, Store, node_type, root}
-use Rattle.consteval.specs.Kept.{Ran, run_of}
+use Rattle.consteval.specs.Kept.{run_of}
 use Rattle.consteval.specs.Answers.{GivesValue, GivesPanic, constant_of, panic_of, carried}
 
 -- a run under a budget comes to its end, or out of blocks
@@ -48,17 +48,30 @@ faulted-outcome : (body : MirBody) (e : MirEvalError) → outcome_of body (Fault
 unfolding outcome_of
 faulted-outcome body e = refl
 
--- the word that an answer says, where it is a panic inside a frame
-abbrev panic_word : MirEvalError → Option (List ℕ)
-panic_word (error.Panic word) = Some word
-panic_word _ = None
+-- the word that the innermost of faults says, where it is a panic
+abbrev word_of_layer : MirEvalError-F (Option (List ℕ)) → Option (List ℕ)
+word_of_layer (layer.Panic word) = Some word
+word_of_layer (layer.InFunction inner trail) = inner
+word_of_layer _ = None
 
-abbrev framed_word : MirEvalError → Option (List ℕ)
-framed_word (error.InFunction' p inner trail) = panic_word inner
-framed_word _ = None
+word_of : MirEvalError → Option (List ℕ)
+word_of = fold-MirEvalError (Option (List ℕ)) word_of_layer
 
+word-framed : (e : MirEvalError) (trail : List TrailEntry) → word_of (error.InFunction e trail) ≡ word_of e
+unfolding word_of
+word-framed e trail = ap (fold-MirEvalError (Option (List ℕ)) word_of_layer) (sym (rolls-InFunction e trail)) ∙ fold-roll-MirEvalError (Option (List ℕ)) word_of_layer (layer.InFunction e trail)
+
+word-panic : (word : List ℕ) → word_of (error.Panic word) ≡ Some word
+unfolding word_of
+word-panic word = ap (fold-MirEvalError (Option (List ℕ)) word_of_layer) (sym (rolls-Panic word)) ∙ fold-roll-MirEvalError (Option (List ℕ)) word_of_layer (layer.Panic word)
+
+word-limit : word_of error.ExecutionLimitExceeded ≡ None
+unfolding word_of
+word-limit = ap (fold-MirEvalError (Option (List ℕ)) word_of_layer) (sym rolls-ExecutionLimitExceeded) ∙ fold-roll-MirEvalError (Option (List ℕ)) word_of_layer layer.ExecutionLimitExceeded
+
+-- the word that an answer says
 abbrev constant_word : ConstEvalError → Option (List ℕ)
-constant_word (constant.MirEvalError e) = framed_word e
+constant_word (constant.MirEvalError e) = word_of e
 constant_word _ = None
 
 abbrev answer_word : Result Const ConstEvalError → Option (List ℕ)
@@ -73,10 +86,14 @@ value-is-no-panic : (konst : Const) (word : List ℕ) → ◌≡◌ {A = Result 
 value-is-no-panic konst word h = cc
 
 panic-is-no-limit : (word : List ℕ) → ◌≡◌ {A = Result Const ConstEvalError} (Err (panic_of word)) (Err (constant.MirEvalError (error.InFunction error.ExecutionLimitExceeded []))) → ⊥
-panic-is-no-limit word h = let same : Some word ≡ None = ap answer_word h in cc
+panic-is-no-limit word h =
+    let same : Some word ≡ None = sym (word-framed (error.Panic word) [] ∙ word-panic word) ∙ ap answer_word h ∙ (word-framed error.ExecutionLimitExceeded [] ∙ word-limit) in
+    cc
 
 same-panic : (word other : List ℕ) → ◌≡◌ {A = Result Const ConstEvalError} (Err (panic_of word)) (Err (panic_of other)) → word ≡ other
-same-panic word other h = let same : Some word ≡ Some other = ap answer_word h in cc
+same-panic word other h =
+    let same : Some word ≡ Some other = sym (word-framed (error.Panic word) [] ∙ word-panic word) ∙ ap answer_word h ∙ (word-framed (error.Panic other) [] ∙ word-panic other) in
+    cc
 
 same-constant : (konst other : Const) → ◌≡◌ {A = Result Const MirEvalError} (Ok konst) (Ok other) → konst ≡ other
 same-constant konst other h = cc

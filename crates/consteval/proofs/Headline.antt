@@ -1,32 +1,28 @@
 -- What the answer to a definition says of its source.
-use Rattle.std.proofs.Common.{◌≡◌, ◌≢◌, ℕ, ◌≤◌, ◌⊎◌, ⊎_elim, inl, inr, List, [], Option, Some, None, Result, Ok, Err, refl, sym, ap, ◌∙◌, subst}
-use Rattle.std.specs.Prelude.{slice_get, option_and_then, Contains}
+use Rattle.std.proofs.Common.{◌≡◌, ◌≢◌, ℕ, ⊎_elim, inl, inr, List, Option, Some, None, Result, Ok, Err, refl, sym, ap, ◌∙◌, subst}
+use Rattle.std.specs.Prelude.{slice_get, option_and_then}
 use Rattle.world.specs.declared.database.BodyRow.{BodyRow}
 use Rattle.world.specs.declared.database.ConstRow.{ConstRow}
 use Rattle.world.specs.declared.database.HirDatabase.{HirDatabase}
 use Rattle.world.specs.declared.ids.DefWithBodyId.{DefWithBodyId}
 use Rattle.world.specs.declared.ty.Const.{Const}
 use Rattle.world.specs.declared.ty.GenericArgs.{GenericArgs}
-use Rattle.world.specs.declared.ty.Ty.{Ty}
 use Rattle.world.specs.Lookups.{const_row, body_row}
 use Rattle.world_check.specs.Checked.{IsChecked, IsCheckedBody}
 use Rattle.mir.specs.declared.body.MirBody.{MirBody}
 use Rattle.mir.specs.declared.errors.ConstEvalError.{ConstEvalError}
 use Rattle.mir.specs.declared.errors.ConstEvalError.TheVariants as constant
 use Rattle.mir.specs.declared.errors.MirEvalError.{MirEvalError}
-use Rattle.mir.specs.declared.errors.MirEvalError as error
-use Rattle.mir.specs.declared.errors.MirLowerError.{MirLowerError}
 use Rattle.mir.specs.Errors.{from_lower_error, from_eval_error}
-use Rattle.mir_eval.specs.Machine.{outcome_of}
 use Rattle.mir_lower.specs.Simulates.{Simulates}
 use Rattle.source_meaning.proofs.Fuel.{bodies_end}
 use Rattle.source_meaning.proofs.Sizes.{plain_is_never_stuck}
-use Rattle.source_meaning.specs.Ends.{Cost, End, Go, Panic, Stuck, IsOver}
-use Rattle.source_meaning.specs.Meaning.{meaning_of, Gives}
-use Rattle.source_meaning.specs.Source.{Source, Store, node_type, root}
-use Rattle.source_meaning.specs.Valid.{IsPlain, HasDefinedCost}
-use Rattle.consteval.specs.Answers.{GivesValue, GivesPanic, AnswersWithin, OrNoMemory, HasCause, AnswersBody, RunsTo, RefusesBody, RefusesRun, constant_of, panic_of, carried}
-use Rattle.consteval.specs.Kept.{Kept, IsSound, IsLowered, Ran, run_of, source_of}
+use Rattle.source_meaning.specs.Ends.{Stuck, IsOver}
+use Rattle.source_meaning.specs.Meaning.{meaning_of}
+use Rattle.source_meaning.specs.Source.{Source}
+use Rattle.source_meaning.specs.Valid.{HasDefinedCost}
+use Rattle.consteval.specs.Answers.{GivesValue, GivesPanic, AnswersWithin, HasCause, AnswersBody, RunsTo, RefusesBody, panic_of, carried}
+use Rattle.consteval.specs.Kept.{Kept, IsSound, IsLowered, source_of}
 use Rattle.consteval.specs.Valid.{IsValid}
 use Rattle.consteval.proofs.Begins.{has-cost}
 use Rattle.consteval.proofs.Ends.{completes-value, completes-panic, gives-value, gives-panic}
@@ -40,7 +36,7 @@ checked-body world def row checked found = by-place (option_and_then (λ (r : Co
   by-place None is = absurd cc
 
 -- a value that is carried is the outcome's
-carried-value : (outcome : Result Const MirEvalError) (konst : Const) → ◌≡◌ {A = Result Const ConstEvalError} (Ok konst) (carried outcome) → Ok konst ≡ outcome
+pub carried-value : (outcome : Result Const MirEvalError) (konst : Const) → ◌≡◌ {A = Result Const ConstEvalError} (Ok konst) (carried outcome) → Ok konst ≡ outcome
 carried-value (Ok value) konst h = let same : konst ≡ value = cc in ap Ok same
 carried-value (Err e) konst h = absurd cc
 

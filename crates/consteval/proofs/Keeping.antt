@@ -1,5 +1,5 @@
 -- What is kept stays right when more is kept.
-use Rattle.std.proofs.Common.{◌≡◌, ℕ, zero, suc, ◌<◌, arith, ◌⊎◌, ⊎_elim, inl, inr, List, [], ◌∷◌, ◌++◌, Some, Result, Ok, Err, refl, sym, ap, ◌∙◌, subst}
+use Rattle.std.proofs.Common.{◌≡◌, ℕ, zero, suc, arith, ◌⊎◌, ⊎_elim, inl, inr, List, [], ◌∷◌, ◌++◌, Some, Result, Ok, Err, refl, sym, ap, ◌∙◌, subst}
 use Rattle.std.specs.Prelude.{Contains, slice_get, map, OnOk, OnErr}
 use Rattle.std.specs.declared.rc.Rc.{Rc}
 use Rattle.std.proofs.lemmas.List.{map-append}
@@ -123,3 +123,15 @@ module _ {Z : Type 0} (world : HirDatabase) (bodies : List (DefWithBodyId × Rc 
 
   pub kept-value-found : new ≡ old ++ (def, konst) ∷ [] → IsKept new def
   kept-value-found is = (konst, subst (λ values. Contains values (def, konst)) (sym is) (Contains-push old (def, konst)))
+
+contains-mapped : {X Y : Type 0} (f : X → Y) (xs : List X) (x : X) → Contains xs x → Contains (map f xs) (f x)
+contains-mapped f [] x (i, below, same) = absurd (omega arith)
+contains-mapped f (y ∷ xs) x (zero, below, same) = (0, omega arith, ap f same)
+contains-mapped f (y ∷ xs) x (suc i, below, same) =
+    let rest = contains-mapped f xs x (i, omega arith, same) in
+    (suc rest.0, (let less = rest.1 in omega arith), rest.2)
+
+-- what was found among shared bodies is kept
+pub found-shared : {Z : Type 0} (bodies : List (DefWithBodyId × Rc MirBody Z)) (def : DefWithBodyId) (body : Rc MirBody Z) → Contains bodies (def, body) → Contains {X = DefWithBodyId × MirBody} (map (λ kept. (kept.0, kept.1.value)) bodies) (def, body.value)
+found-shared {Z = Z} bodies def body there =
+    contains-mapped {X = DefWithBodyId × Rc MirBody Z} {Y = DefWithBodyId × MirBody} (λ kept. (kept.0, kept.1.value)) bodies (def, body) there

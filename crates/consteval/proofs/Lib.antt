@@ -1,4 +1,5 @@
 pub mod Begins
+pub mod Causes
 pub mod Ends
 pub mod Headline
 pub mod Keeping

@@ -1,6 +1,6 @@
 -- What a valid body with a defined cost is refused for: want of memory alone.
-use Rattle.std.proofs.Common.{◌≡◌, ◌≢◌, ℕ, ◌<◌, ◌≤◌, ◌⊎◌, ⊎_elim, eqb-true, Bool, true, false, List, [], Option, Some, None, Result, Ok, Err, refl, sym, ap, ◌∙◌, subst, arith}
-use Rattle.std.specs.Prelude.{IsTrue, option_and_then, codes, ◌==◌, ◌||◌}
+use Rattle.std.proofs.Common.{◌≡◌, ◌≢◌, ℕ, ◌<◌, ◌≤◌, ⊎_elim, eqb-true, Bool, true, false, List, [], Option, Some, None, refl, sym, ap, ◌∙◌, subst, arith}
+use Rattle.std.specs.Prelude.{option_and_then, ◌==◌, ◌||◌}
 use Rattle.world.specs.declared.body.ArithOp.TheVariants.{Add}
 use Rattle.world.specs.declared.body.BinaryOp.TheVariants.{ArithOp}
 use Rattle.world.specs.declared.body.Expr.{Expr}
@@ -8,10 +8,9 @@ use Rattle.world.specs.declared.body.Expr.TheVariants as expr
 use Rattle.world.specs.declared.database.BodyRow.{BodyRow}
 use Rattle.world.specs.declared.database.HirDatabase.{HirDatabase}
 use Rattle.world.specs.declared.ids.DefWithBodyId.{DefWithBodyId}
-use Rattle.world.specs.declared.layout.Layout.{Layout}
 use Rattle.world.specs.declared.ty.GenericArgs.{GenericArgs}
 use Rattle.world.specs.declared.ty.Ty.{Ty}
-use Rattle.world.specs.Lookups.{body_row, layout_of}
+use Rattle.world.specs.Lookups.{layout_of}
 use Rattle.world_check.specs.Checked.{IsChecked}
 use Rattle.numbers.specs.Bytes.{is_width}
 use Rattle.mir.specs.declared.body.MirBody.{MirBody}
@@ -22,13 +21,11 @@ use Rattle.mir.specs.declared.errors.MirEvalError as error
 use Rattle.mir.specs.declared.errors.MirLowerError.{MirLowerError}
 use Rattle.mir.specs.declared.errors.MirLowerError.TheVariants as refusal
 use Rattle.mir.specs.Errors.{from_lower_error, from_eval_error}
-use Rattle.mir.specs.Run.{begun}
-use Rattle.mir_eval.specs.Machine.{pointer_bytes}
-use Rattle.mir_lower.specs.Refusals.{IsNumber, LacksOperator, IsUnbuilt, RefusesNode, RefusesAt, Refuses, HasTypingErrors}
+use Rattle.mir_lower.specs.Refusals.{IsNumber, LacksOperator, IsUnbuilt, RefusesNode, Refuses, HasTypingErrors}
 use Rattle.mir_lower.specs.Simulates.{Simulates}
 use Rattle.source_meaning.proofs.Sizes.{integer_is_width}
-use Rattle.source_meaning.specs.Source.{Source, node, node_type, node_layout, root}
-use Rattle.source_meaning.specs.Valid.{Evaluates, IsInteger, HasPlainForm, IsPlain, IsPlainNode, HasSizedLayout, HasDefinedCost}
+use Rattle.source_meaning.specs.Source.{Source, node}
+use Rattle.source_meaning.specs.Valid.{IsInteger, HasPlainForm, IsPlainNode, HasSizedLayout, HasDefinedCost}
 use Rattle.consteval.specs.Answers.{RefusesBody, RefusesRun, panic_of}
 use Rattle.consteval.specs.Kept.{source_of}
 use Rattle.consteval.specs.Valid.{IsValid}

@@ -1,12 +1,10 @@
 -- How a run begins and ends, as its machine tells it.
-use Rattle.std.proofs.Common.{◌≡◌, ◌≢◌, ℕ, ◌-◌, ◌⊎◌, ⊎_elim, inl, inr, Bool, true, false, if◌then◌else◌, Option, Some, None, Result, Ok, Err, refl, sym, ap, ◌∙◌, subst}
+use Rattle.std.proofs.Common.{◌≡◌, ◌≢◌, ℕ, ◌-◌, ⊎_elim, inl, inr, Bool, true, false, if◌then◌else◌, Option, Some, Result, Ok, Err, refl, sym, ap, ◌∙◌}
 use Rattle.std.specs.Prelude.{codes}
 use Rattle.world.specs.declared.database.HirDatabase.{HirDatabase}
 use Rattle.world.specs.declared.ids.DefWithBodyId.{DefWithBodyId}
 use Rattle.world.specs.declared.ty.Const.{Const}
 use Rattle.mir.specs.declared.body.MirBody.{MirBody}
-use Rattle.mir.specs.declared.errors.ConstEvalError.{ConstEvalError}
-use Rattle.mir.specs.declared.errors.ConstEvalError.TheVariants as constant
 use Rattle.mir.specs.declared.errors.MirEvalError.{MirEvalError}
 use Rattle.mir.specs.declared.errors.MirEvalError as error
 use Rattle.mir.specs.Memory.{Memory}
@@ -15,8 +13,8 @@ use Rattle.mir_eval.specs.Evaluators.{outcome, Became}
 use Rattle.mir_eval.specs.Machine.{Machine, State, Fresh, Going, Over, pointer_bytes, outcome_of, finished, blocks_left, turns_of}
 use Rattle.mir_eval.specs.Start.{is_own_width, started, start_of}
 use Rattle.mir_lower.proofs.Whole.{begun-cells}
-use Rattle.consteval.specs.Answers.{AnswersBody, RunsTo, RefusesRun, carried}
-use Rattle.consteval.specs.Kept.{HasBegun, Ran, run_of}
+use Rattle.consteval.specs.Answers.{AnswersBody, RefusesRun, carried}
+use Rattle.consteval.specs.Kept.{HasBegun, run_of}
 
 -- the machine of a body's owner before it begins
 abbrev pub fresh : HirDatabase → DefWithBodyId → ℕ → Machine

@@ -1,5 +1,5 @@
 -- What the answer to a definition says: the value or the panic that its source means, and the cause of any other.
-use Rattle.std.specs.Prelude.{◌≡◌, ◌≢◌, ℕ, ◌≤◌, List, [], ◌⊎◌, Option, Some, None, Result, Ok, Err, Contains, IsSome, codes}
+use Rattle.std.specs.Prelude.{◌≡◌, ◌≢◌, ℕ, ◌≤◌, List, [], ◌⊎◌, Some, None, Result, Ok, Err, Contains, codes}
 use Rattle.world.specs.declared.database.BodyRow.{BodyRow}
 use Rattle.world.specs.declared.database.HirDatabase.{HirDatabase}
 use Rattle.world.specs.declared.ids.DefWithBodyId.{DefWithBodyId}
@@ -20,11 +20,10 @@ use Rattle.mir.specs.Errors.{from_lower_error, from_eval_error}
 use Rattle.mir.specs.Run.{begun}
 use Rattle.mir_eval.specs.Evaluators.{crate_of}
 use Rattle.mir_eval.specs.Machine.{pointer_bytes}
-use Rattle.mir_lower.specs.Refusals.{Refuses, HasTypingErrors}
-use Rattle.source_meaning.specs.Ends.{Cost, End, Go, Panic}
+use Rattle.mir_lower.specs.Refusals.{Refuses}
+use Rattle.source_meaning.specs.Ends.{Cost, Go, Panic}
 use Rattle.source_meaning.specs.Meaning.{Gives}
 use Rattle.source_meaning.specs.Source.{Source, Store, node_type, root}
-use Rattle.source_meaning.specs.Valid.{HasDefinedCost}
 use Rattle.consteval.specs.Kept.{Kept, Ran, source_of}
 
 -- a constant of a type, with these bytes and no memory behind them

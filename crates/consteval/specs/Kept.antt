@@ -1,5 +1,5 @@
 -- What is kept of finished evaluations, as its callers see it.
-use Rattle.std.specs.Prelude.{◌≡◌, ℕ, ◌-◌, List, Option, Some, Result, Ok, Contains, map}
+use Rattle.std.specs.Prelude.{◌≡◌, ℕ, ◌-◌, List, Some, Result, Ok, Contains, map}
 use Rattle.std.specs.declared.rc.Rc.{Rc}
 use Rattle.world.specs.declared.database.HirDatabase.{HirDatabase}
 use Rattle.world.specs.declared.database.BodyRow.{BodyRow}

@@ -1,5 +1,5 @@
 -- The definitions that the main theorem speaks of.
-use Rattle.std.specs.Prelude.{◌≡◌, false, [], Option, Some}
+use Rattle.std.specs.Prelude.{◌≡◌, false, [], Some}
 use Rattle.world.specs.declared.database.BodyRow.{BodyRow}
 use Rattle.world.specs.declared.database.ConstRow.{ConstRow}
 use Rattle.world.specs.declared.database.HirDatabase.{HirDatabase}

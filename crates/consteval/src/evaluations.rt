@@ -4,7 +4,7 @@ ghost use Rattle.std.specs.Prelude.{◌≡◌, IfOk};
 
 use crate::Evaluated;
 use crate::kept::{find, keep};
-use crate::lowering::lower;
+use crate::lowering::{has_none, lower};
 use crate::running::{refused, run_body};
 use mir::{ConstEvalError, MirBody, MirLowerError};
 use mir_eval::Limits;
@@ -59,7 +59,7 @@ impl<'w> Evaluations<'w> {
     ghost use Rattle.mir_eval.specs.Limits.{IsWithin};
     ghost use Rattle.source_meaning.specs.Valid.{HasDefinedCost};
     ghost use Rattle.world_check.specs.Checked.{IsChecked};
-    ghost use Rattle.consteval.specs.Kept.{IsKept, IsSound, IsValueOf, Stays, source_of};
+    ghost use Rattle.consteval.specs.Kept.{IsKept, IsLowered, IsSound, IsValueOf, Stays, source_of};
     ghost use Rattle.consteval.specs.Valid.{IsValid};
     ghost use Rattle.consteval.specs.Answers.{GivesValue, GivesPanic, AnswersWithin, HasCause, RefusesBody, panic_of};
 
@@ -85,6 +85,18 @@ impl<'w> Evaluations<'w> {
         self.world
     }
 
+    /// Keeps a lowered body.
+    fn keep_body(&mut self, def: DefWithBodyId, body: &Rc<MirBody>) -> Result<(), NoMemory>
+        requires { IsLowered self.old.world def body.now.value }
+        ensures found { OnOk result (Contains self.new.bodies (def, body.now.value)) }
+        ensures stays { Stays self.old self.new }
+        ensures sound { IsSound self.new }
+    {
+        let _ = &self.alloc;
+        let more = share(body)?;
+        keep(&mut self.body_places, &mut self.bodies, def, more)
+    }
+
     /// Lowers the body of a definition, and keeps it.
     fn new_body(
         &mut self,
@@ -104,10 +116,7 @@ impl<'w> Evaluations<'w> {
         let Ok(body) = shared(self.alloc, body) else {
             return Err(MirLowerError::NoMemory);
         };
-        let Ok(more) = share(&body) else {
-            return Err(MirLowerError::NoMemory);
-        };
-        match keep(&mut self.body_places, &mut self.bodies, def, more) {
+        match self.keep_body(def, &body) {
             Ok(()) => Ok(body),
             Err(_) => Err(MirLowerError::NoMemory),
         }
@@ -117,10 +126,12 @@ impl<'w> Evaluations<'w> {
     fn old_body(&self, def: DefWithBodyId, args: &GenericArgs) -> Option<&Rc<MirBody>>
         ensures { IfSome result (λ body. Contains self.now.bodies (def, body.now.value) × (args.now.0 ≡ [])) }
     {
-        if args.0.as_slice().is_empty() {
-            find(&self.body_places, self.bodies.as_slice(), def)
-        } else {
-            None
+        if !has_none(args) {
+            return None;
+        }
+        match find(&self.body_places, self.bodies.as_slice(), def) {
+            Some(body) => Some(body),
+            None => None,
         }
     }
 
@@ -136,6 +147,7 @@ impl<'w> Evaluations<'w> {
         ensures stays { Stays self.old self.new }
         ensures sound { IsSound self.new }
     {
+        let _ = &self.alloc;
         if let Some(body) = self.old_body(def, args) {
             return match share(body) {
                 Ok(body) => Ok(body),
@@ -155,10 +167,13 @@ impl<'w> Evaluations<'w> {
         ensures sound { IsSound self.new }
         ensures checked { IsChecked self.new.world }
     {
-        match self.body_of(def, args) {
-            Ok(body) => run_body(self.alloc, self.world.db(), def, body, limits),
-            Err(error) => refused(self.alloc, ConstEvalError::from(error)),
-        }
+        let world = self.world;
+        let db = world.db();
+        let body = match self.body_of(def, args) {
+            Ok(body) => body,
+            Err(error) => return refused(self.alloc, ConstEvalError::from(error)),
+        };
+        run_body(self.alloc, db, def, body, limits)
     }
 
     /// Keeps the value of a definition, unless one is kept.

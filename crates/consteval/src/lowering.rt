@@ -1,6 +1,6 @@
 //! From a definition to its lowered body.
 
-ghost use Rattle.std.specs.Prelude.{◌≡◌, ◌⊎◌, [], IfOk, IfErr, OnOk, codes};
+ghost use Rattle.std.specs.Prelude.{◌≡◌, ◌⊎◌, [], IsTrue, IfOk, IfErr, OnOk, codes};
 ghost use Rattle.mir.specs.declared.errors.MirLowerError.TheVariants as refusal;
 ghost use Rattle.consteval.specs.Answers.{RefusesBody};
 ghost use Rattle.consteval.specs.Kept.{IsLowered};
@@ -10,6 +10,14 @@ use mir_lower::lower_to_mir;
 use std::alloc::Global;
 use world::{DefWithBodyId, GenericArgs, Text};
 use world_check::CheckedWorld;
+
+/// Whether there are no arguments.
+pub(crate) fn has_none(args: &GenericArgs) -> bool
+    ensures told { IsTrue result → args.now.0 ≡ [] }
+    ensures only { args.now.0 ≡ [] → IsTrue result }
+{
+    args.0.as_slice().is_empty()
+}
 
 /// The refusal of what can't be lowered yet.
 fn form_not_built(alloc: Global) -> MirLowerError
