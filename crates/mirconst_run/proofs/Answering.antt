@@ -22,8 +22,8 @@ last_too before between after (g ∷ goals) (a ∷ answers) goal answer (next, f
     (next, first, last_too next between after goals answers goal answer others one)
 
 pub one_more : (before between after : Kept) (goals : List Goal) (answers answers' : List Evaluated) (i : ℕ) (d : Goal) (answer : Evaluated) →
-  i < length goals → answers' ≡ answers ++ answer ∷ [] → AreAnswers before (take i goals) answers between →
-  IsGoalAnswer between after (get_or goals i d) answer → AreAnswers before (take (i + 1) goals) answers' after
+    i < length goals → answers' ≡ answers ++ answer ∷ [] → AreAnswers before (take i goals) answers between →
+    IsGoalAnswer between after (get_or goals i d) answer → AreAnswers before (take (i + 1) goals) answers' after
 one_more before between after goals answers answers' i d answer within more firsts one =
     let whole = last_too before between after (take i goals) answers (get_or goals i d) answer firsts one in
     rw (take_more goals i d within, more) whole
@@ -35,10 +35,10 @@ from_nothing world before after goals answers same are = (after, subst (λ (kept
 
 -- an answer under these arguments and limits answers the goal
 pub goal_answer : (before after : Kept) (goal : Goal) (args : GenericArgs) (limits : Limits) (answer : Evaluated) → args ≡ no_args → limits ≡ default_limits →
-  IsAnswer before after goal.def args limits.blocks answer → is_want_of_memory answer.result ≡ false → IsGoalAnswer before after goal answer
+    IsAnswer before after goal.def args limits.blocks answer → is_want_of_memory answer.result ≡ false → IsGoalAnswer before after goal answer
 goal_answer before after goal args limits answer none usual answers in_memory = record {
   answers =
-    subst (λ (given : GenericArgs). IsAnswer before after goal.def given default_limits.blocks answer) none
+      subst (λ (given : GenericArgs). IsAnswer before after goal.def given default_limits.blocks answer) none
       (subst (λ (under : Limits). IsAnswer before after goal.def args under.blocks answer) usual answers);
   in_memory = in_memory;
 }

@@ -6,17 +6,17 @@ pub returns : goal.returns
 returns c =
     let told = c.eval_def-outcome.ensures in
     goal_answer c.args.evaluations.now c.eval_def-outcome.new.self c.args.goal c.args.args.now c.default_limits-limits.result c.eval_def-outcome.result
-      c.requires c.default_limits-limits.ensures
-      (record {
-        printed = told.printed;
-        value = told.value;
-        panic = told.panic;
-        complete = told.complete;
-        cause = told.cause;
-        turns = told.turns;
-        world = told.world;
-        bodies_stay = told.bodies_stay;
-        values_stay = told.values_stay;
-        kept = told.kept;
-      })
-      (sym c.is_want_of_memory.ensures ∙ c.if-is_want_of_memory.false)
+    c.requires c.default_limits-limits.ensures
+    (record {
+      printed = told.printed;
+      value = told.value;
+      panic = told.panic;
+      complete = told.complete;
+      cause = told.cause;
+      turns = told.turns;
+      world = told.world;
+      bodies_stay = told.bodies_stay;
+      values_stay = told.values_stay;
+      kept = told.kept;
+    })
+    (sym c.is_want_of_memory.ensures ∙ c.if-is_want_of_memory.false)
