@@ -1,28 +1,30 @@
 -- What a run of a body means: blocks entered one after another over one memory, under a budget of blocks.
-use Rattle.std.specs.Prelude.{ℕ, zero, suc, ◌-◌, List, [], ◌∷◌, drop, Option, Some, None, Result, Ok, Err, slice_get, option_map, option_and_then, codes}
+use Rattle.std.specs.Prelude.{ℕ, zero, suc, List, [], ◌∷◌, drop, Option, Some, None, Result, Ok, Err, slice_get, option_map, option_and_then, codes}
 use Rattle.world.specs.declared.database.HirDatabase.{HirDatabase}
 use Rattle.world.specs.declared.ty.Const.TheVariants.{Value}
 use Rattle.world.specs.declared.ty.Const.{Const}
 use Rattle.world.specs.declared.ty.Ty.{Ty}
 use Rattle.numbers.specs.declared.operator.Operator.{Operator}
 use Rattle.numbers.specs.declared.operator.Operator.TheVariants as operator
-use Rattle.numbers.specs.Operators.{Answer, Computes, Panics, Undefined, computed, kind_of}
+use Rattle.numbers.specs.declared.operator.Kind.{Kind}
+use Rattle.numbers.specs.Operators.{Answer, Computes, Panics, Undefined, computed, negated, inverted, kind_of}
 use Rattle.mir.specs.declared.body.BasicBlock.{BasicBlock}
 use Rattle.mir.specs.declared.body.MirBody.{MirBody}
 use Rattle.mir.specs.declared.body.Terminator.{Terminator}
-use Rattle.mir.specs.declared.body.TerminatorKind.{TerminatorKind}
 use Rattle.mir.specs.declared.body.TerminatorKind.TheVariants.{Return, Drop}
 use Rattle.mir.specs.declared.errors.MirEvalError.{MirEvalError}
 use Rattle.mir.specs.declared.errors.MirEvalError as error
 use Rattle.mir.specs.declared.operand.BinOp.{BinOp}
-use Rattle.mir.specs.declared.operand.BinOp.TheVariants.{Add}
+use Rattle.mir.specs.declared.operand.BinOp.TheVariants as op
+use Rattle.mir.specs.declared.operand.UnOp.{UnOp}
+use Rattle.mir.specs.declared.operand.UnOp.TheVariants as one
 use Rattle.mir.specs.declared.operand.OperandKind.{OperandKind}
 use Rattle.mir.specs.declared.operand.OperandKind.TheVariants.{Copy, Constant}
 use Rattle.mir.specs.declared.operand.Rvalue.{Rvalue}
-use Rattle.mir.specs.declared.operand.Rvalue.TheVariants.{Use, CheckedBinaryOp}
+use Rattle.mir.specs.declared.operand.Rvalue.TheVariants.{Use, CheckedBinaryOp, UnaryOp}
 use Rattle.mir.specs.declared.statement.Statement.{Statement}
 use Rattle.mir.specs.declared.statement.StatementKind.{StatementKind}
-use Rattle.mir.specs.declared.statement.StatementKind.TheVariants.{Assign, StorageLive, StorageDead}
+use Rattle.mir.specs.declared.statement.StatementKind.TheVariants.{Assign, FakeRead, StorageLive, StorageDead}
 use Rattle.mir.specs.Memory.{Interval, Memory, first_memory, bytes_at, with_bytes, cells_of}
 
 -- a body that runs, and where its locals lie
@@ -46,7 +48,22 @@ operand_type body (Constant konst ty) = Some ty
 
 -- the operator of numbers
 unfoldable pub operator_of : BinOp → Operator
-operator_of Add = operator.Add
+operator_of op.Add = operator.Add
+operator_of op.Sub = operator.Sub
+operator_of op.Mul = operator.Mul
+operator_of op.Div = operator.Div
+operator_of op.Rem = operator.Rem
+operator_of op.BitXor = operator.BitXor
+operator_of op.BitAnd = operator.BitAnd
+operator_of op.BitOr = operator.BitOr
+operator_of op.Shl = operator.Shl
+operator_of op.Shr = operator.Shr
+operator_of op.Eq = operator.Eq
+operator_of op.Lt = operator.Lt
+operator_of op.Le = operator.Le
+operator_of op.Ne = operator.Ne
+operator_of op.Ge = operator.Ge
+operator_of op.Gt = operator.Gt
 
 -- a read outside the memory, or of a local that the body lacks
 abbrev pub bad_read : MirEvalError
@@ -68,6 +85,16 @@ operated op left_type right_type (Some left) (Some right) =
 operated op left_type right_type (Some left) None = Err bad_read
 operated op left_type right_type None right = Err bad_read
 
+-- what an operator on one operand makes of it
+unfoldable pub computed_of : UnOp → Option Kind → List ℕ → Answer
+computed_of one.Neg kind bytes = negated kind bytes
+computed_of one.Not kind bytes = inverted kind bytes
+
+-- an operator on one operand
+unfoldable pub operated_on : UnOp → Option Ty → Option (List ℕ) → Result (List ℕ) MirEvalError
+operated_on op ty (Some bytes) = answered (computed_of op (option_and_then kind_of ty) bytes)
+operated_on op ty None = Err bad_read
+
 abbrev pub read : Option (List ℕ) → Result (List ℕ) MirEvalError
 read (Some bytes) = Ok bytes
 read None = Err bad_read
@@ -78,6 +105,7 @@ rvalue_bytes frame memory (Use operand) = read (operand_bytes frame memory opera
 rvalue_bytes frame memory (CheckedBinaryOp op left right) =
     operated op (operand_type frame.body left.kind) (operand_type frame.body right.kind)
     (operand_bytes frame memory left.kind) (operand_bytes frame memory right.kind)
+rvalue_bytes frame memory (UnaryOp op operand) = operated_on op (operand_type frame.body operand.kind) (operand_bytes frame memory operand.kind)
 
 -- the memory after bytes were copied to a cell
 unfoldable pub copied : Memory → Option Interval → Result (List ℕ) MirEvalError → Result Memory MirEvalError
@@ -89,6 +117,7 @@ copied memory None bytes = Err bad_write
 -- the memory after a statement
 unfoldable pub after_statement : Frame → Memory → StatementKind → Result Memory MirEvalError
 after_statement frame memory (Assign place rvalue) = copied memory (slice_get frame.cells place.local.0) (rvalue_bytes frame memory rvalue)
+after_statement frame memory (FakeRead place) = Ok memory
 after_statement frame memory (StorageLive local) = Ok memory
 after_statement frame memory (StorageDead local) = Ok memory
 

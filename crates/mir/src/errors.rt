@@ -15,9 +15,11 @@ pub enum LayoutError {
 pub enum MirLowerError {
     LayoutError(LayoutError),
     IncompleteExpr,
+    UnresolvedName(Text),
     HasErrors,
     TypeError(Text),
     NotSupported(Text),
+    InaccessibleLocal,
     NoMemory,
 }
 

@@ -12,6 +12,6 @@ mod statement;
 pub use body::{BasicBlock, Local, MirBody, Terminator, TerminatorKind};
 pub use errors::{ConstEvalError, LayoutError, MirEvalError, MirLowerError, TrailEntry};
 pub use ids::{BasicBlockId, LocalId};
-pub use operand::{BinOp, Operand, OperandKind, Place, Rvalue};
+pub use operand::{BinOp, Operand, OperandKind, Place, Rvalue, UnOp};
 pub use span::MirSpan;
 pub use statement::{Statement, StatementKind};

@@ -14,6 +14,8 @@ pub struct Statement {
 pub enum StatementKind {
     /// The place is found, the value is computed, and its bytes are copied.
     Assign(Place, Rvalue),
+    /// The value at the place was named. Running it does nothing.
+    FakeRead(Place),
     /// From here on the local is in use. Running it does nothing.
     StorageLive(LocalId),
     /// The local is no longer in use. Running it does nothing.

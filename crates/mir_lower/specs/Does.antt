@@ -3,11 +3,13 @@ use Rattle.std.specs.Prelude.{◌≡◌, ◌≢◌, ℕ, zero, ◌+◌, ◌<◌,
 use Rattle.mir.specs.declared.errors.MirEvalError as error
 use Rattle.mir.specs.declared.operand.OperandKind.{OperandKind}
 use Rattle.mir.specs.Memory.{Interval, Memory, bytes_at}
-use Rattle.mir.specs.Run.{Frame, Faulted, Ended, out_of_blocks, running, operand_bytes, operand_type}
+use Rattle.mir.specs.Run.{Frame, Faulted, Ended, out_of_blocks, running, operand_bytes as mir_bytes, operand_type as mir_type}
 use Rattle.source_meaning.specs.Ends.{End, Go, Panic, Stuck, More}
-use Rattle.source_meaning.specs.Meaning.{level_at}
-use Rattle.source_meaning.specs.Source.{Source, node_type, Cell, Result, Node, Store, Operand, operand_bytes as source_bytes}
-use Rattle.mir_lower.specs.Graph.{Shape, temp_of}
+use Rattle.source_meaning.specs.Meaning.{level_at, statements_of, tail_into, bind}
+use Rattle.source_meaning.specs.Source.{Source, pattern, Cell, Result, Node, Binding, Path, Store, Operand, operand_bytes, operand_type}
+use Rattle.world.specs.declared.body.Statement.{Statement}
+use Rattle.world.specs.declared.ids.ExprId.{ExprId}
+use Rattle.mir_lower.specs.Graph.{Shape, temp_of, binding_local}
 use Rattle.mir_lower.specs.Growth.{Grows, IsSound, count_at}
 use Rattle.mir_lower.specs.Simulates.{EndsWithin}
 
@@ -28,6 +30,7 @@ run_from frame memory point budget = running budget frame memory point.block poi
 abbrev pub local_of : Shape → Cell → Option ℕ
 local_of s Result = Some zero
 local_of s (Node e) = temp_of s e
+local_of s (Binding b) = binding_local s b
 
 -- the bytes of a local
 unfoldable pub local_bytes : Frame → Memory → ℕ → Option (List ℕ)
@@ -62,27 +65,46 @@ Reaches frame from to memory claim (Panic word cost) = EndsWithin cost.turns (Fa
 Reaches frame from to memory claim Stuck = Unit {0}
 Reaches frame from to memory claim (More cost) = Unit {0}
 
--- In each graph that the new one grows to, from each memory that holds the store: the code between the two graphs'
--- points evaluates the expression into the cell.
-pub record Does (source : Source) (old new : Shape) (e : ℕ) (cell : Cell) : Type 0 where
+-- What code does: in each graph that the new one grows to, from each memory that holds the store, the code between the
+-- two graphs' points does what an end says, at each amount of fuel, and what is claimed of its value holds.
+pub record Performs (source : Source) (old new : Shape) {A : Type 0} (claim : Shape → Frame → A → Type 0) (meaning : ℕ → Store → End A) : Type 0 where
   pub reaches : (whole : Shape) (frame : Frame) → Grows new whole → IsSound source whole → IsFrameOf whole frame →
       (fuel : ℕ) (store : Store) (memory : Memory) → Holds whole frame store memory →
-      Reaches frame (here old) (here new) memory (λ _ after later. Holds whole frame after later) ((level_at source fuel).into e (record { cell = cell }) store)
+      Reaches frame (here old) (here new) memory (λ value after later. Holds whole frame after later × claim whole frame value) (meaning fuel store)
+
+-- nothing is claimed
+abbrev pub Nothing : Shape → Frame → Unit {0} → Type 0
+Nothing whole frame done = Unit {0}
+
+-- the path leads to the cell
+abbrev pub LeadsTo : Cell → Shape → Frame → Path → Type 0
+LeadsTo cell whole frame path = path ≡ record { cell = cell }
 
 -- an operand of the graph has the bytes of the source's operand whenever store and memory agree, and its type
-pub record Fits (source : Source) (whole : Shape) (frame : Frame) (e : ℕ) (value : Operand) (operand : OperandKind) : Type 0 where
-  pub bytes : (store : Store) (memory : Memory) → Holds whole frame store memory → operand_bytes frame memory operand ≡ Some (source_bytes store value)
-  pub ty : operand_type frame.body operand ≡ node_type source e
+pub record Fits (source : Source) (operand : OperandKind) (whole : Shape) (frame : Frame) (value : Operand) : Type 0 where
+  pub bytes : (store : Store) (memory : Memory) → Holds whole frame store memory → mir_bytes frame memory operand ≡ Some (operand_bytes store value)
+  pub ty : mir_type frame.body operand ≡ operand_type source value
 
--- the same for an expression evaluated as an operand
-pub record DoesOperand (source : Source) (old new : Shape) (e : ℕ) (operand : OperandKind) : Type 0 where
-  pub reaches : (whole : Shape) (frame : Frame) → Grows new whole → IsSound source whole → IsFrameOf whole frame →
-      (fuel : ℕ) (store : Store) (memory : Memory) → Holds whole frame store memory →
-      Reaches frame (here old) (here new) memory (λ value after later. Holds whole frame after later × Fits source whole frame e value operand) ((level_at source fuel).operand e store)
+-- the code evaluates an expression into a cell
+abbrev pub Does : Source → Shape → Shape → ℕ → Cell → Type 0
+Does source old new e cell = Performs source old new Nothing (λ fuel store. (level_at source fuel).into e (record { cell = cell }) store)
 
--- and for one evaluated as a place
+-- or as an operand
+abbrev pub DoesOperand : Source → Shape → Shape → ℕ → OperandKind → Type 0
+DoesOperand source old new e operand = Performs source old new (Fits source operand) (λ fuel store. (level_at source fuel).operand e store)
+
+-- or as a place, which is that of a cell
 pub record DoesPlace (source : Source) (old new : Shape) (e local : ℕ) : Type 0 where
-  pub found : local_of new (Node e) ≡ Some local
-  pub reaches : (whole : Shape) (frame : Frame) → Grows new whole → IsSound source whole → IsFrameOf whole frame →
-      (fuel : ℕ) (store : Store) (memory : Memory) → Holds whole frame store memory →
-      Reaches frame (here old) (here new) memory (λ path after later. Holds whole frame after later × (path ≡ record { cell = Node e })) ((level_at source fuel).place e store)
+  pub cell : Cell
+  pub found : local_of new cell ≡ Some local
+  pub does : Performs source old new (LeadsTo cell) (λ fuel store. (level_at source fuel).place e store)
+
+-- the code runs statements, evaluates a tail, or binds a pattern to a cell's value
+abbrev pub DoesStatements : Source → Shape → Shape → List Statement → Type 0
+DoesStatements source old new statements = Performs source old new Nothing (λ fuel store. statements_of source (level_at source fuel) statements store)
+
+abbrev pub DoesTail : Source → Shape → Shape → Option ExprId → Cell → Type 0
+DoesTail source old new tail cell = Performs source old new Nothing (λ fuel store. tail_into (level_at source fuel) tail (record { cell = cell }) store)
+
+abbrev pub DoesBind : Source → Shape → Shape → ℕ → Cell → Type 0
+DoesBind source old new pat cell = Performs source old new Nothing (λ fuel store. bind (pattern source pat) (record { cell = cell }) store)

@@ -1,17 +1,34 @@
 -- The form of an expression, as far as forms are built.
 use Rattle.std.specs.Prelude.{◌≡◌, false, Option, Some}
-use Rattle.world.specs.declared.body.ArithOp.TheVariants.{Add}
-use Rattle.world.specs.declared.body.BinaryOp.TheVariants.{ArithOp}
+use Rattle.world.specs.declared.body.BinaryOp.{BinaryOp}
 use Rattle.world.specs.declared.body.Expr.{Expr}
 use Rattle.world.specs.declared.body.Expr.TheVariants as expr
-use Rattle.source_meaning.specs.Source.{is_literal}
+use Rattle.world.specs.declared.body.UnaryOp.{UnaryOp}
+use Rattle.world.specs.declared.body.UnaryOp.TheVariants as unary
+use Rattle.mir.specs.declared.operand.UnOp.{UnOp}
+use Rattle.mir.specs.declared.operand.UnOp.TheVariants as one
+use Rattle.mir.specs.Run.{operator_of}
+use Rattle.source_meaning.specs.Meaning.{eager_operator}
+use Rattle.source_meaning.specs.Source.{is_literal, is_path}
 use Rattle.mir_lower.specs.declared.form.Form.{Form}
 use Rattle.mir_lower.specs.declared.form.Form.TheVariants as form
-use Rattle.mir_lower.specs.Refusals.{LacksOperator, IsUnbuilt}
+use Rattle.mir_lower.specs.Refusals.{LacksOperator, IsUnbuiltForm}
+
+-- the operator of the source on one operand
+abbrev pub unary_of : UnOp → UnaryOp
+unary_of one.Not = unary.Not
+unary_of one.Neg = unary.Neg
+
+-- neither a literal nor a path
+abbrev pub IsNoLeaf : Option Expr → Type 0
+IsNoLeaf node = (is_literal node ≡ false) × (is_path node ≡ false)
 
 -- what is known of an expression by its form
 abbrev pub HasForm : Option Expr → Form → Type 0
 HasForm node (form.Literal literal) = node ≡ Some (expr.Literal literal.now)
-HasForm node (form.Sum lhs rhs) = node ≡ Some (expr.BinaryOp lhs rhs (Some (ArithOp Add)))
-HasForm node form.NoOperator = LacksOperator node × (is_literal node ≡ false)
-HasForm node form.Unbuilt = IsUnbuilt node × (is_literal node ≡ false)
+HasForm node (form.Path name) = node ≡ Some (expr.Path name.now)
+HasForm node (form.Unary op e) = node ≡ Some (expr.UnaryOp e (unary_of op))
+HasForm node (form.Binary op lhs rhs) = (written : BinaryOp) × (node ≡ Some (expr.BinaryOp lhs rhs (Some written))) × (eager_operator written ≡ Some (operator_of op))
+HasForm node (form.Block statements tail) = node ≡ Some (expr.Block statements.now tail)
+HasForm node form.NoOperator = LacksOperator node × IsNoLeaf node
+HasForm node form.Unbuilt = IsUnbuiltForm node × IsNoLeaf node

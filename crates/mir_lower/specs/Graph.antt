@@ -1,20 +1,36 @@
--- The graph that lowering builds, as data: its blocks, which of them is the current one, to which statements are added, its locals, which local holds which
--- expression's value, and which expressions were given a local in the scope so far.
-use Rattle.std.specs.Prelude.{ℕ, false, List, [], ◌∷◌, ◌++◌, length, replicate, map, Option, Some, None, slice_get, slice_set, option_map, option_and_then}
+-- The graph that lowering builds, as data: its blocks, which of them is the current one, to which statements are added,
+-- its locals, which of them holds which value, and which cells came into use in the scope that is open.
+use Rattle.std.specs.Prelude.{ℕ, suc, false, List, [], ◌∷◌, ◌++◌, length, replicate, map, if◌then◌else◌, nat_lt, Option, Some, None, slice_get, slice_set, option_map, option_and_then}
 use Rattle.world.specs.declared.ty.Ty.{Ty}
 use Rattle.mir.specs.declared.body.BasicBlock.{BasicBlock}
 use Rattle.mir.specs.declared.body.Local.{Local}
 use Rattle.mir.specs.declared.body.Terminator.{Terminator}
 use Rattle.mir.specs.declared.ids.LocalId.{LocalId}
 use Rattle.mir.specs.declared.statement.Statement.{Statement}
+use Rattle.source_meaning.specs.Source.{Cell, Node, Binding}
 use Rattle.mir_lower.specs.declared.graph.Graph.{Graph}
+use Rattle.mir_lower.specs.declared.graph.Held.{Held}
+use Rattle.mir_lower.specs.declared.graph.Held.TheVariants as held
+use Rattle.mir_lower.specs.declared.graph.Marked.{Marked}
 
 pub record Shape : Type 0 where
   pub blocks : List BasicBlock
   pub current : ℕ
   pub locals : List Local
+  -- how many bindings there are: their locals stand behind the return slot
+  pub bindings : ℕ
+  -- for each expression the local that holds its value
   pub temps : List (Option LocalId)
-  pub scope : List ℕ
+  pub scope : List Cell
+
+-- the cell whose value a local holds
+abbrev pub cell_of : Held → Cell
+cell_of (held.Expr e) = Node e.0
+cell_of (held.Binding b) = Binding b.0
+
+-- the cells of a scope
+abbrev pub cells_of : List Marked → List Cell
+cells_of marked = map (λ m. cell_of m.held) marked
 
 -- what a graph of the code is
 abbrev pub shape : Graph → Shape
@@ -23,17 +39,28 @@ shape graph =
       blocks = graph.blocks.items;
       current = graph.current.0;
       locals = graph.locals;
+      bindings = graph.bindings;
       temps = graph.temps.items;
-      scope = map (λ marked. marked.node.0) graph.scope.items;
+      scope = cells_of graph.scope.items;
     }
 
 abbrev pub no_statements : BasicBlock
 no_statements = record { statements = []; terminator = None; is_cleanup = false }
 
--- one current block, the return slot, and no expression with a local yet
-abbrev pub first_shape : Ty → ℕ → Shape
-first_shape ty nodes =
-    record { blocks = no_statements ∷ []; current = 0; locals = record { ty = ty } ∷ []; temps = replicate nodes None; scope = [] }
+abbrev pub local_of_type : Ty → Local
+local_of_type ty = record { ty = ty }
+
+-- one current block, the return slot, a local for each binding, and no expression with a local yet
+abbrev pub first_shape : Ty → List Ty → ℕ → Shape
+first_shape ty bindings nodes =
+    record {
+      blocks = no_statements ∷ [];
+      current = 0;
+      locals = local_of_type ty ∷ map local_of_type bindings;
+      bindings = length bindings;
+      temps = replicate nodes None;
+      scope = [];
+    }
 
 -- a block with one more statement
 abbrev pub more_of : Statement → BasicBlock → BasicBlock
@@ -64,10 +91,18 @@ with_block s = record s { blocks = s.blocks ++ no_statements ∷ []; current = l
 unfoldable pub temp_of : Shape → ℕ → Option ℕ
 temp_of s e = option_map (λ local. local.0) (option_and_then (λ temp. temp) (slice_get s.temps e))
 
+-- the local of a binding, where there is such a binding
+unfoldable pub binding_local : Shape → ℕ → Option ℕ
+binding_local s b = if nat_lt b s.bindings then Some (suc b) else None
+
 -- a new local for an expression
 unfoldable pub with_temp : ℕ → Ty → Shape → Shape
-with_temp e ty s = record s { locals = s.locals ++ record { ty = ty } ∷ []; temps = slice_set s.temps e (Some (record { 0 = length s.locals })) }
+with_temp e ty s = record s { locals = s.locals ++ local_of_type ty ∷ []; temps = slice_set s.temps e (Some (record { 0 = length s.locals })) }
 
--- an expression given a local in the scope
-abbrev pub with_mark : ℕ → Shape → Shape
-with_mark e s = record s { scope = s.scope ++ e ∷ [] }
+-- another scope that is open
+abbrev pub with_scope : List Cell → Shape → Shape
+with_scope scope s = record s { scope = scope }
+
+-- a cell that comes into use in the scope
+abbrev pub with_mark : Cell → Shape → Shape
+with_mark cell s = with_scope (s.scope ++ cell ∷ []) s

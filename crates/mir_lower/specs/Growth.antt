@@ -1,12 +1,14 @@
 -- How the graph grows while an expression is lowered, and what stands in it at a point of its code.
-use Rattle.std.specs.Prelude.{◌≡◌, ℕ, ◌<◌, length, Option, Some, None, slice_get, option_map, option_and_then}
+use Rattle.std.specs.Prelude.{◌≡◌, ℕ, suc, ◌<◌, length, Option, Some, None, slice_get, option_map, option_and_then}
 use Rattle.mir.specs.declared.body.BasicBlock.{BasicBlock}
 use Rattle.mir.specs.declared.body.Local.{Local}
 use Rattle.mir.specs.declared.body.Terminator.{Terminator}
 use Rattle.mir.specs.declared.statement.Statement.{Statement}
-use Rattle.source_meaning.specs.Source.{Source, node_type, root}
+use Rattle.world.specs.declared.ty.Ty.{Ty}
+use Rattle.world_check.specs.Checked.{IsCheckedBody}
+use Rattle.source_meaning.specs.Source.{Source, Cell, Result, Node, Binding, cell_type, node_type, binding_type, root}
 use Rattle.source_meaning.specs.Valid.{Evaluates}
-use Rattle.mir_lower.specs.Graph.{Shape, temp_of}
+use Rattle.mir_lower.specs.Graph.{Shape, temp_of, local_of_type}
 
 -- the statement at a place of a block, and a block's terminator
 unfoldable pub statement_at : Shape → ℕ → ℕ → Option Statement
@@ -25,17 +27,26 @@ pub record Grows (old new : Shape) : Type 0 where
   -- a block that is ended stays as it is
   pub ended : (at : ℕ) (block : BasicBlock) (terminator : Terminator) → slice_get old.blocks at ≡ Some block → block.terminator ≡ Some terminator → slice_get new.blocks at ≡ Some block
   pub locals : (index : ℕ) (local : Local) → slice_get old.locals index ≡ Some local → slice_get new.locals index ≡ Some local
+  pub bindings : new.bindings ≡ old.bindings
   pub temps : (e local : ℕ) → temp_of old e ≡ Some local → temp_of new e ≡ Some local
 
--- A graph that lowering can go on with: its current block isn't ended, each expression's local is a local of its
--- type, no two expressions, nor an expression and the result, share one, and each local is of the type of an
--- expression that is evaluated.
+-- a cell that an evaluation may use: the result, a binding, or an expression that is evaluated
+abbrev pub IsUsed : Source → Cell → Type 0
+IsUsed source Result = Unit {0}
+IsUsed source (Node e) = Evaluates source (root source) e
+IsUsed source (Binding b) = Unit {0}
+
+-- A graph that lowering can go on with: its current block isn't ended, its locals are the result, one of its type for
+-- each binding, and others, each of which holds the value of an expression; each cell's local has the cell's type, no
+-- two cells share one, and each local is of the type of a cell that is used.
 pub record IsSound (source : Source) (s : Shape) : Type 0 where
   pub nodes : length s.temps ≡ length source.body.exprs
+  pub bindings : s.bindings ≡ length source.infer.binding_types
   pub slot : (local : Local) → slice_get s.locals 0 ≡ Some local → node_type source (root source) ≡ Some local.ty
-  pub result : 0 < length s.locals
-  pub cells : (l : ℕ) (local : Local) → slice_get s.locals l ≡ Some local → (e : ℕ) × Evaluates source (root source) e × (node_type source e ≡ Some local.ty)
-  pub above_result : (e local : ℕ) → temp_of s e ≡ Some local → 0 < local
+  pub bound : (b : ℕ) (ty : Ty) → binding_type source b ≡ Some ty → slice_get s.locals (suc b) ≡ Some (local_of_type ty)
+  pub first : s.bindings < length s.locals
+  pub cells : (l : ℕ) (local : Local) → slice_get s.locals l ≡ Some local → (cell : Cell) × IsUsed source cell × (cell_type source cell ≡ Some local.ty)
+  pub above : (e local : ℕ) → temp_of s e ≡ Some local → s.bindings < local
   pub within : (e local : ℕ) → temp_of s e ≡ Some local → local < length s.locals
   pub own : (e f local : ℕ) → temp_of s e ≡ Some local → temp_of s f ≡ Some local → e ≡ f
   pub typed : (e index : ℕ) (local : Local) → temp_of s e ≡ Some index → slice_get s.locals index ≡ Some local → node_type source e ≡ Some local.ty
@@ -44,3 +55,11 @@ pub record IsSound (source : Source) (s : Shape) : Type 0 where
 pub record IsOpen (s : Shape) : Type 0 where
   pub there : s.current < length s.blocks
   pub unended : terminator_at s s.current ≡ None
+
+-- an expression of a checked body, which is evaluated, can be lowered into the graph
+pub record IsReady (source : Source) (s : Shape) (e : ℕ) : Type 0 where
+  pub checked : IsCheckedBody source.body source.infer
+  pub sound : IsSound source s
+  pub «open» : IsOpen s
+  pub within : e < length source.body.exprs
+  pub reached : Evaluates source (root source) e

@@ -1,18 +1,32 @@
 -- A literal as an operand of the graph.
-use Rattle.std.specs.Prelude.{◌≡◌, ℕ, Some}
+use Rattle.std.specs.Prelude.{◌≡◌, ℕ, ◌≤◌, List, take, Some}
 use Rattle.world.specs.declared.body.Literal.{Literal}
+use Rattle.world.specs.declared.layout.Layout.{Layout}
 use Rattle.world.specs.declared.ty.Const.{Const}
 use Rattle.world.specs.declared.ty.Ty.{Ty}
 use Rattle.mir.specs.declared.operand.OperandKind.{OperandKind}
 use Rattle.mir.specs.declared.operand.OperandKind.TheVariants.{Constant}
 use Rattle.mir.specs.Run.{constant_bytes}
 use Rattle.source_meaning.specs.Meaning.{literal_bytes}
-use Rattle.source_meaning.specs.Source.{Source, node_type}
+use Rattle.source_meaning.specs.Source.{Source, node_type, node_layout}
 
--- an operand is a constant with a literal's bytes and type
-pub record IsLiteral (source : Source) (e : ℕ) (literal : Literal) (operand : OperandKind) : Type 0 where
+-- an operand is a constant of an expression's type, with these bytes
+pub record IsConstantOf (source : Source) (e : ℕ) (bytes : List ℕ) (operand : OperandKind) : Type 0 where
   pub konst : Const
   pub ty : Ty
   pub is_constant : operand ≡ Constant konst ty
-  pub bytes : literal_bytes source e literal ≡ Some (constant_bytes konst)
+  pub bytes_are : constant_bytes konst ≡ bytes
   pub typed : node_type source e ≡ Some ty
+
+-- an operand is a constant with as many of these bytes as the expression's type has
+pub record IsNumberOf (source : Source) (e : ℕ) (bytes : List ℕ) (operand : OperandKind) : Type 0 where
+  pub layout : Layout
+  pub found : node_layout source e ≡ Some layout
+  pub small : layout.size ≤ 16
+  pub is_constant : IsConstantOf source e (take layout.size bytes) operand
+
+-- an operand is a constant with a literal's bytes and type
+pub record IsLiteral (source : Source) (e : ℕ) (literal : Literal) (operand : OperandKind) : Type 0 where
+  pub bytes : List ℕ
+  pub told : literal_bytes source e literal ≡ Some bytes
+  pub is_constant : IsConstantOf source e bytes operand

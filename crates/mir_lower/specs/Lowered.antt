@@ -1,33 +1,85 @@
--- What lowering one expression does to the graph.
-use Rattle.std.specs.Prelude.{◌≡◌, ℕ, List, ◌∷◌, length, ◌++◌}
+-- What lowering does to the graph.
+use Rattle.std.specs.Prelude.{◌≡◌, ℕ, List, ◌++◌, [], Contains, flat_map, Option, Some, slice_get}
+use Rattle.mir.specs.declared.body.Local.{Local}
 use Rattle.mir.specs.declared.operand.OperandKind.{OperandKind}
-use Rattle.source_meaning.specs.Source.{Source, Cell, marked_in, marked_as_operand}
-use Rattle.mir_lower.specs.Graph.{Shape}
+use Rattle.world.specs.declared.body.Expr.{Expr}
+use Rattle.world.specs.declared.body.Expr.TheVariants.{Block, Literal}
+use Rattle.world.specs.declared.body.Literal.TheVariants.{Bool}
+use Rattle.world.specs.declared.body.Statement.{Statement}
+use Rattle.world.specs.declared.ids.BindingId.{BindingId}
+use Rattle.world.specs.declared.ids.ExprId.{ExprId}
+use Rattle.world.specs.declared.infer.ValueNs.TheVariants.{LocalBinding}
+use Rattle.source_meaning.specs.Source.{Source, Cell, node, node_type, named_by, pattern, marked, marked_as_place, marked_as_operand, marked_by_statement, marked_by_tail, bound_by}
+use Rattle.source_meaning.specs.Valid.{Evaluates, IsPlainFrom, IsLaidOut, statement_parts}
+use Rattle.mir_lower.specs.Graph.{Shape, binding_local}
 use Rattle.mir_lower.specs.Growth.{Grows, IsSound, IsOpen}
-use Rattle.mir_lower.specs.Does.{Does, DoesOperand, DoesPlace}
+use Rattle.mir_lower.specs.Does.{Does, DoesOperand, DoesPlace, DoesStatements, DoesTail, DoesBind}
 
--- the graph is as sound as before, has what it had, and these expressions more were given locals in the scope
-pub record Keeps (source : Source) (old new : Shape) (marked : List ℕ) : Type 0 where
+-- the graph is as sound as before, has what it had, and these cells more came into use in the scope
+pub record Keeps (source : Source) (old new : Shape) (marked : List Cell) : Type 0 where
   pub grows : Grows old new
   pub sound : IsSound source new
   pub «open» : IsOpen new
   pub scope : new.scope ≡ old.scope ++ marked
 
--- which expressions are given locals inside an expression of the source
-abbrev pub marks : Source → ℕ → List ℕ
-marks source e = marked_in (length source.body.exprs) source e
+-- each local of the graph has a type with a layout
+abbrev pub HasLayouts : Source → Shape → Type 0
+HasLayouts source s = (l : ℕ) (local : Local) → slice_get s.locals l ≡ Some local → IsLaidOut source (Some local.ty)
+
+-- where the graph's locals have layouts, and an expression is plain, what is evaluated where it is has types with
+-- layouts
+abbrev pub LaysOut : Source → Shape → ℕ → Type 0
+LaysOut source s e = IsPlainFrom source e → HasLayouts source s → (f : ℕ) → Evaluates source e f → IsLaidOut source (node_type source f)
+
+-- an expression is a truth value as it stands, for whose byte no layout is asked
+abbrev pub IsTruthLiteral : Option Expr → Type 0
+IsTruthLiteral (Some (Literal (Bool test))) = Unit {0}
+IsTruthLiteral _ = ⊥
 
 -- an expression was lowered into a cell
 pub record LowersInto (source : Source) (old new : Shape) (e : ℕ) (cell : Cell) : Type 0 where
-  pub keeps : Keeps source old new (marks source e)
+  pub keeps : Keeps source old new (marked source e)
   pub does : Does source old new e cell
+  pub laid : IsLaidOut source (node_type source e) → LaysOut source new e
 
 -- an expression was lowered to a place
 pub record LowersPlace (source : Source) (old new : Shape) (e local : ℕ) : Type 0 where
-  pub keeps : Keeps source old new (e ∷ marks source e)
+  pub keeps : Keeps source old new (marked_as_place source (marked source) e)
   pub does : DoesPlace source old new e local
+  pub laid : LaysOut source new e
 
 -- an expression was lowered to an operand
 pub record LowersOperand (source : Source) (old new : Shape) (e : ℕ) (operand : OperandKind) : Type 0 where
-  pub keeps : Keeps source old new (marked_as_operand source (marks source) e)
+  pub keeps : Keeps source old new (marked_as_operand source (marked source) e)
   pub does : DoesOperand source old new e operand
+  pub laid : (IsTruthLiteral (node source e) → IsLaidOut source (node_type source e)) → LaysOut source new e
+
+-- a path was lowered: the local of the binding that it names
+pub record IsNamed (source : Source) (s : Shape) (e local : ℕ) : Type 0 where
+  pub binding : BindingId
+  pub named : named_by source e ≡ Some (LocalBinding binding)
+  pub found : binding_local s binding.0 ≡ Some local
+
+-- a pattern was bound to the value of a cell
+pub record Binds (source : Source) (old new : Shape) (pat : ℕ) (cell : Cell) : Type 0 where
+  pub keeps : Keeps source old new (bound_by (pattern source pat))
+  pub does : DoesBind source old new pat cell
+
+-- statements were lowered
+pub record LowersStatements (source : Source) (old new : Shape) (statements : List Statement) : Type 0 where
+  pub keeps : Keeps source old new (flat_map (marked_by_statement source) statements)
+  pub does : DoesStatements source old new statements
+  pub laid : (child : ℕ) → Contains (flat_map statement_parts statements) child → LaysOut source new child
+
+-- the tail of a block, where it has one, was lowered into a cell
+pub record LowersTail (source : Source) (old new : Shape) (tail : Option ExprId) (cell : Cell) : Type 0 where
+  pub keeps : Keeps source old new (marked_by_tail source tail)
+  pub does : DoesTail source old new tail cell
+  pub laid : (e : ExprId) → tail ≡ Some e → IsLaidOut source (node_type source e.0) → LaysOut source new e.0
+
+-- a statement stands in the block that an expression is
+pub record IsStatementOf (source : Source) (e : ℕ) (statement : Statement) : Type 0 where
+  pub statements : List Statement
+  pub tail : Option ExprId
+  pub form : node source e ≡ Some (Block statements tail)
+  pub within : Contains statements statement

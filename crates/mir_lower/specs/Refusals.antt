@@ -1,23 +1,35 @@
 -- Why a typed body can't be lowered.
-use Rattle.std.specs.Prelude.{◌≡◌, ◌≢◌, ℕ, ◌<◌, IsTrue, [], ◌⊎◌, Option, Some, None, codes}
-use Rattle.world.specs.declared.body.ArithOp.TheVariants.{Add}
-use Rattle.world.specs.declared.body.BinaryOp.TheVariants.{ArithOp}
+use Rattle.std.specs.Prelude.{◌≡◌, ◌≢◌, ℕ, ◌<◌, IsTrue, [], ◌⊎◌, Contains, List, Option, Some, None, codes}
 use Rattle.world.specs.declared.body.Expr.{Expr}
 use Rattle.world.specs.declared.body.Expr.TheVariants as expr
+use Rattle.world.specs.declared.body.Literal.{Literal}
+use Rattle.world.specs.declared.body.Literal.TheVariants as literal
+use Rattle.world.specs.declared.body.Pat.TheVariants.{Bind}
+use Rattle.world.specs.declared.body.Statement.{Statement}
+use Rattle.world.specs.declared.body.Statement.TheVariants as statement
+use Rattle.world.specs.declared.body.UnaryOp.TheVariants as unary
+use Rattle.world.specs.declared.ids.BindingId.{BindingId}
 use Rattle.world.specs.declared.infer.InferenceResult.{InferenceResult}
+use Rattle.world.specs.declared.infer.ValueNs.TheVariants.{LocalBinding}
 use Rattle.world.specs.declared.layout.Layout.{Layout}
 use Rattle.mir.specs.declared.errors.MirLowerError.{MirLowerError}
 use Rattle.mir.specs.declared.errors.MirLowerError.TheVariants as refusal
-use Rattle.source_meaning.specs.Source.{Source, node, node_layout, root}
-use Rattle.source_meaning.specs.Valid.{Evaluates, IsNumberLiteral}
+use Rattle.source_meaning.specs.Meaning.{eager_operator}
+use Rattle.source_meaning.specs.Source.{Source, node, node_layout, named_by, pattern, binding_type, root}
+use Rattle.source_meaning.specs.Valid.{Evaluates}
 
 -- inference met an error in the body
 abbrev pub HasTypingErrors : InferenceResult → Type 0
 HasTypingErrors infer = IsTrue infer.erroneous ⊎ (infer.mismatches ≢ [])
 
+abbrev pub IsNumberLiteral : Literal → Type 0
+IsNumberLiteral (literal.Bool test) = ⊥
+IsNumberLiteral (literal.Int number suffix) = Unit {0}
+IsNumberLiteral (literal.Uint number suffix) = Unit {0}
+
 -- an expression is a number literal
 abbrev pub IsNumber : Option Expr → Type 0
-IsNumber (Some (expr.Literal literal)) = IsNumberLiteral literal
+IsNumber (Some (expr.Literal l)) = IsNumberLiteral l
 IsNumber _ = ⊥
 
 -- an expression whose operator is missing
@@ -25,23 +37,58 @@ abbrev pub LacksOperator : Option Expr → Type 0
 LacksOperator (Some (expr.BinaryOp lhs rhs None)) = Unit {0}
 LacksOperator _ = ⊥
 
--- an expression of a form that isn't built yet: none of a number literal, a sum, and one whose operator is missing
-abbrev pub IsUnbuilt : Option Expr → Type 0
-IsUnbuilt (Some (expr.Literal literal)) = IsNumberLiteral literal → ⊥
-IsUnbuilt (Some (expr.BinaryOp lhs rhs None)) = ⊥
-IsUnbuilt (Some (expr.BinaryOp lhs rhs (Some (ArithOp Add)))) = ⊥
-IsUnbuilt _ = Unit {0}
+-- an expression of a form that isn't built yet, whatever its parts are: `*`, `&&`, `||`, and an assignment
+abbrev pub IsUnbuiltForm : Option Expr → Type 0
+IsUnbuiltForm (Some (expr.UnaryOp e unary.Deref)) = Unit {0}
+IsUnbuiltForm (Some (expr.BinaryOp lhs rhs (Some op))) = eager_operator op ≡ None
+IsUnbuiltForm None = Unit {0}
+IsUnbuiltForm _ = ⊥
+
+-- a statement that isn't built yet: a `let` without an initializer or with `else`
+abbrev pub IsUnbuiltStatement : Source → Statement → Type 0
+IsUnbuiltStatement source (statement.Let pat (Some e) None) = pattern source pat.0 ≡ None
+IsUnbuiltStatement source (statement.Let pat _ _) = Unit {0}
+IsUnbuiltStatement source (statement.Expr e has_semi) = ⊥
+
+-- an expression that isn't built yet: by its form, or as a block by one of its statements
+abbrev pub IsUnbuilt : Source → Option Expr → Type 0
+IsUnbuilt source (Some (expr.Block statements tail)) = (one : Statement) × Contains statements one × IsUnbuiltStatement source one
+IsUnbuilt source form = IsUnbuiltForm form
+
+-- a name pattern of a binding that the body lacks
+abbrev pub BindsNone : Source → ℕ → Type 0
+BindsNone source pat = (binding : BindingId) × (pattern source pat ≡ Some (Bind binding)) × (binding_type source binding.0 ≡ None)
+
+-- a `let` of a binding that the body lacks
+abbrev pub LetBindsNone : Source → Statement → Type 0
+LetBindsNone source (statement.Let pat initializer else_branch) = BindsNone source pat.0
+LetBindsNone source (statement.Expr e has_semi) = ⊥
+
+-- an expression that names, or as a block binds, a binding that the body lacks
+abbrev pub LacksLocal : Source → ℕ → Option Expr → Type 0
+LacksLocal source e (Some (expr.Path name)) = (binding : BindingId) × (named_by source e ≡ Some (LocalBinding binding)) × (binding_type source binding.0 ≡ None)
+LacksLocal source e (Some (expr.Block statements tail)) = (one : Statement) × Contains statements one × LetBindsNone source one
+LacksLocal source e _ = ⊥
 
 -- the refusal of an expression has its cause there; want of memory needs none
 abbrev pub RefusesNode : Source → ℕ → MirLowerError → Type 0
 RefusesNode source e (refusal.LayoutError layout_error) = IsNumber (node source e) × (node_layout source e ≡ None)
 RefusesNode source e refusal.IncompleteExpr = LacksOperator (node source e)
+RefusesNode source e (refusal.UnresolvedName name) = (node source e ≡ Some (expr.Path name)) × (named_by source e ≡ None)
 RefusesNode source e refusal.HasErrors = ⊥
 RefusesNode source e (refusal.TypeError text) =
     (text ≡ codes "number literal of more than 16 bytes") × IsNumber (node source e)
     × (layout : Layout) × (node_layout source e ≡ Some layout) × (16 < layout.size)
-RefusesNode source e (refusal.NotSupported text) = (text ≡ codes "form not built") × IsUnbuilt (node source e)
+RefusesNode source e (refusal.NotSupported text) = (text ≡ codes "form not built") × IsUnbuilt source (node source e)
+RefusesNode source e refusal.InaccessibleLocal = LacksLocal source e (node source e)
 RefusesNode source e refusal.NoMemory = Unit {0}
+
+-- the refusal of a pattern: it is missing, or its binding is
+abbrev pub RefusesPattern : Source → ℕ → MirLowerError → Type 0
+RefusesPattern source pat (refusal.NotSupported text) = (text ≡ codes "form not built") × (pattern source pat ≡ None)
+RefusesPattern source pat refusal.InaccessibleLocal = BindsNone source pat
+RefusesPattern source pat refusal.NoMemory = Unit {0}
+RefusesPattern source pat _ = ⊥
 
 -- a refusal comes of an expression that is evaluated where another is
 abbrev pub RefusesAt : Source → ℕ → MirLowerError → Type 0

@@ -8,8 +8,9 @@ use Rattle.mir.specs.Memory.{Memory}
 use Rattle.mir.specs.Run.{Frame, Ending, Returned, Faulted, Ended, out_of_blocks, entering, begun}
 use Rattle.source_meaning.specs.Ends.{End, Go, Panic, Stuck, More}
 use Rattle.source_meaning.specs.Meaning.{meaning_of}
-use Rattle.source_meaning.specs.Source.{Source, node_type, root}
-use Rattle.source_meaning.specs.Valid.{Evaluates}
+use Rattle.source_meaning.specs.Source.{Source, Cell, cell_type, node_type, root}
+use Rattle.source_meaning.specs.Valid.{IsPlain, IsLaidOut, AreLaidOut}
+use Rattle.mir_lower.specs.Growth.{IsUsed}
 
 -- A run under every budget: it ends so, after so many blocks at most. With just as many blocks or more it ends
 -- so and leaves the rest, and with fewer it runs out of them.
@@ -27,9 +28,11 @@ EndsAs Stuck run = Unit {0}
 EndsAs (More cost) run = Unit {0}
 
 -- For every amount of fuel a run of the graph, where it can begin, ends as the source's meaning does. The return
--- slot has the type of the body's root, and each local that of an expression that is evaluated.
+-- slot has the type of the body's root, and each local that of a cell that is used. Where the source is plain and
+-- each local's type has a layout, so have the types of all that is evaluated.
 pub record Simulates (source : Source) (body : MirBody) : Type 0 where
   pub slot : (local : Local) × (slice_get body.locals 0 ≡ Some local) × (node_type source (root source) ≡ Some local.ty)
-  pub cells : (l : ℕ) (local : Local) → slice_get body.locals l ≡ Some local → (e : ℕ) × Evaluates source (root source) e × (node_type source e ≡ Some local.ty)
+  pub cells : (l : ℕ) (local : Local) → slice_get body.locals l ≡ Some local → (cell : Cell) × IsUsed source cell × (cell_type source cell ≡ Some local.ty)
+  pub laid_out : IsPlain source → ((l : ℕ) (local : Local) → slice_get body.locals l ≡ Some local → IsLaidOut source (Some local.ty)) → AreLaidOut source
   pub runs : (fuel : ℕ) (start : Frame × Memory) → begun source.world body ≡ Ok start →
       EndsAs (meaning_of source fuel) (λ budget. entering budget start.0 start.1 body.start_block.0)

@@ -1,17 +1,33 @@
 //! The graph that lowering builds: blocks, one of which is open, and locals.
 
-ghost use Rattle.std.specs.Prelude.{◌≡◌, ◌<◌, ◌^◌, ℕ, length, IfOk, OnOk, Some, None, slice_get};
-ghost use Rattle.mir_lower.specs.Graph.{shape, first_shape, with_statement, with_terminator, with_block, with_temp, with_mark, temp_of, no_statements};
+ghost use Rattle.std.specs.Prelude.{◌≡◌, ◌∷◌, ◌<◌, ◌^◌, ℕ, [], length, map, IfOk, OnOk, Some, None, slice_get};
+ghost use Rattle.std.specs.Option.{option_map};
+ghost use Rattle.mir_lower.specs.Graph.{shape, first_shape, with_statement, with_terminator, with_block, with_temp, with_mark, with_scope, temp_of, binding_local, no_statements, cell_of, cells_of, local_of_type};
+ghost use Rattle.source_meaning.specs.Source.{Node};
 
 use mir::{BasicBlock, BasicBlockId, Local, LocalId, MirBody, Statement, Terminator};
 use std::alloc::Global;
-use world::{DefWithBodyId, ExprId, List, NoMemory, Ty};
+use std::mem;
+use world::{BindingId, DefWithBodyId, ExprId, List, NoMemory, TryClone, Ty};
 
-/// An expression that was given a local in the scope that is open.
+/// What a local holds the value of.
+#[derive(Clone, Copy)]
+pub enum Held {
+    Expr(ExprId),
+    Binding(BindingId),
+}
+
+/// A local that came into use in the scope that is open.
 #[derive(Clone, Copy)]
 pub struct Marked {
-    pub node: ExprId,
+    pub held: Held,
     pub local: LocalId,
+}
+
+/// The scope around one that was opened. It is given back where that one is left.
+#[derive(Drop)]
+pub struct DropScopeToken {
+    pub outer: Vec<Marked>,
 }
 
 /// The blocks and locals so far.
@@ -20,8 +36,10 @@ pub struct Graph {
     pub blocks: Vec<BasicBlock>,
     /// The block that statements are added to.
     pub current: BasicBlockId,
-    /// Local 0 is the return slot.
+    /// Local 0 is the return slot, and local `b + 1` that of binding `b`.
     pub locals: List<Local>,
+    /// How many bindings there are.
+    pub bindings: u32,
     /// For each expression the local that holds its value.
     pub temps: Vec<Option<LocalId>>,
     pub scope: Vec<Marked>,
@@ -37,21 +55,38 @@ fn empty_block(alloc: Global) -> BasicBlock
     }
 }
 
+/// The return slot, and a local for each binding, by their types.
+fn first_locals(alloc: Global, ty: Ty, bindings: &[Ty]) -> Result<List<Local>, NoMemory>
+    ensures { IfOk result (λ locals. locals ≡ local_of_type ty ∷ map local_of_type bindings.now) }
+{
+    let mut locals = List::new(alloc);
+    locals.push(Local { ty })?;
+    for binding in bindings {
+        let ty = binding.try_clone(alloc)?;
+        locals.push(Local { ty })?;
+    }
+    Ok(locals)
+}
+
 impl Graph {
-    /// One open block and the return slot, for a body of so many expressions.
-    pub fn new(alloc: Global, ty: Ty, nodes: u64) -> Result<Graph, NoMemory>
-        ensures { IfOk result (λ graph. shape graph ≡ first_shape ty nodes) }
+    /// One open block, the return slot, and a local for each binding, for a body of so many expressions.
+    /// The room for ids ends at 2^32 - 1.
+    pub fn new(alloc: Global, ty: Ty, bindings: &[Ty], nodes: u64) -> Result<Graph, NoMemory>
+        ensures { IfOk result (λ graph. shape graph ≡ first_shape ty bindings.now nodes) }
     {
+        if bindings.len() >= u32::MAX as usize {
+            return Err(NoMemory);
+        }
         let mut blocks = Vec::new(alloc);
         blocks.push(empty_block(alloc))?;
-        let mut locals = List::new(alloc);
-        locals.push(Local { ty })?;
+        let locals = first_locals(alloc, ty, bindings)?;
         let none: Option<LocalId> = None;
         let temps = vec![in alloc; none; nodes as usize]?;
         Ok(Graph {
             blocks,
             current: BasicBlockId(0),
             locals,
+            bindings: bindings.len() as u32,
             temps,
             scope: Vec::new(alloc),
         })
@@ -109,11 +144,11 @@ impl Graph {
         Ok(local)
     }
 
-    /// Marks an expression as given a local in the open scope.
-    fn mark(&mut self, node: ExprId, local: LocalId) -> Result<(), NoMemory>
-        ensures { OnOk result (shape self.new ≡ with_mark node.0 (shape self.old)) }
+    /// Marks a local as in use in the open scope.
+    pub fn mark(&mut self, held: Held, local: LocalId) -> Result<(), NoMemory>
+        ensures { OnOk result (shape self.new ≡ with_mark (cell_of held) (shape self.old)) }
     {
-        self.scope.push(Marked { node, local })?;
+        self.scope.push(Marked { held, local })?;
         Ok(())
     }
 
@@ -122,16 +157,47 @@ impl Graph {
     pub fn temp_for(&mut self, node: ExprId, ty: Ty) -> Result<LocalId, NoMemory>
         requires { node.0 < length self.old.temps.items }
         ensures old { IfOk result (λ local. (l : ℕ) → temp_of (shape self.old) node.0 ≡ Some l
-            → (local.0 ≡ l) × (shape self.new ≡ with_mark node.0 (shape self.old))) }
+            → (local.0 ≡ l) × (shape self.new ≡ with_mark (Node node.0) (shape self.old))) }
         ensures new { IfOk result (λ local. temp_of (shape self.old) node.0 ≡ None
-            → (local.0 ≡ length self.old.locals) × (shape self.new ≡ with_mark node.0 (with_temp node.0 ty (shape self.old)))) }
+            → (local.0 ≡ length self.old.locals) × (shape self.new ≡ with_mark (Node node.0) (with_temp node.0 ty (shape self.old)))) }
     {
         let local = match self.temps[node.0 as usize] {
             Some(local) => local,
             None => self.new_temp(node, ty)?,
         };
-        self.mark(node, local)?;
+        self.mark(Held::Expr(node), local)?;
         Ok(local)
+    }
+
+    /// The local of a binding, where there is such a binding.
+    #[tactic(auto, unfolding(crate::specs::Graph::binding_local))]
+    pub fn binding_local(&self, binding: BindingId) -> Option<LocalId>
+        ensures { option_map (λ local. local.0) result ≡ binding_local (shape self.now) binding.0 }
+    {
+        if binding.0 < self.bindings {
+            Some(LocalId(binding.0 + 1))
+        } else {
+            None
+        }
+    }
+
+    /// Opens a scope inside the open one. It takes no memory.
+    pub fn push_drop_scope(&mut self, alloc: Global) -> DropScopeToken
+        ensures inner { shape self.new ≡ with_scope [] (shape self.old) }
+        ensures outer { cells_of result.outer.items ≡ (shape self.old).scope }
+    {
+        DropScopeToken {
+            outer: mem::replace(&mut self.scope, Vec::new(alloc)),
+        }
+    }
+
+    /// Gives back the scope around the open one, and hands out the locals of the latter.
+    pub fn pop_drop_scope(&mut self, token: DropScopeToken) -> Vec<Marked>
+        ensures inner { cells_of result.items ≡ (shape self.old).scope }
+        ensures outer { shape self.new ≡ with_scope (cells_of token.outer.items) (shape self.old) }
+    {
+        let DropScopeToken { outer } = token;
+        mem::replace(&mut self.scope, outer)
     }
 
     /// The body with these blocks and locals. It takes no memory.

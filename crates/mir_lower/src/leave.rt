@@ -1,23 +1,22 @@
-//! Leaving the scope of a body: what is dropped there, and where each local's storage ends.
+//! Leaving a scope: what is dropped there, and where each local's storage ends.
 
 ghost use Rattle.std.specs.Prelude.{◌≡◌, ◌+◌, ◌<◌, ◌≤◌, ℕ, length, IfErr, OnOk, None};
 ghost use Rattle.mir.specs.declared.statement.StatementKind.TheVariants.{StorageDead};
 ghost use Rattle.mir.specs.declared.body.TerminatorKind.TheVariants.{Drop as Dropping};
-ghost use Rattle.source_meaning.specs.Meaning.{is_dropped};
+ghost use Rattle.std.specs.Option.{option_copied};
+ghost use Rattle.source_meaning.specs.Source.{cell_type, is_dropped, drops};
 ghost use Rattle.world.specs.Lookups.{is_copy as is_copy_type};
 ghost use Rattle.mir_lower.specs.Contexts.{source_of};
-ghost use Rattle.mir_lower.specs.Graph.{shape, with_statement, with_block, with_terminator};
+ghost use Rattle.mir_lower.specs.Graph.{shape, with_statement, with_block, with_terminator, with_scope, cell_of, cells_of};
 ghost use Rattle.mir_lower.specs.Growth.{IsSound, IsOpen};
-ghost use Rattle.mir_lower.specs.Leaving.{Leaves, drops, one_if, nodes_of};
+ghost use Rattle.mir_lower.specs.Leaving.{Leaves, one_if};
 
 use crate::context::Context;
-use crate::graph::{Graph, Marked};
-use crate::literal::node_ty;
+use crate::graph::{DropScopeToken, Graph, Held, Marked};
 use mir::{
     BasicBlockId, LocalId, MirSpan, Place, Statement, StatementKind, Terminator, TerminatorKind,
 };
 use std::alloc::Global;
-use std::mem;
 use world::{ExprId, NoMemory, Ty};
 
 /// Whether a type is listed as `Copy`.
@@ -32,11 +31,21 @@ fn is_copy(context: &Context<'_>, ty: &Ty) -> bool
         .any(|copy| *ty == *copy)
 }
 
-/// Whether an expression's value is dropped at the end of its scope.
-fn drops_node(context: &Context<'_>, node: ExprId) -> bool
-    ensures { result ≡ is_dropped (source_of context.now) node.0 }
+/// The type of what a local holds.
+fn held_type<'a>(context: &Context<'a>, held: Held) -> Option<&'a Ty>
+    ensures { option_copied result ≡ cell_type (source_of context.now) (cell_of held) }
 {
-    match node_ty(context, node) {
+    match held {
+        Held::Expr(e) => context.infer.expr_types.get(e.0 as u64),
+        Held::Binding(binding) => context.infer.binding_types.get(binding.0 as u64),
+    }
+}
+
+/// Whether what a local holds is dropped at the end of its scope.
+fn is_dropped(context: &Context<'_>, held: Held) -> bool
+    ensures { result ≡ is_dropped (source_of context.now) (cell_of held) }
+{
+    match held_type(context, held) {
         Some(ty) => !is_copy(context, ty),
         None => false,
     }
@@ -47,11 +56,11 @@ fn drop_local(
     alloc: Global,
     graph: &mut Graph,
     local: LocalId,
-    root: ExprId,
+    at: ExprId,
 ) -> Result<(), NoMemory>
     requires { IsOpen (shape graph.old) }
     ensures { OnOk result ((target : _) × (target.0 ≡ length (shape graph.old).blocks)
-        × (shape graph.new ≡ with_block (with_terminator (record { span = MirSpan.ExprId root; kind = Dropping (record { local = local }) target None }) (shape graph.old)))) }
+        × (shape graph.new ≡ with_block (with_terminator (record { span = MirSpan.ExprId at; kind = Dropping (record { local = local }) target None }) (shape graph.old)))) }
 {
     let count = graph.blocks.len();
     if count >= u32::MAX as usize {
@@ -59,7 +68,7 @@ fn drop_local(
     }
     let target = BasicBlockId(count as u32);
     graph.set_terminator(Terminator {
-        span: MirSpan::ExprId(root),
+        span: MirSpan::ExprId(at),
         kind: TerminatorKind::Drop {
             place: Place { local },
             target,
@@ -74,15 +83,15 @@ fn drop_if_needed(
     context: &Context<'_>,
     graph: &mut Graph,
     marked: Marked,
-    root: ExprId,
+    at: ExprId,
 ) -> Result<(), NoMemory>
     requires sound { IsSound (source_of context.now) (shape graph.old) }
     requires opened { IsOpen (shape graph.old) }
-    ensures { OnOk result (Leaves (source_of context.now) (shape graph.old) (shape graph.new) (one_if (is_dropped (source_of context.now) marked.node.0))) }
+    ensures { OnOk result (Leaves (source_of context.now) (shape graph.old) (shape graph.new) (one_if (is_dropped (source_of context.now) (cell_of marked.held)))) }
 {
-    let needed = drops_node(context, marked.node);
+    let needed = is_dropped(context, marked.held);
     if needed {
-        drop_local(context.alloc, graph, marked.local, root)
+        drop_local(context.alloc, graph, marked.local, at)
     } else {
         Ok(())
     }
@@ -93,16 +102,16 @@ fn leave_local(
     context: &Context<'_>,
     graph: &mut Graph,
     marked: Marked,
-    root: ExprId,
+    at: ExprId,
 ) -> Result<(), NoMemory>
     requires sound { IsSound (source_of context.now) (shape graph.old) }
     requires opened { IsOpen (shape graph.old) }
-    ensures { OnOk result (Leaves (source_of context.now) (shape graph.old) (shape graph.new) (one_if (is_dropped (source_of context.now) marked.node.0))) }
+    ensures { OnOk result (Leaves (source_of context.now) (shape graph.old) (shape graph.new) (one_if (is_dropped (source_of context.now) (cell_of marked.held)))) }
 {
-    drop_if_needed(context, graph, marked, root)?;
+    drop_if_needed(context, graph, marked, at)?;
     graph.push_statement(Statement {
         kind: StatementKind::StorageDead(marked.local),
-        span: MirSpan::ExprId(root),
+        span: MirSpan::ExprId(at),
     })
 }
 
@@ -111,28 +120,29 @@ fn leave_all(
     context: &Context<'_>,
     graph: &mut Graph,
     mut scope: Vec<Marked>,
-    root: ExprId,
+    at: ExprId,
 ) -> Result<(), NoMemory>
     requires sound { IsSound (source_of context.now) (shape graph.old) }
     requires opened { IsOpen (shape graph.old) }
-    ensures { OnOk result (Leaves (source_of context.now) (shape graph.old) (shape graph.new) (drops (source_of context.now) (nodes_of scope.items))) }
+    ensures { OnOk result (Leaves (source_of context.now) (shape graph.old) (shape graph.new) (drops (source_of context.now) (cells_of scope.items))) }
 {
     while let Some(marked) = scope.pop() {
-        leave_local(context, graph, marked, root)?;
+        leave_local(context, graph, marked, at)?;
     }
     Ok(())
 }
 
-/// Leaves the scope of a body.
+/// Leaves the open scope, for the one around it.
 pub(crate) fn leave_scope(
     context: &Context<'_>,
     graph: &mut Graph,
-    root: ExprId,
+    token: DropScopeToken,
+    at: ExprId,
 ) -> Result<(), NoMemory>
     requires sound { IsSound (source_of context.now) (shape graph.old) }
     requires opened { IsOpen (shape graph.old) }
-    ensures { OnOk result (Leaves (source_of context.now) (shape graph.old) (shape graph.new) (drops (source_of context.now) (shape graph.old).scope)) }
+    ensures { OnOk result (Leaves (source_of context.now) (with_scope (cells_of token.outer.items) (shape graph.old)) (shape graph.new) (drops (source_of context.now) (shape graph.old).scope)) }
 {
-    let scope = mem::replace(&mut graph.scope, Vec::new(context.alloc));
-    leave_all(context, graph, scope, root)
+    let scope = graph.pop_drop_scope(token);
+    leave_all(context, graph, scope, at)
 }

@@ -1,11 +1,10 @@
 //! Literals as operands.
 
-ghost use Rattle.std.specs.Prelude.{◌≡◌, ◌<◌, ◌≤◌, ℕ, take, length, IfOk, IfErr, MatchOption, Some, pos};
-ghost use Rattle.std.specs.Option.{option_copied, option_map};
+ghost use Rattle.std.specs.Prelude.{◌≡◌, ◌∷◌, [], ◌<◌, ◌≤◌, ℕ, take, length, IfOk, IfErr, Some, pos};
+ghost use Rattle.std.specs.Option.{option_copied};
 ghost use Rattle.numbers.specs.Bytes.{low_bytes};
-ghost use Rattle.source_meaning.specs.Meaning.{literal_number};
+ghost use Rattle.source_meaning.specs.Meaning.{truth_byte};
 ghost use Rattle.source_meaning.specs.Source.{node, node_type};
-ghost use Rattle.source_meaning.specs.Valid.{IsNumberLiteral};
 ghost use Rattle.world.specs.declared.body.Expr.TheVariants as expr;
 ghost use Rattle.mir.specs.declared.errors.MirLowerError.TheVariants as refusal;
 ghost use Rattle.world_check.specs.Checked.{IsCheckedBody};
@@ -13,8 +12,8 @@ ghost use Rattle.mir.specs.declared.operand.OperandKind.TheVariants.{Constant};
 ghost use Rattle.mir.specs.Run.{constant_bytes};
 ghost use Rattle.world.specs.declared.ty.Const.{Const};
 ghost use Rattle.mir_lower.specs.Contexts.{source_of};
-ghost use Rattle.mir_lower.specs.Literals.{IsLiteral};
-ghost use Rattle.mir_lower.specs.Refusals.{RefusesNode};
+ghost use Rattle.mir_lower.specs.Literals.{IsConstantOf, IsNumberOf, IsLiteral};
+ghost use Rattle.mir_lower.specs.Refusals.{IsNumber, RefusesNode};
 ghost use Rattle.std.specs.Prelude.{codes, ◌⊎◌};
 
 use crate::context::Context;
@@ -55,18 +54,6 @@ fn signed_bytes(number: i128) -> [u8; 16]
     number.cast_unsigned().to_le_bytes()
 }
 
-/// The lowest bytes of a number literal.
-fn number_bytes(literal: &Literal) -> Option<[u8; 16]>
-    ensures { MatchOption result (IsNumberLiteral literal.now → ⊥)
-        (λ bytes. (size : ℕ) → size ≤ 16 → option_map (low_bytes size) (literal_number literal.now) ≡ Some (take size bytes)) }
-{
-    match literal {
-        Literal::Int(number, _) => Some(signed_bytes(*number)),
-        Literal::Uint(number, _) => Some(unsigned_bytes(*number)),
-        Literal::Bool(_) => None,
-    }
-}
-
 /// The type of an expression of the body.
 pub(crate) fn node_ty<'a>(context: &Context<'a>, e: ExprId) -> Option<&'a Ty>
     ensures { option_copied result ≡ node_type (source_of context.now) e.0 }
@@ -81,7 +68,8 @@ fn constant(
     ty: &Ty,
     memory: Bytes,
 ) -> Result<Operand, MirLowerError>
-    ensures lowered { IfOk result (λ operand. (konst : Const) × (operand.kind ≡ Constant konst ty.now) × (constant_bytes konst ≡ memory)) }
+    requires { node_type (source_of context.now) e.0 ≡ Some ty.now }
+    ensures lowered { IfOk result (λ operand. IsConstantOf (source_of context.now) e.0 memory operand.kind) }
     ensures refused { IfErr result (λ error. error ≡ refusal.NoMemory) }
 {
     let konst = Const::Value(ValueConst {
@@ -96,20 +84,17 @@ fn constant(
     })
 }
 
-/// A number literal as a constant: as many low bytes of its number as its type has.
-pub(crate) fn lower_literal(
+/// A number literal with these lowest bytes as a constant: as many of them as its type has.
+fn lower_number(
     context: &Context<'_>,
     e: ExprId,
-    literal: &Literal,
+    bytes: [u8; 16],
 ) -> Result<Operand, MirLowerError>
     requires checked { IsCheckedBody context.now.body.now context.now.infer.now }
-    requires literal { node (source_of context.now) e.0 ≡ Some (expr.Literal literal.now) }
-    ensures lowered { IfOk result (λ operand. IsLiteral (source_of context.now) e.0 literal.now operand.kind) }
+    requires number { IsNumber (node (source_of context.now) e.0) }
+    ensures lowered { IfOk result (λ operand. IsNumberOf (source_of context.now) e.0 bytes operand.kind) }
     ensures refused { IfErr result (RefusesNode (source_of context.now) e.0) }
 {
-    let Some(bytes) = number_bytes(literal) else {
-        return Err(form_not_built(context.alloc));
-    };
     let Some(ty) = node_ty(context, e) else {
         return Err(MirLowerError::NoMemory);
     };
@@ -121,4 +106,35 @@ pub(crate) fn lower_literal(
     }
     let memory = Bytes::from_slice(context.alloc, &bytes[..layout.size as usize])?;
     constant(context, e, ty, memory)
+}
+
+/// A truth value as a constant: one byte.
+fn lower_truth(context: &Context<'_>, e: ExprId, test: bool) -> Result<Operand, MirLowerError>
+    ensures lowered { IfOk result (λ operand. IsConstantOf (source_of context.now) e.0 (truth_byte test ∷ []) operand.kind) }
+    ensures refused { IfErr result (λ error. error ≡ refusal.NoMemory) }
+{
+    let Some(ty) = node_ty(context, e) else {
+        return Err(MirLowerError::NoMemory);
+    };
+    let memory = Bytes::from_slice(context.alloc, &[test as u8])?;
+    constant(context, e, ty, memory)
+}
+
+/// A literal as a constant.
+#[tactic(auto, unfolding(source_meaning::specs::Meaning::literal_bytes))]
+pub(crate) fn lower_literal(
+    context: &Context<'_>,
+    e: ExprId,
+    literal: &Literal,
+) -> Result<Operand, MirLowerError>
+    requires checked { IsCheckedBody context.now.body.now context.now.infer.now }
+    requires literal { node (source_of context.now) e.0 ≡ Some (expr.Literal literal.now) }
+    ensures lowered { IfOk result (λ operand. IsLiteral (source_of context.now) e.0 literal.now operand.kind) }
+    ensures refused { IfErr result (RefusesNode (source_of context.now) e.0) }
+{
+    match literal {
+        Literal::Bool(test) => lower_truth(context, e, *test),
+        Literal::Int(number, _) => lower_number(context, e, signed_bytes(*number)),
+        Literal::Uint(number, _) => lower_number(context, e, unsigned_bytes(*number)),
+    }
 }

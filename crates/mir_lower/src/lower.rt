@@ -1,30 +1,30 @@
 //! Lowering expressions: as an operand, to a place, and into a place.
 
-ghost use Rattle.std.specs.Prelude.{◌≡◌, ◌<◌, ℕ, length, IfOk, IfErr, OnOk, Some};
-ghost use Rattle.mir.specs.declared.operand.OperandKind.TheVariants.{Copy};
-ghost use Rattle.mir.specs.declared.statement.StatementKind.TheVariants.{Assign, StorageLive};
-ghost use Rattle.source_meaning.specs.Source.{Cell, node, root};
-ghost use Rattle.source_meaning.specs.Valid.{Evaluates};
-ghost use Rattle.world.specs.declared.body.ArithOp.TheVariants.{Add as Plus};
-ghost use Rattle.world.specs.declared.body.BinaryOp.TheVariants.{ArithOp as Arithmetic};
+ghost use Rattle.std.specs.Prelude.{◌≡◌, ◌×◌, false, ℕ, [], IfOk, IfErr, OnOk, Contains, Some, None};
+ghost use Rattle.mir.specs.Run.{operator_of};
+ghost use Rattle.source_meaning.specs.Meaning.{eager_operator};
+ghost use Rattle.source_meaning.specs.Source.{Cell, node, is_path};
+ghost use Rattle.world.specs.declared.body.BinaryOp.{BinaryOp};
 ghost use Rattle.world.specs.declared.body.Expr.TheVariants as expr;
-ghost use Rattle.world_check.specs.Checked.{IsCheckedBody};
+ghost use Rattle.world.specs.declared.body.Statement.TheVariants as statement_kind;
 ghost use Rattle.mir_lower.specs.Contexts.{source_of};
 ghost use Rattle.mir_lower.specs.Does.{local_of};
-ghost use Rattle.mir_lower.specs.Form.{HasForm};
-ghost use Rattle.mir_lower.specs.Graph.{shape, with_statement};
-ghost use Rattle.mir_lower.specs.Growth.{IsSound, IsOpen};
-ghost use Rattle.mir_lower.specs.Lowered.{LowersInto, LowersPlace, LowersOperand};
+ghost use Rattle.mir_lower.specs.Form.{HasForm, unary_of};
+ghost use Rattle.mir_lower.specs.Graph.{shape};
+ghost use Rattle.mir_lower.specs.Growth.{IsReady};
+ghost use Rattle.mir_lower.specs.Lowered.{LowersInto, LowersPlace, LowersOperand, LowersStatements, LowersTail, IsStatementOf};
 ghost use Rattle.mir_lower.specs.Refusals.{RefusesAt};
 
 use crate::context::Context;
 use crate::form::{Form, form_of};
 use crate::graph::Graph;
+use crate::leave::leave_scope;
 use crate::literal::{form_not_built, lower_literal, node_ty};
+use crate::names::{assign, bind, place_named};
 use mir::{
-    BinOp, MirLowerError, MirSpan, Operand, OperandKind, Place, Rvalue, Statement, StatementKind,
+    BinOp, MirLowerError, MirSpan, Operand, OperandKind, Place, Rvalue, StatementKind, UnOp,
 };
-use world::{ExprId, TryClone};
+use world::{ExprId, List, Literal, PatId, Statement, Text, TryClone};
 
 /// The form of an expression of the body.
 fn form_at<'a>(context: &Context<'a>, e: ExprId) -> Form<'a>
@@ -33,18 +33,80 @@ fn form_at<'a>(context: &Context<'a>, e: ExprId) -> Form<'a>
     form_of(context.body.exprs.get(e.0 as u64))
 }
 
-/// An expression as an operand: a number literal as it stands, and any other by its place.
+/// A place as an operand.
+fn copied(place: Place, e: ExprId) -> Operand
+    ensures { result.kind ≡ Copy place }
+{
+    Operand {
+        kind: OperandKind::Copy(place),
+        span: Some(MirSpan::ExprId(e)),
+    }
+}
+
+/// A literal is assigned.
+fn literal_into(
+    context: &Context<'_>,
+    graph: &mut Graph,
+    e: ExprId,
+    literal: &Literal,
+    place: Place,
+) -> Result<(), MirLowerError>
+    requires ready { IsReady (source_of context.now) (shape graph.old) e.0 }
+    requires form { node (source_of context.now) e.0 ≡ Some (expr.Literal literal.now) }
+    ensures lowered { OnOk result ((cell : Cell) → local_of (shape graph.old) cell ≡ Some place.local.0
+        → LowersInto (source_of context.now) (shape graph.old) (shape graph.new) e.0 cell) }
+    ensures refused { IfErr result (RefusesAt (source_of context.now) e.0) }
+{
+    let operand = lower_literal(context, e, literal)?;
+    assign(graph, place, Rvalue::Use(operand), MirSpan::ExprId(e))
+}
+
+/// The bytes of what a path names are copied.
+fn name_into(
+    context: &Context<'_>,
+    graph: &mut Graph,
+    e: ExprId,
+    name: &Text,
+    place: Place,
+) -> Result<(), MirLowerError>
+    requires ready { IsReady (source_of context.now) (shape graph.old) e.0 }
+    requires form { node (source_of context.now) e.0 ≡ Some (expr.Path name.now) }
+    ensures lowered { OnOk result ((cell : Cell) → local_of (shape graph.old) cell ≡ Some place.local.0
+        → LowersInto (source_of context.now) (shape graph.old) (shape graph.new) e.0 cell) }
+    ensures refused { IfErr result (RefusesAt (source_of context.now) e.0) }
+{
+    let from = place_named(context, graph, e, name)?;
+    assign(
+        graph,
+        place,
+        Rvalue::Use(copied(from, e)),
+        MirSpan::ExprId(e),
+    )
+}
+
+/// A path is the place that it names.
+fn name_place(
+    context: &Context<'_>,
+    graph: &Graph,
+    e: ExprId,
+    name: &Text,
+) -> Result<Place, MirLowerError>
+    requires ready { IsReady (source_of context.now) (shape graph.now) e.0 }
+    requires form { node (source_of context.now) e.0 ≡ Some (expr.Path name.now) }
+    ensures lowered { IfOk result (λ place. LowersPlace (source_of context.now) (shape graph.now) (shape graph.now) e.0 place.local.0) }
+    ensures refused { IfErr result (RefusesAt (source_of context.now) e.0) }
+{
+    place_named(context, graph, e, name)
+}
+
+/// An expression as an operand: a literal as it stands, and any other by its place.
 #[cycle(lower)]
 pub(crate) fn lower_operand(
     context: &Context<'_>,
     graph: &mut Graph,
     e: ExprId,
 ) -> Result<Operand, MirLowerError>
-    requires checked { IsCheckedBody context.now.body.now context.now.infer.now }
-    requires sound { IsSound (source_of context.now) (shape graph.old) }
-    requires opened { IsOpen (shape graph.old) }
-    requires within { e.0 < length context.now.body.now.exprs }
-    requires reached { Evaluates (source_of context.now) (root (source_of context.now)) e.0 }
+    requires { IsReady (source_of context.now) (shape graph.old) e.0 }
     ensures lowered { IfOk result (λ operand. LowersOperand (source_of context.now) (shape graph.old) (shape graph.new) e.0 operand.kind) }
     ensures refused { IfErr result (RefusesAt (source_of context.now) e.0) }
 {
@@ -52,35 +114,33 @@ pub(crate) fn lower_operand(
         Form::Literal(literal) => lower_literal(context, e, literal),
         _ => {
             let place = lower_place(context, graph, e)?;
-            Ok(Operand {
-                kind: OperandKind::Copy(place),
-                span: Some(MirSpan::ExprId(e)),
-            })
+            Ok(copied(place, e))
         }
+    }
+}
+
+/// An expression to a place: what a path names, or a local of its own.
+#[cycle(lower)]
+fn lower_place(context: &Context<'_>, graph: &mut Graph, e: ExprId) -> Result<Place, MirLowerError>
+    requires { IsReady (source_of context.now) (shape graph.old) e.0 }
+    ensures lowered { IfOk result (λ place. LowersPlace (source_of context.now) (shape graph.old) (shape graph.new) e.0 place.local.0) }
+    ensures refused { IfErr result (RefusesAt (source_of context.now) e.0) }
+{
+    match form_at(context, e) {
+        Form::Path(name) => name_place(context, graph, e, name),
+        _ => lower_temp(context, graph, e),
     }
 }
 
 /// An expression that is no place goes into a local of its own, which is then its place.
 #[cycle(lower)]
-fn lower_place(context: &Context<'_>, graph: &mut Graph, e: ExprId) -> Result<Place, MirLowerError>
-    requires checked { IsCheckedBody context.now.body.now context.now.infer.now }
-    requires sound { IsSound (source_of context.now) (shape graph.old) }
-    requires opened { IsOpen (shape graph.old) }
-    requires within { e.0 < length context.now.body.now.exprs }
-    requires reached { Evaluates (source_of context.now) (root (source_of context.now)) e.0 }
+fn lower_temp(context: &Context<'_>, graph: &mut Graph, e: ExprId) -> Result<Place, MirLowerError>
+    requires ready { IsReady (source_of context.now) (shape graph.old) e.0 }
+    requires form { is_path (node (source_of context.now) e.0) ≡ false }
     ensures lowered { IfOk result (λ place. LowersPlace (source_of context.now) (shape graph.old) (shape graph.new) e.0 place.local.0) }
     ensures refused { IfErr result (RefusesAt (source_of context.now) e.0) }
 {
-    let Some(ty) = node_ty(context, e) else {
-        return Err(MirLowerError::NoMemory);
-    };
-    let ty = ty.try_clone(context.alloc)?;
-    let local = graph.temp_for(e, ty)?;
-    graph.push_statement(Statement {
-        kind: StatementKind::StorageLive(local),
-        span: MirSpan::ExprId(e),
-    })?;
-    let place = Place { local };
+    let place = new_temp(context, graph, e)?;
     lower_into(context, graph, e, place)?;
     Ok(place)
 }
@@ -93,42 +153,60 @@ pub(crate) fn lower_into(
     e: ExprId,
     place: Place,
 ) -> Result<(), MirLowerError>
-    requires checked { IsCheckedBody context.now.body.now context.now.infer.now }
-    requires sound { IsSound (source_of context.now) (shape graph.old) }
-    requires opened { IsOpen (shape graph.old) }
-    requires within { e.0 < length context.now.body.now.exprs }
-    requires reached { Evaluates (source_of context.now) (root (source_of context.now)) e.0 }
+    requires { IsReady (source_of context.now) (shape graph.old) e.0 }
     ensures lowered { OnOk result ((cell : Cell) → local_of (shape graph.old) cell ≡ Some place.local.0
         → LowersInto (source_of context.now) (shape graph.old) (shape graph.new) e.0 cell) }
     ensures refused { IfErr result (RefusesAt (source_of context.now) e.0) }
 {
     match form_at(context, e) {
-        Form::Literal(literal) => {
-            let operand = lower_literal(context, e, literal)?;
-            assign(graph, place, Rvalue::Use(operand), e)
-        }
-        Form::Sum(lhs, rhs) => lower_sum(context, graph, e, lhs, rhs, place),
+        Form::Literal(literal) => literal_into(context, graph, e, literal, place),
+        Form::Path(name) => name_into(context, graph, e, name, place),
+        Form::Unary(op, operand) => lower_unary(context, graph, e, op, operand, place),
+        Form::Binary(op, lhs, rhs) => lower_binary(context, graph, e, op, lhs, rhs, place),
+        Form::Block(statements, tail) => lower_block(context, graph, e, statements, tail, place),
         Form::NoOperator => Err(MirLowerError::IncompleteExpr),
         Form::Unbuilt => Err(form_not_built(context.alloc)),
     }
 }
 
-/// A sum: its operands from left to right, and then the operation.
+/// An operator on one operand: the operand, and then the operation.
 #[cycle(lower)]
-fn lower_sum(
+fn lower_unary(
     context: &Context<'_>,
     graph: &mut Graph,
     e: ExprId,
+    op: UnOp,
+    operand: ExprId,
+    place: Place,
+) -> Result<(), MirLowerError>
+    requires ready { IsReady (source_of context.now) (shape graph.old) e.0 }
+    requires form { node (source_of context.now) e.0 ≡ Some (expr.UnaryOp operand (unary_of op)) }
+    ensures lowered { OnOk result ((cell : Cell) → local_of (shape graph.old) cell ≡ Some place.local.0
+        → LowersInto (source_of context.now) (shape graph.old) (shape graph.new) e.0 cell) }
+    ensures refused { IfErr result (RefusesAt (source_of context.now) e.0) }
+{
+    let value = lower_operand(context, graph, operand)?;
+    assign(
+        graph,
+        place,
+        Rvalue::UnaryOp(op, value),
+        MirSpan::ExprId(e),
+    )
+}
+
+/// An operator on two operands: the operands from left to right, and then the operation.
+#[cycle(lower)]
+fn lower_binary(
+    context: &Context<'_>,
+    graph: &mut Graph,
+    e: ExprId,
+    op: BinOp,
     lhs: ExprId,
     rhs: ExprId,
     place: Place,
 ) -> Result<(), MirLowerError>
-    requires checked { IsCheckedBody context.now.body.now context.now.infer.now }
-    requires sound { IsSound (source_of context.now) (shape graph.old) }
-    requires opened { IsOpen (shape graph.old) }
-    requires within { e.0 < length context.now.body.now.exprs }
-    requires reached { Evaluates (source_of context.now) (root (source_of context.now)) e.0 }
-    requires form { node (source_of context.now) e.0 ≡ Some (expr.BinaryOp lhs rhs (Some (Arithmetic Plus))) }
+    requires ready { IsReady (source_of context.now) (shape graph.old) e.0 }
+    requires form { HasForm (node (source_of context.now) e.0) (Form.Binary op lhs rhs) }
     ensures lowered { OnOk result ((cell : Cell) → local_of (shape graph.old) cell ≡ Some place.local.0
         → LowersInto (source_of context.now) (shape graph.old) (shape graph.new) e.0 cell) }
     ensures refused { IfErr result (RefusesAt (source_of context.now) e.0) }
@@ -138,20 +216,136 @@ fn lower_sum(
     assign(
         graph,
         place,
-        Rvalue::CheckedBinaryOp(BinOp::Add, left, right),
-        e,
+        Rvalue::CheckedBinaryOp(op, left, right),
+        MirSpan::ExprId(e),
     )
 }
 
-/// Adds an assignment.
-fn assign(graph: &mut Graph, place: Place, rvalue: Rvalue, e: ExprId) -> Result<(), MirLowerError>
-    requires { IsOpen (shape graph.old) }
-    ensures added { OnOk result (shape graph.new ≡ with_statement (record { kind = Assign place rvalue; span = MirSpan.ExprId e }) (shape graph.old)) }
-    ensures refused { IfErr result (λ error. error ≡ MirLowerError.NoMemory) }
+/// A block: its statements, its tail, and then its scope is left.
+#[cycle(lower)]
+fn lower_block(
+    context: &Context<'_>,
+    graph: &mut Graph,
+    e: ExprId,
+    statements: &List<Statement>,
+    tail: Option<ExprId>,
+    place: Place,
+) -> Result<(), MirLowerError>
+    requires ready { IsReady (source_of context.now) (shape graph.old) e.0 }
+    requires form { node (source_of context.now) e.0 ≡ Some (expr.Block statements.now tail) }
+    ensures lowered { OnOk result ((cell : Cell) → local_of (shape graph.old) cell ≡ Some place.local.0
+        → LowersInto (source_of context.now) (shape graph.old) (shape graph.new) e.0 cell) }
+    ensures refused { IfErr result (RefusesAt (source_of context.now) e.0) }
 {
-    graph.push_statement(Statement {
-        kind: StatementKind::Assign(place, rvalue),
-        span: MirSpan::ExprId(e),
-    })?;
+    let outer = graph.push_drop_scope(context.alloc);
+    lower_statements(context, graph, e, statements.as_slice())?;
+    lower_tail(context, graph, e, tail, place)?;
+    leave_scope(context, graph, outer, e)?;
+    Ok(())
+}
+
+/// The statements of a block.
+#[cycle(lower)]
+fn lower_statements(
+    context: &Context<'_>,
+    graph: &mut Graph,
+    e: ExprId,
+    statements: &[Statement],
+) -> Result<(), MirLowerError>
+    requires ready { IsReady (source_of context.now) (shape graph.old) e.0 }
+    requires form { (tail : _) × (node (source_of context.now) e.0 ≡ Some (expr.Block statements.now tail)) }
+    ensures lowered { OnOk result (LowersStatements (source_of context.now) (shape graph.old) (shape graph.new) statements.now) }
+    ensures refused { IfErr result (RefusesAt (source_of context.now) e.0) }
+{
+    for statement in statements {
+        lower_statement(context, graph, e, *statement)?;
+    }
+    Ok(())
+}
+
+/// The tail of a block, where it has one.
+#[cycle(lower)]
+fn lower_tail(
+    context: &Context<'_>,
+    graph: &mut Graph,
+    e: ExprId,
+    tail: Option<ExprId>,
+    place: Place,
+) -> Result<(), MirLowerError>
+    requires ready { IsReady (source_of context.now) (shape graph.old) e.0 }
+    requires form { (statements : _) × (node (source_of context.now) e.0 ≡ Some (expr.Block statements tail)) }
+    ensures lowered { OnOk result ((cell : Cell) → local_of (shape graph.old) cell ≡ Some place.local.0
+        → LowersTail (source_of context.now) (shape graph.old) (shape graph.new) tail cell) }
+    ensures refused { IfErr result (RefusesAt (source_of context.now) e.0) }
+{
+    match tail {
+        Some(tail) => lower_into(context, graph, tail, place),
+        None => Ok(()),
+    }
+}
+
+/// A statement of a block.
+#[cycle(lower)]
+fn lower_statement(
+    context: &Context<'_>,
+    graph: &mut Graph,
+    e: ExprId,
+    statement: Statement,
+) -> Result<(), MirLowerError>
+    requires ready { IsReady (source_of context.now) (shape graph.old) e.0 }
+    requires stands { IsStatementOf (source_of context.now) e.0 statement }
+    ensures lowered { OnOk result (LowersStatements (source_of context.now) (shape graph.old) (shape graph.new) (statement ∷ [])) }
+    ensures refused { IfErr result (RefusesAt (source_of context.now) e.0) }
+{
+    match statement {
+        Statement::Let {
+            pat,
+            initializer: Some(initializer),
+            else_branch: None,
+        } => lower_let(context, graph, e, pat, initializer),
+        Statement::Let { .. } => Err(form_not_built(context.alloc)),
+        Statement::Expr { expr, has_semi } => {
+            lower_expr_statement(context, graph, e, expr, has_semi)
+        }
+    }
+}
+
+/// A `let` with an initializer: the initializer's place, and then the name is bound.
+#[cycle(lower)]
+fn lower_let(
+    context: &Context<'_>,
+    graph: &mut Graph,
+    e: ExprId,
+    pat: PatId,
+    initializer: ExprId,
+) -> Result<(), MirLowerError>
+    requires ready { IsReady (source_of context.now) (shape graph.old) e.0 }
+    requires stands { IsStatementOf (source_of context.now) e.0 (statement_kind.Let pat (Some initializer) None) }
+    ensures lowered { OnOk result (LowersStatements (source_of context.now) (shape graph.old) (shape graph.new) (statement_kind.Let pat (Some initializer) None ∷ [])) }
+    ensures refused { IfErr result (RefusesAt (source_of context.now) e.0) }
+{
+    let place = lower_place(context, graph, initializer)?;
+    fake_read(graph, place, initializer)?;
+    bind(context, graph, pat, place)
+}
+
+/// An expression statement: its place, and then what came into use in it is left.
+#[cycle(lower)]
+fn lower_expr_statement(
+    context: &Context<'_>,
+    graph: &mut Graph,
+    e: ExprId,
+    expr: ExprId,
+    has_semi: bool,
+) -> Result<(), MirLowerError>
+    requires ready { IsReady (source_of context.now) (shape graph.old) e.0 }
+    requires stands { IsStatementOf (source_of context.now) e.0 (statement_kind.Expr expr has_semi) }
+    ensures lowered { OnOk result (LowersStatements (source_of context.now) (shape graph.old) (shape graph.new) (statement_kind.Expr expr has_semi ∷ [])) }
+    ensures refused { IfErr result (RefusesAt (source_of context.now) e.0) }
+{
+    let outer = graph.push_drop_scope(context.alloc);
+    let place = lower_place(context, graph, expr)?;
+    fake_read(graph, place, expr)?;
+    leave_scope(context, graph, outer, expr)?;
     Ok(())
 }

@@ -9,7 +9,7 @@ pub fn more_fuel_changes_nothing()
     ensures { MoreFuelChangesNothing }
 {}
 
-/// A plain body of a checked world, whose types have sizes, always has a meaning.
+/// A plain body of a checked world, whose types have layouts, always has a meaning.
 pub fn plain_is_never_stuck()
     ensures { PlainIsNeverStuck }
 {}

@@ -1,0 +1,121 @@
+//! Names: the local of what a path names, and a name that is bound by a pattern.
+
+ghost use Rattle.std.specs.Prelude.{◌≡◌, IfOk, IfErr, OnOk, Some};
+ghost use Rattle.mir.specs.declared.errors.MirLowerError.TheVariants as refusal;
+ghost use Rattle.mir.specs.declared.statement.StatementKind.TheVariants.{Assign};
+ghost use Rattle.source_meaning.specs.Source.{Cell, node, named_by, pattern};
+ghost use Rattle.world.specs.declared.body.Expr.TheVariants as expr;
+ghost use Rattle.mir_lower.specs.Contexts.{source_of};
+ghost use Rattle.mir_lower.specs.Does.{local_of};
+ghost use Rattle.mir_lower.specs.Graph.{shape, with_statement};
+ghost use Rattle.mir_lower.specs.Growth.{IsSound, IsOpen};
+ghost use Rattle.mir_lower.specs.Lowered.{IsNamed, Binds, Bound};
+ghost use Rattle.mir_lower.specs.Refusals.{RefusesNode, RefusesPattern};
+
+use crate::context::Context;
+use crate::graph::{Graph, Held};
+use crate::literal::form_not_built;
+use mir::{
+    LocalId, MirLowerError, MirSpan, Operand, OperandKind, Place, Rvalue, Statement, StatementKind,
+};
+use world::{BindingId, ExprId, Pat, PatId, Text, TryClone, ValueNs};
+
+/// Adds an assignment.
+pub(crate) fn assign(
+    graph: &mut Graph,
+    place: Place,
+    rvalue: Rvalue,
+    span: MirSpan,
+) -> Result<(), MirLowerError>
+    requires { IsOpen (shape graph.old) }
+    ensures added { OnOk result (shape graph.new ≡ with_statement (record { kind = Assign place rvalue; span = span }) (shape graph.old)) }
+    ensures refused { IfErr result (λ error. error ≡ refusal.NoMemory) }
+{
+    graph.push_statement(Statement {
+        kind: StatementKind::Assign(place, rvalue),
+        span,
+    })?;
+    Ok(())
+}
+
+/// The refusal of a path that names nothing.
+fn unresolved(context: &Context<'_>, name: &Text) -> MirLowerError
+    ensures { (result ≡ refusal.UnresolvedName name.now) ⊎ (result ≡ refusal.NoMemory) }
+{
+    match name.try_clone(context.alloc) {
+        Ok(name) => MirLowerError::UnresolvedName(name),
+        Err(error) => MirLowerError::from(error),
+    }
+}
+
+/// The place that a path names: the local of a binding.
+pub(crate) fn place_named(
+    context: &Context<'_>,
+    graph: &Graph,
+    e: ExprId,
+    name: &Text,
+) -> Result<Place, MirLowerError>
+    requires sound { IsSound (source_of context.now) (shape graph.now) }
+    requires path { node (source_of context.now) e.0 ≡ Some (expr.Path name.now) }
+    ensures lowered { IfOk result (λ place. IsNamed (source_of context.now) (shape graph.now) e.0 place.local.0) }
+    ensures refused { IfErr result (RefusesNode (source_of context.now) e.0) }
+{
+    match context.infer.value_res.get(&e) {
+        Some(ValueNs::LocalBinding(binding)) => match graph.binding_local(*binding) {
+            Some(local) => Ok(Place { local }),
+            None => Err(MirLowerError::InaccessibleLocal),
+        },
+        None => Err(unresolved(context, name)),
+    }
+}
+
+/// The local of a binding, which comes into use in the open scope.
+fn storage_live(
+    graph: &mut Graph,
+    binding: BindingId,
+    local: LocalId,
+) -> Result<(), MirLowerError>
+    requires sound { (source : _) × IsSound source (shape graph.old) }
+    requires opened { IsOpen (shape graph.old) }
+    ensures added { OnOk result (Bound binding.0 local (shape graph.old) (shape graph.new)) }
+    ensures refused { IfErr result (λ error. error ≡ refusal.NoMemory) }
+{
+    graph.mark(Held::Binding(binding), local)?;
+    graph.push_statement(Statement {
+        kind: StatementKind::StorageLive(local),
+        span: MirSpan::BindingId(binding),
+    })?;
+    Ok(())
+}
+
+/// A name pattern is bound: the bytes of a place are copied to the binding's local.
+pub(crate) fn bind(
+    context: &Context<'_>,
+    graph: &mut Graph,
+    pat: PatId,
+    from: Place,
+) -> Result<(), MirLowerError>
+    requires sound { IsSound (source_of context.now) (shape graph.old) }
+    requires opened { IsOpen (shape graph.old) }
+    ensures lowered { OnOk result ((cell : Cell) → local_of (shape graph.old) cell ≡ Some from.local.0
+        → Binds (source_of context.now) (shape graph.old) (shape graph.new) pat.0 cell) }
+    ensures refused { IfErr result (RefusesPattern (source_of context.now) pat.0) }
+{
+    let Some(Pat::Bind { id }) = context.body.pats.get(pat.0 as u64) else {
+        return Err(form_not_built(context.alloc));
+    };
+    let Some(local) = graph.binding_local(*id) else {
+        return Err(MirLowerError::InaccessibleLocal);
+    };
+    storage_live(graph, *id, local)?;
+    let operand = Operand {
+        kind: OperandKind::Copy(from),
+        span: None,
+    };
+    assign(
+        graph,
+        Place { local },
+        Rvalue::Use(operand),
+        MirSpan::PatId(pat),
+    )
+}
