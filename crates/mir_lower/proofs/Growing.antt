@@ -1,5 +1,6 @@
 -- Each step of the builder grows the graph, and keeps it sound.
-use Rattle.std.proofs.Common.{◌≡◌, ◌≢◌, ℕ, ◌<◌, ⊎_elim, List, [], ◌∷◌, ◌++◌, length, Some, None, sym, ap, ◌∙◌, subst}
+use Rattle.std.proofs.Common.{◌≡◌, ◌≢◌, ℕ, ◌<◌, ⊎_elim, List, [], ◌∷◌, ◌++◌, length, Some, None, refl, sym, ap, ◌∙◌, subst}
+use Rattle.source_meaning.specs.Source.{Cell}
 use Rattle.std.specs.Prelude.{slice_get, slice_set, option_map, option_and_then}
 use Rattle.std.proofs.lemmas.Bool.{cases_eq}
 use Rattle.std.proofs.lemmas.Option.{option_and_then_some}
@@ -9,7 +10,7 @@ use Rattle.mir.specs.declared.body.Local.{Local}
 use Rattle.mir.specs.declared.body.Terminator.{Terminator}
 use Rattle.mir.specs.declared.ids.LocalId.{LocalId}
 use Rattle.mir.specs.declared.statement.Statement.{Statement}
-use Rattle.mir_lower.specs.Graph.{Shape, no_statements, more_of, ended, with_current, with_statement, with_terminator, with_block, temp_of, with_temp, with_mark}
+use Rattle.mir_lower.specs.Graph.{Shape, no_statements, more_of, ended, with_current, with_statement, with_terminator, with_block, temp_of, local_of_type, with_temp, with_scope}
 use Rattle.mir_lower.specs.Growth.{statement_at, terminator_at, Grows, IsOpen}
 use Rattle.mir_lower.proofs.Lists.{slice_get-front, slice_get-set_same, slice_get-set_other, slice_get_in, slice_get_below}
 
@@ -58,20 +59,21 @@ append_grows blocks more =
     }
 
 -- a graph grows where its blocks do, its locals stay, and its expressions keep their locals
-pub grows_by : (old new : Shape) → BlocksGrow old.blocks new.blocks → ((i : ℕ) (l : Local) → slice_get old.locals i ≡ Some l → slice_get new.locals i ≡ Some l) → ((e l : ℕ) → temp_of old e ≡ Some l → temp_of new e ≡ Some l) → Grows old new
+pub grows_by : (old new : Shape) → BlocksGrow old.blocks new.blocks → new.bindings ≡ old.bindings → ((i : ℕ) (l : Local) → slice_get old.locals i ≡ Some l → slice_get new.locals i ≡ Some l) → ((e l : ℕ) → temp_of old e ≡ Some l → temp_of new e ≡ Some l) → Grows old new
 unfolding statement_at
-grows_by old new blocks locals temps =
+grows_by old new blocks bindings locals temps =
     record {
       statements = λ b i s there. option_and_then_some (λ block. slice_get block.statements i) (slice_get old.blocks b) s there (λ block found at.
           let later = blocks.each b block found in
           ap (option_and_then (λ block. slice_get block.statements i)) later.1 ∙ later.2.statements i s at);
       ended = λ b block t there is. blocks.ended b block t there is;
       locals = locals;
+      bindings = bindings;
       temps = temps;
     }
 
 pub grows-refl : (s : Shape) → Grows s s
-grows-refl s = record { statements = λ b i x h. h; ended = λ b block t h is. h; locals = λ i l h. h; temps = λ e l h. h }
+grows-refl s = record { statements = λ b i x h. h; ended = λ b block t h is. h; locals = λ i l h. h; bindings = refl; temps = λ e l h. h }
 
 pub grows-trans : (a b c : Shape) → Grows a b → Grows b c → Grows a c
 grows-trans a b c first second =
@@ -79,6 +81,7 @@ grows-trans a b c first second =
       statements = λ k i x h. second.statements k i x (first.statements k i x h);
       ended = λ k block t h is. second.ended k block t (first.ended k block t h is) is;
       locals = λ i l h. second.locals i l (first.locals i l h);
+      bindings = second.bindings ∙ first.bindings;
       temps = λ e l h. second.temps e l (first.temps e l h);
     }
 
@@ -104,7 +107,7 @@ with_statement-grows statement s opened =
     let block = current_of s opened in
     subst (λ (n : Shape). Grows s n) (sym (with_statement-is statement s block.0 block.1))
     (grows_by s (record s { blocks = slice_set s.blocks s.current (more_of statement block.0) })
-    (set_grows s.blocks s.current block.0 (more_of statement block.0) block.1 block.2 (more_grows statement block.0)) (λ i l h. h) (λ e l h. h))
+    (set_grows s.blocks s.current block.0 (more_of statement block.0) block.1 block.2 (more_grows statement block.0)) refl (λ i l h. h) (λ e l h. h))
 
 pub with_terminator-grows : (t : Terminator) (s : Shape) → IsOpen s → Grows s (with_terminator t s)
 unfolding temp_of
@@ -112,15 +115,19 @@ with_terminator-grows t s opened =
     let block = current_of s opened in
     subst (λ (n : Shape). Grows s n) (sym (with_terminator-is t s block.0 block.1))
     (grows_by s (record s { blocks = slice_set s.blocks s.current (ended t block.0) })
-    (set_grows s.blocks s.current block.0 (ended t block.0) block.1 block.2 (ended_grows t block.0)) (λ i l h. h) (λ e l h. h))
+    (set_grows s.blocks s.current block.0 (ended t block.0) block.1 block.2 (ended_grows t block.0)) refl (λ i l h. h) (λ e l h. h))
 
 pub with_block-grows : (s : Shape) → Grows s (with_block s)
 unfolding with_block temp_of
-with_block-grows s = grows_by s (with_block s) (append_grows s.blocks (no_statements ∷ [])) (λ i l h. h) (λ e l h. h)
+with_block-grows s = grows_by s (with_block s) (append_grows s.blocks (no_statements ∷ [])) refl (λ i l h. h) (λ e l h. h)
 
-pub with_mark-grows : (e : ℕ) (s : Shape) → Grows s (with_mark e s)
-unfolding temp_of
-with_mark-grows e s = grows_by s (with_mark e s) (same_blocks s.blocks) (λ i l h. h) (λ f l h. h)
+pub with_scope-grows : (scope : List Cell) (s : Shape) → Grows s (with_scope scope s)
+unfolding statement_at temp_of
+with_scope-grows scope s = record { statements = λ b i x h. h; ended = λ b block t h is. h; locals = λ i l h. h; bindings = refl; temps = λ e l h. h }
+
+pub scope-grows-back : (scope : List Cell) (s : Shape) → Grows (with_scope scope s) s
+unfolding statement_at temp_of
+scope-grows-back scope s = record { statements = λ b i x h. h; ended = λ b block t h is. h; locals = λ i l h. h; bindings = refl; temps = λ e l h. h }
 
 -- the locals of expressions after one was given a new one
 pub temp_of-with_temp_same : (e : ℕ) (ty : Ty) (s : Shape) → e < length s.temps → temp_of (with_temp e ty s) e ≡ Some (length s.locals)
@@ -134,5 +141,5 @@ temp_of-with_temp_other e f ty s differ = ap (λ t. option_map (λ (l : LocalId)
 pub with_temp-grows : (e : ℕ) (ty : Ty) (s : Shape) → temp_of s e ≡ None → Grows s (with_temp e ty s)
 unfolding with_temp
 with_temp-grows e ty s none =
-    grows_by s (with_temp e ty s) (same_blocks s.blocks) (λ i l h. slice_get-front s.locals (record { ty = ty } ∷ []) i l h)
+    grows_by s (with_temp e ty s) (same_blocks s.blocks) refl (λ i l h. slice_get-front s.locals (local_of_type ty ∷ []) i l h)
     (λ f l h. temp_of-with_temp_other e f ty s (λ same. let h' : temp_of s e ≡ Some l = ap (temp_of s) (sym same) ∙ h in cc) ∙ h)

@@ -9,16 +9,18 @@ use Rattle.mir.specs.declared.operand.Rvalue.{Rvalue}
 use Rattle.mir.specs.declared.statement.StatementKind.TheVariants.{Assign}
 use Rattle.mir.specs.Memory.{Interval, Memory, bytes_at, with_bytes}
 use Rattle.mir.specs.Run.{Frame, after_statement, copied, rvalue_bytes, bad_write}
-use Rattle.source_meaning.specs.Source.{Source, Cell, Result as Slot, Node, Store, same_cell, with_cell_bytes}
+use Rattle.source_meaning.specs.Source.{Source, Cell, Result as Slot, Node, Binding, Store, same_cell, with_cell_bytes}
 use Rattle.mir_lower.specs.Does.{local_of, local_bytes, IsFrameOf, Holds}
 use Rattle.mir_lower.specs.Graph.{Shape}
 use Rattle.mir_lower.specs.Growth.{IsSound}
+use Rattle.mir_lower.proofs.Sound.{binding-there}
 use Rattle.mir_lower.proofs.Stack.{length-bytes_at, can_write, read-written, read-apart}
 
 -- one cell or two, and where it is one, `same_cell` says so
 same_cell-refl : (c : Cell) → same_cell c c ≡ true
 same_cell-refl Slot = refl
 same_cell-refl (Node e) = grind (arith, nat_tests)
+same_cell-refl (Binding b) = grind (arith, nat_tests)
 
 unequal : (m n : ℕ) → m ≢ n → eqb m n ≡ false
 unequal m n differ = grind (arith, nat_tests)
@@ -26,17 +28,29 @@ unequal m n differ = grind (arith, nat_tests)
 cells : (c d : Cell) → ((c ≡ d) × (same_cell c d ≡ true)) ⊎ ((c ≢ d) × (same_cell c d ≡ false))
 cells Slot Slot = inl (refl, refl)
 cells Slot (Node e) = inr ((λ same. cc), refl)
+cells Slot (Binding b) = inr ((λ same. cc), refl)
 cells (Node e) Slot = inr ((λ same. cc), refl)
+cells (Node e) (Binding b) = inr ((λ same. cc), refl)
+cells (Binding b) Slot = inr ((λ same. cc), refl)
+cells (Binding b) (Node e) = inr ((λ same. cc), refl)
 cells (Node e) (Node f) =
     ⊎_elim (λ same. inl (ap Node same, ap (λ g. same_cell (Node e) (Node g)) (sym same) ∙ same_cell-refl (Node e)))
     (λ differ. inr ((λ same. differ (let parts : e ≡ f = cc in parts)), unequal e f differ)) (cases_eq e f)
+cells (Binding b) (Binding c) =
+    ⊎_elim (λ same. inl (ap Binding same, ap (λ d. same_cell (Binding b) (Binding d)) (sym same) ∙ same_cell-refl (Binding b)))
+    (λ differ. inr ((λ same. differ (let parts : b ≡ c = cc in parts)), unequal b c differ)) (cases_eq b c)
 
 -- no two cells share a local
 local_of-own : (source : Source) (s : Shape) → IsSound source s → (c d : Cell) (l : ℕ) → local_of s c ≡ Some l → local_of s d ≡ Some l → c ≡ d
 local_of-own source s sound Slot Slot l h k = refl
-local_of-own source s sound Slot (Node f) l h k = let above = sound.above_result f l k in let zeroth : 0 ≡ l = cc in absurd (omega arith)
-local_of-own source s sound (Node e) Slot l h k = let above = sound.above_result e l h in let zeroth : 0 ≡ l = cc in absurd (omega arith)
+local_of-own source s sound Slot (Node f) l h k = let above = sound.above f l k in let zeroth : 0 ≡ l = cc in absurd (omega arith)
+local_of-own source s sound Slot (Binding b) l h k = let at = (binding-there s b l k).1 in let zeroth : 0 ≡ l = cc in absurd (omega arith)
+local_of-own source s sound (Node e) Slot l h k = let above = sound.above e l h in let zeroth : 0 ≡ l = cc in absurd (omega arith)
 local_of-own source s sound (Node e) (Node f) l h k = ap Node (sound.own e f l h k)
+local_of-own source s sound (Node e) (Binding b) l h k = let above = sound.above e l h in let at = binding-there s b l k in let less = at.0 in let is = at.1 in absurd (omega arith)
+local_of-own source s sound (Binding b) Slot l h k = let at = (binding-there s b l h).1 in let zeroth : 0 ≡ l = cc in absurd (omega arith)
+local_of-own source s sound (Binding b) (Node f) l h k = let above = sound.above f l k in let at = binding-there s b l h in let less = at.0 in let is = at.1 in absurd (omega arith)
+local_of-own source s sound (Binding b) (Binding c) l h k = ap Binding (let one = (binding-there s b l h).1 in let two = (binding-there s c l k).1 in let same : b ≡ c = omega arith in same)
 
 -- the interval of a local whose bytes are known
 pub interval-of : (frame : Frame) (memory : Memory) (l : ℕ) (bytes : List ℕ) → local_bytes frame memory l ≡ Some bytes → (cell : Interval) × (slice_get frame.cells l ≡ Some cell) × (bytes_at memory cell ≡ Some bytes)

@@ -13,17 +13,17 @@ use Rattle.mir.specs.declared.statement.Statement.{Statement}
 use Rattle.mir.specs.declared.statement.StatementKind.TheVariants.{StorageDead}
 use Rattle.mir.specs.Memory.{Memory}
 use Rattle.mir.specs.Run.{Frame, Next, Stops, GoesTo, Faulted, Returned, returned, after_statement, after_statements, terminated, next_from, going_on, running, entering, out_of_blocks}
-use Rattle.source_meaning.specs.Source.{Source}
+use Rattle.source_meaning.specs.Source.{Source, Cell}
 use Rattle.mir_lower.specs.Does.{Point, here, run_from, local_bytes, IsFrameOf, Comes}
-use Rattle.mir_lower.specs.Graph.{Shape, no_statements, ended, with_statement, with_terminator, with_block, temp_of}
+use Rattle.mir_lower.specs.Graph.{Shape, no_statements, ended, with_statement, with_terminator, with_block, with_scope}
 use Rattle.mir_lower.specs.Growth.{terminator_at, statement_at, count_at, Grows, IsSound, IsOpen}
-use Rattle.mir_lower.specs.Leaving.{Leaves}
+use Rattle.mir_lower.specs.Leaving.{Idles}
 use Rattle.mir_lower.specs.Simulates.{EndsWithin}
 use Rattle.mir_lower.proofs.Growing.{current_of, grows-refl, grows-trans, with_statement-grows, with_terminator-is, with_terminator-grows, with_block-grows}
 use Rattle.mir_lower.proofs.Lists.{slice_get-last, slice_get-set_same}
 use Rattle.mir_lower.proofs.Reaching.{comes-refl, comes-trans}
 use Rattle.mir_lower.proofs.Running.{here-is, comes-statement}
-use Rattle.mir_lower.proofs.Sound.{sound_by, with_statement-sound, with_statement-open, with_terminator-sound, with_block-sound, with_block-open}
+use Rattle.mir_lower.proofs.Sound.{with_statement-sound, with_statement-open, with_statement-scope, with_terminator-sound, with_terminator-scope, with_block-sound, with_block-open, with_block-scope}
 
 drop_all : {A : Type 0} (xs : List A) → drop (length xs) xs ≡ []
 drop_all [] = refl
@@ -74,16 +74,17 @@ unfolding entering
 entering-none frame memory block = refl
 
 -- ending the current block by a drop, and opening the block that it goes to
-pub leaves-drop : (source : Source) (s new : Shape) (place : Place) (target : BasicBlockId) (unwind : Option BasicBlockId) (span : MirSpan) → IsSound source s → IsOpen s → target.0 ≡ length s.blocks → new ≡ with_block (with_terminator (record { span = span; kind = Drop place target unwind }) s) → Leaves source s new 1
-leaves-drop source s new place target unwind span sound opened at same =
+pub idles-drop : (source : Source) (s new : Shape) (place : Place) (target : BasicBlockId) (unwind : Option BasicBlockId) (span : MirSpan) → IsSound source s → IsOpen s → target.0 ≡ length s.blocks → new ≡ with_block (with_terminator (record { span = span; kind = Drop place target unwind }) s) → Idles source s new 1
+idles-drop source s new place target unwind span sound opened at same =
     let t : Terminator = record { span = span; kind = Drop place target unwind } in
     let b = current_of s opened in
     let many : length (with_terminator t s).blocks ≡ length s.blocks = ap (λ (n : Shape). length n.blocks) (with_terminator-is t s b.0 b.1) ∙ length-set s.blocks s.current (ended t b.0) in
-    subst (λ (n : Shape). Leaves source s n 1) (sym same)
+    subst (λ (n : Shape). Idles source s n 1) (sym same)
     (record {
       grows = grows-trans s (with_terminator t s) (with_block (with_terminator t s)) (with_terminator-grows t s opened) (with_block-grows (with_terminator t s));
       sound = with_block-sound source (with_terminator t s) (with_terminator-sound source t s opened sound);
       «open» = with_block-open (with_terminator t s);
+      scope = with_block-scope (with_terminator t s) ∙ with_terminator-scope t s opened;
       comes = λ whole frame grows is memory.
           let grown = grows-trans (with_terminator t s) (with_block (with_terminator t s)) whole (with_block-grows (with_terminator t s)) grows in
           let to : here (with_block (with_terminator t s)) ≡ record { block = target.0; index = 0 } =
@@ -110,27 +111,29 @@ unfolding after_statement
 dead-does-nothing frame memory local = refl
 
 -- ending a local's storage
-pub leaves-dead : (source : Source) (s new : Shape) (local : LocalId) (span : MirSpan) → IsSound source s → IsOpen s → new ≡ with_statement (record { kind = StorageDead local; span = span }) s → Leaves source s new 0
-leaves-dead source s new local span sound opened same =
+pub idles-dead : (source : Source) (s new : Shape) (local : LocalId) (span : MirSpan) → IsSound source s → IsOpen s → new ≡ with_statement (record { kind = StorageDead local; span = span }) s → Idles source s new 0
+idles-dead source s new local span sound opened same =
     let dead : Statement = record { kind = StorageDead local; span = span } in
-    subst (λ (n : Shape). Leaves source s n 0) (sym same)
+    subst (λ (n : Shape). Idles source s n 0) (sym same)
     (record {
       grows = with_statement-grows dead s opened;
       sound = with_statement-sound source dead s opened sound;
       «open» = with_statement-open dead s opened;
+      scope = with_statement-scope dead s opened;
       comes = λ whole frame grows is memory. comes-statement dead s whole frame memory opened grows is memory (dead-does-nothing frame memory local);
     })
 
-pub leaves-refl : (source : Source) (s : Shape) → IsSound source s → IsOpen s → Leaves source s s 0
-leaves-refl source s sound opened =
-    record { grows = grows-refl s; sound = sound; «open» = opened; comes = λ whole frame grows is memory. comes-refl frame (here s) memory }
+pub idles-refl : (source : Source) (s : Shape) → IsSound source s → IsOpen s → Idles source s s 0
+idles-refl source s sound opened =
+    record { grows = grows-refl s; sound = sound; «open» = opened; scope = refl; comes = λ whole frame grows is memory. comes-refl frame (here s) memory }
 
-pub leaves-trans : (source : Source) (a b c : Shape) (first second : ℕ) → Leaves source a b first → Leaves source b c second → Leaves source a c (first + second)
-leaves-trans source a b c first second one two =
+pub idles-trans : (source : Source) (a b c : Shape) (first second : ℕ) → Idles source a b first → Idles source b c second → Idles source a c (first + second)
+idles-trans source a b c first second one two =
     record {
       grows = grows-trans a b c one.grows two.grows;
       sound = two.sound;
       «open» = two.«open»;
+      scope = two.scope ∙ one.scope;
       comes = λ whole frame grows is memory.
           comes-trans frame first second (here a) (here b) memory memory (one.comes whole frame (grows-trans b c whole two.grows grows) is memory) (here c) memory (two.comes whole frame grows is memory);
     }
@@ -151,27 +154,6 @@ ends-return s whole frame span memory bytes opened grows is slot =
     }
 
 -- the scope itself counts for nothing
-pub sound-scope : (source : Source) (s : Shape) (scope : List ℕ) → IsSound source s → IsSound source (record s { scope = scope })
-sound-scope source s scope sound = sound_by source s (record s { scope = scope }) refl refl sound
-
-pub open-scope : (s : Shape) (scope : List ℕ) → IsOpen s → IsOpen (record s { scope = scope })
-unfolding terminator_at
-open-scope s scope opened = record { there = opened.there; unended = opened.unended }
-
-grows-scope : (s : Shape) (scope : List ℕ) → Grows s (record s { scope = scope })
-unfolding statement_at temp_of
-grows-scope s scope = record { statements = λ b i x h. h; ended = λ b block t h is. h; locals = λ i l h. h; temps = λ e l h. h }
-
-here-scope : (s : Shape) (scope : List ℕ) → here (record s { scope = scope }) ≡ here s
+pub here-scope : (s : Shape) (scope : List Cell) → here (with_scope scope s) ≡ here s
 unfolding count_at
 here-scope s scope = refl
-
-pub leaves-scope : (source : Source) (s new : Shape) (scope : List ℕ) (turns : ℕ) → IsOpen s → Leaves source (record s { scope = scope }) new turns → Leaves source s new turns
-leaves-scope source s new scope turns opened leaves =
-    record {
-      grows = grows-trans s (record s { scope = scope }) new (grows-scope s scope) leaves.grows;
-      sound = leaves.sound;
-      «open» = leaves.«open»;
-      comes = λ whole frame grows is memory.
-          subst (λ (p : Point). Comes frame turns p memory (here new) memory) (here-scope s scope) (leaves.comes whole frame grows is memory);
-    }

@@ -1,14 +1,12 @@
 pub mod Aligned
+pub mod Assumed
 pub mod Drops
-pub mod Forms
 pub mod Growing
 pub mod Holding
 pub mod Leaving
 pub mod Lists
-pub mod Numbers
 pub mod Placing
 pub mod Reaching
-pub mod Refused
 pub mod Running
 pub mod Sound
 pub mod Stack

@@ -1,5 +1,5 @@
 -- An element of a list by its place, after the list grew or was written.
-use Rattle.std.proofs.Common.{◌≡◌, ◌≢◌, ℕ, zero, suc, ◌<◌, List, [], ◌∷◌, ◌++◌, length, Some, refl, ap, arith, drop}
+use Rattle.std.proofs.Common.{◌≡◌, ◌≢◌, ℕ, zero, suc, ◌<◌, List, [], ◌∷◌, ◌++◌, length, map, Some, refl, ap, arith, drop}
 use Rattle.std.specs.Prelude.{slice_get, slice_set}
 
 pub slice_get-front : {A : Type 0} (xs ys : List A) (i : ℕ) (x : A) → slice_get xs i ≡ Some x → slice_get (xs ++ ys) i ≡ Some x
@@ -38,3 +38,14 @@ pub drop-at : {A : Type 0} (xs : List A) (i : ℕ) (x : A) → slice_get xs i �
 drop-at [] i x found = cc
 drop-at (y ∷ xs) zero x found = let same : y ≡ x = cc in ap (λ z. z ∷ xs) same
 drop-at (y ∷ xs) (suc i) x found = drop-at xs i x found
+
+-- an element of a list made from another, and where it comes from
+pub slice_get-map : {A B : Type 0} (f : A → B) (xs : List A) (i : ℕ) (x : A) → slice_get xs i ≡ Some x → slice_get (map f xs) i ≡ Some (f x)
+slice_get-map f [] i x found = cc
+slice_get-map f (y ∷ xs) zero x found = let same : y ≡ x = cc in ap (λ z. Some (f z)) same
+slice_get-map f (y ∷ xs) (suc i) x found = slice_get-map f xs i x found
+
+pub slice_get-unmap : {A B : Type 0} (f : A → B) (xs : List A) (i : ℕ) (y : B) → slice_get (map f xs) i ≡ Some y → (x : A) × (slice_get xs i ≡ Some x) × (f x ≡ y)
+slice_get-unmap f [] i y found = cc
+slice_get-unmap f (x ∷ xs) zero y found = (x, refl, (let same : f x ≡ y = cc in same))
+slice_get-unmap f (x ∷ xs) (suc i) y found = slice_get-unmap f xs i y found

@@ -1,5 +1,6 @@
 -- A whole body: its root, leaving it, and returning.
-use Rattle.std.proofs.Common.{◌≡◌, ℕ, zero, suc, ◌+◌, ◌<◌, ◌≤◌, List, length, Option, Some, None, Ok, refl, sym, ap, ◌∙◌, subst, arith}
+use Rattle.std.proofs.Math.ListN.{length-map}
+use Rattle.std.proofs.Common.{[], ◌≡◌, ℕ, zero, suc, ◌+◌, ◌<◌, ◌≤◌, List, length, Option, Some, None, Ok, refl, sym, ap, ◌∙◌, subst, arith}
 use Rattle.std.specs.Prelude.{slice_get, replicate, option_map, option_and_then, unwrap_or}
 use Rattle.world.specs.declared.database.HirDatabase.{HirDatabase}
 use Rattle.world.specs.declared.layout.Layout.{Layout}
@@ -14,23 +15,23 @@ use Rattle.mir.specs.declared.span.MirSpan.{MirSpan}
 use Rattle.mir.specs.Memory.{Interval, Memory, first_memory, bytes_at, cells_of}
 use Rattle.mir.specs.Run.{Frame, Ending, Returned, Faulted, out_of_blocks, entering, begun}
 use Rattle.source_meaning.specs.Ends.{Cost, so_many_turns, End, Go, Panic, Stuck, More, after, then_do}
-use Rattle.source_meaning.specs.Meaning.{level_at, meaning_of, leaving_turns}
-use Rattle.source_meaning.specs.Source.{Source, node_type, node_layout, root, Cell, Result as Slot, Node, cell_node, Store, zeroed}
-use Rattle.source_meaning.specs.Valid.{Evaluates, itself}
+use Rattle.source_meaning.specs.Meaning.{level_at, meaning_of}
+use Rattle.source_meaning.specs.Source.{Source, node_type, binding_type, root, Cell, Result as Slot, Node, Binding, cell_type, cell_layout, marked, drops, Store, zeroed}
+use Rattle.source_meaning.specs.Valid.{Evaluates, itself, IsPlain, IsLaidOut, AreLaidOut}
 use Rattle.mir_lower.specs.Does.{Point, here, run_from, local_of, local_bytes, IsFrameOf, Holds, Comes, Reaches}
-use Rattle.mir_lower.specs.Graph.{Shape, first_shape, with_terminator, temp_of}
-use Rattle.mir_lower.specs.Growth.{Grows, IsSound, IsOpen, count_at, terminator_at}
-use Rattle.mir_lower.specs.Leaving.{Leaves}
-use Rattle.mir_lower.specs.Lowered.{LowersInto}
+use Rattle.mir_lower.specs.Graph.{Shape, first_shape, local_of_type, with_terminator, with_scope, temp_of}
+use Rattle.mir_lower.specs.Growth.{Grows, IsUsed, IsSound, IsOpen, count_at, terminator_at}
+use Rattle.mir_lower.specs.Leaving.{Idles}
+use Rattle.mir_lower.specs.Lowered.{HasLayouts, LowersInto}
 use Rattle.mir_lower.specs.Simulates.{EndsWithin, EndsAs, Simulates}
 use Rattle.mir.specs.declared.ids.LocalId.{LocalId}
 use Rattle.std.proofs.Math.ListN.{length-replicate}
-use Rattle.mir_lower.proofs.Growing.{grows-refl, grows-trans, with_terminator-grows}
-use Rattle.mir_lower.proofs.Leaving.{entering-suc, entering-none, ends-return}
-use Rattle.mir_lower.proofs.Lists.{slice_get_in}
+use Rattle.mir_lower.proofs.Growing.{grows-refl, grows-trans, with_terminator-grows, with_scope-grows}
+use Rattle.mir_lower.proofs.Leaving.{entering-suc, entering-none, ends-return, here-scope}
+use Rattle.mir_lower.proofs.Lists.{slice_get_in, slice_get-map, slice_get-unmap}
 use Rattle.mir_lower.proofs.Placing.{AreAligned, Placing, places-all, first-ok}
 use Rattle.mir_lower.proofs.Reaching.{ends-after}
-use Rattle.mir_lower.proofs.Sound.{with_terminator-sound}
+use Rattle.mir_lower.proofs.Sound.{with_terminator-sound, local-there}
 
 -- what a cost before an end allows
 ends-as-after : (frame : Frame) (first : ℕ) (from at : Point) (memory middle : Memory) (cost : Cost) → first ≤ cost.turns → Comes frame first from memory at middle → (end : End (List ℕ)) → EndsAs end (run_from frame middle at) → EndsAs (after cost end) (run_from frame memory from)
@@ -81,94 +82,116 @@ begun-cells world body start h =
 starts-zeroed : (source : Source) (s : Shape) (frame : Frame) (memory : Memory) → IsSound source s → Placing source.world s.locals first_memory frame.cells memory → Holds s frame (zeroed source) memory
 unfolding local_bytes
 starts-zeroed source s frame memory sound placing =
-    record { shows = λ cell l found. shows-cell cell l (local-of-cell cell l found) } where
-      local-of-cell : (cell : Cell) (l : ℕ) → local_of s cell ≡ Some l → (local : Local) × (slice_get s.locals l ≡ Some local) × (node_type source (cell_node source cell) ≡ Some local.ty)
-      local-of-cell Slot l found =
-          let zeroth : 0 ≡ l = cc in
-          let first = slice_get_in s.locals 0 sound.result in
-          (first.0, ap (slice_get s.locals) (sym zeroth) ∙ first.1, sound.slot first.0 first.1)
-      local-of-cell (Node e) l found =
-          let there = slice_get_in s.locals l (sound.within e l found) in
-          (there.0, there.1, sound.typed e l there.0 found there.1)
-
-      shows-cell : (cell : Cell) (l : ℕ) → (local : Local) × (slice_get s.locals l ≡ Some local) × (node_type source (cell_node source cell) ≡ Some local.ty) → option_and_then (bytes_at memory) (slice_get frame.cells l) ≡ Some (zeroed source cell)
+    record { shows = λ cell l found. shows-cell cell l (local-there source s sound cell l found) } where
+      shows-cell : (cell : Cell) (l : ℕ) → (local : Local) × (slice_get s.locals l ≡ Some local) × (cell_type source cell ≡ Some local.ty) → option_and_then (bytes_at memory) (slice_get frame.cells l) ≡ Some (zeroed source cell)
       shows-cell cell l local =
           let placed = placing.each l local.0 local.1 in
-          let layout : node_layout source (cell_node source cell) ≡ Some placed.layout = ap (option_and_then (layout_of source.world)) local.2 ∙ placed.found in
+          let layout : cell_layout source cell ≡ Some placed.layout = ap (option_and_then (layout_of source.world)) local.2 ∙ placed.found in
           ap (option_and_then (bytes_at memory)) placed.there ∙ placed.zeroed
           ∙ ap (λ (o : Option Layout). Some (replicate (unwrap_or (option_map (λ (layout : Layout). layout.size) o) 0) 0)) (sym layout)
 
-here-first : (ty : Ty) (nodes : ℕ) → here (first_shape ty nodes) ≡ record { block = 0; index = 0 }
+here-first : (ty : Ty) (bindings : List Ty) (nodes : ℕ) → here (first_shape ty bindings nodes) ≡ record { block = 0; index = 0 }
 unfolding count_at
-here-first ty nodes = refl
+here-first ty bindings nodes = refl
 
--- from the root's end on: the scope is left, and the body returns
-returns-after : (source : Source) (s1 s2 : Shape) (frame : Frame) (span : MirSpan) (turns : ℕ) → Leaves source s1 s2 turns → IsFrameOf (with_terminator (record { span = span; kind = Return }) s2) frame → (store : Store) (memory : Memory) → Holds (with_terminator (record { span = span; kind = Return }) s2) frame store memory → EndsWithin turns (Returned (store Slot)) (run_from frame memory (here s1))
-returns-after source s1 s2 frame span turns leaves is store memory holds =
-    let whole = with_terminator (record { span = span; kind = Return }) s2 in
-    let comes = leaves.comes whole frame (with_terminator-grows (record { span = span; kind = Return }) s2 leaves.«open») is memory in
-    let returned = ends-return s2 whole frame span memory (store Slot) leaves.«open» (grows-refl whole) is (holds.shows Slot 0 refl) in
-    let plain : turns + 0 ≡ turns = omega arith in
-    subst (λ (n : ℕ). EndsWithin n (Returned (store Slot)) (run_from frame memory (here s1))) plain
-    (ends-after frame turns (here s1) (here s2) memory memory comes turns 0 (Returned (store Slot)) (omega arith) returned)
+-- what leaving the body costs
+abbrev pub leaving : Source → ℕ
+leaving source = drops source (marked source (root source))
 
--- the run of a body from its frame on
-runs-whole : (source : Source) (ty : Ty) (nodes : ℕ) (s1 s2 : Shape) (span : MirSpan) (frame : Frame) (memory : Memory) → IsSound source (with_terminator (record { span = span; kind = Return }) s2) → LowersInto source (first_shape ty nodes) s1 (root source) Slot → Leaves source s1 s2 (leaving_turns source) → IsFrameOf (with_terminator (record { span = span; kind = Return }) s2) frame → Holds (with_terminator (record { span = span; kind = Return }) s2) frame (zeroed source) memory → (fuel : ℕ) → EndsAs (meaning_of source fuel) (λ budget. entering budget frame memory 0)
-unfolding meaning_of
-runs-whole source ty nodes s1 s2 span frame memory sound into leaves is holds fuel =
-    let whole = with_terminator (record { span = span; kind = Return }) s2 in
-    let grows : Grows s1 whole = grows-trans s1 s2 whole leaves.grows (with_terminator-grows (record { span = span; kind = Return }) s2 leaves.«open») in
-    let evaluates : End (Unit {0}) = (level_at source fuel).into (root source) (record { cell = Slot }) (zeroed source) in
-    let next : Unit {0} → Store → End (List ℕ) = λ _ store. Go (store Slot) store (so_many_turns (leaving_turns source)) in
-    ends-as-entered frame memory 0 (then_do evaluates next)
-    (subst (λ (p : Point). EndsAs (then_do evaluates next) (run_from frame memory p)) (here-first ty nodes)
-    (ends-as-then frame (here (first_shape ty nodes)) (here s1) memory (λ _ store later. Holds whole frame store later) evaluates next
-    (into.does.reaches whole frame grows sound is fuel (zeroed source) memory holds)
-    (λ value store middle claims. returns-after source s1 s2 frame span (leaving_turns source) leaves is store middle claims)))
+-- the root was lowered, its scope left, and the block ended by a return
+module _ (source : Source) (ty : Ty) (bindings : List Ty) (nodes : ℕ) (s1 s2 : Shape) (span : MirSpan) (into : LowersInto source (first_shape ty bindings nodes) s1 (root source) Slot) (idles : Idles source (with_scope [] s1) s2 (leaving source)) where
+  abbrev Whole : Shape
+  Whole = with_terminator (record { span = span; kind = Return }) s2
 
--- the graph of a body does what the body means
-pub whole-simulates : (source : Source) (ty : Ty) (nodes : ℕ) (s1 s2 : Shape) (span : MirSpan) (body : MirBody) → AreAligned source.world → LowersInto source (first_shape ty nodes) s1 (root source) Slot → Leaves source s1 s2 (leaving_turns source) → body.basic_blocks ≡ (with_terminator (record { span = span; kind = Return }) s2).blocks → body.locals ≡ (with_terminator (record { span = span; kind = Return }) s2).locals → body.start_block.0 ≡ 0 → Simulates source body
-whole-simulates source ty nodes s1 s2 span body aligned into leaves blocks locals start =
-    let whole = with_terminator (record { span = span; kind = Return }) s2 in
-    let sound : IsSound source whole = with_terminator-sound source (record { span = span; kind = Return }) s2 leaves.«open» leaves.sound in
-    let first = slice_get_in whole.locals 0 sound.result in
-    record {
-      slot = (first.0, ap (λ (l : List Local). slice_get l 0) locals ∙ first.1, sound.slot first.0 first.1);
-      cells = λ l local h. sound.cells l local (ap (λ (ls : List Local). slice_get ls l) (sym locals) ∙ h);
-      runs = λ fuel begin h.
-          let all = begun-cells source.world body begin h in
-          let frame : Frame = record { body = body; cells = all.0.0 } in
-          let placing = places-all source.world aligned body.locals first_memory all.0 all.1 in
-          let placing' : Placing source.world whole.locals first_memory all.0.0 all.0.1 = subst (λ (l : List Local). Placing source.world l first_memory all.0.0 all.0.1) locals placing in
-          let is : IsFrameOf whole frame = record { blocks = blocks; locals = locals; apart = placing.apart } in
-          subst (λ (b : Frame × Memory). EndsAs (meaning_of source fuel) (λ budget. entering budget b.0 b.1 body.start_block.0)) (sym all.2)
-          (subst (λ (n : ℕ). EndsAs (meaning_of source fuel) (λ budget. entering budget frame all.0.1 n)) (sym start)
-          (runs-whole source ty nodes s1 s2 span frame all.0.1 sound into leaves is (starts-zeroed source whole frame all.0.1 sound placing') fuel));
-    }
+  first-grows : Grows s1 Whole
+  first-grows =
+      grows-trans s1 (with_scope [] s1) Whole (with_scope-grows [] s1)
+      (grows-trans (with_scope [] s1) s2 Whole idles.grows (with_terminator-grows (record { span = span; kind = Return }) s2 idles.«open»))
+
+  whole-sound : IsSound source Whole
+  whole-sound = with_terminator-sound source (record { span = span; kind = Return }) s2 idles.«open» idles.sound
+
+  -- from the root's end on: the scope is left, and the body returns
+  returns-after : (frame : Frame) → IsFrameOf Whole frame → (store : Store) (memory : Memory) → Holds Whole frame store memory → EndsWithin (leaving source) (Returned (store Slot)) (run_from frame memory (here s1))
+  returns-after frame is store memory holds =
+      let comes : Comes frame (leaving source) (here s1) memory (here s2) memory =
+      subst (λ (p : Point). Comes frame (leaving source) p memory (here s2) memory) (here-scope s1 [])
+      (idles.comes Whole frame (with_terminator-grows (record { span = span; kind = Return }) s2 idles.«open») is memory) in
+      let returned = ends-return s2 Whole frame span memory (store Slot) idles.«open» (grows-refl Whole) is (holds.shows Slot 0 refl) in
+      let plain : leaving source + 0 ≡ leaving source = omega arith in
+      subst (λ (n : ℕ). EndsWithin n (Returned (store Slot)) (run_from frame memory (here s1))) plain
+      (ends-after frame (leaving source) (here s1) (here s2) memory memory comes (leaving source) 0 (Returned (store Slot)) (omega arith) returned)
+
+  -- the run of a body from its frame on
+  runs-whole : (frame : Frame) (memory : Memory) → IsFrameOf Whole frame → Holds Whole frame (zeroed source) memory → (fuel : ℕ) → EndsAs (meaning_of source fuel) (λ budget. entering budget frame memory 0)
+  unfolding meaning_of
+  runs-whole frame memory is holds fuel =
+      let evaluates : End (Unit {0}) = (level_at source fuel).into (root source) (record { cell = Slot }) (zeroed source) in
+      let next : Unit {0} → Store → End (List ℕ) = λ _ store. Go (store Slot) store (so_many_turns (leaving source)) in
+      ends-as-entered frame memory 0 (then_do evaluates next)
+      (subst (λ (p : Point). EndsAs (then_do evaluates next) (run_from frame memory p)) (here-first ty bindings nodes)
+      (ends-as-then frame (here (first_shape ty bindings nodes)) (here s1) memory (λ _ store later. Holds Whole frame store later × Unit {0}) evaluates next
+      (into.does.reaches Whole frame first-grows whole-sound is fuel (zeroed source) memory holds)
+      (λ value store middle claims. returns-after frame is store middle claims.0)))
+
+  -- what is evaluated has types with layouts, where the locals have
+  lays-out : (locals : List Local) → locals ≡ Whole.locals → IsPlain source → ((l : ℕ) (local : Local) → slice_get locals l ≡ Some local → IsLaidOut source (Some local.ty)) → AreLaidOut source
+  lays-out locals same plain laid =
+      let all : HasLayouts source Whole = λ l local h. laid l local (ap (λ (ls : List Local). slice_get ls l) same ∙ h) in
+      let first = slice_get_in Whole.locals 0 (let r = whole-sound.first in omega arith) in
+      let root-laid : IsLaidOut source (node_type source (root source)) =
+      subst (IsLaidOut source) (sym (whole-sound.slot first.0 first.1)) (all 0 first.0 first.1) in
+      record {
+        nodes = λ e evaluates. into.laid root-laid plain (λ l local h. all l local (first-grows.locals l local h)) e evaluates;
+        bindings = λ b t h. all (suc b) (local_of_type t) (whole-sound.bound b t h);
+      }
+
+  -- the graph of a body does what the body means
+  pub whole-simulates : (body : MirBody) → AreAligned source.world → body.basic_blocks ≡ Whole.blocks → body.locals ≡ Whole.locals → body.start_block.0 ≡ 0 → Simulates source body
+  whole-simulates body aligned blocks locals start =
+      let first = slice_get_in Whole.locals 0 (let r = whole-sound.first in omega arith) in
+      record {
+        slot = (first.0, ap (λ (l : List Local). slice_get l 0) locals ∙ first.1, whole-sound.slot first.0 first.1);
+        cells = λ l local h. whole-sound.cells l local (ap (λ (ls : List Local). slice_get ls l) (sym locals) ∙ h);
+        laid_out = lays-out body.locals locals;
+        runs = λ fuel begin h.
+            let all = begun-cells source.world body begin h in
+            let frame : Frame = record { body = body; cells = all.0.0 } in
+            let placing = places-all source.world aligned body.locals first_memory all.0 all.1 in
+            let placing' : Placing source.world Whole.locals first_memory all.0.0 all.0.1 = subst (λ (l : List Local). Placing source.world l first_memory all.0.0 all.0.1) locals placing in
+            let is : IsFrameOf Whole frame = record { blocks = blocks; locals = locals; apart = placing.apart } in
+            subst (λ (b : Frame × Memory). EndsAs (meaning_of source fuel) (λ budget. entering budget b.0 b.1 body.start_block.0)) (sym all.2)
+            (subst (λ (n : ℕ). EndsAs (meaning_of source fuel) (λ budget. entering budget frame all.0.1 n)) (sym start)
+            (runs-whole frame all.0.1 is (starts-zeroed source Whole frame all.0.1 whole-sound placing') fuel));
+      }
 
 -- what lowering begins with
-pub first-sound : (source : Source) (ty : Ty) (nodes : ℕ) → nodes ≡ length source.body.exprs → node_type source (root source) ≡ Some ty → IsSound source (first_shape ty nodes)
+pub first-sound : (source : Source) (ty : Ty) (nodes : ℕ) → nodes ≡ length source.body.exprs → node_type source (root source) ≡ Some ty → IsSound source (first_shape ty source.infer.binding_types nodes)
 unfolding temp_of
 first-sound source ty nodes many typed =
     record {
       nodes = length-replicate nodes None ∙ many;
-      slot = λ local h. (let same : record { ty = ty } ≡ local = cc in typed ∙ ap (λ (l : Local). Some l.ty) same);
-      result = omega arith;
-      cells = λ l local h. only-slot l local h;
-      above_result = λ e l h. absurd (no-temp nodes e l h);
+      bindings = refl;
+      slot = λ local h. (let same : local_of_type ty ≡ local = cc in typed ∙ ap (λ (l : Local). Some l.ty) same);
+      bound = λ b t h. slice_get-map local_of_type source.infer.binding_types b t h;
+      first = let n = length-map local_of_type source.infer.binding_types in omega arith;
+      cells = λ l local h. first-local l local h;
+      above = λ e l h. absurd (no-temp nodes e l h);
       within = λ e l h. absurd (no-temp nodes e l h);
       own = λ e f l h k. absurd (no-temp nodes e l h);
       typed = λ e i l h k. absurd (no-temp nodes e i h);
     } where
-      only-slot : (l : ℕ) (local : Local) → slice_get (first_shape ty nodes).locals l ≡ Some local → (e : ℕ) × Evaluates source (root source) e × (node_type source e ≡ Some local.ty)
-      only-slot zero local h = (let same : record { ty = ty } ≡ local = cc in (root source, itself, typed ∙ ap (λ (l : Local). Some l.ty) same))
-      only-slot (suc l) local h = cc
+      first-local : (l : ℕ) (local : Local) → slice_get (first_shape ty source.infer.binding_types nodes).locals l ≡ Some local → (cell : Cell) × IsUsed source cell × (cell_type source cell ≡ Some local.ty)
+      first-local zero local h = (let same : local_of_type ty ≡ local = cc in (Slot, tt, typed ∙ ap (λ (l : Local). Some l.ty) same))
+      first-local (suc b) local h =
+          let at = slice_get-unmap local_of_type source.infer.binding_types b local h in
+          (Binding b, tt, at.1 ∙ ap (λ (l : Local). Some l.ty) at.2)
 
       no-temp : (n e l : ℕ) → option_map (λ (local : LocalId). local.0) (option_and_then (λ temp. temp) (slice_get (replicate n None) e)) ≡ Some l → ⊥
       no-temp zero e l h = cc
       no-temp (suc n) zero l h = cc
       no-temp (suc n) (suc e) l h = no-temp n e l h
 
-pub first-open : (ty : Ty) (nodes : ℕ) → IsOpen (first_shape ty nodes)
+pub first-open : (ty : Ty) (bindings : List Ty) (nodes : ℕ) → IsOpen (first_shape ty bindings nodes)
 unfolding terminator_at
-first-open ty nodes = record { there = omega arith; unended = refl }
+first-open ty bindings nodes = record { there = omega arith; unended = refl }

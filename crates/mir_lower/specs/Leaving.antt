@@ -1,4 +1,4 @@
--- Leaving a scope.
+-- Code that leaves memory as it is: leaving a scope, and noting what came into use.
 use Rattle.std.specs.Prelude.{◌≡◌, ℕ, Bool, cond}
 use Rattle.mir.specs.Memory.{Memory}
 use Rattle.mir.specs.Run.{Frame}
@@ -11,8 +11,8 @@ use Rattle.mir_lower.specs.Growth.{Grows, IsSound, IsOpen}
 abbrev pub one_if : Bool → ℕ
 one_if test = cond test 1 0
 
--- cells were left: the code goes on behind them, over one block for each that is dropped
-pub record Leaves (source : Source) (old new : Shape) (turns : ℕ) : Type 0 where
+-- the code goes on, over so many blocks, with memory as it was
+pub record Idles (source : Source) (old new : Shape) (turns : ℕ) : Type 0 where
   pub grows : Grows old new
   pub sound : IsSound source new
   pub «open» : IsOpen new

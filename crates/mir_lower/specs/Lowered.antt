@@ -1,5 +1,5 @@
 -- What lowering does to the graph.
-use Rattle.std.specs.Prelude.{◌≡◌, ℕ, List, ◌++◌, [], Contains, flat_map, Option, Some, slice_get}
+use Rattle.std.specs.Prelude.{◌≡◌, ℕ, List, ◌++◌, ◌∷◌, [], Contains, flat_map, Option, Some, slice_get}
 use Rattle.mir.specs.declared.body.Local.{Local}
 use Rattle.mir.specs.declared.operand.OperandKind.{OperandKind}
 use Rattle.world.specs.declared.body.Expr.{Expr}
@@ -13,7 +13,9 @@ use Rattle.source_meaning.specs.Source.{Source, Cell, node, node_type, named_by,
 use Rattle.source_meaning.specs.Valid.{Evaluates, IsPlainFrom, IsLaidOut, statement_parts}
 use Rattle.mir_lower.specs.Graph.{Shape, binding_local}
 use Rattle.mir_lower.specs.Growth.{Grows, IsSound, IsOpen}
-use Rattle.mir_lower.specs.Does.{Does, DoesOperand, DoesPlace, DoesStatements, DoesTail, DoesBind}
+use Rattle.mir.specs.Memory.{Memory}
+use Rattle.mir.specs.Run.{Frame}
+use Rattle.mir_lower.specs.Does.{here, local_of, Comes, IsFrameOf, Does, DoesOperand, DoesPlace, DoesStatements, DoesTail, DoesBind}
 
 -- the graph is as sound as before, has what it had, and these cells more came into use in the scope
 pub record Keeps (source : Source) (old new : Shape) (marked : List Cell) : Type 0 where
@@ -53,6 +55,12 @@ pub record LowersOperand (source : Source) (old new : Shape) (e : ℕ) (operand 
   pub keeps : Keeps source old new (marked_as_operand source (marked source) e)
   pub does : DoesOperand source old new e operand
   pub laid : (IsTruthLiteral (node source e) → IsLaidOut source (node_type source e)) → LaysOut source new e
+
+-- a cell came into use in the scope: its local is known, and the code goes on with memory as it was
+pub record IsGiven (source : Source) (old new : Shape) (cell : Cell) (local : ℕ) : Type 0 where
+  pub keeps : Keeps source old new (cell ∷ [])
+  pub found : local_of new cell ≡ Some local
+  pub comes : (whole : Shape) (frame : Frame) → Grows new whole → IsFrameOf whole frame → (memory : Memory) → Comes frame 0 (here old) memory (here new) memory
 
 -- a path was lowered: the local of the binding that it names
 pub record IsNamed (source : Source) (s : Shape) (e local : ℕ) : Type 0 where

@@ -58,10 +58,12 @@ fn lower_body(context: &Context<'_>, owner: DefWithBodyId) -> Result<MirBody, Mi
         return Err(MirLowerError::NoMemory);
     };
     let ty = ty.try_clone(context.alloc)?;
-    let mut graph = Graph::new(context.alloc, ty, context.body.exprs.len())?;
+    let bindings = context.infer.binding_types.as_slice();
+    let mut graph = Graph::new(context.alloc, ty, bindings, context.body.exprs.len())?;
+    let outer = graph.push_drop_scope(context.alloc);
     let slot = Place { local: LocalId(0) };
     lower_into(context, &mut graph, start, slot)?;
-    leave_scope(context, &mut graph, start)?;
+    leave_scope(context, &mut graph, outer, start)?;
     graph.set_terminator(Terminator {
         span: MirSpan::ExprId(start),
         kind: TerminatorKind::Return,

@@ -9,7 +9,7 @@ ghost use Rattle.world.specs.Lookups.{is_copy as is_copy_type};
 ghost use Rattle.mir_lower.specs.Contexts.{source_of};
 ghost use Rattle.mir_lower.specs.Graph.{shape, with_statement, with_block, with_terminator, with_scope, cell_of, cells_of};
 ghost use Rattle.mir_lower.specs.Growth.{IsSound, IsOpen};
-ghost use Rattle.mir_lower.specs.Leaving.{Leaves, one_if};
+ghost use Rattle.mir_lower.specs.Leaving.{Idles, one_if};
 
 use crate::context::Context;
 use crate::graph::{DropScopeToken, Graph, Held, Marked};
@@ -87,7 +87,7 @@ fn drop_if_needed(
 ) -> Result<(), NoMemory>
     requires sound { IsSound (source_of context.now) (shape graph.old) }
     requires opened { IsOpen (shape graph.old) }
-    ensures { OnOk result (Leaves (source_of context.now) (shape graph.old) (shape graph.new) (one_if (is_dropped (source_of context.now) (cell_of marked.held)))) }
+    ensures { OnOk result (Idles (source_of context.now) (shape graph.old) (shape graph.new) (one_if (is_dropped (source_of context.now) (cell_of marked.held)))) }
 {
     let needed = is_dropped(context, marked.held);
     if needed {
@@ -106,7 +106,7 @@ fn leave_local(
 ) -> Result<(), NoMemory>
     requires sound { IsSound (source_of context.now) (shape graph.old) }
     requires opened { IsOpen (shape graph.old) }
-    ensures { OnOk result (Leaves (source_of context.now) (shape graph.old) (shape graph.new) (one_if (is_dropped (source_of context.now) (cell_of marked.held)))) }
+    ensures { OnOk result (Idles (source_of context.now) (shape graph.old) (shape graph.new) (one_if (is_dropped (source_of context.now) (cell_of marked.held)))) }
 {
     drop_if_needed(context, graph, marked, at)?;
     graph.push_statement(Statement {
@@ -124,7 +124,7 @@ fn leave_all(
 ) -> Result<(), NoMemory>
     requires sound { IsSound (source_of context.now) (shape graph.old) }
     requires opened { IsOpen (shape graph.old) }
-    ensures { OnOk result (Leaves (source_of context.now) (shape graph.old) (shape graph.new) (drops (source_of context.now) (cells_of scope.items))) }
+    ensures { OnOk result (Idles (source_of context.now) (shape graph.old) (shape graph.new) (drops (source_of context.now) (cells_of scope.items))) }
 {
     while let Some(marked) = scope.pop() {
         leave_local(context, graph, marked, at)?;
@@ -141,7 +141,7 @@ pub(crate) fn leave_scope(
 ) -> Result<(), NoMemory>
     requires sound { IsSound (source_of context.now) (shape graph.old) }
     requires opened { IsOpen (shape graph.old) }
-    ensures { OnOk result (Leaves (source_of context.now) (with_scope (cells_of token.outer.items) (shape graph.old)) (shape graph.new) (drops (source_of context.now) (shape graph.old).scope)) }
+    ensures { OnOk result (Idles (source_of context.now) (with_scope (cells_of token.outer.items) (shape graph.old)) (shape graph.new) (drops (source_of context.now) (shape graph.old).scope)) }
 {
     let scope = graph.pop_drop_scope(token);
     leave_all(context, graph, scope, at)

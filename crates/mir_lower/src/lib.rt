@@ -7,6 +7,7 @@ mod form;
 mod graph;
 mod leave;
 mod literal;
+mod locals;
 mod lower;
 
 pub use body::lower_to_mir;

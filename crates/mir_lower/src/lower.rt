@@ -1,14 +1,13 @@
 //! Lowering expressions: as an operand, to a place, and into a place.
 
-ghost use Rattle.std.specs.Prelude.{◌≡◌, ◌×◌, false, ℕ, [], IfOk, IfErr, OnOk, Contains, Some, None};
-ghost use Rattle.mir.specs.Run.{operator_of};
-ghost use Rattle.source_meaning.specs.Meaning.{eager_operator};
+ghost use Rattle.std.specs.Prelude.{◌≡◌, ◌∷◌, false, [], IfOk, IfErr, OnOk, Some, None};
+ghost use Rattle.mir.specs.declared.operand.OperandKind.TheVariants.{Copy};
 ghost use Rattle.source_meaning.specs.Source.{Cell, node, is_path};
-ghost use Rattle.world.specs.declared.body.BinaryOp.{BinaryOp};
 ghost use Rattle.world.specs.declared.body.Expr.TheVariants as expr;
 ghost use Rattle.world.specs.declared.body.Statement.TheVariants as statement_kind;
 ghost use Rattle.mir_lower.specs.Contexts.{source_of};
 ghost use Rattle.mir_lower.specs.Does.{local_of};
+ghost use Rattle.mir_lower.specs.declared.form.Form.TheVariants as form;
 ghost use Rattle.mir_lower.specs.Form.{HasForm, unary_of};
 ghost use Rattle.mir_lower.specs.Graph.{shape};
 ghost use Rattle.mir_lower.specs.Growth.{IsReady};
@@ -19,12 +18,12 @@ use crate::context::Context;
 use crate::form::{Form, form_of};
 use crate::graph::Graph;
 use crate::leave::leave_scope;
-use crate::literal::{form_not_built, lower_literal, node_ty};
-use crate::names::{assign, bind, place_named};
+use crate::literal::{form_not_built, lower_literal};
+use crate::locals::{assign, bind, fake_read, new_temp, place_named};
 use mir::{
-    BinOp, MirLowerError, MirSpan, Operand, OperandKind, Place, Rvalue, StatementKind, UnOp,
+    BinOp, MirLowerError, MirSpan, Operand, OperandKind, Place, Rvalue, UnOp,
 };
-use world::{ExprId, List, Literal, PatId, Statement, Text, TryClone};
+use world::{ExprId, List, Literal, PatId, Statement, Text};
 
 /// The form of an expression of the body.
 fn form_at<'a>(context: &Context<'a>, e: ExprId) -> Form<'a>
@@ -206,7 +205,7 @@ fn lower_binary(
     place: Place,
 ) -> Result<(), MirLowerError>
     requires ready { IsReady (source_of context.now) (shape graph.old) e.0 }
-    requires form { HasForm (node (source_of context.now) e.0) (Form.Binary op lhs rhs) }
+    requires form { HasForm (node (source_of context.now) e.0) (form.Binary op lhs rhs) }
     ensures lowered { OnOk result ((cell : Cell) → local_of (shape graph.old) cell ≡ Some place.local.0
         → LowersInto (source_of context.now) (shape graph.old) (shape graph.new) e.0 cell) }
     ensures refused { IfErr result (RefusesAt (source_of context.now) e.0) }

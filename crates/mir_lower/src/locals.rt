@@ -1,20 +1,20 @@
-//! Names: the local of what a path names, and a name that is bound by a pattern.
+//! Locals: those of the values of expressions, and those of names.
 
-ghost use Rattle.std.specs.Prelude.{◌≡◌, IfOk, IfErr, OnOk, Some};
+ghost use Rattle.std.specs.Prelude.{◌≡◌, ◌⊎◌, IfOk, IfErr, OnOk, Some};
 ghost use Rattle.mir.specs.declared.errors.MirLowerError.TheVariants as refusal;
-ghost use Rattle.mir.specs.declared.statement.StatementKind.TheVariants.{Assign};
-ghost use Rattle.source_meaning.specs.Source.{Cell, node, named_by, pattern};
+ghost use Rattle.mir.specs.declared.statement.StatementKind.TheVariants.{Assign, FakeRead};
+ghost use Rattle.source_meaning.specs.Source.{Cell, Node, Binding, node};
 ghost use Rattle.world.specs.declared.body.Expr.TheVariants as expr;
 ghost use Rattle.mir_lower.specs.Contexts.{source_of};
 ghost use Rattle.mir_lower.specs.Does.{local_of};
 ghost use Rattle.mir_lower.specs.Graph.{shape, with_statement};
-ghost use Rattle.mir_lower.specs.Growth.{IsSound, IsOpen};
-ghost use Rattle.mir_lower.specs.Lowered.{IsNamed, Binds, Bound};
+ghost use Rattle.mir_lower.specs.Growth.{IsSound, IsOpen, IsReady};
+ghost use Rattle.mir_lower.specs.Lowered.{IsGiven, IsNamed, Binds};
 ghost use Rattle.mir_lower.specs.Refusals.{RefusesNode, RefusesPattern};
 
 use crate::context::Context;
 use crate::graph::{Graph, Held};
-use crate::literal::form_not_built;
+use crate::literal::{form_not_built, node_ty};
 use mir::{
     LocalId, MirLowerError, MirSpan, Operand, OperandKind, Place, Rvalue, Statement, StatementKind,
 };
@@ -69,21 +69,58 @@ pub(crate) fn place_named(
     }
 }
 
-/// The local of a binding, which comes into use in the open scope.
+/// The local of a binding comes into use in the open scope.
 fn storage_live(
+    context: &Context<'_>,
     graph: &mut Graph,
     binding: BindingId,
     local: LocalId,
 ) -> Result<(), MirLowerError>
-    requires sound { (source : _) × IsSound source (shape graph.old) }
+    requires sound { IsSound (source_of context.now) (shape graph.old) }
     requires opened { IsOpen (shape graph.old) }
-    ensures added { OnOk result (Bound binding.0 local (shape graph.old) (shape graph.new)) }
+    requires found { local_of (shape graph.old) (Binding binding.0) ≡ Some local.0 }
+    ensures given { OnOk result (IsGiven (source_of context.now) (shape graph.old) (shape graph.new) (Binding binding.0) local.0) }
     ensures refused { IfErr result (λ error. error ≡ refusal.NoMemory) }
 {
     graph.mark(Held::Binding(binding), local)?;
     graph.push_statement(Statement {
         kind: StatementKind::StorageLive(local),
         span: MirSpan::BindingId(binding),
+    })?;
+    Ok(())
+}
+
+/// A local for the value of an expression comes into use in the open scope.
+pub(crate) fn new_temp(
+    context: &Context<'_>,
+    graph: &mut Graph,
+    e: ExprId,
+) -> Result<Place, MirLowerError>
+    requires { IsReady (source_of context.now) (shape graph.old) e.0 }
+    ensures given { IfOk result (λ place. IsGiven (source_of context.now) (shape graph.old) (shape graph.new) (Node e.0) place.local.0) }
+    ensures refused { IfErr result (λ error. error ≡ refusal.NoMemory) }
+{
+    let Some(ty) = node_ty(context, e) else {
+        return Err(MirLowerError::NoMemory);
+    };
+    let ty = ty.try_clone(context.alloc)?;
+    let local = graph.temp_for(e, ty)?;
+    graph.push_statement(Statement {
+        kind: StatementKind::StorageLive(local),
+        span: MirSpan::ExprId(e),
+    })?;
+    Ok(Place { local })
+}
+
+/// Notes that the value at a place was named.
+pub(crate) fn fake_read(graph: &mut Graph, place: Place, e: ExprId) -> Result<(), MirLowerError>
+    requires { IsOpen (shape graph.old) }
+    ensures added { OnOk result (shape graph.new ≡ with_statement (record { kind = FakeRead place; span = MirSpan.ExprId e }) (shape graph.old)) }
+    ensures refused { IfErr result (λ error. error ≡ refusal.NoMemory) }
+{
+    graph.push_statement(Statement {
+        kind: StatementKind::FakeRead(place),
+        span: MirSpan::ExprId(e),
     })?;
     Ok(())
 }
@@ -107,7 +144,7 @@ pub(crate) fn bind(
     let Some(local) = graph.binding_local(*id) else {
         return Err(MirLowerError::InaccessibleLocal);
     };
-    storage_live(graph, *id, local)?;
+    storage_live(context, graph, *id, local)?;
     let operand = Operand {
         kind: OperandKind::Copy(from),
         span: None,

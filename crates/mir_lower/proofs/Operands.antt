@@ -1,0 +1,184 @@
+-- Literals, paths, and other expressions as operands and as places.
+use Rattle.std.proofs.Common.{◌≡◌, ℕ, zero, suc, Bool, true, false, cond, List, [], ◌∷◌, ◌++◌, Option, Some, None, Ok, refl, sym, ap, ◌∙◌, subst, arith, append_assoc, append-nil}
+use Rattle.std.specs.Prelude.{slice_get, option_map}
+use Rattle.world.specs.declared.body.Expr.{Expr}
+use Rattle.world.specs.declared.body.Expr.TheVariants as expr
+use Rattle.world.specs.declared.body.Literal.{Literal}
+use Rattle.world.specs.declared.infer.ValueNs.{ValueNs}
+use Rattle.mir.specs.declared.operand.OperandKind.{OperandKind}
+use Rattle.mir.specs.declared.operand.OperandKind.TheVariants.{Copy}
+use Rattle.mir.specs.declared.operand.Place.{Place}
+use Rattle.mir.specs.Memory.{Memory}
+use Rattle.mir.specs.Run.{Frame, operand_bytes as mir_bytes, operand_type as mir_type, constant_bytes}
+use Rattle.source_meaning.specs.Ends.{no_cost, End, Go, Stuck, then_do}
+use Rattle.source_meaning.specs.Meaning.{level_at, literal_operand, named_place, operand_of, place_of}
+use Rattle.source_meaning.specs.Source.{Source, node, node_type, named_by, Cell, Node, Binding, Path, Store, Operand, Literally, At, is_literal, is_path, marked, marked_as_place, marked_as_operand}
+use Rattle.mir_lower.specs.Does.{here, local_of, local_bytes, IsFrameOf, Holds, Comes, Reaches, Performs, LeadsTo, Fits, Does, DoesOperand, DoesPlace}
+use Rattle.mir_lower.specs.Graph.{Shape}
+use Rattle.mir_lower.specs.Growth.{Grows, IsSound, IsOpen}
+use Rattle.mir_lower.specs.Literals.{IsConstantOf, IsLiteral}
+use Rattle.mir_lower.specs.Lowered.{IsTruthLiteral, IsGiven, IsNamed, LowersInto, LowersPlace, LowersOperand}
+use Rattle.mir_lower.proofs.Growing.{grows-refl, grows-trans}
+use Rattle.mir_lower.proofs.Laid.{lays-literal, lays-name, lays-temp}
+use Rattle.mir_lower.proofs.Reaching.{comes-refl, reaches-then}
+use Rattle.mir_lower.proofs.Sound.{local-there}
+use Rattle.mir_lower.proofs.Steps.{local_of-grows, reaches-from}
+
+-- a literal's operand
+pub literal-fits : (source : Source) (whole : Shape) (frame : Frame) (e : ℕ) (literal : Literal) (operand : OperandKind) (is : IsLiteral source e literal operand) → Fits source operand whole frame (Literally is.is_constant.ty is.bytes)
+unfolding mir_bytes mir_type
+literal-fits source whole frame e literal operand is =
+    record {
+      bytes = λ store memory holds. ap (mir_bytes frame memory) is.is_constant.is_constant ∙ ap Some is.is_constant.bytes_are;
+      ty = ap (mir_type frame.body) is.is_constant.is_constant;
+    }
+
+-- what a literal means as an operand
+literal-means : (source : Source) (e : ℕ) (literal : Literal) (operand : OperandKind) (store : Store) (is : IsLiteral source e literal operand) (given : Option (List ℕ)) → given ≡ Some is.bytes → literal_operand source e store given ≡ Go (Literally is.is_constant.ty is.bytes) store no_cost
+literal-means source e literal operand store is given same =
+    ap (literal_operand source e store) same ∙ ap (λ (t : Option _). elim t [ Some ty ↦ Go (Literally ty is.bytes) store no_cost | None ↦ Stuck ]) is.is_constant.typed
+
+literal-operand : (source : Source) (whole : Shape) (frame : Frame) (s : Shape) (e : ℕ) (literal : Literal) (operand : OperandKind) → node source e ≡ Some (expr.Literal literal) → IsLiteral source e literal operand → (fuel : ℕ) (store : Store) (memory : Memory) → Holds whole frame store memory → Reaches frame (here s) (here s) memory (λ value after later. Holds whole frame after later × Fits source operand whole frame value) ((level_at source fuel).operand e store)
+unfolding level_at
+literal-operand source whole frame s e literal operand form is zero store memory holds = tt
+literal-operand source whole frame s e literal operand form is (suc fuel) store memory holds =
+    let gives : operand_of source (level_at source fuel) e (node source e) store ≡ Go (Literally is.is_constant.ty is.bytes) store no_cost =
+    ap (λ f. operand_of source (level_at source fuel) e f store) form ∙ literal-means source e literal operand store is _ is.told in
+    subst (Reaches frame (here s) (here s) memory (λ value after later. Holds whole frame after later × Fits source operand whole frame value)) (sym gives)
+    (0, memory, omega arith, comes-refl frame (here s) memory, (holds, literal-fits source whole frame e literal operand is))
+
+literal-marks : (source : Source) (e : ℕ) (literal : Literal) → node source e ≡ Some (expr.Literal literal) → marked_as_operand source (marked source) e ≡ []
+literal-marks source e literal form = ap (λ f. cond (is_literal f) [] (marked_as_place source (marked source) e)) form
+
+-- a literal is an operand as it stands
+pub lowers-literal-operand : (source : Source) (s : Shape) (e : ℕ) (literal : Literal) (operand : OperandKind) → IsSound source s → IsOpen s → node source e ≡ Some (expr.Literal literal) → IsLiteral source e literal operand → LowersOperand source s s e operand
+lowers-literal-operand source s e literal operand sound opened form is =
+    record {
+      keeps = record {
+        grows = grows-refl s;
+        sound = sound;
+        «open» = opened;
+        scope = sym (ap (λ m. s.scope ++ m) (literal-marks source e literal form) ∙ append-nil s.scope);
+      };
+      does = record { reaches = λ whole frame grows whole-sound frame-is fuel store memory holds. literal-operand source whole frame s e literal operand form is fuel store memory holds };
+      laid = lays-literal source s e literal operand form is;
+    }
+
+-- a cell's local as an operand
+pub place-fits : (source : Source) (whole : Shape) (frame : Frame) (c : Cell) (place : Place) → IsSound source whole → IsFrameOf whole frame → local_of whole c ≡ Some place.local.0 → Fits source (Copy place) whole frame (At (record { cell = c }))
+unfolding mir_bytes mir_type local_bytes
+place-fits source whole frame c place sound is found =
+    record {
+      bytes = λ store memory holds. holds.shows c place.local.0 found;
+      ty =
+          let there = local-there source whole sound c place.local.0 found in
+          ap (λ locals. option_map (λ l. l.ty) (slice_get locals place.local.0)) is.locals
+          ∙ ap (option_map (λ l. l.ty)) there.1
+          ∙ sym there.2;
+    }
+
+place-operand : (source : Source) (old new whole : Shape) (frame : Frame) (e : ℕ) (place : Place) → IsSound source whole → IsFrameOf whole frame → Grows new whole → DoesPlace source old new e place.local.0 → is_literal (node source e) ≡ false → (fuel : ℕ) (store : Store) (memory : Memory) → Holds whole frame store memory → Reaches frame (here old) (here new) memory (λ value after later. Holds whole frame after later × Fits source (Copy place) whole frame value) ((level_at source fuel).operand e store)
+unfolding level_at
+place-operand source old new whole frame e place sound is grows does form zero store memory holds = tt
+place-operand source old new whole frame e place sound is grows does form (suc fuel) store memory holds =
+    subst (Reaches frame (here old) (here new) memory (λ value after later. Holds whole frame after later × Fits source (Copy place) whole frame value))
+    (sym (no-literal (node source e) form))
+    (reaches-then frame (here old) (here new) (here new) memory (λ path after later. Holds whole frame after later × LeadsTo does.cell whole frame path) (λ value after later. Holds whole frame after later × Fits source (Copy place) whole frame value)
+    ((level_at source fuel).place e store) (λ path later. Go (At path) later no_cost)
+    (does.does.reaches whole frame grows sound is fuel store memory holds)
+    (λ path after middle claims. (
+      0,
+      middle,
+      omega arith,
+      comes-refl frame (here new) middle,
+      (
+        claims.0,
+        subst (λ (p : Path). Fits source (Copy place) whole frame (At p)) (sym claims.1) (place-fits source whole frame does.cell place sound is (local_of-grows new whole grows does.cell place.local.0 does.found)),
+      ),
+    ))) where
+      no-literal : (form : Option Expr) → is_literal form ≡ false → operand_of source (level_at source fuel) e form store ≡ then_do ((level_at source fuel).place e store) (λ path later. Go (At path) later no_cost)
+      no-literal (Some (expr.Literal literal)) is = absurd cc
+      no-literal _ is = refl
+
+no-truth : (form : Option Expr) → is_literal form ≡ false → IsTruthLiteral form → ⊥
+no-truth (Some (expr.Literal literal)) is truth = cc
+no-truth _ is truth = truth
+
+pub lowers-place-operand : (source : Source) (old new : Shape) (e : ℕ) (place : Place) → LowersPlace source old new e place.local.0 → is_literal (node source e) ≡ false → LowersOperand source old new e (Copy place)
+lowers-place-operand source old new e place lowers form =
+    record {
+      keeps = record {
+        grows = lowers.keeps.grows;
+        sound = lowers.keeps.sound;
+        «open» = lowers.keeps.«open»;
+        scope = lowers.keeps.scope ∙ ap (λ b. old.scope ++ cond b [] (marked_as_place source (marked source) e)) (sym form);
+      };
+      does = record { reaches = λ whole frame grows sound is fuel store memory holds. place-operand source old new whole frame e place sound is grows lowers.does form fuel store memory holds };
+      laid = λ truth. lowers.laid;
+    }
+
+-- an expression that is evaluated into a local of its own
+into-place : (source : Source) (from middle new whole : Shape) (frame : Frame) (e : ℕ) → is_path (node source e) ≡ false → Does source middle new e (Node e) → Grows new whole → IsSound source whole → IsFrameOf whole frame → ((memory : Memory) → Comes frame 0 (here from) memory (here middle) memory) → (fuel : ℕ) (store : Store) (memory : Memory) → Holds whole frame store memory → Reaches frame (here from) (here new) memory (λ path after later. Holds whole frame after later × LeadsTo (Node e) whole frame path) ((level_at source fuel).place e store)
+unfolding level_at
+into-place source from middle new whole frame e form does grows sound is live zero store memory holds = tt
+into-place source from middle new whole frame e form does grows sound is live (suc fuel) store memory holds =
+    subst (Reaches frame (here from) (here new) memory (λ path after later. Holds whole frame after later × LeadsTo (Node e) whole frame path))
+    (sym (no-path (node source e) form))
+    (reaches-then frame (here from) (here new) (here new) memory (λ _ after later. Holds whole frame after later × Unit {0}) (λ path after later. Holds whole frame after later × LeadsTo (Node e) whole frame path)
+    ((level_at source fuel).into e (record { cell = Node e }) store) (λ _ later. Go (record { cell = Node e }) later no_cost)
+    (reaches-from frame (here from) (here middle) (here new) memory (λ _ after later. Holds whole frame after later × Unit {0}) (live memory) ((level_at source fuel).into e (record { cell = Node e }) store) (does.reaches whole frame grows sound is fuel store memory holds))
+    (λ value after later claims. (0, later, omega arith, comes-refl frame (here new) later, (claims.0, refl)))) where
+      no-path : (form : Option Expr) → is_path form ≡ false → place_of source (level_at source fuel) e form store ≡ then_do ((level_at source fuel).into e (record { cell = Node e }) store) (λ _ later. Go (record { cell = Node e }) later no_cost)
+      no-path (Some (expr.Path name)) is = absurd cc
+      no-path _ is = refl
+
+-- an expression that is no place goes into a local of its own
+pub lowers-temp : (source : Source) (s0 s1 s2 : Shape) (e local : ℕ) → is_path (node source e) ≡ false → IsGiven source s0 s1 (Node e) local → LowersInto source s1 s2 e (Node e) → LowersPlace source s0 s2 e local
+lowers-temp source s0 s1 s2 e local form given into =
+    record {
+      keeps = record {
+        grows = grows-trans s0 s1 s2 given.keeps.grows into.keeps.grows;
+        sound = into.keeps.sound;
+        «open» = into.keeps.«open»;
+        scope =
+            into.keeps.scope ∙ ap (λ scope. scope ++ marked source e) given.keeps.scope ∙ append_assoc s0.scope (Node e ∷ []) (marked source e)
+            ∙ ap (λ b. s0.scope ++ cond b [] (Node e ∷ marked source e)) (sym form);
+      };
+      does = record {
+        cell = Node e;
+        found = into.keeps.grows.temps e local given.found;
+        does = record {
+          reaches = λ whole frame grows sound is fuel store memory holds.
+              into-place source s0 s1 s2 whole frame e form into.does grows sound is
+              (λ m. given.comes whole frame (grows-trans s1 s2 whole into.keeps.grows grows) is m) fuel store memory holds;
+        };
+      };
+      laid = lays-temp source s1 s2 e local given.keeps.sound given.found into;
+    }
+
+-- a path is the place that it names
+name-place : (source : Source) (whole : Shape) (frame : Frame) (s : Shape) (e local : ℕ) (name : _) (named : IsNamed source s e local) → node source e ≡ Some (expr.Path name) → (fuel : ℕ) (store : Store) (memory : Memory) → Holds whole frame store memory → Reaches frame (here s) (here s) memory (λ path after later. Holds whole frame after later × LeadsTo (Binding named.binding.0) whole frame path) ((level_at source fuel).place e store)
+unfolding level_at
+name-place source whole frame s e local name named form zero store memory holds = tt
+name-place source whole frame s e local name named form (suc fuel) store memory holds =
+    let gives : place_of source (level_at source fuel) e (node source e) store ≡ Go (record { cell = Binding named.binding.0 }) store no_cost =
+    ap (λ f. place_of source (level_at source fuel) e f store) form ∙ ap (λ (n : Option ValueNs). named_place n store) named.named in
+    subst (Reaches frame (here s) (here s) memory (λ path after later. Holds whole frame after later × LeadsTo (Binding named.binding.0) whole frame path)) (sym gives)
+    (0, memory, omega arith, comes-refl frame (here s) memory, (holds, refl))
+
+pub lowers-name : (source : Source) (s : Shape) (e local : ℕ) (name : _) → IsSound source s → IsOpen s → node source e ≡ Some (expr.Path name) → IsNamed source s e local → LowersPlace source s s e local
+lowers-name source s e local name sound opened form named =
+    record {
+      keeps = record {
+        grows = grows-refl s;
+        sound = sound;
+        «open» = opened;
+        scope = sym (ap (λ f. s.scope ++ cond (is_path f) [] (Node e ∷ marked source e)) form ∙ append-nil s.scope);
+      };
+      does = record {
+        cell = Binding named.binding.0;
+        found = named.found;
+        does = record { reaches = λ whole frame grows whole-sound frame-is fuel store memory holds. name-place source whole frame s e local name named form fuel store memory holds };
+      };
+      laid = lays-name source s e local name sound form named;
+    }
