@@ -266,7 +266,7 @@ operand_is_child : (op : Option Operator) (lhs rhs child : ℕ) → Contains (op
 operand_is_child (Some op) lhs rhs child within = within
 operand_is_child None lhs rhs child within = absurd (nothing_is_contained child within)
 
--- and so does an expression
+-- what an expression evaluates it holds
 part_is_child : (form : Expr) (child : ℕ) → Contains (parts_of (Some form)) child → Contains (children_of form) child
 part_is_child (expr.Path name) child within = within
 part_is_child (expr.Literal literal) child within = within
