@@ -1,16 +1,27 @@
 -- More fuel changes no end, and enough fuel comes to an end.
 use Rattle.std.proofs.Common.{⊎_elim, sym, ◌≡◌, ℕ, zero, suc, ◌<◌, ◌≤◌, Bool, true, false, List, [], ◌∷◌, length, ◌==◌, if◌then◌else◌, Option, Some, None, refl, ap, ◌∙◌, arith}
+use Rattle.std.specs.Prelude.{flat_map, Contains}
 use Rattle.std.proofs.lemmas.Bool.{cases_lt}
-use Rattle.std.proofs.lemmas.List.Elements.{All-head, All-tail}
-use Rattle.world.specs.declared.body.ArithOp.TheVariants.{Add}
-use Rattle.world.specs.declared.body.BinaryOp.TheVariants.{ArithOp as Arithmetic}
+use Rattle.std.proofs.lemmas.List.Elements.{All-contains, Contains-append_left, Contains-append_right, Contains-append_cases}
 use Rattle.world.specs.declared.body.Expr.{Expr}
 use Rattle.world.specs.declared.body.Expr.TheVariants as expr
-use Rattle.world_check.specs.Checked.{IsCheckedBody}
-use Rattle.numbers.specs.Operators.{Answer, Computes, Panics, Undefined, computed, of_arith}
-use Rattle.source_meaning.specs.Ends.{Cost, End, Go, Panic, Stuck, More, IsOver, after, then_do}
-use Rattle.source_meaning.specs.Meaning.{Level, put, put_if_any, put_answer, node_kind, literal_operand, literal_bytes, no_fuel, place_of, operand_of, into_of, level_above, level_at, meaning_of}
-use Rattle.source_meaning.specs.Source.{Source, Store, Path, node, root, operand_bytes}
+use Rattle.world.specs.declared.body.Pat.{Pat}
+use Rattle.world.specs.declared.body.Pat.TheVariants.{Bind}
+use Rattle.world.specs.declared.body.Statement.{Statement}
+use Rattle.world.specs.declared.body.Statement.TheVariants as statement
+use Rattle.world.specs.declared.body.UnaryOp.{UnaryOp}
+use Rattle.world.specs.declared.body.UnaryOp.TheVariants as unary
+use Rattle.world.specs.declared.ids.ExprId.{ExprId}
+use Rattle.world.specs.declared.infer.ValueNs.{ValueNs}
+use Rattle.world.specs.declared.infer.ValueNs.TheVariants.{LocalBinding}
+use Rattle.world.specs.declared.ty.Ty.{Ty}
+use Rattle.world_check.specs.Checked.{IsCheckedBody, optional, statement_children, children_of}
+use Rattle.numbers.specs.declared.operator.Operator.{Operator}
+use Rattle.numbers.specs.Operators.{Answer, Computes, Panics, Undefined}
+use Rattle.source_meaning.specs.Ends.{Cost, no_cost, End, Go, Panic, Stuck, More, IsOver, after, then_do}
+use Rattle.source_meaning.specs.Meaning.{Level, put, put_if_any, put_answer, literal_operand, literal_bytes, named_place, named_into, bind, no_fuel, place_of, operand_of, unary_into, eager_operator, binary_into, statement_of, statements_of, tail_into, block_into, into_of, level_above, level_at, meaning_of}
+use Rattle.source_meaning.specs.Source.{Source, Store, Path, Binding, Literally, node, node_type, named_by, pattern, root}
+use Rattle.source_meaning.specs.Valid.{statement_parts, operands_of, parts_of}
 
 -- what is over after a cost is over
 over_before : {A : Type 0} (cost : Cost) (end : End A) → IsOver (after cost end) → IsOver end
@@ -43,23 +54,53 @@ pub record Agrees (below above : Level) : Type 0 where
   pub into : (e : ℕ) (path : Path) (store : Store) → IsOver (below.into e path store) → above.into e path store ≡ below.into e path store
 
 module _ (source : Source) (below above : Level) (agrees : Agrees below above) where
-  place_agrees : (e : ℕ) (store : Store) → IsOver (place_of below e store) → place_of above e store ≡ place_of below e store
-  place_agrees e store over = then_do_agrees (below.into e _ store) (above.into e _ store) _ _ (agrees.into e _ store) (λ value later o. refl) over
+  place_agrees : (e : ℕ) (form : Option Expr) (store : Store) → IsOver (place_of source below e form store) → place_of source above e form store ≡ place_of source below e form store
+  place_agrees e (Some (expr.Path name)) store over = refl
+  place_agrees e _ store over = then_do_agrees (below.into e _ store) (above.into e _ store) _ _ (agrees.into e _ store) (λ value later o. refl) over
 
   operand_agrees : (e : ℕ) (form : Option Expr) (store : Store) → IsOver (operand_of source below e form store) → operand_of source above e form store ≡ operand_of source below e form store
   operand_agrees e (Some (expr.Literal literal)) store over = refl
   operand_agrees e _ store over = then_do_agrees (below.place e store) (above.place e store) _ _ (agrees.place e store) (λ value later o. refl) over
 
+  unary_agrees : (op : UnaryOp) (e : ℕ) (path : Path) (store : Store) → IsOver (unary_into source below op e path store) → unary_into source above op e path store ≡ unary_into source below op e path store
+  unary_agrees unary.Deref e path store over = refl
+  unary_agrees _ e path store over = then_do_agrees (below.operand e store) (above.operand e store) _ _ (agrees.operand e store) (λ value later o. refl) over
+
+  binary_agrees : (op : Option Operator) (lhs rhs : ℕ) (path : Path) (store : Store) → IsOver (binary_into source below op lhs rhs path store) → binary_into source above op lhs rhs path store ≡ binary_into source below op lhs rhs path store
+  binary_agrees (Some op) lhs rhs path store over =
+      then_do_agrees (below.operand lhs store) (above.operand lhs store) _ _ (agrees.operand lhs store) (λ left later o.
+      then_do_agrees (below.operand rhs later) (above.operand rhs later) _ _ (agrees.operand rhs later) (λ right last o'. refl) o) over
+  binary_agrees None lhs rhs path store over = refl
+
+  statement_agrees : (statement : Statement) (store : Store) → IsOver (statement_of source below statement store) → statement_of source above statement store ≡ statement_of source below statement store
+  statement_agrees (statement.Let pat (Some e) None) store over = then_do_agrees (below.place e.0 store) (above.place e.0 store) _ _ (agrees.place e.0 store) (λ path later o. refl) over
+  statement_agrees (statement.Expr e has_semi) store over = then_do_agrees (below.place e.0 store) (above.place e.0 store) _ _ (agrees.place e.0 store) (λ path later o. refl) over
+  statement_agrees _ store over = refl
+
+  statements_agree : (statements : List Statement) (store : Store) → IsOver (statements_of source below statements store) → statements_of source above statements store ≡ statements_of source below statements store
+  unfolding statements_of
+  statements_agree [] store over = refl
+  statements_agree (first ∷ rest) store over =
+      then_do_agrees (statement_of source below first store) (statement_of source above first store) _ _ (statement_agrees first store) (λ done later o. statements_agree rest later o) over
+
+  tail_agrees : (tail : Option ExprId) (path : Path) (store : Store) → IsOver (tail_into below tail path store) → tail_into above tail path store ≡ tail_into below tail path store
+  tail_agrees (Some e) path store over = agrees.into e.0 path store over
+  tail_agrees None path store over = refl
+
+  block_agrees : (statements : List Statement) (tail : Option ExprId) (path : Path) (store : Store) → IsOver (block_into source below statements tail path store) → block_into source above statements tail path store ≡ block_into source below statements tail path store
+  block_agrees statements tail path store over =
+      then_do_agrees (statements_of source below statements store) (statements_of source above statements store) _ _ (statements_agree statements store) (λ done later o.
+      then_do_agrees (tail_into below tail path later) (tail_into above tail path later) _ _ (tail_agrees tail path later) (λ done' last o'. refl) o) over
+
   into_agrees : (e : ℕ) (form : Option Expr) (path : Path) (store : Store) → IsOver (into_of source below e form path store) → into_of source above e form path store ≡ into_of source below e form path store
-  into_agrees e (Some (expr.Literal literal)) path store over = refl
-  into_agrees e (Some (expr.BinaryOp lhs rhs (Some (Arithmetic Add)))) path store over =
-      then_do_agrees (below.operand lhs.0 store) (above.operand lhs.0 store) _ _ (agrees.operand lhs.0 store) (λ left later o.
-      then_do_agrees (below.operand rhs.0 later) (above.operand rhs.0 later) _ _ (agrees.operand rhs.0 later) (λ right last o'. refl) o) over
+  into_agrees e (Some (expr.UnaryOp operand op)) path store over = unary_agrees op operand.0 path store over
+  into_agrees e (Some (expr.BinaryOp lhs rhs (Some op))) path store over = binary_agrees (eager_operator op) lhs.0 rhs.0 path store over
+  into_agrees e (Some (expr.Block statements tail)) path store over = block_agrees statements tail path store over
   into_agrees e _ path store over = refl
 
   above_agrees : Agrees (level_above source below) (level_above source above)
   above_agrees = record {
-    place = place_agrees;
+    place = λ e store over. place_agrees e (node source e) store over;
     operand = λ e store over. operand_agrees e (node source e) store over;
     into = λ e path store over. into_agrees e (node source e) path store over;
   }
@@ -116,52 +157,158 @@ put_answer_over store path (Computes bytes) = put_over store path bytes
 put_answer_over store path (Panics word) = tt
 put_answer_over store path Undefined = tt
 
-literal_operand_over : (store : Store) (bytes : Option (List ℕ)) → IsOver (literal_operand store bytes)
-literal_operand_over store (Some bytes) = tt
-literal_operand_over store None = tt
+literal_operand_over : (source : Source) (e : ℕ) (store : Store) (bytes : Option (List ℕ)) → IsOver (literal_operand source e store bytes)
+literal_operand_over source e store (Some bytes) = by_type (node_type source e)
+  where
+    by_type : (ty : Option Ty) → IsOver (elim ty [ Some given ↦ Go (Literally given bytes) store no_cost | None ↦ Stuck ])
+    by_type (Some ty) = tt
+    by_type None = tt
+literal_operand_over source e store None = tt
+
+named_place_over : (named : Option ValueNs) (store : Store) → IsOver (named_place named store)
+named_place_over (Some (LocalBinding b)) store = tt
+named_place_over None store = tt
+
+named_into_over : (named : Option ValueNs) (path : Path) (store : Store) → IsOver (named_into named path store)
+named_into_over (Some (LocalBinding b)) path store = put_over store path (store (Binding b.0))
+named_into_over None path store = tt
+
+bind_over : (pat : Option Pat) (path : Path) (store : Store) → IsOver (bind pat path store)
+bind_over (Some (Bind id)) path store = put_over store (record { cell = Binding id.0 }) (store path.cell)
+bind_over None path store = tt
+
+-- an expression comes to an end at a level, in each way that it is evaluated
+record EndsIn (level : Level) (e : ℕ) : Type 0 where
+  place : (store : Store) → IsOver (level.place e store)
+  operand : (store : Store) → IsOver (level.operand e store)
+  into : (path : Path) (store : Store) → IsOver (level.into e path store)
+
+place_over : (source : Source) (below : Level) (e : ℕ) (form : Option Expr) (store : Store) → ((path : Path) (later : Store) → IsOver (below.into e path later)) → IsOver (place_of source below e form store)
+place_over source below e (Some (expr.Path name)) store over = named_place_over (named_by source e) store
+place_over source below e _ store over = then_do_over (below.into e _ store) _ (over _ store) (λ value later. tt)
+
+operand_over : (source : Source) (below : Level) (e : ℕ) (form : Option Expr) (store : Store) → ((later : Store) → IsOver (below.place e later)) → IsOver (operand_of source below e form store)
+operand_over source below e (Some (expr.Literal literal)) store over = literal_operand_over source e store (literal_bytes source e literal)
+operand_over source below e _ store over = then_do_over (below.place e store) _ (over store) (λ value later. tt)
+
+-- a list has its first element, and what the rest has
+pub first_is_contained : (first : ℕ) (rest : List ℕ) → Contains (first ∷ rest) first
+first_is_contained first rest = (0, omega arith, refl)
+
+pub rest_is_contained : (first : ℕ) (rest : List ℕ) (x : ℕ) → Contains rest x → Contains (first ∷ rest) x
+rest_is_contained first rest x in_rest = Contains-append_right (first ∷ []) rest x in_rest
+
+nothing_is_contained : (x : ℕ) → Contains [] x → ⊥
+nothing_is_contained x within = let less = within.1 in omega arith
+
+module _ (source : Source) (below : Level) where
+  unary_over : (op : UnaryOp) (e : ℕ) (path : Path) (store : Store) → EndsIn below e → IsOver (unary_into source below op e path store)
+  unary_over unary.Deref e path store ends = tt
+  unary_over op e path store ends = then_do_over (below.operand e store) _ (ends.operand store) (λ value later. put_answer_over later path _)
+
+  binary_over : (op : Option Operator) (lhs rhs : ℕ) (path : Path) (store : Store) → ((child : ℕ) → Contains (operands_of op lhs rhs) child → EndsIn below child) → IsOver (binary_into source below op lhs rhs path store)
+  binary_over (Some op) lhs rhs path store ends =
+      let left_ends = ends lhs (first_is_contained lhs (rhs ∷ [])) in
+      let right_ends = ends rhs (rest_is_contained lhs (rhs ∷ []) rhs (first_is_contained rhs [])) in
+      then_do_over (below.operand lhs store) _ (left_ends.operand store) (λ left later.
+      then_do_over (below.operand rhs later) _ (right_ends.operand later) (λ right last. put_answer_over last path _))
+  binary_over None lhs rhs path store ends = tt
+
+  statement_over : (statement : Statement) (store : Store) → ((child : ℕ) → Contains (statement_parts statement) child → EndsIn below child) → IsOver (statement_of source below statement store)
+  statement_over (statement.Let pat (Some e) None) store ends =
+      let initializer_ends = ends e.0 (first_is_contained e.0 []) in
+      then_do_over (below.place e.0 store) _ (initializer_ends.place store) (λ path later. bind_over (pattern source pat.0) path later)
+  statement_over (statement.Expr e has_semi) store ends =
+      let expression_ends = ends e.0 (first_is_contained e.0 []) in
+      then_do_over (below.place e.0 store) _ (expression_ends.place store) (λ path later. tt)
+  statement_over _ store ends = tt
+
+  statements_over : (statements : List Statement) (store : Store) → ((child : ℕ) → Contains (flat_map statement_parts statements) child → EndsIn below child) → IsOver (statements_of source below statements store)
+  unfolding statements_of
+  statements_over [] store ends = tt
+  statements_over (first ∷ rest) store ends =
+      then_do_over (statement_of source below first store) _ (statement_over first store (λ child within.
+      ends child (Contains-append_left (statement_parts first) (flat_map statement_parts rest) child within))) (λ done later.
+      statements_over rest later (λ child within.
+      ends child (Contains-append_right (statement_parts first) (flat_map statement_parts rest) child within)))
+
+  tail_over : (tail : Option ExprId) (path : Path) (store : Store) → ((child : ℕ) → Contains (optional tail) child → EndsIn below child) → IsOver (tail_into below tail path store)
+  tail_over (Some e) path store ends = let tail_ends = ends e.0 (first_is_contained e.0 []) in tail_ends.into path store
+  tail_over None path store ends = tt
+
+  into_over : (e : ℕ) (form : Option Expr) (path : Path) (store : Store) → ((child : ℕ) → Contains (parts_of form) child → EndsIn below child) → IsOver (into_of source below e form path store)
+  into_over e (Some (expr.Literal literal)) path store ends = put_if_any_over store path (literal_bytes source e literal)
+  into_over e (Some (expr.Path name)) path store ends = named_into_over (named_by source e) path store
+  into_over e (Some (expr.UnaryOp operand unary.Deref)) path store ends = tt
+  into_over e (Some (expr.UnaryOp operand unary.Neg)) path store ends = unary_over unary.Neg operand.0 path store (ends operand.0 (first_is_contained operand.0 []))
+  into_over e (Some (expr.UnaryOp operand unary.Not)) path store ends = unary_over unary.Not operand.0 path store (ends operand.0 (first_is_contained operand.0 []))
+  into_over e (Some (expr.BinaryOp lhs rhs (Some op))) path store ends = binary_over (eager_operator op) lhs.0 rhs.0 path store ends
+  into_over e (Some (expr.Block statements tail)) path store ends =
+      then_do_over (statements_of source below statements store) _ (statements_over statements store (λ child within.
+      ends child (Contains-append_left (flat_map statement_parts statements) (optional tail) child within))) (λ done later.
+      then_do_over (tail_into below tail path later) _ (tail_over tail path later (λ child within.
+      ends child (Contains-append_right (flat_map statement_parts statements) (optional tail) child within))) (λ done' last. tt))
+  into_over e _ path store ends = tt
+
+-- what a statement evaluates it holds
+statement_part_is_child : (statement : Statement) (child : ℕ) → Contains (statement_parts statement) child → Contains (statement_children statement) child
+statement_part_is_child (statement.Let pat (Some e) None) child within = within
+statement_part_is_child (statement.Let pat (Some e) (Some other)) child within = absurd (nothing_is_contained child within)
+statement_part_is_child (statement.Let pat None other) child within = absurd (nothing_is_contained child within)
+statement_part_is_child (statement.Expr e has_semi) child within = within
+
+statements_part_is_child : (statements : List Statement) (child : ℕ) → Contains (flat_map statement_parts statements) child → Contains (flat_map statement_children statements) child
+statements_part_is_child [] child within = within
+statements_part_is_child (first ∷ rest) child within =
+    ⊎_elim (λ here. Contains-append_left (statement_children first) (flat_map statement_children rest) child (statement_part_is_child first child here)) (λ there. Contains-append_right (statement_children first) (flat_map statement_children rest) child (statements_part_is_child rest child there)) (Contains-append_cases (statement_parts first) (flat_map statement_parts rest) child within)
+
+operand_is_child : (op : Option Operator) (lhs rhs child : ℕ) → Contains (operands_of op lhs rhs) child → Contains (lhs ∷ rhs ∷ []) child
+operand_is_child (Some op) lhs rhs child within = within
+operand_is_child None lhs rhs child within = absurd (nothing_is_contained child within)
+
+-- what an expression evaluates it holds
+part_is_child : (form : Expr) (child : ℕ) → Contains (parts_of (Some form)) child → Contains (children_of form) child
+part_is_child (expr.Path name) child within = within
+part_is_child (expr.Literal literal) child within = within
+part_is_child (expr.UnaryOp operand unary.Neg) child within = within
+part_is_child (expr.UnaryOp operand unary.Not) child within = within
+part_is_child (expr.UnaryOp operand unary.Deref) child within = absurd (nothing_is_contained child within)
+part_is_child (expr.BinaryOp lhs rhs (Some op)) child within = operand_is_child (eager_operator op) lhs.0 rhs.0 child within
+part_is_child (expr.BinaryOp lhs rhs None) child within = absurd (nothing_is_contained child within)
+part_is_child (expr.Block statements tail) child within =
+    ⊎_elim (λ here. Contains-append_left (flat_map statement_children statements) (optional tail) child (statements_part_is_child statements child here)) (λ there. Contains-append_right (flat_map statement_children statements) (optional tail) child there) (Contains-append_cases (flat_map statement_parts statements) (optional tail) child within)
+
+part_of_form_is_below : (source : Source) → IsCheckedBody source.body source.infer → (e child : ℕ) (form : Option Expr) → node source e ≡ form → Contains (parts_of form) child → child < e
+part_of_form_is_below source checked e child (Some form) is within = All-contains (λ other. other < e) (children_of form) child (checked.children e form is) (part_is_child form child within)
+part_of_form_is_below source checked e child None is within = absurd (nothing_is_contained child within)
+
+-- what is evaluated where an expression is has a lower number
+pub part_is_below : (source : Source) → IsCheckedBody source.body source.infer → (e child : ℕ) → Contains (parts_of (node source e)) child → child < e
+part_is_below source checked e child within = part_of_form_is_below source checked e child (node source e) refl within
 
 -- the fuel with which each expression below a number comes to an end
 pub fuel_below : ℕ → ℕ
 fuel_below zero = zero
 fuel_below (suc bound) = suc (suc (suc (fuel_below bound)))
 
-operand_over : (source : Source) (below : Level) (e : ℕ) (form : Option Expr) (store : Store) → ((later : Store) → IsOver (below.place e later)) → IsOver (operand_of source below e form store)
-operand_over source below e (Some (expr.Literal literal)) store over = literal_operand_over store (literal_bytes source e literal)
-operand_over source below e _ store over = then_do_over (below.place e store) _ (over store) (λ value later. tt)
-
-into_over : (source : Source) (below : Level) (e : ℕ) (form : Option Expr) (path : Path) (store : Store) → ((lhs rhs : _) → form ≡ Some (expr.BinaryOp lhs rhs (Some (Arithmetic Add))) → ((later : Store) → IsOver (below.operand lhs.0 later)) × ((later : Store) → IsOver (below.operand rhs.0 later))) → IsOver (into_of source below e form path store)
-into_over source below e (Some (expr.Literal literal)) path store over = put_if_any_over store path (literal_bytes source e literal)
-into_over source below e (Some (expr.BinaryOp lhs rhs (Some (Arithmetic Add)))) path store over =
-    let both = over lhs rhs refl in
-    then_do_over (below.operand lhs.0 store) _ (both.0 store) (λ left later.
-    then_do_over (below.operand rhs.0 later) _ (both.1 later) (λ right last.
-    put_answer_over last path (computed (of_arith Add) (node_kind source lhs.0) (node_kind source rhs.0) (operand_bytes last left) (operand_bytes last right))))
-into_over source below e _ path store over = tt
-
--- the operands of a sum have lower numbers
-pub left_is_below : (source : Source) → IsCheckedBody source.body source.infer → (e : ℕ) (lhs rhs : _) → node source e ≡ Some (expr.BinaryOp lhs rhs (Some (Arithmetic Add))) → lhs.0 < e
-left_is_below source checked e lhs rhs is = All-head (λ child. child < e) lhs.0 (rhs.0 ∷ []) (checked.children e _ is)
-
-pub right_is_below : (source : Source) → IsCheckedBody source.body source.infer → (e : ℕ) (lhs rhs : _) → node source e ≡ Some (expr.BinaryOp lhs rhs (Some (Arithmetic Add))) → rhs.0 < e
-right_is_below source checked e lhs rhs is = All-head (λ child. child < e) rhs.0 [] (All-tail (λ child. child < e) lhs.0 (rhs.0 ∷ []) (checked.children e _ is))
-
 -- an expression comes to an end with enough fuel, whatever path and store it is evaluated at
-pub into_ends : (source : Source) → IsCheckedBody source.body source.infer → (bound e : ℕ) → e < bound → (path : Path) (store : Store) → IsOver ((level_at source (fuel_below bound)).into e path store)
+pub into_ends : (source : Source) → IsCheckedBody source.body source.infer → (bound e fuel : ℕ) → e < bound → fuel_below bound ≤ fuel → (path : Path) (store : Store) → IsOver ((level_at source fuel).into e path store)
 unfolding level_at fuel_below
-into_ends source checked zero e lt path store = absurd (omega arith)
-into_ends source checked (suc bound) e lt path store =
-    let below = level_at source (fuel_below bound) in
-    let operand = λ (child : ℕ) (less : child < bound) (later : Store).
-    operand_over source (level_above source below) child (node source child) later (λ last.
-    then_do_over (below.into child _ last) _ (into_ends source checked bound child less _ last) (λ value final. tt)) in
-    into_over source (level_above source (level_above source below)) e (node source e) path store (λ lhs rhs is.
-    (operand lhs.0 (lt_of_two lhs.0 e bound (left_is_below source checked e lhs rhs is) lt), operand rhs.0 (lt_of_two rhs.0 e bound (right_is_below source checked e lhs rhs is) lt)))
-  where
-    lt_of_two : (a b c : ℕ) → a < b → b < suc c → a < c
-    lt_of_two a b c = omega arith
+into_ends source checked zero e fuel less enough path store = absurd (omega arith)
+into_ends source checked (suc bound) e zero less enough path store = absurd (omega arith)
+into_ends source checked (suc bound) e (suc zero) less enough path store = absurd (omega arith)
+into_ends source checked (suc bound) e (suc (suc zero)) less enough path store = absurd (omega arith)
+into_ends source checked (suc bound) e (suc (suc (suc fuel))) less enough path store =
+    into_over source (level_at source (suc (suc fuel))) e (node source e) path store (λ child within.
+    let below = part_is_below source checked e child within in record {
+      place = λ later. place_over source (level_at source (suc fuel)) child (node source child) later (into_ends source checked bound child (suc fuel) (omega arith) (omega arith));
+      operand = λ later. operand_over source (level_at source (suc fuel)) child (node source child) later (λ last.
+          place_over source (level_at source fuel) child (node source child) last (into_ends source checked bound child fuel (omega arith) (omega arith)));
+      into = into_ends source checked bound child (suc (suc fuel)) (omega arith) (omega arith);
+    })
 
 pub bodies_end : (source : Source) → IsCheckedBody source.body source.infer → (fuel : ℕ) × IsOver (meaning_of source fuel)
 unfolding meaning_of
 bodies_end source checked =
     let fuel = fuel_below (suc (root source)) in
-    (fuel, over_after _ _ (then_do_over ((level_at source fuel).into (root source) _ _) _ (into_ends source checked (suc (root source)) (root source) (omega arith) _ _) (λ value store. tt)))
+    (fuel, over_after _ _ (then_do_over ((level_at source fuel).into (root source) _ _) _ (into_ends source checked (suc (root source)) (root source) fuel (omega arith) (omega arith) _ _) (λ value store. tt)))

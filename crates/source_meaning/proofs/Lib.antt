@@ -1,3 +1,4 @@
 pub mod Depth
 pub mod Fuel
+mod Operators
 pub mod Sizes

@@ -1,18 +1,28 @@
 -- A plain body of a checked world is never stuck: each value has the size of its type.
-use Rattle.std.proofs.Common.{◌≡◌, ◌≢◌, ℕ, zero, suc, Bool, true, false, cond, if◌then◌else◌, ◌==◌, ◌&&◌, List, length, Option, Some, unwrap_or, option_map, option_and_then, ℤ, pos, refl, sym, ap, ◌∙◌, subst, eqb-true, eq-eqb, is_eq}
+use Rattle.std.specs.Prelude.{All, flat_map, Contains}
+use Rattle.std.proofs.Common.{◌≡◌, ◌≢◌, ℕ, zero, suc, Bool, true, false, cond, if◌then◌else◌, ◌==◌, List, [], ◌∷◌, length, Option, Some, None, unwrap_or, option_map, option_and_then, ℤ, pos, refl, sym, ap, ◌∙◌, subst, eqb-true, eq-eqb, is_eq}
 use Rattle.std.specs.BTreeMap.{is_at}
 use Rattle.std.proofs.lemmas.Bool.{false≢true}
 use Rattle.std.proofs.lemmas.List.{length-replicate}
+use Rattle.std.proofs.lemmas.List.Elements.{All-head, All-tail, Contains-append_left, Contains-append_right}
 use Rattle.std.proofs.lemmas.Map.Entries.{place_from_lookup}
 use Rattle.world.specs.contracts.ty.TyOrd.TheImpl as TyOrd
 use Rattle.world.specs.contracts.ty.TyOrd.TheImpl.Laws.{is as compared_is, unfolded}
-use Rattle.world.specs.declared.body.ArithOp.TheVariants.{Add}
-use Rattle.world.specs.declared.body.BinaryOp.TheVariants.{ArithOp as Arithmetic}
+use Rattle.world.specs.declared.body.ArithOp.{ArithOp}
+use Rattle.world.specs.declared.body.ArithOp.TheVariants as arith
+use Rattle.world.specs.declared.body.BinaryOp.{BinaryOp}
+use Rattle.world.specs.declared.body.BinaryOp.TheVariants as binary
+use Rattle.world.specs.declared.body.CmpOp.{CmpOp}
 use Rattle.world.specs.declared.body.Expr.{Expr}
 use Rattle.world.specs.declared.body.Expr.TheVariants as expr
 use Rattle.world.specs.declared.body.Literal.{Literal}
-use Rattle.world.specs.declared.body.Literal.TheVariants.{Int, Uint}
+use Rattle.world.specs.declared.body.Literal.TheVariants as literal
+use Rattle.world.specs.declared.body.Statement.{Statement}
+use Rattle.world.specs.declared.body.Statement.TheVariants as statement
+use Rattle.world.specs.declared.body.UnaryOp.{UnaryOp}
+use Rattle.world.specs.declared.body.UnaryOp.TheVariants as unary
 use Rattle.world.specs.declared.database.HirDatabase.{HirDatabase}
+use Rattle.world.specs.declared.ids.ExprId.{ExprId}
 use Rattle.world.specs.declared.layout.Layout.{Layout}
 use Rattle.world.specs.declared.ty.IntTy.{IntTy}
 use Rattle.world.specs.declared.ty.IntTy.TheVariants as int
@@ -21,21 +31,25 @@ use Rattle.world.specs.declared.ty.UintTy.TheVariants as uint
 use Rattle.world.specs.declared.ty.Ty as ty_rows
 use Rattle.world.specs.declared.ty.Ty.{Ty, Bool as BoolTy, Int as IntType, Uint as UintType, Tuple'}
 use Rattle.world.specs.Lookups.{layout_of}
-use Rattle.world_check.specs.Checked.{IsChecked, IsCheckedBody, IsCheckedLayout, int_bytes, uint_bytes}
-use Rattle.numbers.specs.Bytes.{low_digits, low_bytes, residue, holds, is_width}
-use Rattle.numbers.specs.Operators.{Answer, Computes, Panics, Undefined, computed, combined, on_integers, kept, is_shift, of_arith, kind_of}
-use Rattle.numbers.specs.declared.operator.Operator.TheVariants.{Add as AddOperator}
-use Rattle.source_meaning.specs.Ends.{Cost, End, Go, Panic, Stuck, More, after, then_do}
-use Rattle.source_meaning.specs.Meaning.{Level, literal_number, literal_bytes, put, put_if_any, put_answer, node_kind, literal_operand, no_fuel, place_of, operand_of, into_of, level_above, level_at, meaning_of}
-use Rattle.source_meaning.specs.Source.{Source, Store, Path, Cell, Result, Node, Operand, Literally, At, same_cell, cell_node, zeroed, with_cell_bytes, node, node_type, node_layout, root, operand_bytes}
-use Rattle.source_meaning.specs.Valid.{Evaluates, itself, left as within_left, right as within_right, IsInteger, IsNumberLiteral, HasPlainForm, IsPlainNode, IsPlain, HasSizedLayout, HasDefinedCost}
+use Rattle.world_check.specs.Checked.{IsChecked, IsCheckedBody, IsCheckedLayout, optional, int_bytes, uint_bytes}
+use Rattle.numbers.specs.Bytes.{low_bytes, is_width}
+use Rattle.numbers.specs.declared.operator.Operator.{Operator}
+use Rattle.numbers.specs.Operators.{Answer, Computes, Panics, Undefined, computed, is_shift, is_comparison, is_on_booleans, of_arith, of_compare, kind_of}
+use Rattle.numbers.proofs.Digits.{length-low_bytes}
+use Rattle.source_meaning.specs.Ends.{Cost, no_cost, End, Go, Panic, Stuck, More, after, then_do}
+use Rattle.source_meaning.specs.Meaning.{Level, truth_byte, literal_bytes, put, put_if_any, put_answer, operand_kind, literal_operand, named_place, named_into, computed_of_one, unary_into, eager_operator, binary_into, bind, statement_of, statements_of, tail_into, no_fuel, place_of, operand_of, into_of, level_above, level_at, meaning_of}
+use Rattle.source_meaning.specs.Source.{Source, Store, Path, Cell, Result, Node, Binding, Operand, Literally, At, same_cell, zeroed, with_cell_bytes, node, node_type, node_layout, pattern, root, cell_type, cell_size, operand_bytes, operand_type}
+use Rattle.source_meaning.specs.Valid.{Evaluates, itself, part, statement_parts, operands_of, parts_of, IsInteger, IsScalar, IsBool, IsPlainLiteral, IsPlainUnary, AreOf, AreIntegers, AreScalars, AreShifted, AreCompared, IsPlainArithmetic, IsPlainBinary, IsPlainLet, IsPlainStatement, IsPlainTail, HasPlainForm, IsPlainNode, IsPlain, IsLaidOut, AreLaidOut}
+use Rattle.source_meaning.proofs.Fuel.{first_is_contained, rest_is_contained}
+use Rattle.source_meaning.proofs.Operators.{Fits, IsLengthOf, IsAllowed, allowed_on_integer, allowed_on_scalar, comparison_is, unshifted_fits, compared_fits, shift_fits, unary_fits}
 
--- how many bytes the values of an expression have, and those of a cell
+-- how many bytes the values of a type have
+abbrev pub size_at : Source → Option Ty → ℕ
+size_at source ty = unwrap_or (option_map (λ layout. layout.size) (option_and_then (layout_of source.world) ty)) 0
+
+-- how many bytes the values of an expression have
 abbrev pub size_of : Source → ℕ → ℕ
-size_of source e = unwrap_or (option_map (λ layout. layout.size) (node_layout source e)) 0
-
-abbrev pub cell_size : Source → Cell → ℕ
-cell_size source cell = size_of source (cell_node source cell)
+size_of source e = size_at source (node_type source e)
 
 -- each cell holds as many bytes as its type has
 pub record IsSized (source : Source) (store : Store) : Type 0 where
@@ -47,8 +61,13 @@ zeroed_is_sized source = record { holds_all = λ cell. length-replicate (cell_si
 pub same_cell_from_test : (cell other : Cell) → same_cell cell other ≡ true → cell ≡ other
 same_cell_from_test Result Result is = refl
 same_cell_from_test Result (Node f) is = absurd (false≢true is)
+same_cell_from_test Result (Binding c) is = absurd (false≢true is)
 same_cell_from_test (Node e) Result is = absurd (false≢true is)
 same_cell_from_test (Node e) (Node f) is = ap Node (eqb-true e f is)
+same_cell_from_test (Node e) (Binding c) is = absurd (false≢true is)
+same_cell_from_test (Binding b) Result is = absurd (false≢true is)
+same_cell_from_test (Binding b) (Node f) is = absurd (false≢true is)
+same_cell_from_test (Binding b) (Binding c) is = ap Binding (eqb-true b c is)
 
 written_is_sized : (source : Source) (store : Store) (cell other : Cell) (bytes : List ℕ) (test : Bool) → IsSized source store → length bytes ≡ cell_size source cell → same_cell cell other ≡ test → length (cond test bytes (store other)) ≡ cell_size source other
 written_is_sized source store cell other bytes true sized fits is = fits ∙ ap (cell_size source) (same_cell_from_test cell other is)
@@ -90,53 +109,12 @@ unfolding put
 put_is_sound source store path bytes sized fits =
     either_is_sound source (length bytes == length (store path.cell)) _ Stuck (eq-eqb _ _ (fits ∙ sym (sized.holds_all path.cell))) (with_bytes_is_sized source store path.cell bytes sized fits, tt)
 
--- what an operator makes that has a meaning, and so many bytes
-abbrev Fits : ℕ → Answer → Type 0
-Fits size (Computes bytes) = length bytes ≡ size
-Fits size (Panics word) = Unit {0}
-Fits size Undefined = ⊥
-
 put_answer_is_sound : (source : Source) (store : Store) (path : Path) (answer : Answer) → IsSized source store → Fits (cell_size source path.cell) answer → IsSound source Nothing (put_answer store path answer)
 put_answer_is_sound source store path (Computes bytes) sized fits = put_is_sound source store path bytes sized fits
 put_answer_is_sound source store path (Panics word) sized fits = tt
 put_answer_is_sound source store path Undefined sized fits = fits
 
-length-digits : (size n : ℕ) → length (low_digits size n) ≡ size
-unfolding low_digits
-length-digits zero n = refl
-length-digits (suc size) n = ap suc (length-digits size _)
-
-length-low : (size : ℕ) (z : ℤ) → length (low_bytes size z) ≡ size
-unfolding low_bytes
-length-low size z = length-digits size (residue size z)
-
-either_fits : (size : ℕ) (test : Bool) (one other : Answer) → Fits size one → Fits size other → Fits size (if test then one else other)
-either_fits size true one other fits fits' = fits
-either_fits size false one other fits fits' = fits'
-
-where_true_fits : (size : ℕ) (test : Bool) (one other : Answer) → test ≡ true → Fits size one → Fits size (if test then one else other)
-where_true_fits size true one other is fits = fits
-where_true_fits size false one other is fits = absurd (false≢true is)
-
-added_fits : (signed : Bool) (left right : List ℕ) → Fits (length left) (on_integers AddOperator signed left right)
-unfolding on_integers kept
-added_fits signed left right = either_fits (length left) (holds signed (length left) _) (Computes _) (Panics _) (length-low (length left) _) tt
-
-both_hold : (one other : Bool) → one ≡ true → other ≡ true → (one && other) ≡ true
-both_hold true other is is' = is'
-both_hold false other is is' = is
-
--- the sum of two integers of one type and a width that integers have
-sum_fits : (ty : Ty) (left right : List ℕ) → IsInteger ty → is_width (length left) ≡ true → length left ≡ length right → Fits (length left) (computed (of_arith Add) (kind_of ty) (kind_of ty) left right)
-unfolding computed of_arith is_shift combined kind_of
-sum_fits BoolTy left right integer width same = absurd integer
-sum_fits (IntType ty) left right integer width same =
-    where_true_fits (length left) (is_width (length left) && (length left == length right)) _ Undefined (both_hold _ _ width (eq-eqb _ _ same)) (added_fits true left right)
-sum_fits (UintType ty) left right integer width same =
-    where_true_fits (length left) (is_width (length left) && (length left == length right)) _ Undefined (both_hold _ _ width (eq-eqb _ _ same)) (added_fits false left right)
-sum_fits (Tuple' _ _) left right integer width same = absurd integer
-
--- The layouts of integer types, in a checked world.
+-- The layouts of integer types and of `bool`, in a checked world.
 
 -- what compares as equal to an integer type is an integer type
 unfolded_is_integer : (ty other : Ty) → IsInteger ty → is_eq (unfolded ty other) ≡ true → IsInteger other
@@ -182,29 +160,78 @@ integer_is_width world ty layout checked integer found =
     let place = place_from_lookup (is_at (TyOrd.ghosts.cmp ty)) world.layouts layout found in
     checked_is_width place.1 layout (checked.layouts place.0 (place.1, layout) place.2) (equal_is_integer ty place.1 integer place.3)
 
--- an expression all of whose parts are plain, and have sizes
+-- what compares as equal to `bool` is `bool`
+unfolded_is_bool : (other : Ty) → is_eq (unfolded BoolTy other) ≡ true → IsBool other
+unfolding ty_rows.out-Ty denote.Hole.Carrier.out
+unfolded_is_bool BoolTy equal = tt
+unfolded_is_bool (IntType ty) equal = absurd (false≢true equal)
+unfolded_is_bool (UintType ty) equal = absurd (false≢true equal)
+unfolded_is_bool (Tuple' _ _) equal = absurd (false≢true equal)
+
+checked_is_one : (ty : Ty) (layout : Layout) → IsCheckedLayout ty layout → IsBool ty → layout.size ≡ 1
+checked_is_one BoolTy layout checked is_bool = checked.size
+checked_is_one (IntType ty) layout checked is_bool = absurd is_bool
+checked_is_one (UintType ty) layout checked is_bool = absurd is_bool
+checked_is_one (Tuple' _ _) layout checked is_bool = absurd is_bool
+
+pub bool_is_one : (world : HirDatabase) (layout : Layout) → IsChecked world → layout_of world BoolTy ≡ Some layout → layout.size ≡ 1
+bool_is_one world layout checked found =
+    let place = place_from_lookup (is_at (TyOrd.ghosts.cmp BoolTy)) world.layouts layout found in
+    checked_is_one place.1 layout (checked.layouts place.0 (place.1, layout) place.2) (unfolded_is_bool place.1 (ap is_eq (sym (compared_is BoolTy place.1)) ∙ place.3))
+
+scalar_has_length : (world : HirDatabase) (ty : Ty) (layout : Layout) → IsChecked world → IsScalar ty → layout_of world ty ≡ Some layout → IsLengthOf ty layout.size
+scalar_has_length world BoolTy layout checked scalar found = bool_is_one world layout checked found
+scalar_has_length world (IntType ty) layout checked scalar found = integer_is_width world (IntType ty) layout checked tt found
+scalar_has_length world (UintType ty) layout checked scalar found = integer_is_width world (UintType ty) layout checked tt found
+scalar_has_length world (Tuple' _ _) layout checked scalar found = absurd scalar
+
+integer_is_scalar : (ty : Ty) → IsInteger ty → IsScalar ty
+integer_is_scalar BoolTy integer = absurd integer
+integer_is_scalar (IntType ty) integer = tt
+integer_is_scalar (UintType ty) integer = tt
+integer_is_scalar (Tuple' _ _) integer = absurd integer
+
+bool_is_scalar : (ty : Ty) → IsBool ty → IsScalar ty
+bool_is_scalar BoolTy is_bool = tt
+bool_is_scalar (IntType ty) is_bool = tt
+bool_is_scalar (UintType ty) is_bool = tt
+bool_is_scalar (Tuple' _ _) is_bool = absurd is_bool
+
+plain_unary_is_scalar : (op : UnaryOp) (ty : Ty) → IsPlainUnary op ty → IsScalar ty
+plain_unary_is_scalar unary.Neg ty plain = integer_is_scalar ty plain
+plain_unary_is_scalar unary.Not ty plain = plain
+plain_unary_is_scalar unary.Deref ty plain = absurd plain
+
+bool_length_is_one : (ty : Ty) (size : ℕ) → IsBool ty → IsLengthOf ty size → size ≡ 1
+bool_length_is_one BoolTy size is_bool long = long
+bool_length_is_one (IntType ty) size is_bool long = absurd is_bool
+bool_length_is_one (UintType ty) size is_bool long = absurd is_bool
+bool_length_is_one (Tuple' _ _) size is_bool long = absurd is_bool
+
+-- an expression all of whose parts are plain, and have layouts
 pub record IsFine (source : Source) (e : ℕ) : Type 0 where
   pub plain : (f : ℕ) → Evaluates source e f → IsPlainNode source f
-  pub sized : (f : ℕ) → Evaluates source e f → HasSizedLayout source f
+  pub laid_out : (f : ℕ) → Evaluates source e f → IsLaidOut source (node_type source f)
 
 module _ (source : Source) (checked : IsChecked source.world) where
-  left_is_fine : (e : ℕ) (lhs rhs : _) → node source e ≡ Some (expr.BinaryOp lhs rhs (Some (Arithmetic Add))) → IsFine source e → IsFine source lhs.0
-  left_is_fine e lhs rhs is fine = record { plain = λ f part. fine.plain f (within_left is part); sized = λ f part. fine.sized f (within_left is part) }
+  part_is_fine : (e child : ℕ) → Contains (parts_of (node source e)) child → IsFine source e → IsFine source child
+  part_is_fine e child within fine = record { plain = λ f rest. fine.plain f (part within rest); laid_out = λ f rest. fine.laid_out f (part within rest) }
 
-  right_is_fine : (e : ℕ) (lhs rhs : _) → node source e ≡ Some (expr.BinaryOp lhs rhs (Some (Arithmetic Add))) → IsFine source e → IsFine source rhs.0
-  right_is_fine e lhs rhs is fine = record { plain = λ f part. fine.plain f (within_right is part); sized = λ f part. fine.sized f (within_right is part) }
-
-  -- a path to a cell of an expression's size, and an operand with as many bytes
+  -- a path to a cell of an expression's type, and an operand of that type with as many bytes
   abbrev PathFits : ℕ → Path → Type 0
-  PathFits e path = cell_size source path.cell ≡ size_of source e
+  PathFits e path = cell_type source path.cell ≡ node_type source e
 
   abbrev OperandFits : ℕ → Operand → Type 0
-  OperandFits e (Literally bytes) = length bytes ≡ size_of source e
+  OperandFits e (Literally ty bytes) = (length bytes ≡ size_of source e) × (Some ty ≡ node_type source e)
   OperandFits e (At path) = PathFits e path
 
   operand_has_size : (e : ℕ) (operand : Operand) (store : Store) → IsSized source store → OperandFits e operand → length (operand_bytes store operand) ≡ size_of source e
-  operand_has_size e (Literally bytes) store sized fits = fits
-  operand_has_size e (At path) store sized fits = sized.holds_all path.cell ∙ fits
+  operand_has_size e (Literally ty bytes) store sized fits = fits.0
+  operand_has_size e (At path) store sized fits = sized.holds_all path.cell ∙ ap (size_at source) fits
+
+  operand_has_type : (e : ℕ) (operand : Operand) → OperandFits e operand → operand_type source operand ≡ node_type source e
+  operand_has_type e (Literally ty bytes) fits = fits.1
+  operand_has_type e (At path) fits = fits
 
   record IsSoundLevel (level : Level) : Type 0 where
     place : (e : ℕ) (store : Store) → IsFine source e → IsSized source store → IsSound source (PathFits e) (level.place e store)
@@ -214,73 +241,224 @@ module _ (source : Source) (checked : IsChecked source.world) where
   no_fuel_is_sound : IsSoundLevel no_fuel
   no_fuel_is_sound = record { place = λ e store fine sized. tt; operand = λ e store fine sized. tt; into = λ e path store fine sized fits. tt }
 
+  -- the values of a scalar type have a length that it may have
+  scalar_size : (e : ℕ) (ty : Ty) → IsFine source e → node_type source e ≡ Some ty → IsScalar ty → IsLengthOf ty (size_at source (Some ty))
+  scalar_size e ty fine is scalar =
+      let laid = fine.laid_out e itself in
+      let found : layout_of source.world ty ≡ Some laid.layout = ap (option_and_then (layout_of source.world)) (sym is) ∙ laid.found in
+      let size : size_at source (Some ty) ≡ laid.layout.size = ap (λ given. unwrap_or (option_map (λ layout. layout.size) given) 0) found in
+      subst (IsLengthOf ty) (sym size) (scalar_has_length source.world ty laid.layout checked scalar found)
+
   -- a number literal has the bytes of its type
-  number_has_bytes : (e : ℕ) (literal : Literal) (layout : Layout) (number : Option ℤ) → literal_number literal ≡ number → IsNumberLiteral literal → node_layout source e ≡ Some layout → (z : ℤ) × (literal_bytes source e literal ≡ Some (low_bytes layout.size z))
+  number_has_bytes : (e : ℕ) (z : ℤ) → IsFine source e → (bytes : List ℕ) × (option_map (λ layout. low_bytes layout.size z) (node_layout source e) ≡ Some bytes) × (length bytes ≡ size_of source e)
+  number_has_bytes e z fine =
+      let laid = fine.laid_out e itself in
+      let size : size_of source e ≡ laid.layout.size = ap (λ given. unwrap_or (option_map (λ layout. layout.size) given) 0) laid.found in
+      (low_bytes laid.layout.size z, ap (option_map (λ layout. low_bytes layout.size z)) laid.found, length-low_bytes laid.layout.size z ∙ sym size)
+
+  literal_has_size : (e : ℕ) (given : Literal) (ty : Ty) → IsFine source e → node_type source e ≡ Some ty → IsPlainLiteral given ty → (bytes : List ℕ) × (literal_bytes source e given ≡ Some bytes) × (length bytes ≡ size_of source e)
   unfolding literal_bytes
-  number_has_bytes e (Int number suffix) layout _ is given found = (number, ap (option_map (λ l. low_bytes l.size number)) found)
-  number_has_bytes e (Uint number suffix) layout _ is given found = (pos number, ap (option_map (λ l. low_bytes l.size (pos number))) found)
-  number_has_bytes e _ layout _ is given found = absurd given
+  literal_has_size e (literal.Bool test) ty fine is plain =
+      (truth_byte test ∷ [], refl, sym (ap (size_at source) is ∙ bool_length_is_one ty (size_at source (Some ty)) plain (scalar_size e ty fine is (bool_is_scalar ty plain))))
+  literal_has_size e (literal.Int number suffix) ty fine is plain = number_has_bytes e number fine
+  literal_has_size e (literal.Uint number suffix) ty fine is plain = number_has_bytes e (pos number) fine
 
-  size_from_layout : (e : ℕ) (layout : Layout) → node_layout source e ≡ Some layout → size_of source e ≡ layout.size
-  size_from_layout e layout found = ap (λ l. unwrap_or (option_map (λ m. m.size) l) 0) found
-
-  literal_has_size : (e : ℕ) (literal : Literal) → node source e ≡ Some (expr.Literal literal) → IsFine source e → (bytes : List ℕ) × (literal_bytes source e literal ≡ Some bytes) × (length bytes ≡ size_of source e)
-  literal_has_size e literal is fine =
-      let plain = fine.plain e itself in
-      let layout = fine.sized e itself in
-      let form = subst (λ form. HasPlainForm source form plain.ty) is plain.form in
-      let bytes = number_has_bytes e literal layout.layout _ refl form.0 layout.found in
-      (low_bytes layout.layout.size bytes.0, bytes.1, length-low layout.layout.size bytes.0 ∙ sym (size_from_layout e layout.layout layout.found))
-
-  literal_operand_is_sound : (e : ℕ) (store : Store) (given : Option (List ℕ)) (bytes : List ℕ) → IsSized source store → given ≡ Some bytes → length bytes ≡ size_of source e → IsSound source (OperandFits e) (literal_operand store given)
-  literal_operand_is_sound e store given bytes sized is fits = subst (λ g. IsSound source (OperandFits e) (literal_operand store g)) (sym is) (sized, fits)
+  literal_operand_is_sound : (e : ℕ) (ty : Ty) (store : Store) (given : Option (List ℕ)) (bytes : List ℕ) → IsSized source store → node_type source e ≡ Some ty → given ≡ Some bytes → length bytes ≡ size_of source e → IsSound source (OperandFits e) (literal_operand source e store given)
+  literal_operand_is_sound e ty store given bytes sized is is' fits =
+      subst (λ g. IsSound source (OperandFits e) (literal_operand source e store g)) (sym is')
+      (subst (λ t. IsSound source (OperandFits e) (elim t [ Some found ↦ Go (Literally found bytes) store no_cost | None ↦ Stuck ])) (sym is) (sized, (fits, sym is)))
 
   put_literal_is_sound : (store : Store) (path : Path) (given : Option (List ℕ)) (bytes : List ℕ) → IsSized source store → given ≡ Some bytes → length bytes ≡ cell_size source path.cell → IsSound source Nothing (put_if_any store path given)
   put_literal_is_sound store path given bytes sized is fits = subst (λ g. IsSound source Nothing (put_if_any store path g)) (sym is) (put_is_sound source store path bytes sized fits)
 
-  -- the operands of a sum have its type, and so its layout
-  typed_as : (e f : ℕ) (ty : Ty) → node_type source e ≡ Some ty → node_type source f ≡ Some ty → size_of source f ≡ size_of source e
-  typed_as e f ty is is' = ap (λ t. unwrap_or (option_map (λ l. l.size) (option_and_then (layout_of source.world) t)) 0) (is' ∙ sym is)
+  -- what is known of an operand's value, of a scalar type
+  record IsValueOf (ty : Ty) (operand : Operand) (store : Store) : Type 0 where
+    kind : operand_kind source operand ≡ kind_of ty
+    size : length (operand_bytes store operand) ≡ size_at source (Some ty)
+    long : IsLengthOf ty (length (operand_bytes store operand))
 
-  sum_answer_fits : (e : ℕ) (lhs rhs : _) → node source e ≡ Some (expr.BinaryOp lhs rhs (Some (Arithmetic Add))) → IsFine source e → (left right : List ℕ) → length left ≡ size_of source lhs.0 → length right ≡ size_of source rhs.0 → Fits (size_of source e) (computed (of_arith Add) (node_kind source lhs.0) (node_kind source rhs.0) left right)
-  sum_answer_fits e lhs rhs is fine left right left_size right_size =
-      let plain = fine.plain e itself in
-      let layout = fine.sized e itself in
-      let form = subst (λ form. HasPlainForm source form plain.ty) is plain.form in
-      let left_fits = left_size ∙ typed_as e lhs.0 plain.ty plain.has_type form.1 in
-      let right_fits = right_size ∙ typed_as e rhs.0 plain.ty plain.has_type form.2 in
-      let found = ap (option_and_then (layout_of source.world)) (sym plain.has_type) ∙ layout.found in
-      let width = ap is_width (left_fits ∙ size_from_layout e layout.layout layout.found) ∙ integer_is_width source.world plain.ty layout.layout checked form.0 found in
-      let fits = sum_fits plain.ty left right form.0 width (left_fits ∙ sym right_fits) in
-      let fits' = subst (λ size. Fits size (computed (of_arith Add) (kind_of plain.ty) (kind_of plain.ty) left right)) left_fits fits in
-      let fits'' = subst (λ t. Fits (size_of source e) (computed (of_arith Add) (option_and_then kind_of t) (kind_of plain.ty) left right)) (sym form.1) fits' in
-      subst (λ t. Fits (size_of source e) (computed (of_arith Add) (node_kind source lhs.0) (option_and_then kind_of t) left right)) (sym form.2) fits''
+  value_of_operand : (e : ℕ) (ty : Ty) (operand : Operand) (store : Store) → IsFine source e → IsSized source store → node_type source e ≡ Some ty → IsScalar ty → OperandFits e operand → IsValueOf ty operand store
+  value_of_operand e ty operand store fine sized is scalar fits =
+      let size = operand_has_size e operand store sized fits ∙ ap (size_at source) is in record {
+        kind = ap (option_and_then kind_of) (operand_has_type e operand fits ∙ is);
+        size = size;
+        long = subst (IsLengthOf ty) (sym size) (scalar_size e ty fine is scalar);
+      }
+
+  -- two operands that are evaluated, as they lie when the operation runs
+  record AreEvaluated (lhs rhs : ℕ) (left right : Operand) (store : Store) : Type 0 where
+    left_fine : IsFine source lhs
+    right_fine : IsFine source rhs
+    sized : IsSized source store
+    left_fits : OperandFits lhs left
+    right_fits : OperandFits rhs right
+
+  -- what an operator answers has as many bytes as the values of a type
+  abbrev AnswerFits : Operator → Ty → Operand → Operand → Store → Type 0
+  AnswerFits op ty left right store = Fits (size_at source (Some ty)) (computed op (operand_kind source left) (operand_kind source right) (operand_bytes store left) (operand_bytes store right))
+
+  module _ (lhs rhs : ℕ) (left right : Operand) (store : Store) (evaluated : AreEvaluated lhs rhs left right store) where
+    left_value : (ty : Ty) → node_type source lhs ≡ Some ty → IsScalar ty → IsValueOf ty left store
+    left_value ty is scalar = value_of_operand lhs ty left store evaluated.left_fine evaluated.sized is scalar evaluated.left_fits
+
+    right_value : (ty : Ty) → node_type source rhs ≡ Some ty → IsScalar ty → IsValueOf ty right store
+    right_value ty is scalar = value_of_operand rhs ty right store evaluated.right_fine evaluated.sized is scalar evaluated.right_fits
+
+    unshifted_answer_fits : (op : Operator) (ty : Ty) → is_shift op ≡ false → is_comparison op ≡ false → IsAllowed op ty → IsScalar ty → AreOf source lhs rhs ty ty → AnswerFits op ty left right store
+    unshifted_answer_fits op ty is is' allowed scalar are =
+        let one = left_value ty are.0 scalar in
+        let other = right_value ty are.1 scalar in
+        subst (λ size. Fits size (computed op (operand_kind source left) (operand_kind source right) (operand_bytes store left) (operand_bytes store right))) one.size
+        (unshifted_fits op ty (operand_kind source left) (operand_kind source right) (operand_bytes store left) (operand_bytes store right) is is' allowed one.kind other.kind one.long (one.size ∙ sym other.size))
+
+    integers_answer_fits : (op : Operator) (ty : Ty) → is_shift op ≡ false → is_comparison op ≡ false → AreIntegers source lhs rhs ty → AnswerFits op ty left right store
+    integers_answer_fits op ty is is' are = unshifted_answer_fits op ty is is' (allowed_on_integer op ty are.0) (integer_is_scalar ty are.0) are.1
+
+    scalars_answer_fits : (op : Operator) (ty : Ty) → is_shift op ≡ false → is_comparison op ≡ false → is_on_booleans op ≡ true → AreScalars source lhs rhs ty → AnswerFits op ty left right store
+    scalars_answer_fits op ty is is' is'' are = unshifted_answer_fits op ty is is' (allowed_on_scalar op ty is'' are.0) are.0 are.1
+
+    shift_answer_fits : (op : Operator) (ty : Ty) → is_shift op ≡ true → is_comparison op ≡ false → AreShifted source lhs rhs ty → AnswerFits op ty left right store
+    shift_answer_fits op ty is is' are =
+        let one = left_value ty are.3.0 (integer_is_scalar ty are.0) in
+        let other = right_value are.1 are.3.1 (integer_is_scalar are.1 are.2) in
+        subst (λ size. Fits size (computed op (operand_kind source left) (operand_kind source right) (operand_bytes store left) (operand_bytes store right))) one.size
+        (shift_fits op ty are.1 (operand_kind source left) (operand_kind source right) (operand_bytes store left) (operand_bytes store right) is is' are.0 are.2 one.kind other.kind one.long other.long)
+
+    -- a comparison's answer has the size of the type of its expression, which is `bool`
+    compared_answer_fits : (e : ℕ) (op : CmpOp) (ty : Ty) → IsFine source e → node_type source e ≡ Some ty → AreCompared source lhs rhs ty → AnswerFits (of_compare op) ty left right store
+    compared_answer_fits e op ty fine is are =
+        let comparison = comparison_is op in
+        let one = left_value are.1 are.3.0 are.2 in
+        let other = right_value are.1 are.3.1 are.2 in
+        let single = bool_length_is_one ty (size_at source (Some ty)) are.0 (scalar_size e ty fine is (bool_is_scalar ty are.0)) in
+        subst (λ size. Fits size (computed (of_compare op) (operand_kind source left) (operand_kind source right) (operand_bytes store left) (operand_bytes store right))) (sym single)
+        (compared_fits (of_compare op) are.1 (operand_kind source left) (operand_kind source right) (operand_bytes store left) (operand_bytes store right) comparison.0 comparison.1 (allowed_on_scalar (of_compare op) are.1 comparison.2 are.2) one.kind other.kind one.long (one.size ∙ sym other.size))
+
+    arithmetic_answer_fits : (op : ArithOp) (ty : Ty) → IsPlainArithmetic source op lhs rhs ty → AnswerFits (of_arith op) ty left right store
+    unfolding of_arith is_shift is_comparison is_on_booleans
+    arithmetic_answer_fits arith.Add ty are = integers_answer_fits _ ty refl refl are
+    arithmetic_answer_fits arith.Sub ty are = integers_answer_fits _ ty refl refl are
+    arithmetic_answer_fits arith.Mul ty are = integers_answer_fits _ ty refl refl are
+    arithmetic_answer_fits arith.Div ty are = integers_answer_fits _ ty refl refl are
+    arithmetic_answer_fits arith.Rem ty are = integers_answer_fits _ ty refl refl are
+    arithmetic_answer_fits arith.Shl ty are = shift_answer_fits _ ty refl refl are
+    arithmetic_answer_fits arith.Shr ty are = shift_answer_fits _ ty refl refl are
+    arithmetic_answer_fits arith.BitXor ty are = scalars_answer_fits _ ty refl refl refl are
+    arithmetic_answer_fits arith.BitOr ty are = scalars_answer_fits _ ty refl refl refl are
+    arithmetic_answer_fits arith.BitAnd ty are = scalars_answer_fits _ ty refl refl refl are
+
+  -- the binding of a plain `let` has the initializer's type
+  bind_is_sound : (pat e : ℕ) (path : Path) (store : Store) → IsPlainLet source pat e → IsSized source store → PathFits e path → IsSound source Nothing (bind (pattern source pat) path store)
+  bind_is_sound pat e path store plain sized fits =
+      subst (λ given. IsSound source Nothing (bind given path store)) (sym plain.binds)
+      (put_is_sound source store (record { cell = Binding plain.binding.0 }) (store path.cell) sized (sized.holds_all path.cell ∙ ap (size_at source) (fits ∙ plain.initializer_has ∙ sym plain.binding_has)))
+
+  -- what the node of a fine expression is
+  form_of : (e : ℕ) (form : Option Expr) → node source e ≡ form → (fine : IsFine source e) → HasPlainForm source e form (fine.plain e itself).ty
+  form_of e form is fine = subst (λ given. HasPlainForm source e given (fine.plain e itself).ty) is (fine.plain e itself).form
+
+  parts_are_fine : (e : ℕ) (form : Option Expr) → node source e ≡ form → IsFine source e → (child : ℕ) → Contains (parts_of form) child → IsFine source child
+  parts_are_fine e form is fine child within = part_is_fine e child (subst (λ given. Contains (parts_of given) child) (sym is) within) fine
 
   module _ (below : Level) (sound : IsSoundLevel below) where
-    place_is_sound : (e : ℕ) (store : Store) → IsFine source e → IsSized source store → IsSound source (PathFits e) (place_of below e store)
-    place_is_sound e store fine sized =
-        then_do_is_sound source Nothing (PathFits e) (below.into e _ store) _ (sound.into e _ store fine sized refl) (λ done later sized' is. (sized', refl))
+    place_is_sound : (e : ℕ) (form : Option Expr) (store : Store) → node source e ≡ form → IsFine source e → IsSized source store → IsSound source (PathFits e) (place_of source below e form store)
+    place_is_sound e (Some (expr.Path name)) store is fine sized =
+        let plain = fine.plain e itself in
+        let form = form_of e _ is fine in
+        subst (λ named. IsSound source (PathFits e) (named_place named store)) (sym form.1) (sized, form.2 ∙ sym plain.has_type)
+    place_is_sound e _ store is fine sized =
+        then_do_is_sound source Nothing (PathFits e) (below.into e _ store) _ (sound.into e _ store fine sized refl) (λ done later sized' is'. (sized', refl))
 
     operand_is_sound : (e : ℕ) (form : Option Expr) (store : Store) → node source e ≡ form → IsFine source e → IsSized source store → IsSound source (OperandFits e) (operand_of source below e form store)
-    operand_is_sound e (Some (expr.Literal literal)) store is fine sized =
-        let given = literal_has_size e literal is fine in
-        literal_operand_is_sound e store (literal_bytes source e literal) given.0 sized given.1 given.2
+    operand_is_sound e (Some (expr.Literal given)) store is fine sized =
+        let plain = fine.plain e itself in
+        let bytes = literal_has_size e given plain.ty fine plain.has_type (form_of e _ is fine) in
+        literal_operand_is_sound e plain.ty store (literal_bytes source e given) bytes.0 sized plain.has_type bytes.1 bytes.2
     operand_is_sound e _ store is fine sized =
         then_do_is_sound source (PathFits e) (OperandFits e) (below.place e store) _ (sound.place e store fine sized) (λ path later sized' fits. (sized', fits))
 
+    unary_is_sound : (op : UnaryOp) (e : ℕ) (ty : Ty) (path : Path) (store : Store) → IsPlainUnary op ty → node_type source e ≡ Some ty → cell_type source path.cell ≡ Some ty → IsFine source e → IsSized source store → IsSound source Nothing (unary_into source below op e path store)
+    unary_is_sound unary.Deref e ty path store plain is fits fine sized = absurd plain
+    unary_is_sound op e ty path store plain is fits fine sized =
+        then_do_is_sound source (OperandFits e) Nothing (below.operand e store) _ (sound.operand e store fine sized) (λ operand later sized' operand_fits.
+        let value = value_of_operand e ty operand later fine sized' is (plain_unary_is_scalar op ty plain) operand_fits in
+        put_answer_is_sound source later path _ sized' (subst (λ size. Fits size (computed_of_one op (operand_kind source operand) (operand_bytes later operand))) (value.size ∙ sym (ap (size_at source) fits)) (unary_fits op ty (operand_kind source operand) (operand_bytes later operand) plain value.kind value.long)))
+
+    -- two operands and then the operation, where what it answers has the size of the path's cell
+    operation_is_sound : (op : Operator) (ty : Ty) (lhs rhs : ℕ) (path : Path) (store : Store) → cell_type source path.cell ≡ Some ty → IsFine source lhs → IsFine source rhs → IsSized source store → ((left right : Operand) (last : Store) → AreEvaluated lhs rhs left right last → AnswerFits op ty left right last) → IsSound source Nothing (binary_into source below (Some op) lhs rhs path store)
+    operation_is_sound op ty lhs rhs path store fits left_fine right_fine sized answers =
+        then_do_is_sound source (OperandFits lhs) Nothing (below.operand lhs store) _ (sound.operand lhs store left_fine sized) (λ left later sized' left_fits.
+        then_do_is_sound source (OperandFits rhs) Nothing (below.operand rhs later) _ (sound.operand rhs later right_fine sized') (λ right last sized'' right_fits.
+        let evaluated : AreEvaluated lhs rhs left right last = record { left_fine = left_fine; right_fine = right_fine; sized = sized''; left_fits = left_fits; right_fits = right_fits } in
+        put_answer_is_sound source last path _ sized'' (subst (λ size. Fits size (computed op (operand_kind source left) (operand_kind source right) (operand_bytes last left) (operand_bytes last right))) (sym (ap (size_at source) fits)) (answers left right last evaluated))))
+
+    binary_is_sound : (op : BinaryOp) (e : ℕ) (ty : Ty) (lhs rhs : ℕ) (path : Path) (store : Store) → IsPlainBinary source op lhs rhs ty → node_type source e ≡ Some ty → cell_type source path.cell ≡ Some ty → IsFine source e → ((child : ℕ) → Contains (operands_of (eager_operator op) lhs rhs) child → IsFine source child) → IsSized source store → IsSound source Nothing (binary_into source below (eager_operator op) lhs rhs path store)
+    unfolding eager_operator
+    binary_is_sound (binary.ArithOp op) e ty lhs rhs path store plain is fits fine parts sized =
+        operation_is_sound (of_arith op) ty lhs rhs path store fits (parts lhs (first_is_contained lhs (rhs ∷ []))) (parts rhs (rest_is_contained lhs (rhs ∷ []) rhs (first_is_contained rhs []))) sized (λ left right last evaluated.
+        arithmetic_answer_fits lhs rhs left right last evaluated op ty plain)
+    binary_is_sound (binary.CmpOp op) e ty lhs rhs path store plain is fits fine parts sized =
+        operation_is_sound (of_compare op) ty lhs rhs path store fits (parts lhs (first_is_contained lhs (rhs ∷ []))) (parts rhs (rest_is_contained lhs (rhs ∷ []) rhs (first_is_contained rhs []))) sized (λ left right last evaluated.
+        compared_answer_fits lhs rhs left right last evaluated e op ty fine is plain)
+    binary_is_sound (binary.LogicOp op) e ty lhs rhs path store plain is fits fine parts sized = absurd plain
+    binary_is_sound (binary.Assignment op) e ty lhs rhs path store plain is fits fine parts sized = absurd plain
+
+    statement_is_sound : (given : Statement) (store : Store) → IsPlainStatement source given → ((child : ℕ) → Contains (statement_parts given) child → IsFine source child) → IsSized source store → IsSound source Nothing (statement_of source below given store)
+    statement_is_sound (statement.Let pat (Some e) None) store plain parts sized =
+        then_do_is_sound source (PathFits e.0) Nothing (below.place e.0 store) _ (sound.place e.0 store (parts e.0 (first_is_contained e.0 [])) sized) (λ path later sized' fits. bind_is_sound pat.0 e.0 path later plain sized' fits)
+    statement_is_sound (statement.Let pat (Some e) (Some other)) store plain parts sized = absurd plain
+    statement_is_sound (statement.Let pat None other) store plain parts sized = absurd plain
+    statement_is_sound (statement.Expr e has_semi) store plain parts sized =
+        then_do_is_sound source (PathFits e.0) Nothing (below.place e.0 store) _ (sound.place e.0 store (parts e.0 (first_is_contained e.0 [])) sized) (λ path later sized' fits. (sized', tt))
+
+    statements_are_sound : (statements : List Statement) (store : Store) → All (IsPlainStatement source) statements → ((child : ℕ) → Contains (flat_map statement_parts statements) child → IsFine source child) → IsSized source store → IsSound source Nothing (statements_of source below statements store)
+    unfolding statements_of
+    statements_are_sound [] store plain parts sized = (sized, tt)
+    statements_are_sound (first ∷ rest) store plain parts sized =
+        then_do_is_sound source Nothing Nothing (statement_of source below first store) _ (statement_is_sound first store (All-head (IsPlainStatement source) first rest plain) (λ child within.
+        parts child (Contains-append_left (statement_parts first) (flat_map statement_parts rest) child within)) sized) (λ done later sized' is.
+        statements_are_sound rest later (All-tail (IsPlainStatement source) first rest plain) (λ child within.
+        parts child (Contains-append_right (statement_parts first) (flat_map statement_parts rest) child within)) sized')
+
+    tail_is_sound : (tail : Option ExprId) (ty : Ty) (path : Path) (store : Store) → IsPlainTail source tail ty → cell_type source path.cell ≡ Some ty → ((child : ℕ) → Contains (optional tail) child → IsFine source child) → IsSized source store → IsSound source Nothing (tail_into below tail path store)
+    tail_is_sound (Some e) ty path store plain fits parts sized = sound.into e.0 path store (parts e.0 (first_is_contained e.0 [])) sized (fits ∙ sym plain)
+    tail_is_sound None ty path store plain fits parts sized = (sized, tt)
+
     into_is_sound : (e : ℕ) (form : Option Expr) (path : Path) (store : Store) → node source e ≡ form → IsFine source e → IsSized source store → PathFits e path → IsSound source Nothing (into_of source below e form path store)
-    into_is_sound e (Some (expr.Literal literal)) path store is fine sized fits =
-        let given = literal_has_size e literal is fine in
-        put_literal_is_sound store path (literal_bytes source e literal) given.0 sized given.1 (given.2 ∙ sym fits)
-    into_is_sound e (Some (expr.BinaryOp lhs rhs (Some (Arithmetic Add)))) path store is fine sized fits =
-        then_do_is_sound source (OperandFits lhs.0) Nothing (below.operand lhs.0 store) _ (sound.operand lhs.0 store (left_is_fine e lhs rhs is fine) sized) (λ left later sized' left_fits.
-        then_do_is_sound source (OperandFits rhs.0) Nothing (below.operand rhs.0 later) _ (sound.operand rhs.0 later (right_is_fine e lhs rhs is fine) sized') (λ right last sized'' right_fits.
-        put_answer_is_sound source last path _ sized'' (subst (λ size. Fits size (computed (of_arith Add) (node_kind source lhs.0) (node_kind source rhs.0) (operand_bytes last left) (operand_bytes last right))) (sym fits) (sum_answer_fits e lhs rhs is fine (operand_bytes last left) (operand_bytes last right) (operand_has_size lhs.0 left last sized'' left_fits) (operand_has_size rhs.0 right last sized'' right_fits)))))
-    into_is_sound e form path store is fine sized fits = absurd (subst (λ form. HasPlainForm source form (fine.plain e itself).ty) is (fine.plain e itself).form)
+    into_is_sound e (Some (expr.Literal given)) path store is fine sized fits =
+        let plain = fine.plain e itself in
+        let bytes = literal_has_size e given plain.ty fine plain.has_type (form_of e _ is fine) in
+        put_literal_is_sound store path (literal_bytes source e given) bytes.0 sized bytes.1 (bytes.2 ∙ ap (size_at source) (sym fits))
+    into_is_sound e (Some (expr.Path name)) path store is fine sized fits =
+        let plain = fine.plain e itself in
+        let form = form_of e _ is fine in
+        subst (λ named. IsSound source Nothing (named_into named path store)) (sym form.1)
+        (put_is_sound source store path (store (Binding form.0.0)) sized (sized.holds_all (Binding form.0.0) ∙ ap (size_at source) (form.2 ∙ sym plain.has_type ∙ sym fits)))
+    into_is_sound e (Some (expr.UnaryOp operand unary.Deref)) path store is fine sized fits = absurd (form_of e _ is fine).0
+    into_is_sound e (Some (expr.UnaryOp operand unary.Neg)) path store is fine sized fits =
+        let plain = fine.plain e itself in
+        let form = form_of e _ is fine in
+        unary_is_sound unary.Neg operand.0 plain.ty path store form.0 form.1 (fits ∙ plain.has_type) (parts_are_fine e _ is fine operand.0 (first_is_contained operand.0 [])) sized
+    into_is_sound e (Some (expr.UnaryOp operand unary.Not)) path store is fine sized fits =
+        let plain = fine.plain e itself in
+        let form = form_of e _ is fine in
+        unary_is_sound unary.Not operand.0 plain.ty path store form.0 form.1 (fits ∙ plain.has_type) (parts_are_fine e _ is fine operand.0 (first_is_contained operand.0 [])) sized
+    into_is_sound e (Some (expr.BinaryOp lhs rhs (Some op))) path store is fine sized fits =
+        let plain = fine.plain e itself in
+        binary_is_sound op e plain.ty lhs.0 rhs.0 path store (form_of e _ is fine) plain.has_type (fits ∙ plain.has_type) fine (parts_are_fine e _ is fine) sized
+    into_is_sound e (Some (expr.BinaryOp lhs rhs None)) path store is fine sized fits = absurd (form_of e _ is fine)
+    into_is_sound e (Some (expr.Block statements tail)) path store is fine sized fits =
+        let plain = fine.plain e itself in
+        let form = form_of e _ is fine in
+        then_do_is_sound source Nothing Nothing (statements_of source below statements store) _ (statements_are_sound statements store form.0 (λ child within.
+        parts_are_fine e _ is fine child (Contains-append_left (flat_map statement_parts statements) (optional tail) child within)) sized) (λ done later sized' is'.
+        then_do_is_sound source Nothing Nothing (tail_into below tail path later) _ (tail_is_sound tail plain.ty path later form.1 (fits ∙ plain.has_type) (λ child within.
+        parts_are_fine e _ is fine child (Contains-append_right (flat_map statement_parts statements) (optional tail) child within)) sized') (λ done' last sized'' is''. (sized'', tt)))
+    into_is_sound e None path store is fine sized fits = absurd (form_of e _ is fine)
 
     above_is_sound : IsSoundLevel (level_above source below)
     above_is_sound = record {
-      place = place_is_sound;
+      place = λ e store fine sized. place_is_sound e (node source e) store refl fine sized;
       operand = λ e store fine sized. operand_is_sound e (node source e) store refl fine sized;
       into = λ e path store fine sized fits. into_is_sound e (node source e) path store refl fine sized fits;
     }
@@ -290,18 +468,10 @@ module _ (source : Source) (checked : IsChecked source.world) where
   level_is_sound zero = no_fuel_is_sound
   level_is_sound (suc fuel) = above_is_sound (level_at source fuel) (level_is_sound fuel)
 
--- so many bytes as the body's type has
-abbrev pub ResultFits : Source → List ℕ → Type 0
-ResultFits source bytes = length bytes ≡ size_of source (root source)
-
-pub meaning_is_sound : (source : Source) (fuel : ℕ) → IsChecked source.world → IsPlain source → HasDefinedCost source → IsSound source (ResultFits source) (meaning_of source fuel)
+meaning_is_sound : (source : Source) (fuel : ℕ) → IsChecked source.world → IsPlain source → AreLaidOut source → IsSound source (λ bytes. Unit {0}) (meaning_of source fuel)
 unfolding meaning_of
-meaning_is_sound source fuel checked plain sized =
-    after_is_sound source (ResultFits source) _ _ (then_do_is_sound source Nothing (ResultFits source) ((level_at source fuel).into (root source) _ _) _ ((level_is_sound source checked fuel).into (root source) _ _ (record { plain = plain; sized = sized }) (zeroed_is_sized source) refl) (λ done store sized' is. (sized', sized'.holds_all Result)))
+meaning_is_sound source fuel checked plain laid_out =
+    after_is_sound source (λ bytes. Unit {0}) _ _ (then_do_is_sound source Nothing (λ bytes. Unit {0}) ((level_at source fuel).into (root source) _ _) _ ((level_is_sound source checked fuel).into (root source) _ _ (record { plain = plain; laid_out = laid_out.nodes }) (zeroed_is_sized source) refl) (λ done store sized is. (sized, tt)))
 
-pub plain_is_never_stuck : (source : Source) (fuel : ℕ) → IsChecked source.world → IsCheckedBody source.body source.infer → IsPlain source → HasDefinedCost source → meaning_of source fuel ≢ Stuck
-plain_is_never_stuck source fuel checked body plain sized stuck = subst (IsSound source (ResultFits source)) stuck (meaning_is_sound source fuel checked plain sized)
-
--- the value of a plain body has as many bytes as its type
-pub result_has_size : (source : Source) (fuel : ℕ) (bytes : List ℕ) (store : Store) (cost : Cost) → IsChecked source.world → IsPlain source → HasDefinedCost source → meaning_of source fuel ≡ Go bytes store cost → length bytes ≡ size_of source (root source)
-result_has_size source fuel bytes store cost checked plain sized is = (subst (IsSound source (ResultFits source)) is (meaning_is_sound source fuel checked plain sized)).1
+pub plain_is_never_stuck : (source : Source) (fuel : ℕ) → IsChecked source.world → IsCheckedBody source.body source.infer → IsPlain source → AreLaidOut source → meaning_of source fuel ≢ Stuck
+plain_is_never_stuck source fuel checked body plain laid_out stuck = subst (IsSound source (λ bytes. Unit {0})) stuck (meaning_is_sound source fuel checked plain laid_out)

@@ -1,0 +1,216 @@
+-- What operators make of operands of plain types: bytes of the right number, or a panic.
+use Rattle.std.proofs.Common.{◌≡◌, ℕ, Bool, true, false, if◌then◌else◌, ◌==◌, ◌&&◌, List, length, Option, ℤ, pos, negsuc, refl, sym, ◌∙◌, subst, eq-eqb}
+use Rattle.std.proofs.lemmas.Bool.{false≢true}
+use Rattle.world.specs.declared.body.CmpOp.{CmpOp}
+use Rattle.world.specs.declared.body.CmpOp.TheVariants as compare
+use Rattle.world.specs.declared.body.Ordering.TheVariants.{Less, Greater}
+use Rattle.world.specs.declared.body.UnaryOp.{UnaryOp}
+use Rattle.world.specs.declared.body.UnaryOp.TheVariants as unary
+use Rattle.world.specs.declared.ty.Ty.{Ty, Bool as BoolTy, Int as IntTy, Uint as UintTy, Tuple'}
+use Rattle.numbers.specs.Bytes.{is_width}
+use Rattle.numbers.specs.declared.operator.Kind.{Kind}
+use Rattle.numbers.specs.declared.operator.Operator.{Operator}
+use Rattle.numbers.specs.declared.operator.Operator.TheVariants.{Add, Sub, Mul, Div, Rem, BitXor, BitAnd, BitOr, Shl, Shr, Eq, Ne, Lt, Le, Gt, Ge}
+use Rattle.numbers.specs.Operators.{Answer, Computes, Panics, Undefined, kept, divided, told, by_bits, on_integers, shifted, shifted_by, sign_of, shift, is_shift, is_on_booleans, is_comparison, combined, computed, denied, negated, inverted, kind_of, of_compare}
+use Rattle.numbers.proofs.Digits.{length-low_digits, length-low_bytes}
+use Rattle.numbers.proofs.Table.{length-compared, length-computed}
+use Rattle.source_meaning.specs.Meaning.{computed_of_one}
+use Rattle.source_meaning.specs.Valid.{IsInteger, IsScalar, IsPlainUnary}
+
+-- an answer with a meaning
+abbrev IsDefined : Answer → Type 0
+IsDefined (Computes bytes) = Unit {0}
+IsDefined (Panics word) = Unit {0}
+IsDefined Undefined = ⊥
+
+-- an answer with a meaning, and so many bytes
+abbrev pub Fits : ℕ → Answer → Type 0
+Fits size (Computes bytes) = length bytes ≡ size
+Fits size (Panics word) = Unit {0}
+Fits size Undefined = ⊥
+
+fits_from_defined : (size : ℕ) (answer : Answer) → IsDefined answer → ((bytes : List ℕ) → answer ≡ Computes bytes → length bytes ≡ size) → Fits size answer
+fits_from_defined size (Computes bytes) defined long = long bytes refl
+fits_from_defined size (Panics word) defined long = tt
+fits_from_defined size Undefined defined long = defined
+
+-- a value of a type of integers, or of `bool`, may have so many bytes
+abbrev pub IsLengthOf : Ty → ℕ → Type 0
+IsLengthOf BoolTy size = size ≡ 1
+IsLengthOf (IntTy ty) size = is_width size ≡ true
+IsLengthOf (UintTy ty) size = is_width size ≡ true
+IsLengthOf (Tuple' _ _) size = ⊥
+
+-- a type has an operator, if it is no shift
+abbrev pub IsAllowed : Operator → Ty → Type 0
+IsAllowed op BoolTy = is_on_booleans op ≡ true
+IsAllowed op (IntTy ty) = Unit {0}
+IsAllowed op (UintTy ty) = Unit {0}
+IsAllowed op (Tuple' _ _) = ⊥
+
+pub allowed_on_integer : (op : Operator) (ty : Ty) → IsInteger ty → IsAllowed op ty
+allowed_on_integer op BoolTy integer = absurd integer
+allowed_on_integer op (IntTy ty) integer = tt
+allowed_on_integer op (UintTy ty) integer = tt
+allowed_on_integer op (Tuple' _ _) integer = absurd integer
+
+pub allowed_on_scalar : (op : Operator) (ty : Ty) → is_on_booleans op ≡ true → IsScalar ty → IsAllowed op ty
+allowed_on_scalar op BoolTy on_booleans scalar = on_booleans
+allowed_on_scalar op (IntTy ty) on_booleans scalar = tt
+allowed_on_scalar op (UintTy ty) on_booleans scalar = tt
+allowed_on_scalar op (Tuple' _ _) on_booleans scalar = absurd scalar
+
+-- a comparison is no shift, and `bool` has it
+pub comparison_is : (op : CmpOp) → (is_shift (of_compare op) ≡ false) × (is_comparison (of_compare op) ≡ true) × (is_on_booleans (of_compare op) ≡ true)
+unfolding of_compare is_shift is_comparison is_on_booleans
+comparison_is (compare.Eq false) = (refl, refl, refl)
+comparison_is (compare.Eq true) = (refl, refl, refl)
+comparison_is (compare.Ord Less true) = (refl, refl, refl)
+comparison_is (compare.Ord Less false) = (refl, refl, refl)
+comparison_is (compare.Ord Greater true) = (refl, refl, refl)
+comparison_is (compare.Ord Greater false) = (refl, refl, refl)
+
+either_is_defined : (test : Bool) (one other : Answer) → IsDefined one → IsDefined other → IsDefined (if test then one else other)
+either_is_defined true one other defined defined' = defined
+either_is_defined false one other defined defined' = defined'
+
+where_true_is_defined : (test : Bool) (one other : Answer) → test ≡ true → IsDefined one → IsDefined (if test then one else other)
+where_true_is_defined true one other is defined = defined
+where_true_is_defined false one other is defined = absurd (false≢true is)
+
+where_false_is_defined : (test : Bool) (one other : Answer) → test ≡ false → IsDefined other → IsDefined (if test then one else other)
+where_false_is_defined true one other is defined = absurd (false≢true (sym is))
+where_false_is_defined false one other is defined = defined
+
+both_hold : (one other : Bool) → one ≡ true → other ≡ true → (one && other) ≡ true
+both_hold true other is is' = is'
+both_hold false other is is' = is
+
+kept_is_defined : (op : Operator) (signed : Bool) (size : ℕ) (z : ℤ) → IsDefined (kept op signed size z)
+unfolding kept
+kept_is_defined op signed size z = either_is_defined _ (Computes _) (Panics _) tt tt
+
+divided_is_defined : (op : Operator) (signed : Bool) (size : ℕ) (left right z : ℤ) → IsDefined (divided op signed size left right z)
+unfolding divided
+divided_is_defined op signed size left right z = either_is_defined _ (Computes _) (Panics _) tt tt
+
+told_is_defined : (test : Bool) → IsDefined (told test)
+unfolding told
+told_is_defined true = tt
+told_is_defined false = tt
+
+on_integers_is_defined : (op : Operator) (signed : Bool) (left right : List ℕ) → is_shift op ≡ false → IsDefined (on_integers op signed left right)
+unfolding on_integers by_bits is_shift
+on_integers_is_defined Add signed left right is = kept_is_defined _ _ _ _
+on_integers_is_defined Sub signed left right is = kept_is_defined _ _ _ _
+on_integers_is_defined Mul signed left right is = kept_is_defined _ _ _ _
+on_integers_is_defined Div signed left right is = divided_is_defined _ _ _ _ _ _
+on_integers_is_defined Rem signed left right is = divided_is_defined _ _ _ _ _ _
+on_integers_is_defined BitXor signed left right is = tt
+on_integers_is_defined BitAnd signed left right is = tt
+on_integers_is_defined BitOr signed left right is = tt
+on_integers_is_defined Shl signed left right is = absurd (false≢true (sym is))
+on_integers_is_defined Shr signed left right is = absurd (false≢true (sym is))
+on_integers_is_defined Eq signed left right is = told_is_defined _
+on_integers_is_defined Ne signed left right is = told_is_defined _
+on_integers_is_defined Lt signed left right is = told_is_defined _
+on_integers_is_defined Le signed left right is = told_is_defined _
+on_integers_is_defined Gt signed left right is = told_is_defined _
+on_integers_is_defined Ge signed left right is = told_is_defined _
+
+shifted_is_defined : (op : Operator) (signed : Bool) (bytes : List ℕ) (amount : ℕ) → is_shift op ≡ true → IsDefined (shifted op signed bytes amount)
+unfolding shifted is_shift
+shifted_is_defined Shl signed bytes amount is = tt
+shifted_is_defined Shr signed bytes amount is = tt
+shifted_is_defined _ signed bytes amount is = absurd (false≢true is)
+
+shifted_by_is_defined : (op : Operator) (signed : Bool) (bytes : List ℕ) (amount : ℤ) → is_shift op ≡ true → IsDefined (shifted_by op signed bytes amount)
+unfolding shifted_by
+shifted_by_is_defined op signed bytes (pos amount) is = either_is_defined _ _ (Panics _) (shifted_is_defined op signed bytes amount is) tt
+shifted_by_is_defined op signed bytes (negsuc amount) is = tt
+
+-- an operator that is no shift, on two values of one type that has it
+combined_is_defined : (op : Operator) (ty : Ty) (left right : List ℕ) → is_shift op ≡ false → IsAllowed op ty → IsLengthOf ty (length left) → length left ≡ length right → IsDefined (combined op (kind_of ty) (kind_of ty) left right)
+unfolding combined kind_of
+combined_is_defined op BoolTy left right is allowed long same =
+    where_true_is_defined (is_on_booleans op && (length left == 1) && (length right == 1)) _ Undefined (both_hold _ _ (both_hold _ _ allowed (eq-eqb _ _ long)) (eq-eqb _ _ (sym same ∙ long))) (on_integers_is_defined op false left right is)
+combined_is_defined op (IntTy ty) left right is allowed long same =
+    where_true_is_defined (is_width (length left) && (length left == length right)) _ Undefined (both_hold _ _ long (eq-eqb _ _ same)) (on_integers_is_defined op true left right is)
+combined_is_defined op (UintTy ty) left right is allowed long same =
+    where_true_is_defined (is_width (length left) && (length left == length right)) _ Undefined (both_hold _ _ long (eq-eqb _ _ same)) (on_integers_is_defined op false left right is)
+combined_is_defined op (Tuple' _ _) left right is allowed long same = absurd long
+
+-- a shift of an integer by an integer
+shift_is_defined : (op : Operator) (ty by : Ty) (left right : List ℕ) → is_shift op ≡ true → IsInteger ty → IsInteger by → IsLengthOf ty (length left) → IsLengthOf by (length right) → IsDefined (shift op (sign_of (kind_of ty)) (sign_of (kind_of by)) left right)
+unfolding shift sign_of kind_of
+shift_is_defined op (IntTy ty) (IntTy by) left right is integer integer' long long' =
+    where_true_is_defined (is_width (length left) && is_width (length right)) _ Undefined (both_hold _ _ long long') (shifted_by_is_defined op true left _ is)
+shift_is_defined op (IntTy ty) (UintTy by) left right is integer integer' long long' =
+    where_true_is_defined (is_width (length left) && is_width (length right)) _ Undefined (both_hold _ _ long long') (shifted_by_is_defined op true left _ is)
+shift_is_defined op (UintTy ty) (IntTy by) left right is integer integer' long long' =
+    where_true_is_defined (is_width (length left) && is_width (length right)) _ Undefined (both_hold _ _ long long') (shifted_by_is_defined op false left _ is)
+shift_is_defined op (UintTy ty) (UintTy by) left right is integer integer' long long' =
+    where_true_is_defined (is_width (length left) && is_width (length right)) _ Undefined (both_hold _ _ long long') (shifted_by_is_defined op false left _ is)
+shift_is_defined op (IntTy ty) BoolTy left right is integer integer' long long' = absurd integer'
+shift_is_defined op (IntTy ty) (Tuple' _ _) left right is integer integer' long long' = absurd integer'
+shift_is_defined op (UintTy ty) BoolTy left right is integer integer' long long' = absurd integer'
+shift_is_defined op (UintTy ty) (Tuple' _ _) left right is integer integer' long long' = absurd integer'
+shift_is_defined op BoolTy by left right is integer integer' long long' = absurd integer
+shift_is_defined op (Tuple' _ _) by left right is integer integer' long long' = absurd integer
+
+-- the table, by what kinds the operands have
+of_kinds : (op : Operator) (left_kind right_kind left_kind' right_kind' : Option Kind) (left right : List ℕ) → left_kind ≡ left_kind' → right_kind ≡ right_kind' → IsDefined (computed op left_kind' right_kind' left right) → IsDefined (computed op left_kind right_kind left right)
+of_kinds op left_kind right_kind left_kind' right_kind' left right is is' defined =
+    subst (λ kind. IsDefined (computed op kind right_kind left right)) (sym is) (subst (λ kind. IsDefined (computed op left_kind' kind left right)) (sym is') defined)
+
+unshifted_is_defined : (op : Operator) (ty : Ty) (left right : List ℕ) → is_shift op ≡ false → IsAllowed op ty → IsLengthOf ty (length left) → length left ≡ length right → IsDefined (computed op (kind_of ty) (kind_of ty) left right)
+unfolding computed
+unshifted_is_defined op ty left right is allowed long same = where_false_is_defined (is_shift op) _ _ is (combined_is_defined op ty left right is allowed long same)
+
+shift_computed_is_defined : (op : Operator) (ty by : Ty) (left right : List ℕ) → is_shift op ≡ true → IsInteger ty → IsInteger by → IsLengthOf ty (length left) → IsLengthOf by (length right) → IsDefined (computed op (kind_of ty) (kind_of by) left right)
+unfolding computed
+shift_computed_is_defined op ty by left right is integer integer' long long' = where_true_is_defined (is_shift op) _ _ is (shift_is_defined op ty by left right is integer integer' long long')
+
+-- arithmetic and bits take as many bytes as their operands
+pub unshifted_fits : (op : Operator) (ty : Ty) (left_kind right_kind : Option Kind) (left right : List ℕ) → is_shift op ≡ false → is_comparison op ≡ false → IsAllowed op ty → left_kind ≡ kind_of ty → right_kind ≡ kind_of ty → IsLengthOf ty (length left) → length left ≡ length right → Fits (length left) (computed op left_kind right_kind left right)
+unshifted_fits op ty left_kind right_kind left right is is' allowed of_left of_right long same =
+    fits_from_defined (length left) (computed op left_kind right_kind left right) (of_kinds op left_kind right_kind (kind_of ty) (kind_of ty) left right of_left of_right (unshifted_is_defined op ty left right is allowed long same)) (λ bytes given. length-computed op left_kind right_kind left right bytes is' given)
+
+-- a comparison takes one
+pub compared_fits : (op : Operator) (ty : Ty) (left_kind right_kind : Option Kind) (left right : List ℕ) → is_shift op ≡ false → is_comparison op ≡ true → IsAllowed op ty → left_kind ≡ kind_of ty → right_kind ≡ kind_of ty → IsLengthOf ty (length left) → length left ≡ length right → Fits 1 (computed op left_kind right_kind left right)
+compared_fits op ty left_kind right_kind left right is is' allowed of_left of_right long same =
+    fits_from_defined 1 (computed op left_kind right_kind left right) (of_kinds op left_kind right_kind (kind_of ty) (kind_of ty) left right of_left of_right (unshifted_is_defined op ty left right is allowed long same)) (λ bytes given. length-compared op left_kind right_kind left right bytes is' given)
+
+-- and a shift as many as its left operand
+pub shift_fits : (op : Operator) (ty by : Ty) (left_kind right_kind : Option Kind) (left right : List ℕ) → is_shift op ≡ true → is_comparison op ≡ false → IsInteger ty → IsInteger by → left_kind ≡ kind_of ty → right_kind ≡ kind_of by → IsLengthOf ty (length left) → IsLengthOf by (length right) → Fits (length left) (computed op left_kind right_kind left right)
+shift_fits op ty by left_kind right_kind left right is is' integer integer' of_left of_right long long' =
+    fits_from_defined (length left) (computed op left_kind right_kind left right) (of_kinds op left_kind right_kind (kind_of ty) (kind_of by) left right of_left of_right (shift_computed_is_defined op ty by left right is integer integer' long long')) (λ bytes given. length-computed op left_kind right_kind left right bytes is' given)
+
+where_true_fits : (size : ℕ) (test : Bool) (one other : Answer) → test ≡ true → Fits size one → Fits size (if test then one else other)
+where_true_fits size true one other is fits = fits
+where_true_fits size false one other is fits = absurd (false≢true is)
+
+told_fits : (size : ℕ) (test : Bool) → size ≡ 1 → Fits size (told test)
+unfolding told
+told_fits size true one = sym one
+told_fits size false one = sym one
+
+denied_fits : (bytes : List ℕ) → length bytes ≡ 1 → Fits (length bytes) (denied bytes)
+unfolding denied
+denied_fits bytes one = where_true_fits (length bytes) (length bytes == 1) _ Undefined (eq-eqb _ _ one) (told_fits (length bytes) _ one)
+
+-- an operator on one operand takes as many as it
+plain_unary_fits : (op : UnaryOp) (ty : Ty) (bytes : List ℕ) → IsPlainUnary op ty → IsLengthOf ty (length bytes) → Fits (length bytes) (computed_of_one op (kind_of ty) bytes)
+unfolding computed_of_one kind_of negated inverted
+plain_unary_fits unary.Neg (IntTy ty) bytes plain long = where_true_fits (length bytes) (is_width (length bytes)) _ Undefined long (length-low_bytes _ _)
+plain_unary_fits unary.Neg (UintTy ty) bytes plain long = where_true_fits (length bytes) (is_width (length bytes)) _ Undefined long (length-low_bytes _ _)
+plain_unary_fits unary.Neg BoolTy bytes plain long = absurd plain
+plain_unary_fits unary.Neg (Tuple' _ _) bytes plain long = absurd plain
+plain_unary_fits unary.Not (IntTy ty) bytes plain long = where_true_fits (length bytes) (is_width (length bytes)) _ Undefined long (length-low_digits _ _)
+plain_unary_fits unary.Not (UintTy ty) bytes plain long = where_true_fits (length bytes) (is_width (length bytes)) _ Undefined long (length-low_digits _ _)
+plain_unary_fits unary.Not BoolTy bytes plain long = denied_fits bytes long
+plain_unary_fits unary.Not (Tuple' _ _) bytes plain long = absurd plain
+plain_unary_fits unary.Deref ty bytes plain long = absurd plain
+
+pub unary_fits : (op : UnaryOp) (ty : Ty) (kind : Option Kind) (bytes : List ℕ) → IsPlainUnary op ty → kind ≡ kind_of ty → IsLengthOf ty (length bytes) → Fits (length bytes) (computed_of_one op kind bytes)
+unary_fits op ty kind bytes plain is long = subst (λ k. Fits (length bytes) (computed_of_one op k bytes)) (sym is) (plain_unary_fits op ty bytes plain long)
