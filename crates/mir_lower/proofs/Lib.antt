@@ -1,5 +1,4 @@
 pub mod Aligned
-pub mod Assumed
 pub mod Drops
 pub mod Growing
 pub mod Holding

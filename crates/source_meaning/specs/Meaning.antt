@@ -1,6 +1,6 @@
 -- What a typed body means: its value, or how else it ends, by evaluating its tree of expressions. It knows no
 -- blocks. Fuel bounds how deep the evaluation goes.
-use Rattle.std.specs.Prelude.{◌≡◌, ℕ, zero, suc, Bool, true, false, cond, if◌then◌else◌, ◌==◌, List, [], ◌∷◌, length, Option, Some, None, ℤ, pos, option_and_then, option_map}
+use Rattle.std.specs.Prelude.{◌≡◌, ℕ, zero, suc, Bool, cond, if◌then◌else◌, ◌==◌, List, [], ◌∷◌, length, Option, Some, None, pos, option_and_then, option_map}
 use Rattle.world.specs.declared.body.BinaryOp.{BinaryOp}
 use Rattle.world.specs.declared.body.BinaryOp.TheVariants as binary
 use Rattle.world.specs.declared.body.Expr.{Expr}

@@ -1,5 +1,5 @@
 -- Which sources the theorem speaks of.
-use Rattle.std.specs.Prelude.{◌≡◌, ℕ, Bool, true, List, [], ◌∷◌, ◌++◌, flat_map, Contains, All, Option, Some, None, option_and_then}
+use Rattle.std.specs.Prelude.{◌≡◌, ℕ, true, List, [], ◌∷◌, ◌++◌, flat_map, Contains, All, Option, Some, None, option_and_then}
 use Rattle.world.specs.declared.body.ArithOp.{ArithOp}
 use Rattle.world.specs.declared.body.ArithOp.TheVariants as arith
 use Rattle.world.specs.declared.body.BinaryOp.{BinaryOp}
@@ -22,7 +22,7 @@ use Rattle.world.specs.Lookups.{layout_of}
 use Rattle.world_check.specs.Checked.{optional}
 use Rattle.numbers.specs.declared.operator.Operator.{Operator}
 use Rattle.source_meaning.specs.Meaning.{eager_operator}
-use Rattle.source_meaning.specs.Source.{Source, node, node_type, node_layout, binding_type, pattern, pattern_type, named_by, root}
+use Rattle.source_meaning.specs.Source.{Source, node, node_type, binding_type, pattern, pattern_type, named_by, root}
 
 -- the expressions that a statement evaluates
 abbrev pub statement_parts : Statement → List ℕ
