@@ -162,14 +162,14 @@ with_temp-sound source e ty s within has reached sound =
     }
 
 -- a binding's local, where there is such a binding
-below-by : (b n : ℕ) (t : Bool) → nat_lt b n ≡ t → T t → b < n
-below-by b n true is yes = ltb→lt b n (subst T (sym is) tt)
+below-by : (b n : ℕ) → nat_lt b n ≡ true → b < n
+below-by b n is = ltb→lt b n (subst T (sym is) tt)
 
 not-below-by : (b n : ℕ) → nat_lt b n ≡ false → n ≤ b
 not-below-by b n is = ⊎_elim (λ less. let both : true ≡ false = sym (lt-ltb b n less) ∙ is in absurd cc) (λ le. le) (cases_lt b n)
 
 by-count : (b n l : ℕ) (t : Bool) → nat_lt b n ≡ t → ◌≡◌ {A = Option ℕ} (if t then Some (suc b) else None) (Some l) → (b < n) × (l ≡ suc b)
-by-count b n l true is h = (below-by b n true is tt, (let same : suc b ≡ l = cc in sym same))
+by-count b n l true is h = (below-by b n is, (let same : suc b ≡ l = cc in sym same))
 by-count b n l false is h = absurd cc
 
 pub binding-there : (s : Shape) (b l : ℕ) → binding_local s b ≡ Some l → (b < s.bindings) × (l ≡ suc b)

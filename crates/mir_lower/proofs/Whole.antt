@@ -1,6 +1,6 @@
 -- A whole body: its root, leaving it, and returning.
 use Rattle.std.proofs.lemmas.List.{length-map}
-use Rattle.std.proofs.Common.{[], ◌≡◌, ℕ, zero, suc, ◌+◌, ◌<◌, ◌≤◌, List, length, Option, Some, None, Ok, refl, sym, ap, ◌∙◌, subst, arith}
+use Rattle.std.proofs.Common.{[], map, ◌≡◌, ℕ, zero, suc, ◌+◌, ◌<◌, ◌≤◌, List, length, Option, Some, None, Ok, refl, sym, ap, ◌∙◌, subst, arith}
 use Rattle.std.specs.Prelude.{slice_get, replicate, option_map, option_and_then, unwrap_or}
 use Rattle.world.specs.declared.database.HirDatabase.{HirDatabase}
 use Rattle.world.specs.declared.layout.Layout.{Layout}
@@ -174,7 +174,7 @@ first-sound source ty nodes many typed =
       bindings = refl;
       slot = λ local h. (let same : local_of_type ty ≡ local = cc in typed ∙ ap (λ (l : Local). Some l.ty) same);
       bound = λ b t h. slice_get-map local_of_type source.infer.binding_types b t h;
-      first = let n = length-map local_of_type source.infer.binding_types in omega arith;
+      first = let n : length (map local_of_type source.infer.binding_types) ≡ length source.infer.binding_types = length-map source.infer.binding_types local_of_type in omega arith;
       cells = λ l local h. first-local l local h;
       above = λ e l h. absurd (no-temp nodes e l h);
       within = λ e l h. absurd (no-temp nodes e l h);

@@ -1,0 +1,329 @@
+-- Blocks: names that are bound, statements in order, and a tail, in a scope of their own.
+use Rattle.std.proofs.Common.{◌≡◌, ℕ, ◌+◌, ⊎_elim, List, [], ◌∷◌, ◌++◌, flat_map, Contains, Option, Some, None, Ok, refl, sym, ap, ◌∙◌, subst, arith, append_assoc, append-nil}
+use Rattle.std.proofs.lemmas.Grind.{flat_map-append}
+use Rattle.std.proofs.lemmas.List.Elements.{Contains-append_cases}
+use Rattle.world.specs.declared.body.Expr.{Expr}
+use Rattle.world.specs.declared.body.Expr.TheVariants as expr
+use Rattle.world.specs.declared.body.Pat.{Pat}
+use Rattle.world.specs.declared.body.Pat.TheVariants.{Bind}
+use Rattle.world.specs.declared.body.Statement.{Statement}
+use Rattle.world.specs.declared.body.Statement.TheVariants as statement
+use Rattle.world.specs.declared.ids.BindingId.{BindingId}
+use Rattle.world.specs.declared.ids.ExprId.{ExprId}
+use Rattle.world.specs.declared.ids.PatId.{PatId}
+use Rattle.world.specs.declared.ty.Ty.{Ty}
+use Rattle.world_check.specs.Checked.{optional}
+use Rattle.mir.specs.declared.operand.Operand.{Operand as MirOperand}
+use Rattle.mir.specs.declared.operand.OperandKind.TheVariants.{Copy}
+use Rattle.mir.specs.declared.operand.Place.{Place}
+use Rattle.mir.specs.declared.operand.Rvalue.TheVariants.{Use}
+use Rattle.mir.specs.declared.span.MirSpan.{MirSpan}
+use Rattle.mir.specs.declared.statement.Statement.{Statement as MirStatement}
+use Rattle.mir.specs.declared.statement.StatementKind.TheVariants.{Assign, FakeRead}
+use Rattle.mir.specs.Memory.{Memory}
+use Rattle.mir.specs.Run.{Frame, after_statement}
+use Rattle.source_meaning.specs.Ends.{Cost, no_cost, so_many_turns, plus, End, Go, Panic, Stuck, More, after, then_do}
+use Rattle.source_meaning.specs.Meaning.{Level, level_at, put, bind, statement_of, statements_of, tail_into, block_into, into_of}
+use Rattle.source_meaning.specs.Source.{Source, node, node_type, pattern, Cell, Binding, Path, Store, marked, marked_by, marked_as_place, marked_by_statement, marked_by_tail, marked_in_block, bound_by, drops}
+use Rattle.source_meaning.specs.Valid.{Evaluates, itself, part, parts_of, statement_parts, HasPlainForm, IsPlainNode, IsPlainFrom, IsPlainTail, IsLaidOut}
+use Rattle.source_meaning.proofs.Depth.{marked_unrolls, tail_is_part}
+use Rattle.mir_lower.specs.Does.{Point, here, local_of, IsFrameOf, Holds, Comes, Reaches, Performs, Nothing, LeadsTo, DoesStatements, DoesTail, DoesBind}
+use Rattle.mir_lower.specs.Graph.{Shape, with_statement, with_scope}
+use Rattle.mir_lower.specs.Growth.{count_at, Grows, IsSound, IsOpen, IsReady}
+use Rattle.mir_lower.specs.Leaving.{Idles}
+use Rattle.mir_lower.specs.Lowered.{Keeps, HasLayouts, LaysOut, IsGiven, Binds, LowersInto, LowersPlace, LowersStatements, LowersTail}
+use Rattle.mir_lower.proofs.Growing.{grows-refl, grows-trans, with_statement-grows, with_scope-grows}
+use Rattle.mir_lower.proofs.Laid.{layouts-before, plain-part, one-of}
+use Rattle.mir_lower.proofs.Leaving.{here-scope}
+use Rattle.mir_lower.proofs.Operations.{assignment, name-computes}
+use Rattle.mir_lower.proofs.Reaching.{comes-refl, comes-trans, reaches-then}
+use Rattle.mir_lower.proofs.Running.{comes-statement}
+use Rattle.mir_lower.proofs.Sound.{with_statement-sound, with_statement-open, with_statement-scope}
+use Rattle.mir_lower.proofs.Steps.{local_of-grows, Done, assigned-bytes, no-cost-before, reaches-from, does-form}
+
+-- noting that a value was named leaves everything as it is
+read-does-nothing : (frame : Frame) (memory : Memory) (place : Place) → after_statement frame memory (FakeRead place) ≡ Ok memory
+unfolding after_statement
+read-does-nothing frame memory place = refl
+
+pub idles-read : (source : Source) (s new : Shape) (place : Place) (span : MirSpan) → IsSound source s → IsOpen s → new ≡ with_statement (record { kind = FakeRead place; span = span }) s → Idles source s new 0
+idles-read source s new place span sound opened same =
+    let st : MirStatement = record { kind = FakeRead place; span = span } in
+    subst (λ (n : Shape). Idles source s n 0) (sym same)
+    (record {
+      grows = with_statement-grows st s opened;
+      sound = with_statement-sound source st s opened sound;
+      «open» = with_statement-open st s opened;
+      scope = with_statement-scope st s opened;
+      comes = λ whole frame grows is memory. comes-statement st s whole frame memory opened grows is memory (read-does-nothing frame memory place);
+    })
+
+-- a name is bound to the value of a cell
+pub binds-name : (source : Source) (s0 s1 new : Shape) (pat : PatId) (id : BindingId) (place from : Place) (operand : MirOperand) (span : MirSpan) → pattern source pat.0 ≡ Some (Bind id) → IsGiven source s0 s1 (Binding id.0) place.local.0 → operand.kind ≡ Copy from → new ≡ with_statement (assignment place (Use operand) span) s1 → (c : Cell) → local_of s0 c ≡ Some from.local.0 → Binds source s0 new pat.0 c
+binds-name source s0 s1 new pat id place from operand span binds given copies same c found =
+    let st = assignment place (Use operand) span in
+    let opened = given.keeps.«open» in
+    let last : Grows s1 (with_statement st s1) = with_statement-grows st s1 opened in
+    subst (λ (n : Shape). Binds source s0 n pat.0 c) (sym same)
+    (record {
+      keeps = record {
+        grows = grows-trans s0 s1 (with_statement st s1) given.keeps.grows last;
+        sound = with_statement-sound source st s1 opened given.keeps.sound;
+        «open» = with_statement-open st s1 opened;
+        scope = with_statement-scope st s1 opened ∙ given.keeps.scope ∙ ap (λ p. s0.scope ++ bound_by p) (sym binds);
+      };
+      does = record {
+        reaches = λ whole frame grows sound is fuel store memory holds.
+            let grown : Grows s1 whole = grows-trans s1 (with_statement st s1) whole last grows in
+            let to = local_of-grows s1 whole grown (Binding id.0) place.local.0 given.found in
+            let at = local_of-grows s0 whole (grows-trans s0 s1 whole given.keeps.grows grown) c from.local.0 found in
+            subst (λ (p : Option Pat). Reaches frame (here s0) (here (with_statement st s1)) memory (Done whole frame) (bind p (record { cell = c }) store)) (sym binds)
+            (reaches-from frame (here s0) (here s1) (here (with_statement st s1)) memory (Done whole frame) (given.comes whole frame grown is memory) (put store (record { cell = Binding id.0 }) (store c))
+            (assigned-bytes source s1 whole frame place (Use operand) span opened sound is grows (Binding id.0) to store memory holds (store c)
+            (name-computes source whole frame c from operand copies sound is at store memory holds)));
+      };
+    })
+
+-- Statements in order.
+
+-- one end after another, taken together in two ways
+after-after : {A : Type 0} (first second : Cost) (end : End A) → after (plus first second) end ≡ after first (after second end)
+unfolding after
+after-after first second (Go value store cost) = let sum : first.turns + second.turns + cost.turns ≡ first.turns + (second.turns + cost.turns) = omega arith in ap (λ (n : ℕ). Go value store (record { turns = n })) sum
+after-after first second (Panic word cost) = let sum : first.turns + second.turns + cost.turns ≡ first.turns + (second.turns + cost.turns) = omega arith in ap (λ (n : ℕ). Panic word (record { turns = n })) sum
+after-after first second Stuck = refl
+after-after first second (More cost) = let sum : first.turns + second.turns + cost.turns ≡ first.turns + (second.turns + cost.turns) = omega arith in ap (λ (n : ℕ). More (record { turns = n })) sum
+
+after-then : {A B : Type 0} (cost : Cost) (end : End A) (next : A → Store → End B) → then_do (after cost end) next ≡ after cost (then_do end next)
+unfolding then_do after
+after-then cost (Go value store rest) next = after-after cost rest (next value store)
+after-then cost (Panic word rest) next = refl
+after-then cost Stuck next = refl
+after-then cost (More rest) next = refl
+
+then-then : {A B C : Type 0} (end : End A) (next : A → Store → End B) (last : B → Store → End C) → then_do (then_do end next) last ≡ then_do end (λ value store. then_do (next value store) last)
+unfolding then_do
+then-then (Go value store cost) next last = after-then cost (next value store) last
+then-then (Panic word cost) next last = refl
+then-then Stuck next last = refl
+then-then (More cost) next last = refl
+
+then-same : {A B : Type 0} (end : End A) (next other : A → Store → End B) → ((value : A) (store : Store) → next value store ≡ other value store) → then_do end next ≡ then_do end other
+unfolding then_do
+then-same (Go value store cost) next other same = ap (after cost) (same value store)
+then-same (Panic word cost) next other same = refl
+then-same Stuck next other same = refl
+then-same (More cost) next other same = refl
+
+no-statements : (source : Source) (below : Level) (store : Store) → statements_of source below [] store ≡ Go tt store no_cost
+unfolding statements_of
+no-statements source below store = refl
+
+first-statement : (source : Source) (below : Level) (first : Statement) (rest : List Statement) (store : Store) → statements_of source below (first ∷ rest) store ≡ then_do (statement_of source below first store) (λ _ later. statements_of source below rest later)
+unfolding statements_of
+first-statement source below first rest store = refl
+
+then-go : {A : Type 0} (value : A) (store : Store) (next : A → Store → End (Unit {0})) → then_do (Go value store no_cost) next ≡ next value store
+unfolding then_do
+then-go value store next = no-cost-before (next value store)
+
+statements-append : (source : Source) (below : Level) (xs ys : List Statement) (store : Store) → statements_of source below (xs ++ ys) store ≡ then_do (statements_of source below xs store) (λ _ later. statements_of source below ys later)
+statements-append source below [] ys store =
+    sym (ap (λ (end : End (Unit {0})). then_do end (λ _ later. statements_of source below ys later)) (no-statements source below store) ∙ then-go tt store (λ _ later. statements_of source below ys later))
+statements-append source below (x ∷ xs) ys store =
+    first-statement source below x (xs ++ ys) store
+    ∙ then-same (statement_of source below x store) (λ _ later. statements_of source below (xs ++ ys) later) (λ _ later. then_do (statements_of source below xs later) (λ _ last. statements_of source below ys last)) (λ _ later. statements-append source below xs ys later)
+    ∙ sym (then-then (statement_of source below x store) (λ _ later. statements_of source below xs later) (λ _ last. statements_of source below ys last))
+    ∙ sym (ap (λ (end : End (Unit {0})). then_do end (λ _ last. statements_of source below ys last)) (first-statement source below x xs store))
+
+-- no statements were lowered
+pub lowers-none : (source : Source) (s : Shape) → IsSound source s → IsOpen s → LowersStatements source s s []
+lowers-none source s sound opened =
+    record {
+      keeps = record { grows = grows-refl s; sound = sound; «open» = opened; scope = sym (append-nil s.scope) };
+      does = record {
+        reaches = λ whole frame grows whole-sound is fuel store memory holds.
+            subst (Reaches frame (here s) (here s) memory (Done whole frame)) (sym (no-statements source (level_at source fuel) store))
+            (0, memory, omega arith, comes-refl frame (here s) memory, (holds, tt));
+      };
+      laid = λ child within. absurd (let below = within.1 in omega arith);
+    }
+
+-- one statement was lowered, by what it does
+one-statement : (source : Source) (old new : Shape) (st : Statement) → Performs source old new Nothing (λ fuel store. statement_of source (level_at source fuel) st store) → DoesStatements source old new (st ∷ [])
+one-statement source old new st performs =
+    record {
+      reaches = λ whole frame grows sound is fuel store memory holds.
+          subst (Reaches frame (here old) (here new) memory (Done whole frame)) (sym (first-statement source (level_at source fuel) st [] store))
+          (reaches-then frame (here old) (here new) (here new) memory (Done whole frame) (Done whole frame) (statement_of source (level_at source fuel) st store) _
+          (performs.reaches whole frame grows sound is fuel store memory holds)
+          (λ value store1 memory1 claims.
+          subst (Reaches frame (here new) (here new) memory1 (Done whole frame)) (sym (no-statements source (level_at source fuel) store1))
+          (0, memory1, omega arith, comes-refl frame (here new) memory1, claims)));
+    }
+
+-- statements, and then others
+pub lowers-more : (source : Source) (s0 s1 s2 : Shape) (xs ys : List Statement) → LowersStatements source s0 s1 xs → LowersStatements source s1 s2 ys → LowersStatements source s0 s2 (xs ++ ys)
+lowers-more source s0 s1 s2 xs ys first second =
+    record {
+      keeps = record {
+        grows = grows-trans s0 s1 s2 first.keeps.grows second.keeps.grows;
+        sound = second.keeps.sound;
+        «open» = second.keeps.«open»;
+        scope =
+            second.keeps.scope ∙ ap (λ scope. scope ++ flat_map (marked_by_statement source) ys) first.keeps.scope
+            ∙ append_assoc s0.scope (flat_map (marked_by_statement source) xs) (flat_map (marked_by_statement source) ys)
+            ∙ ap (λ m. s0.scope ++ m) (sym (flat_map-append (marked_by_statement source) xs ys));
+      };
+      does = record {
+        reaches = λ whole frame grows sound is fuel store memory holds.
+            subst (Reaches frame (here s0) (here s2) memory (Done whole frame)) (sym (statements-append source (level_at source fuel) xs ys store))
+            (reaches-then frame (here s0) (here s1) (here s2) memory (Done whole frame) (Done whole frame) (statements_of source (level_at source fuel) xs store) _
+            (first.does.reaches whole frame (grows-trans s1 s2 whole second.keeps.grows grows) sound is fuel store memory holds)
+            (λ value store1 memory1 claims. second.does.reaches whole frame grows sound is fuel store1 memory1 claims.0));
+      };
+      laid = λ child within plain layouts. ⊎_elim
+          (λ one. first.laid child one plain (layouts-before source s1 s2 second.keeps.grows layouts))
+          (λ other. second.laid child other plain layouts)
+          (Contains-append_cases (flat_map statement_parts xs) (flat_map statement_parts ys) child (subst (λ (parts : List ℕ). Contains parts child) (flat_map-append statement_parts xs ys) within));
+    }
+
+-- a `let`: the initializer's place, which is noted as read, and then the name is bound
+pub lowers-let : (source : Source) (s0 s1 s2 s3 : Shape) (pat : PatId) (e : ExprId) (local : ℕ) (place : LowersPlace source s0 s1 e.0 local) → Idles source s1 s2 0 → ((c : Cell) → local_of s2 c ≡ Some local → Binds source s2 s3 pat.0 c) → LowersStatements source s0 s3 (statement.Let pat (Some e) None ∷ [])
+lowers-let source s0 s1 s2 s3 pat e local place idles binding =
+    let c = place.does.cell in
+    let binds = binding c (local_of-grows s1 s2 idles.grows c local place.does.found) in
+    let later : Grows s1 s3 = grows-trans s1 s2 s3 idles.grows binds.keeps.grows in
+    record {
+      keeps = record {
+        grows = grows-trans s0 s1 s3 place.keeps.grows later;
+        sound = binds.keeps.sound;
+        «open» = binds.keeps.«open»;
+        scope =
+            binds.keeps.scope ∙ ap (λ scope. scope ++ bound_by (pattern source pat.0)) (idles.scope ∙ place.keeps.scope)
+            ∙ append_assoc s0.scope (marked_as_place source (marked source) e.0) (bound_by (pattern source pat.0))
+            ∙ ap (λ m. s0.scope ++ m) (sym (append-nil (marked_as_place source (marked source) e.0 ++ bound_by (pattern source pat.0))));
+      };
+      does = one-statement source s0 s3 (statement.Let pat (Some e) None) (record {
+        reaches = λ whole frame grows sound is fuel store memory holds.
+            let grown : Grows s2 whole = grows-trans s2 s3 whole binds.keeps.grows grows in
+            reaches-then frame (here s0) (here s1) (here s3) memory (λ path after later. Holds whole frame after later × LeadsTo c whole frame path) (Done whole frame) ((level_at source fuel).place e.0 store) _
+            (place.does.does.reaches whole frame (grows-trans s1 s2 whole idles.grows grown) sound is fuel store memory holds)
+            (λ path store1 memory1 claims.
+            subst (λ (p : Path). Reaches frame (here s1) (here s3) memory1 (Done whole frame) (bind (pattern source pat.0) p store1)) (sym claims.1)
+            (reaches-from frame (here s1) (here s2) (here s3) memory1 (Done whole frame) (idles.comes whole frame grown is memory1) _
+            (binds.does.reaches whole frame grows sound is fuel store1 memory1 claims.0)));
+      });
+      laid = λ child within plain layouts f evaluates.
+          let same : e.0 ≡ child = one-of e.0 child within in
+          place.laid (subst (IsPlainFrom source) (sym same) plain) (layouts-before source s1 s3 later layouts) f (subst (λ x. Evaluates source x f) (sym same) evaluates);
+    }
+
+-- a scope that was opened inside another, and left: what idles behind it
+scope-left : (s : Shape) (outer : List Cell) (source : Source) (new : Shape) (turns : ℕ) → Idles source (with_scope outer s) new turns → (whole : Shape) (frame : Frame) → Grows new whole → IsFrameOf whole frame → (memory : Memory) → Comes frame turns (here s) memory (here new) memory
+scope-left s outer source new turns idles whole frame grows is memory =
+    subst (λ (p : Point). Comes frame turns p memory (here new) memory) (here-scope s outer) (idles.comes whole frame grows is memory)
+
+-- an expression statement: its place, in a scope of its own, which is then left
+pub lowers-expr-statement : (source : Source) (s0 s1 s2 s3 : Shape) (e : ExprId) (has_semi : _) (local : ℕ) → LowersPlace source (with_scope [] s0) s1 e.0 local → Idles source s1 s2 0 → Idles source (with_scope s0.scope s2) s3 (drops source s2.scope) → LowersStatements source s0 s3 (statement.Expr e has_semi ∷ [])
+unfolding count_at
+lowers-expr-statement source s0 s1 s2 s3 e has_semi local place read left =
+    let inner : s2.scope ≡ marked_as_place source (marked source) e.0 = read.scope ∙ place.keeps.scope in
+    let into : Grows s1 s3 = grows-trans s1 s2 s3 read.grows (grows-trans s2 (with_scope s0.scope s2) s3 (with_scope-grows s0.scope s2) left.grows) in
+    record {
+      keeps = record {
+        grows = grows-trans s0 (with_scope [] s0) s3 (with_scope-grows [] s0) (grows-trans (with_scope [] s0) s1 s3 place.keeps.grows into);
+        sound = left.sound;
+        «open» = left.«open»;
+        scope = left.scope ∙ sym (append-nil s0.scope);
+      };
+      does = one-statement source s0 s3 (statement.Expr e has_semi) (record {
+        reaches = λ whole frame grows sound is fuel store memory holds.
+            let grown2 : Grows s2 whole = grows-trans s2 (with_scope s0.scope s2) whole (with_scope-grows s0.scope s2) (grows-trans (with_scope s0.scope s2) s3 whole left.grows grows) in
+            reaches-then frame (here s0) (here s1) (here s3) memory (λ path after later. Holds whole frame after later × LeadsTo place.does.cell whole frame path) (Done whole frame) ((level_at source fuel).place e.0 store) _
+            (place.does.does.reaches whole frame (grows-trans s1 s2 whole read.grows grown2) sound is fuel store memory holds)
+            (λ path store1 memory1 claims.
+            let turns : drops source s2.scope ≡ drops source (marked_as_place source (marked source) e.0) = ap (drops source) inner in
+            (
+              0 + drops source s2.scope,
+              memory1,
+              omega (arith, turns),
+              comes-trans frame 0 (drops source s2.scope) (here s1) (here s2) memory1 memory1 (read.comes whole frame grown2 is memory1) (here s3) memory1 (scope-left s2 s0.scope source s3 (drops source s2.scope) left whole frame grows is memory1),
+              (claims.0, tt),
+            ));
+      });
+      laid = λ child within plain layouts f evaluates.
+          let same : e.0 ≡ child = one-of e.0 child within in
+          place.laid (subst (IsPlainFrom source) (sym same) plain) (layouts-before source s1 s3 into layouts) f (subst (λ x. Evaluates source x f) (sym same) evaluates);
+    }
+
+-- a block without a tail, and one with
+pub lowers-no-tail : (source : Source) (s : Shape) (c : Cell) → IsSound source s → IsOpen s → LowersTail source s s None c
+lowers-no-tail source s c sound opened =
+    record {
+      keeps = record { grows = grows-refl s; sound = sound; «open» = opened; scope = sym (append-nil s.scope) };
+      does = record { reaches = λ whole frame grows whole-sound is fuel store memory holds. (0, memory, omega arith, comes-refl frame (here s) memory, (holds, tt)) };
+      laid = λ e is. absurd cc;
+    }
+
+pub lowers-tail : (source : Source) (old new : Shape) (e : ExprId) (c : Cell) → LowersInto source old new e.0 c → LowersTail source old new (Some e) c
+lowers-tail source old new e c into =
+    record {
+      keeps = into.keeps;
+      does = into.does;
+      laid = λ f is. let same : e ≡ f = cc in subst (λ (g : ExprId). IsLaidOut source (node_type source g.0) → LaysOut source new g.0) same into.laid;
+    }
+
+-- the types of what a block evaluates
+lays-block : (source : Source) (s0 s1 s2 new : Shape) (e : ℕ) (statements : List Statement) (tail : Option ExprId) (c : Cell) → node source e ≡ Some (expr.Block statements tail) → LowersStatements source s0 s1 statements → LowersTail source s1 s2 tail c → Grows s1 new → Grows s2 new → IsLaidOut source (node_type source e) → LaysOut source new e
+lays-block source s0 s1 s2 new e statements tail c form first last grows1 grows2 laid plain layouts f itself = laid
+lays-block source s0 s1 s2 new e statements tail c form first last grows1 grows2 laid plain layouts f (part {child = child} within rest) =
+    ⊎_elim
+    (λ one. first.laid child one (plain-part source e child within plain) (layouts-before source s1 new grows1 layouts) f rest)
+    (λ other. by-tail tail refl other)
+    (Contains-append_cases (flat_map statement_parts statements) (optional tail) child (subst (λ (parts : List ℕ). Contains parts child) (ap parts_of form) within)) where
+      tail-type : (t : ExprId) → tail ≡ Some t → (own : IsPlainNode source e) → HasPlainForm source e (Some (expr.Block statements tail)) own.ty → node_type source t.0 ≡ node_type source e
+      tail-type t is own fits = subst (λ (o : Option ExprId). IsPlainTail source o own.ty) is fits.1 ∙ sym own.has_type
+
+      by-tail : (o : Option ExprId) → tail ≡ o → Contains (optional o) child → IsLaidOut source (node_type source f)
+      by-tail None is holds = absurd (let below = holds.1 in omega arith)
+      by-tail (Some t) is holds =
+          let same : t.0 ≡ child = one-of t.0 child holds in
+          last.laid t is (subst (IsLaidOut source) (sym (tail-type t is (plain e itself) (subst (λ n. HasPlainForm source e n (plain e itself).ty) form (plain e itself).form))) laid)
+          (subst (IsPlainFrom source) (sym same) (plain-part source e child within plain)) (layouts-before source s2 new grows2 layouts) f (subst (λ x. Evaluates source x f) (sym same) rest)
+
+-- a block: its statements and its tail, in a scope of their own, which is then left
+pub lowers-block : (source : Source) (s0 s1 s2 s3 : Shape) (e : ℕ) (statements : List Statement) (tail : Option ExprId) (c : Cell) → IsReady source s0 e → node source e ≡ Some (expr.Block statements tail) → LowersStatements source (with_scope [] s0) s1 statements → LowersTail source s1 s2 tail c → Idles source (with_scope s0.scope s2) s3 (drops source s2.scope) → LowersInto source s0 s3 e c
+unfolding count_at
+lowers-block source s0 s1 s2 s3 e statements tail c ready form first last left =
+    let inner : s2.scope ≡ marked_in_block source statements tail = last.keeps.scope ∙ ap (λ scope. scope ++ marked_by_tail source tail) first.keeps.scope in
+    let into2 : Grows s2 s3 = grows-trans s2 (with_scope s0.scope s2) s3 (with_scope-grows s0.scope s2) left.grows in
+    let into1 : Grows s1 s3 = grows-trans s1 s2 s3 last.keeps.grows into2 in
+    record {
+      keeps = record {
+        grows = grows-trans s0 (with_scope [] s0) s3 (with_scope-grows [] s0) (grows-trans (with_scope [] s0) s1 s3 first.keeps.grows into1);
+        sound = left.sound;
+        «open» = left.«open»;
+        scope = left.scope ∙ sym (append-nil s0.scope) ∙ ap (λ m. s0.scope ++ m) (sym (marked_unrolls source ready.checked e ready.within ∙ ap (marked_by source (marked source)) form));
+      };
+      does = does-form source s0 s3 e c (Some (expr.Block statements tail)) form (record {
+        reaches = λ whole frame grows sound is fuel store memory holds.
+            let grown2 : Grows s2 whole = grows-trans s2 s3 whole into2 grows in
+            let below = level_at source fuel in
+            reaches-then frame (here s0) (here s1) (here s3) memory (Done whole frame) (Done whole frame) (statements_of source below statements store) _
+            (first.does.reaches whole frame (grows-trans s1 s2 whole last.keeps.grows grown2) sound is fuel store memory holds)
+            (λ value store1 memory1 claims1.
+            reaches-then frame (here s1) (here s2) (here s3) memory1 (Done whole frame) (Done whole frame) (tail_into below tail (record { cell = c }) store1) _
+            (last.does.reaches whole frame grown2 sound is fuel store1 memory1 claims1.0)
+            (λ value store2 memory2 claims2.
+            let turns : drops source s2.scope ≡ drops source (marked_in_block source statements tail) = ap (drops source) inner in
+            (
+              drops source s2.scope,
+              memory2,
+              omega (arith, turns),
+              scope-left s2 s0.scope source s3 (drops source s2.scope) left whole frame grows is memory2,
+              (claims2.0, tt),
+            )));
+      });
+      laid = lays-block source (with_scope [] s0) s1 s2 s3 e statements tail c form first last into1 into2;
+    }

@@ -1,0 +1,93 @@
+-- In a plain source, where the locals of the graph have layouts, the types of what is evaluated have.
+use Rattle.std.proofs.Common.{◌≡◌, ℕ, zero, suc, ◌⊎◌, ⊎_elim, inl, inr, List, [], ◌∷◌, ◌++◌, flat_map, Contains, Option, Some, None, refl, sym, ap, ◌∙◌, subst, arith}
+use Rattle.std.specs.Prelude.{slice_get, option_map, option_and_then}
+use Rattle.std.proofs.lemmas.List.Elements.{Contains-append_cases}
+use Rattle.world.specs.declared.body.BinaryOp.{BinaryOp}
+use Rattle.world.specs.declared.body.Expr.{Expr}
+use Rattle.world.specs.declared.body.Expr.TheVariants as expr
+use Rattle.world.specs.declared.body.Literal.{Literal}
+use Rattle.world.specs.declared.body.Literal.TheVariants as literal
+use Rattle.world.specs.declared.body.Statement.{Statement}
+use Rattle.world.specs.declared.ids.ExprId.{ExprId}
+use Rattle.world.specs.declared.infer.ValueNs.{ValueNs}
+use Rattle.world.specs.declared.infer.ValueNs.TheVariants.{LocalBinding}
+use Rattle.world.specs.declared.ids.BindingId.{BindingId}
+use Rattle.world.specs.declared.layout.Layout.{Layout}
+use Rattle.world.specs.declared.ty.Ty.{Ty}
+use Rattle.world_check.specs.Checked.{optional}
+use Rattle.mir.specs.declared.body.Local.{Local}
+use Rattle.mir.specs.declared.operand.OperandKind.{OperandKind}
+use Rattle.source_meaning.specs.Meaning.{literal_bytes}
+use Rattle.source_meaning.specs.Source.{Source, node, node_type, node_layout, named_by, binding_type, Node}
+use Rattle.source_meaning.specs.Valid.{Evaluates, itself, part, parts_of, statement_parts, HasPlainForm, IsPlainFrom, IsPlainNode, IsLaidOut}
+use Rattle.mir_lower.specs.Graph.{Shape, local_of_type, temp_of, binding_local}
+use Rattle.mir_lower.specs.Growth.{Grows, IsSound}
+use Rattle.mir_lower.specs.Literals.{IsLiteral}
+use Rattle.mir_lower.specs.Lowered.{HasLayouts, LaysOut, IsTruthLiteral, IsNamed, LowersInto}
+use Rattle.mir_lower.proofs.Sound.{binding-there, local-there}
+use Rattle.mir_lower.proofs.Lists.{slice_get_in}
+
+-- what holds in a graph that grew, held before
+pub layouts-before : (source : Source) (old new : Shape) → Grows old new → HasLayouts source new → HasLayouts source old
+layouts-before source old new grows layouts l local found = layouts l local (grows.locals l local found)
+
+-- an expression without parts is all that is evaluated there
+pub alone : (source : Source) (e f : ℕ) → parts_of (node source e) ≡ [] → Evaluates source e f → e ≡ f
+alone source e f none itself = refl
+alone source e f none (part {child = child} is rest) = absurd (no-element child (subst (λ parts. Contains parts child) none is)) where
+  no-element : (x : ℕ) → Contains [] x → ⊥
+  no-element x is = let below = is.1 in absurd (omega arith)
+
+-- what is plain where an expression is, is plain where a part of it is
+pub plain-part : (source : Source) (e child : ℕ) → Contains (parts_of (node source e)) child → IsPlainFrom source e → IsPlainFrom source child
+plain-part source e child is plain f evaluates = plain f (part is evaluates)
+
+-- a literal's layout: that of a number was looked up
+number-laid : (source : Source) (e : ℕ) (l : Literal) (bytes : List ℕ) → literal_bytes source e l ≡ Some bytes → (IsTruthLiteral (Some (expr.Literal l)) → IsLaidOut source (node_type source e)) → IsLaidOut source (node_type source e)
+unfolding literal_bytes
+number-laid source e (literal.Bool test) bytes told truth = truth tt
+number-laid source e (literal.Int n s) bytes told truth = by-layout _ (node_layout source e) refl told where
+  by-layout : (f : Layout → List ℕ) (found : Option Layout) → node_layout source e ≡ found → option_map f found ≡ Some bytes → IsLaidOut source (node_type source e)
+  by-layout f (Some layout) is h = record { layout = layout; found = is }
+  by-layout f None is h = absurd cc
+number-laid source e (literal.Uint n s) bytes told truth = by-layout _ (node_layout source e) refl told where
+  by-layout : (f : Layout → List ℕ) (found : Option Layout) → node_layout source e ≡ found → option_map f found ≡ Some bytes → IsLaidOut source (node_type source e)
+  by-layout f (Some layout) is h = record { layout = layout; found = is }
+  by-layout f None is h = absurd cc
+
+pub lays-literal : (source : Source) (s : Shape) (e : ℕ) (l : Literal) (operand : OperandKind) → node source e ≡ Some (expr.Literal l) → IsLiteral source e l operand → (IsTruthLiteral (node source e) → IsLaidOut source (node_type source e)) → LaysOut source s e
+lays-literal source s e l operand form is truth plain layouts f evaluates =
+    subst (λ g. IsLaidOut source (node_type source g)) (alone source e f (ap parts_of form) evaluates)
+    (number-laid source e l is.bytes is.told (λ truly. truth (subst IsTruthLiteral (sym form) truly)))
+
+pub lays-literal-into : (source : Source) (s : Shape) (e : ℕ) (l : Literal) → node source e ≡ Some (expr.Literal l) → IsLaidOut source (node_type source e) → LaysOut source s e
+lays-literal-into source s e l form laid plain layouts f evaluates = subst (λ g. IsLaidOut source (node_type source g)) (alone source e f (ap parts_of form) evaluates) laid
+
+-- a path has the type of its binding, whose local has a layout
+pub lays-name : (source : Source) (s : Shape) (e local : ℕ) (name : _) → IsSound source s → node source e ≡ Some (expr.Path name) → IsNamed source s e local → LaysOut source s e
+lays-name source s e local name sound form named plain layouts f evaluates =
+    subst (λ g. IsLaidOut source (node_type source g)) (alone source e f (ap parts_of form) evaluates)
+    (of-binding (plain e itself) (subst (λ n. HasPlainForm source e n (plain e itself).ty) form (plain e itself).form)) where
+      of-binding : (node : IsPlainNode source e) → (b : BindingId) × (named_by source e ≡ Some (LocalBinding b)) × (binding_type source b.0 ≡ Some node.ty) → IsLaidOut source (node_type source e)
+      of-binding node binds =
+          let at = layouts (suc binds.0.0) (local_of_type node.ty) (sound.bound binds.0.0 node.ty binds.2) in
+          subst (IsLaidOut source) (sym node.has_type) at
+
+pub lays-name-into : (source : Source) (s : Shape) (e : ℕ) (name : _) → node source e ≡ Some (expr.Path name) → IsLaidOut source (node_type source e) → LaysOut source s e
+lays-name-into source s e name form laid plain layouts f evaluates = subst (λ g. IsLaidOut source (node_type source g)) (alone source e f (ap parts_of form) evaluates) laid
+
+-- an expression in a local of its own has its type
+pub lays-temp : (source : Source) (s1 s2 : Shape) (e local : ℕ) → IsSound source s1 → temp_of s1 e ≡ Some local → LowersInto source s1 s2 e (Node e) → LaysOut source s2 e
+lays-temp source s1 s2 e local sound found into plain layouts =
+    let there = local-there source s1 sound (Node e) local found in
+    into.laid (subst (IsLaidOut source) (sym there.2) (layouts local there.0 (into.keeps.grows.locals local there.0 there.1))) plain layouts
+
+-- what a list of one or of two holds
+pub one-of : (x y : ℕ) → Contains (x ∷ []) y → x ≡ y
+one-of x y (zero, below, is) = is
+one-of x y (suc k, below, is) = absurd (omega arith)
+
+pub one-of-two : (w x y : ℕ) → Contains (w ∷ x ∷ []) y → (w ≡ y) ⊎ (x ≡ y)
+one-of-two w x y (zero, below, is) = inl is
+one-of-two w x y (suc zero, below, is) = inr is
+one-of-two w x y (suc (suc k), below, is) = absurd (omega arith)

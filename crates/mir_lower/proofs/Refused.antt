@@ -1,0 +1,110 @@
+-- The causes of refusals, carried upwards, and what is known of an expression's parts.
+use Rattle.std.proofs.Common.{◌≡◌, ℕ, ◌<◌, false, List, Contains, Option, Some, None, Result, refl, sym, ap, ◌∙◌, subst, ⊎_elim, ◌⊎◌, arith}
+use Rattle.std.specs.Prelude.{codes, IfErr, IsErrAnd}
+use Rattle.std.proofs.lemmas.Result.{err_from_is_err_and}
+use Rattle.world.specs.declared.body.Expr.{Expr}
+use Rattle.world.specs.declared.body.Expr.TheVariants as expr
+use Rattle.world.specs.declared.body.Statement.{Statement}
+use Rattle.world.specs.declared.body.Statement.TheVariants as statement
+use Rattle.world.specs.declared.body.UnaryOp.TheVariants as unary
+use Rattle.mir.specs.declared.errors.MirLowerError.{MirLowerError}
+use Rattle.mir.specs.declared.errors.MirLowerError.TheVariants as refusal
+use Rattle.mir.specs.declared.operand.UnOp.TheVariants as one
+use Rattle.source_meaning.specs.Source.{Source, node, root, pattern, is_literal, is_path}
+use Rattle.source_meaning.specs.Valid.{Evaluates, itself, part, parts_of, statement_parts}
+use Rattle.source_meaning.proofs.Depth.{evaluates_then, statement_part_is_part}
+use Rattle.source_meaning.proofs.Fuel.{part_is_below}
+use Rattle.mir_lower.specs.declared.form.Form.{Form}
+use Rattle.mir_lower.specs.declared.form.Form.TheVariants as form
+use Rattle.mir_lower.specs.Form.{HasForm}
+use Rattle.mir_lower.specs.Graph.{Shape}
+use Rattle.mir_lower.specs.Growth.{IsSound, IsOpen, IsReady}
+use Rattle.mir_lower.specs.Lowered.{IsStatementOf}
+use Rattle.mir_lower.specs.Refusals.{LacksOperator, IsUnbuiltForm, IsUnbuiltStatement, IsUnbuilt, BindsNone, LetBindsNone, LacksLocal, RefusesNode, RefusesPattern, RefusesAt}
+
+pub refuses-here : (source : Source) (e : ℕ) (error : MirLowerError) → RefusesNode source e error → RefusesAt source e error
+refuses-here source e error h = (e, itself, h)
+
+pub refuses-no-memory : (source : Source) (e : ℕ) (error : MirLowerError) → error ≡ refusal.NoMemory → RefusesAt source e error
+refuses-no-memory source e error h = refuses-here source e error (subst (RefusesNode source e) (sym h) tt)
+
+pub refuses-part : (source : Source) (e child : ℕ) (error : MirLowerError) → Contains (parts_of (node source e)) child → RefusesAt source child error → RefusesAt source e error
+refuses-part source e child error is h = (h.0, part is h.1, h.2)
+
+-- the refusal of an unbuilt form, or want of memory for its text
+pub refuses-unbuilt : (source : Source) (e : ℕ) (error : MirLowerError) → IsUnbuilt source (node source e) → (error ≡ refusal.NotSupported (codes "form not built")) ⊎ (error ≡ refusal.NoMemory) → RefusesAt source e error
+refuses-unbuilt source e error unbuilt cases =
+    ⊎_elim (λ text. refuses-here source e error (subst (RefusesNode source e) (sym text) (refl, unbuilt))) (refuses-no-memory source e error) cases
+
+unbuilt-by-form : (source : Source) (n : Option Expr) → IsUnbuiltForm n → IsUnbuilt source n
+unbuilt-by-form source (Some (expr.Block statements tail)) unbuilt = absurd unbuilt
+unbuilt-by-form source (Some (expr.Literal l)) unbuilt = unbuilt
+unbuilt-by-form source (Some (expr.Path name)) unbuilt = unbuilt
+unbuilt-by-form source (Some (expr.UnaryOp e op)) unbuilt = unbuilt
+unbuilt-by-form source (Some (expr.BinaryOp lhs rhs op)) unbuilt = unbuilt
+unbuilt-by-form source None unbuilt = unbuilt
+
+pub refuses-unbuilt-form : (source : Source) (e : ℕ) (error : MirLowerError) → IsUnbuiltForm (node source e) → (error ≡ refusal.NotSupported (codes "form not built")) ⊎ (error ≡ refusal.NoMemory) → RefusesAt source e error
+refuses-unbuilt-form source e error unbuilt cases = refuses-unbuilt source e error (unbuilt-by-form source (node source e) unbuilt) cases
+
+-- the refusal of a statement that isn't built
+pub refuses-statement : (source : Source) (e : ℕ) (error : MirLowerError) (st : Statement) → IsStatementOf source e st → IsUnbuiltStatement source st → (error ≡ refusal.NotSupported (codes "form not built")) ⊎ (error ≡ refusal.NoMemory) → RefusesAt source e error
+refuses-statement source e error st stands unbuilt cases =
+    refuses-unbuilt source e error (subst (IsUnbuilt source) (sym stands.form) (st, stands.within, unbuilt)) cases
+
+-- the refusal of the pattern of a `let` with an initializer
+pub refuses-pattern : (source : Source) (e : ℕ) (error : MirLowerError) (pat : _) (init : _) → IsStatementOf source e (statement.Let pat (Some init) None) → RefusesPattern source pat.0 error → RefusesAt source e error
+refuses-pattern source e (refusal.NotSupported text) pat init stands refuses =
+    refuses-here source e (refusal.NotSupported text) (refuses.0, subst (IsUnbuilt source) (sym stands.form) (statement.Let pat (Some init) None, stands.within, refuses.1))
+refuses-pattern source e refusal.InaccessibleLocal pat init stands refuses =
+    refuses-here source e refusal.InaccessibleLocal (subst (LacksLocal source e) (sym stands.form) (statement.Let pat (Some init) None, stands.within, refuses))
+refuses-pattern source e refusal.NoMemory pat init stands refuses = refuses-no-memory source e refusal.NoMemory refl
+refuses-pattern source e (refusal.LayoutError l) pat init stands refuses = absurd refuses
+refuses-pattern source e refusal.IncompleteExpr pat init stands refuses = absurd refuses
+refuses-pattern source e (refusal.UnresolvedName name) pat init stands refuses = absurd refuses
+refuses-pattern source e refusal.HasErrors pat init stands refuses = absurd refuses
+refuses-pattern source e (refusal.TypeError text) pat init stands refuses = absurd refuses
+
+-- what a `?` returns is what refused
+pub refused-exit : {T : Type 0} (P Q : MirLowerError → Type 0) (r : Result T MirLowerError) → IsErrAnd r Q → ((error : MirLowerError) → Q error → P error) → IfErr r P
+refused-exit P Q r returned carries =
+    let p = err_from_is_err_and r returned in
+    subst (λ (s : Result _ MirLowerError). IfErr s P) (sym p.1) (carries p.0 p.2)
+
+-- a form that is no literal's, and one that is no path's
+pub no-literal : (there : Option Expr) (f : Form) → HasForm there f → ((l : _) → f ≡ form.Literal l → ⊥) → is_literal there ≡ false
+no-literal there (form.Literal l) has differ = absurd (differ l refl)
+no-literal there (form.Path name) has differ = ap is_literal has
+no-literal there (form.Unary op e) has differ = ap is_literal has
+no-literal there (form.Binary op lhs rhs) has differ = ap is_literal has.1
+no-literal there (form.Block statements tail) has differ = ap is_literal has
+no-literal there form.NoOperator has differ = has.1
+no-literal there form.Unbuilt has differ = has.1
+
+pub no-path : (there : Option Expr) (f : Form) → HasForm there f → ((name : _) → f ≡ form.Path name → ⊥) → is_path there ≡ false
+no-path there (form.Literal l) has differ = ap is_path has
+no-path there (form.Path name) has differ = absurd (differ name refl)
+no-path there (form.Unary op e) has differ = ap is_path has
+no-path there (form.Binary op lhs rhs) has differ = ap is_path has.1
+no-path there (form.Block statements tail) has differ = ap is_path has
+no-path there form.NoOperator has differ = has.2
+no-path there form.Unbuilt has differ = has.2
+
+-- a part of what can be lowered can be lowered
+pub ready-part : (source : Source) (s new : Shape) (e child : ℕ) → IsReady source s e → Contains (parts_of (node source e)) child → IsSound source new → IsOpen new → IsReady source new child
+ready-part source s new e child ready is sound opened =
+    record {
+      checked = ready.checked;
+      sound = sound;
+      «open» = opened;
+      within = let below = part_is_below source ready.checked e child is in let w = ready.within in omega arith;
+      reached = evaluates_then source ready.reached (part is itself);
+    }
+
+-- the same expression in another graph
+pub ready-in : (source : Source) (s new : Shape) (e : ℕ) → IsReady source s e → IsSound source new → IsOpen new → IsReady source new e
+ready-in source s new e ready sound opened = record { checked = ready.checked; sound = sound; «open» = opened; within = ready.within; reached = ready.reached }
+
+-- what a statement evaluates is a part of its block
+pub part-of-statement : (source : Source) (e : ℕ) (st : Statement) (child : ℕ) → IsStatementOf source e st → Contains (statement_parts st) child → Contains (parts_of (node source e)) child
+part-of-statement source e st child stands is = statement_part_is_part source e stands.statements stands.tail st child stands.form stands.within is
