@@ -2,16 +2,17 @@
 
 ghost use Rattle.std.specs.Prelude.{◌≡◌, ◌≤◌, IfOk, Some, slice_get, option_and_then, option_copied};
 ghost use Rattle.numbers.specs.Operators.{kind_of};
-ghost use Rattle.mir.specs.Run.{copied, read, operator_of, operated, rvalue_bytes, operand_bytes, operand_type, after_statement, after_statements, terminated, next_from, entering};
+ghost use Rattle.mir.specs.Run.{copied, read, operator_of, answered, operated, computed_of, operated_on, rvalue_bytes, operand_bytes, operand_type, after_statement, after_statements, terminated, next_from, entering};
+ghost use Rattle.mir_mem.specs.Computed.{answer_of, count_of};
 ghost use Rattle.mir_eval.specs.Steps.{interval_of, operated_bytes, frame, memory, left_with, next_of, ended_of};
 
 use crate::cells::{Cell, cell_of, copy, read, write};
 use crate::faults::Fault;
 use mir::{
     BasicBlock, BasicBlockId, BinOp, MirBody, OperandKind, Place, Rvalue, Statement, StatementKind,
-    Terminator, TerminatorKind,
+    Terminator, TerminatorKind, UnOp,
 };
-use mir_mem::{Computed, compute};
+use mir_mem::{Computed, compute, invert, negate};
 use numbers::{Kind, Operator};
 use world::Const;
 
@@ -96,11 +97,40 @@ fn operator_of(op: BinOp) -> Operator
 {
     match op {
         BinOp::Add => Operator::Add,
+        BinOp::Sub => Operator::Sub,
+        BinOp::Mul => Operator::Mul,
+        BinOp::Div => Operator::Div,
+        BinOp::Rem => Operator::Rem,
+        BinOp::BitXor => Operator::BitXor,
+        BinOp::BitAnd => Operator::BitAnd,
+        BinOp::BitOr => Operator::BitOr,
+        BinOp::Shl => Operator::Shl,
+        BinOp::Shr => Operator::Shr,
+        BinOp::Eq => Operator::Eq,
+        BinOp::Lt => Operator::Lt,
+        BinOp::Le => Operator::Le,
+        BinOp::Ne => Operator::Ne,
+        BinOp::Ge => Operator::Ge,
+        BinOp::Gt => Operator::Gt,
+    }
+}
+
+/// The bytes that a computation gives, or its fault.
+#[tactic(auto, unfolding(mir::specs::Run::answered))]
+fn answered(computed: Computed) -> Result<([u8; 16], u8), Fault>
+    requires { count_of computed ≤ 16 }
+    ensures bytes { operated_bytes result ≡ answered (answer_of computed) }
+    ensures count { IfOk result (λ r. r.1 ≤ 16) }
+{
+    match computed {
+        Computed::Bytes(bytes, count) => Ok((bytes, count)),
+        Computed::Panics(op) => Err(Fault::Panic(op)),
+        Computed::Undefined => Err(Fault::Undefined),
     }
 }
 
 /// The bytes that an operator makes of two operands.
-#[tactic(auto, unfolding(mir::specs::Run::operated, mir::specs::Run::answered))]
+#[tactic(auto, unfolding(mir::specs::Run::operated))]
 fn operate(
     body: &MirBody,
     cells: &[Cell],
@@ -120,21 +150,59 @@ fn operate(
     };
     let left_kind = operand_kind(body, left);
     let right_kind = operand_kind(body, right);
-    match compute(
+    answered(compute(
         operator_of(op),
         left_kind,
         right_kind,
         left_bytes,
         right_bytes,
-    ) {
-        Computed::Bytes(bytes, count) => Ok((bytes, count)),
-        Computed::Panics(op) => Err(Fault::Panic(op)),
-        Computed::Undefined => Err(Fault::Undefined),
+    ))
+}
+
+/// What an operator on one operand makes of it.
+#[tactic(auto, unfolding(mir::specs::Run::computed_of))]
+fn compute_one(op: UnOp, kind: Option<Kind>, bytes: &[u8]) -> Computed
+    ensures answer { answer_of result ≡ computed_of op kind bytes.now }
+    ensures count { count_of result ≤ 16 }
+{
+    match op {
+        UnOp::Not => invert(kind, bytes),
+        UnOp::Neg => negate(kind, bytes),
+    }
+}
+
+/// The bytes that an operator makes of one operand.
+#[tactic(auto, unfolding(mir::specs::Run::operated_on))]
+fn operate_on(
+    body: &MirBody,
+    cells: &[Cell],
+    stack: &[u8],
+    op: UnOp,
+    kind: &OperandKind,
+) -> Result<([u8; 16], u8), Fault>
+    ensures bytes { operated_bytes result ≡ operated_on op (operand_type body.now kind.now) (operand_bytes (frame body.now cells.now) (memory stack.now) kind.now) }
+    ensures count { IfOk result (λ r. r.1 ≤ 16) }
+{
+    let Some(bytes) = operand(body, cells, stack, kind) else {
+        return Err(Fault::BadRead);
+    };
+    answered(compute_one(op, operand_kind(body, kind), bytes))
+}
+
+/// Copies what an operator made to a cell.
+#[tactic(auto, unfolding(mir::specs::Run::copied))]
+fn assign_made(stack: &mut [u8], to: Cell, made: Result<([u8; 16], u8), Fault>) -> Result<(), Fault>
+    requires { IfOk made (λ r. r.1 ≤ 16) }
+    ensures { left_with stack.new result ≡ copied (memory stack.old) (Some (interval_of to)) (operated_bytes made) }
+{
+    match made {
+        Ok(made) => write(stack, to, &made.0[..made.1 as usize]),
+        Err(fault) => Err(fault),
     }
 }
 
 /// Copies what is computed to a cell.
-#[tactic(auto, unfolding(mir::specs::Run::rvalue_bytes, mir::specs::Run::copied))]
+#[tactic(auto, unfolding(mir::specs::Run::rvalue_bytes))]
 fn assign(
     body: &MirBody,
     cells: &[Cell],
@@ -147,10 +215,12 @@ fn assign(
     match rvalue {
         Rvalue::Use(operand) => assign_operand(body, cells, stack, to, &operand.kind),
         Rvalue::CheckedBinaryOp(op, left, right) => {
-            match operate(body, cells, stack, *op, &left.kind, &right.kind) {
-                Ok(made) => write(stack, to, &made.0[..made.1 as usize]),
-                Err(fault) => Err(fault),
-            }
+            let made = operate(body, cells, stack, *op, &left.kind, &right.kind);
+            assign_made(stack, to, made)
+        }
+        Rvalue::UnaryOp(op, operand) => {
+            let made = operate_on(body, cells, stack, *op, &operand.kind);
+            assign_made(stack, to, made)
         }
     }
 }
@@ -170,6 +240,7 @@ fn execute(
             Some(to) => assign(body, cells, stack, to, rvalue),
             None => Err(Fault::BadWrite),
         },
+        StatementKind::FakeRead(_) => Ok(()),
         StatementKind::StorageLive(_) => Ok(()),
         StatementKind::StorageDead(_) => Ok(()),
     }

@@ -1,7 +1,7 @@
 use crate::{Evaluator, Limits, Turned};
 use mir::{
     BasicBlock, BasicBlockId, BinOp, Local, LocalId, MirBody, MirSpan, Operand, OperandKind, Place,
-    Rvalue, Statement, StatementKind, Terminator, TerminatorKind,
+    Rvalue, Statement, StatementKind, Terminator, TerminatorKind, UnOp,
 };
 use std::alloc::Global;
 use std::rc::Rc;
@@ -47,10 +47,10 @@ fn world_of_one(alloc: Global) -> Result<HirDatabase, NoMemory> {
     })
 }
 
-/// The number 2 as an operand.
-fn two(alloc: Global) -> Result<Operand, NoMemory> {
+/// A number as an operand.
+fn number(alloc: Global, number: u8) -> Result<Operand, NoMemory> {
     let mut memory = Bytes::new(alloc);
-    memory.push(2)?;
+    memory.push(number)?;
     for _ in 0..7 {
         memory.push(0)?;
     }
@@ -68,15 +68,18 @@ fn two(alloc: Global) -> Result<Operand, NoMemory> {
     })
 }
 
-/// One block that puts 2 + 2 into the return slot.
-fn sum_body(alloc: Global) -> Result<MirBody, NoMemory> {
-    let place = Place { local: LocalId(0) };
-    let sum = Rvalue::CheckedBinaryOp(BinOp::Add, two(alloc)?, two(alloc)?);
-    let mut statements = List::new(alloc);
-    statements.push(Statement {
-        kind: StatementKind::Assign(place, sum),
+/// The place of the return slot.
+const SLOT: Place = Place { local: LocalId(0) };
+
+fn statement(kind: StatementKind) -> Statement {
+    Statement {
+        kind,
         span: MirSpan::Unknown,
-    })?;
+    }
+}
+
+/// One block that runs these statements.
+fn body_of(alloc: Global, statements: List<Statement>) -> Result<MirBody, NoMemory> {
     let mut basic_blocks = List::new(alloc);
     basic_blocks.push(BasicBlock {
         statements,
@@ -94,6 +97,27 @@ fn sum_body(alloc: Global) -> Result<MirBody, NoMemory> {
         start_block: BasicBlockId(0),
         owner: OWNER,
     })
+}
+
+/// One block that puts 2 + 2 into the return slot.
+fn sum_body(alloc: Global) -> Result<MirBody, NoMemory> {
+    let sum = Rvalue::CheckedBinaryOp(BinOp::Add, number(alloc, 2)?, number(alloc, 2)?);
+    let mut statements = List::new(alloc);
+    statements.push(statement(StatementKind::Assign(SLOT, sum)))?;
+    body_of(alloc, statements)
+}
+
+/// The value that these statements leave in the return slot.
+fn value_after(alloc: Global, statements: List<Statement>) -> Result<ValueConst, Fail> {
+    let db = world_of_one(alloc)?;
+    let limits = Limits::default_limits();
+    let mut evaluator = Evaluator::new(alloc, &db, OWNER, false, &limits)?;
+    let body = Rc::new(alloc, body_of(alloc, statements)?)?;
+    evaluator.begin(body)?;
+    evaluator.run();
+    let (result, _) = evaluator.finish();
+    let Const::Value(value) = result?;
+    Ok(value)
 }
 
 #[test]
@@ -114,5 +138,34 @@ fn two_and_two_are_four(rt: HostRuntime) -> Result<(), Fail> {
         [4, 0, 0, 0, 0, 0, 0, 0].as_slice()
     );
     assert_eq!(rt; output.stdout_bytes().len(), 0);
+    Ok(())
+}
+
+#[test]
+fn not_turns_every_bit(rt: HostRuntime) -> Result<(), Fail> {
+    let alloc = rt.alloc();
+    let turned = Rvalue::UnaryOp(UnOp::Not, number(alloc, 5)?);
+    let mut statements = List::new(alloc);
+    statements.push(statement(StatementKind::Assign(SLOT, turned)))?;
+    let value = value_after(alloc, statements)?;
+    assert_eq!(rt;
+        value.memory.as_slice(),
+        [250, 255, 255, 255, 255, 255, 255, 255].as_slice()
+    );
+    Ok(())
+}
+
+#[test]
+fn a_fake_read_changes_nothing(rt: HostRuntime) -> Result<(), Fail> {
+    let alloc = rt.alloc();
+    let nine = Rvalue::Use(number(alloc, 9)?);
+    let mut statements = List::new(alloc);
+    statements.push(statement(StatementKind::Assign(SLOT, nine)))?;
+    statements.push(statement(StatementKind::FakeRead(SLOT)))?;
+    let value = value_after(alloc, statements)?;
+    assert_eq!(rt;
+        value.memory.as_slice(),
+        [9, 0, 0, 0, 0, 0, 0, 0].as_slice()
+    );
     Ok(())
 }

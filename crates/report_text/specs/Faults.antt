@@ -10,7 +10,7 @@ use Rattle.mir.specs.declared.errors.MirLowerError.{MirLowerError}
 use Rattle.mir.specs.declared.errors.MirLowerError.TheVariants as lower
 use Rattle.mir.specs.declared.errors.TrailEntry.{TrailEntry}
 use Rattle.mir.specs.declared.span.MirSpan.{MirSpan}
-use Rattle.mir.specs.declared.span.MirSpan.TheVariants.{ExprId, Unknown}
+use Rattle.mir.specs.declared.span.MirSpan.TheVariants.{ExprId, PatId, BindingId, Unknown}
 use Rattle.world.specs.declared.ids.DefWithBodyId.{DefWithBodyId}
 use Rattle.world.specs.declared.ids.DefWithBodyId.TheVariants.{ConstId}
 use Rattle.report_text.specs.Texts.{bracketed, named, quoted}
@@ -21,6 +21,8 @@ layout_error_text UnknownLayout = codes "Unknown"
 
 abbrev pub span_text : MirSpan → List ℕ
 span_text (ExprId id) = codes "expr#" ++ decimal id.0
+span_text (PatId id) = codes "pat#" ++ decimal id.0
+span_text (BindingId id) = codes "binding#" ++ decimal id.0
 span_text Unknown = codes "unknown"
 
 abbrev pub def_text : DefWithBodyId → List ℕ
@@ -39,9 +41,11 @@ trail_text trail = bracketed (map entry_text trail)
 abbrev pub lower_error_text : MirLowerError → List ℕ
 lower_error_text (lower.LayoutError error) = named (codes "LayoutError") (layout_error_text error ∷ [])
 lower_error_text lower.IncompleteExpr = codes "IncompleteExpr"
+lower_error_text (lower.UnresolvedName name) = named (codes "UnresolvedName") (quoted name ∷ [])
 lower_error_text lower.HasErrors = codes "HasErrors"
 lower_error_text (lower.TypeError text) = named (codes "TypeError") (quoted text ∷ [])
 lower_error_text (lower.NotSupported text) = named (codes "NotSupported") (quoted text ∷ [])
+lower_error_text lower.InaccessibleLocal = codes "InaccessibleLocal"
 lower_error_text lower.NoMemory = codes "NoMemory"
 
 -- an error's text, by the text of the error in it

@@ -26,6 +26,8 @@ fn span_text(alloc: Global, span: MirSpan) -> Result<Bytes, NoMemory>
 {
     match span {
         MirSpan::ExprId(id) => numbered(alloc, b"expr#", id.0 as u64),
+        MirSpan::PatId(id) => numbered(alloc, b"pat#", id.0 as u64),
+        MirSpan::BindingId(id) => numbered(alloc, b"binding#", id.0 as u64),
         MirSpan::Unknown => Bytes::from_slice(alloc, b"unknown"),
     }
 }
@@ -91,9 +93,11 @@ fn lower_error_text(alloc: Global, error: &MirLowerError) -> Result<Bytes, NoMem
             named_one(alloc, b"LayoutError", part)
         }
         MirLowerError::IncompleteExpr => Bytes::from_slice(alloc, b"IncompleteExpr"),
+        MirLowerError::UnresolvedName(name) => with_quoted(alloc, b"UnresolvedName", name),
         MirLowerError::HasErrors => Bytes::from_slice(alloc, b"HasErrors"),
         MirLowerError::TypeError(text) => with_quoted(alloc, b"TypeError", text),
         MirLowerError::NotSupported(text) => with_quoted(alloc, b"NotSupported", text),
+        MirLowerError::InaccessibleLocal => Bytes::from_slice(alloc, b"InaccessibleLocal"),
         MirLowerError::NoMemory => Bytes::from_slice(alloc, b"NoMemory"),
     }
 }
