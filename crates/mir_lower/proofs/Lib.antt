@@ -3,6 +3,7 @@ pub mod Blocks
 pub mod Drops
 pub mod Growing
 pub mod Holding
+pub mod InUse
 pub mod Laid
 pub mod Leaving
 pub mod Lists

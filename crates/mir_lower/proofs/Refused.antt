@@ -78,8 +78,8 @@ no-literal there (form.Path name) has differ = ap is_literal has
 no-literal there (form.Unary op e) has differ = ap is_literal has
 no-literal there (form.Binary op lhs rhs) has differ = ap is_literal has.1
 no-literal there (form.Block statements tail) has differ = ap is_literal has
-no-literal there form.NoOperator has differ = has.1
-no-literal there form.Unbuilt has differ = has.1
+no-literal there form.NoOperator has differ = has.1.0
+no-literal there form.Unbuilt has differ = has.1.0
 
 pub no-path : (there : Option Expr) (f : Form) → HasForm there f → ((name : _) → f ≡ form.Path name → ⊥) → is_path there ≡ false
 no-path there (form.Literal l) has differ = ap is_path has
@@ -87,8 +87,8 @@ no-path there (form.Path name) has differ = absurd (differ name refl)
 no-path there (form.Unary op e) has differ = ap is_path has
 no-path there (form.Binary op lhs rhs) has differ = ap is_path has.1
 no-path there (form.Block statements tail) has differ = ap is_path has
-no-path there form.NoOperator has differ = has.2
-no-path there form.Unbuilt has differ = has.2
+no-path there form.NoOperator has differ = has.1.1
+no-path there form.Unbuilt has differ = has.1.1
 
 -- a part of what can be lowered can be lowered
 pub ready-part : (source : Source) (s new : Shape) (e child : ℕ) → IsReady source s e → Contains (parts_of (node source e)) child → IsSound source new → IsOpen new → IsReady source new child

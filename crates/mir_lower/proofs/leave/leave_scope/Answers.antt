@@ -1,23 +1,26 @@
 -- The scope is taken out of the graph, and then left.
-use Rattle.std.proofs.Common.{List, ap, subst}
+use Rattle.std.proofs.Common.{List, sym, ap, subst}
 use Rattle.std.proofs.lemmas.Result.{on_ok_weaker}
+use Rattle.source_meaning.specs.Source.{Cell, drops}
 use Rattle.mir_lower.specs.Contexts.{source_of}
-use Rattle.mir_lower.specs.declared.graph.Marked.{Marked}
-use Rattle.mir_lower.specs.Graph.{shape}
-use Rattle.mir_lower.specs.Leaving.{Leaves, drops, nodes_of}
-use Rattle.mir_lower.proofs.Leaving.{leaves-scope, sound-scope, open-scope}
+use Rattle.mir_lower.specs.Graph.{Shape, shape, cells_of, with_scope}
+use Rattle.mir_lower.specs.Growth.{IsSound, IsOpen}
+use Rattle.mir_lower.specs.Leaving.{Idles}
+use Rattle.mir_lower.proofs.Sound.{with_scope-sound, with_scope-open}
 use Rattle.mir_lower.proofs.leave.leave_scope.Goals as goal
 
 pub leave_all-requires-clause-sound : goal.leave_all-requires-clause-sound
-leave_all-requires-clause-sound c = sound-scope (source_of c.args.context.now) (shape c.args.graph.now) (nodes_of c.replace-scope.new.dest.items) c.requires.sound
+leave_all-requires-clause-sound c =
+    subst (IsSound (source_of c.args.context.now)) (sym c.pop_drop_scope-scope.ensures.outer) (with_scope-sound (source_of c.args.context.now) (cells_of c.args.token.outer.items) (shape c.args.graph.now) c.requires.sound)
 
 pub leave_all-requires-clause-opened : goal.leave_all-requires-clause-opened
-leave_all-requires-clause-opened c = open-scope (shape c.args.graph.now) (nodes_of c.replace-scope.new.dest.items) c.requires.opened
+leave_all-requires-clause-opened c =
+    subst IsOpen (sym c.pop_drop_scope-scope.ensures.outer) (with_scope-open (cells_of c.args.token.outer.items) (shape c.args.graph.now) c.requires.opened)
 
 pub returns : goal.returns
 returns c =
     let source = source_of c.args.context.now in
     on_ok_weaker c.leave_all.result
-    (λ left. subst (λ (scope : List Marked). Leaves source (shape c.args.graph.now) (shape c.leave_all.new.graph) (drops source (nodes_of scope))) (ap (λ v. v.items) c.replace-scope.ensures.value)
-    (leaves-scope source (shape c.args.graph.now) (shape c.leave_all.new.graph) (nodes_of c.replace-scope.new.dest.items) _ c.requires.opened left))
+    (λ left. subst (λ (cells : List Cell). Idles source (with_scope (cells_of c.args.token.outer.items) (shape c.args.graph.now)) (shape c.leave_all.new.graph) (drops source cells)) c.pop_drop_scope-scope.ensures.inner
+    (subst (λ (s : Shape). Idles source s (shape c.leave_all.new.graph) (drops source (cells_of c.pop_drop_scope-scope.result.items))) c.pop_drop_scope-scope.ensures.outer left))
     c.leave_all.ensures

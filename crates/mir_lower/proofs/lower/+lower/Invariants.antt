@@ -1,0 +1,47 @@
+-- A part has a lower number than its expression. At one expression the operand comes before the place, the place before
+-- its local, that before what is evaluated into it, then the forms, the statements of a block, one of them, and its kind.
+use Rattle.std.proofs.Common.{◌+◌, ◌*◌, take}
+use Rattle.mir_lower.specs.Contexts.{source_of}
+use Rattle.mir_lower.specs.Graph.{shape}
+use Rattle.mir_lower.specs.Lowered.{LowersStatements}
+use Rattle.mir_lower.proofs.lower.+lower.Given as goal
+
+abbrev pub decreases-lower_operand : goal.decreases-lower_operand
+decreases-lower_operand l = 10 * l.e.0 + 8
+
+abbrev pub decreases-lower_place : goal.decreases-lower_place
+decreases-lower_place l = 10 * l.e.0 + 7
+
+abbrev pub decreases-lower_temp : goal.decreases-lower_temp
+decreases-lower_temp l = 10 * l.e.0 + 6
+
+abbrev pub decreases-lower_into : goal.decreases-lower_into
+decreases-lower_into l = 10 * l.e.0 + 5
+
+abbrev pub decreases-lower_unary : goal.decreases-lower_unary
+decreases-lower_unary l = 10 * l.e.0 + 4
+
+abbrev pub decreases-lower_binary : goal.decreases-lower_binary
+decreases-lower_binary l = 10 * l.e.0 + 4
+
+abbrev pub decreases-lower_block : goal.decreases-lower_block
+decreases-lower_block l = 10 * l.e.0 + 4
+
+abbrev pub decreases-lower_statements : goal.decreases-lower_statements
+decreases-lower_statements l = 10 * l.e.0 + 3
+
+abbrev pub decreases-lower_tail : goal.decreases-lower_tail
+decreases-lower_tail l = 10 * l.e.0 + 3
+
+abbrev pub decreases-lower_statement : goal.decreases-lower_statement
+decreases-lower_statement l = 10 * l.e.0 + 2
+
+abbrev pub decreases-lower_let : goal.decreases-lower_let
+decreases-lower_let l = 10 * l.e.0 + 1
+
+abbrev pub decreases-lower_expr_statement : goal.decreases-lower_expr_statement
+decreases-lower_expr_statement l = 10 * l.e.0 + 1
+
+-- the statements so far were lowered
+abbrev pub invariant-lower_statements-loop-statement : goal.invariant-lower_statements-loop-statement
+invariant-lower_statements-loop-statement l = LowersStatements (source_of l.context) (shape l.initial.graph) (shape l.graph) (take l.statement-index l.statements)
