@@ -2,4 +2,14 @@
 #![tactic(auto)]
 
 #[cfg(test)]
+mod blocks;
+#[cfg(test)]
+mod integers;
+#[cfg(test)]
+mod operators;
+#[cfg(test)]
+mod refusals;
+#[cfg(test)]
 mod tests;
+#[cfg(test)]
+mod worlds;

@@ -1,3 +1,4 @@
+use crate::worlds::Cases;
 use mirconst_run::{Status, run};
 use std::alloc::Global;
 use std::test::Fail;
@@ -39,6 +40,13 @@ fn run_over(alloc: Global, words: &[&str], input: &[u8]) -> Result<(Status, Byte
     let status = run(alloc, &owned, &mut src, &mut out);
     let written = Bytes::from_slice(alloc, out.bytes())?;
     Ok((status, written))
+}
+
+/// Runs over cases, and gives the exit code and what was written.
+pub(crate) fn run_cases(alloc: Global, cases: &Cases) -> Result<(u8, Bytes), NoMemory> {
+    let input = cases.input()?;
+    let (status, written) = run_over(alloc, &["eval"], input.as_bytes())?;
+    Ok((status.code(), written))
 }
 
 /// Words, the input, the exit code, the line of the status, and what is written.
