@@ -17,33 +17,16 @@ use Rattle.mir_lower.specs.Simulates.{Simulates}
 use Rattle.mir_lower.proofs.Aligned.{are-aligned}
 use Rattle.mir_lower.proofs.Placing.{places-all}
 use Rattle.mir_lower.proofs.Whole.{begun-cells}
-use Rattle.source_meaning.specs.Source.{Source, node_type, root}
-use Rattle.source_meaning.specs.Valid.{Evaluates, itself, left, right, HasPlainForm, IsPlain, IsPlainNode, HasDefinedCost}
+use Rattle.source_meaning.specs.Source.{Source, Cell, Result as Slot, Node, Binding, cell_type, node_type, root}
+use Rattle.mir_lower.specs.Growth.{IsUsed}
+use Rattle.source_meaning.specs.Valid.{itself, IsPlain, AreLaidOut, HasSizedLayout, HasDefinedCost}
 
--- the expressions of a plain body all have the type of its root
-pub same-type : (source : Source) (e f : ℕ) → Evaluates source e f → ((g : ℕ) → Evaluates source e g → IsPlainNode source g) → node_type source f ≡ node_type source e
-same-type source e f itself plain = refl
-same-type source e f (left {lhs = lhs} {rhs = rhs} form rest) plain =
-    let root = plain e itself in
-    let parts = subst (λ n. HasPlainForm source n root.ty) form root.form in
-    same-type source lhs.0 f rest (λ g part. plain g (left form part)) ∙ parts.1 ∙ sym root.has_type
-same-type source e f (right {lhs = lhs} {rhs = rhs} form rest) plain =
-    let root = plain e itself in
-    let parts = subst (λ n. HasPlainForm source n root.ty) form root.form in
-    same-type source rhs.0 f rest (λ g part. plain g (right form part)) ∙ parts.2 ∙ sym root.has_type
-
--- a plain body that began has a defined cost
-pub has-cost : (source : Source) (body : MirBody) (start : Frame × Memory) → IsChecked source.world → Simulates source body → begun source.world body ≡ Ok start → IsPlain source → HasDefinedCost source
-has-cost source body start checked simulates began plain e evaluates =
+-- the types of a plain body that began have layouts
+pub has-layouts : (source : Source) (body : MirBody) (start : Frame × Memory) → IsChecked source.world → Simulates source body → begun source.world body ≡ Ok start → IsPlain source → AreLaidOut source
+has-layouts source body start checked simulates began plain =
     let cells = begun-cells source.world body start began in
     let placing = places-all source.world (are-aligned source.world checked) body.locals first_memory cells.0 cells.1 in
-    let slot = simulates.slot in
-    let cell = placing.each 0 slot.0 slot.1 in
-    record {
-      layout = cell.layout;
-      found = ap (option_and_then (layout_of source.world)) (same-type source (root source) e evaluates plain ∙ slot.2) ∙ cell.found;
-      sized = cell.sized;
-    }
+    simulates.laid_out plain (λ l local there. let cell = placing.each l local there in record { layout = cell.layout; found = cell.found })
 
 -- a local whose type has a size has a cell
 placed-sized : (ty : Ty) (layout : Layout) (memory : Memory) (found : Option Layout) → found ≡ Some layout → layout.sized ≡ true → placed ty found memory ≡ Ok (with_cell layout memory)
@@ -76,11 +59,16 @@ pub begins : (source : Source) (body : MirBody) → Simulates source body → Ha
 begins source body simulates cost =
     let all = cells-there source.world body.locals first_memory sized in
     ((record { body = body; cells = all.0.0 }, all.0.1), begun-from source.world body all.0 all.1) where
+      of-type : (local : Local) (ty : Option Ty) → ty ≡ Some local.ty → HasSizedLayout source ty → HasLayout source.world local
+      of-type local ty is layout = (layout.layout, ap (option_and_then (layout_of source.world)) (sym is) ∙ layout.found, layout.sized)
+
+      by-cell : (local : Local) (cell : Cell) → IsUsed source cell → cell_type source cell ≡ Some local.ty → HasLayout source.world local
+      by-cell local Slot used is = of-type local (node_type source (root source)) is (cost.nodes (root source) itself)
+      by-cell local (Node e) used is = of-type local (node_type source e) is (cost.nodes e used)
+      by-cell local (Binding b) used is = of-type local (Some local.ty) refl (cost.bindings b local.ty is)
+
       sized : (l : ℕ) (local : Local) → slice_get body.locals l ≡ Some local → HasLayout source.world local
-      sized l local there =
-          let cell = simulates.cells l local there in
-          let layout = cost cell.0 cell.1 in
-          (layout.layout, ap (option_and_then (layout_of source.world)) (sym cell.2) ∙ layout.found, layout.sized)
+      sized l local there = let cell = simulates.cells l local there in by-cell local cell.0 cell.1 cell.2
 
 -- why a body can't begin, which is no end of a frame
 abbrev IsFrameless : MirEvalError → Type 0

@@ -20,11 +20,11 @@ use Rattle.source_meaning.proofs.Sizes.{plain_is_never_stuck}
 use Rattle.source_meaning.specs.Ends.{Stuck, IsOver}
 use Rattle.source_meaning.specs.Meaning.{meaning_of}
 use Rattle.source_meaning.specs.Source.{Source}
-use Rattle.source_meaning.specs.Valid.{HasDefinedCost}
+use Rattle.source_meaning.specs.Valid.{AreLaidOut, HasDefinedCost}
 use Rattle.consteval.specs.Answers.{GivesValue, GivesPanic, AnswersWithin, HasCause, AnswersBody, RunsTo, RefusesBody, panic_of, carried}
 use Rattle.consteval.specs.Kept.{Kept, IsSound, IsLowered, source_of}
 use Rattle.consteval.specs.Valid.{IsValid}
-use Rattle.consteval.proofs.Begins.{has-cost}
+use Rattle.consteval.proofs.Begins.{has-layouts}
 use Rattle.consteval.proofs.Ends.{completes-value, completes-panic, gives-value, gives-panic}
 use Rattle.consteval.proofs.Refused.{lower-error-is-no-panic, refused-run-is-no-panic, run-is-not-refused, lowering-is-not-refused}
 
@@ -52,26 +52,26 @@ module _ (world : HirDatabase) (checked : IsChecked world) (def : DefWithBodyId)
   ended : (fuel : ℕ) × IsOver (meaning_of Of fuel)
   ended = bodies_end Of (checked-body world def row checked valid.body)
 
-  never-stuck : HasDefinedCost Of → (fuel : ℕ) → meaning_of Of fuel ≢ Stuck
-  never-stuck cost fuel = plain_is_never_stuck Of fuel checked (checked-body world def row checked valid.body) valid.plain cost
+  never-stuck : AreLaidOut Of → (fuel : ℕ) → meaning_of Of fuel ≢ Stuck
+  never-stuck laid fuel = plain_is_never_stuck Of fuel checked (checked-body world def row checked valid.body) valid.plain laid
 
   module _ (blocks turns : ℕ) (answer : Result Const ConstEvalError) where
     run-value : (body : MirBody) → IsLowered world def body → RunsTo world body blocks turns answer → (konst : Const) → answer ≡ Ok konst → GivesValue Of konst
     run-value body lowered runs konst is =
         let simulates = simulated body lowered in
         let ran = runs.ran in
-        let cost = has-cost Of body ran.start checked simulates ran.began valid.plain in
+        let laid = has-layouts Of body ran.start checked simulates ran.began valid.plain in
         let end = ended in
-        gives-value Of body simulates ran.start ran.began blocks (meaning_of Of end.0) (record { fuel = end.0; reached = refl; over = end.1 }) (never-stuck cost end.0) konst
+        gives-value Of body simulates ran.start ran.began blocks (meaning_of Of end.0) (record { fuel = end.0; reached = refl; over = end.1 }) (never-stuck laid end.0) konst
         (carried-value runs.outcome konst (sym is ∙ runs.is) ∙ ran.ended)
 
     run-panic : (body : MirBody) → IsLowered world def body → RunsTo world body blocks turns answer → (word : List ℕ) → answer ≡ Err (panic_of word) → GivesPanic Of word
     run-panic body lowered runs word is =
         let simulates = simulated body lowered in
         let ran = runs.ran in
-        let cost = has-cost Of body ran.start checked simulates ran.began valid.plain in
+        let laid = has-layouts Of body ran.start checked simulates ran.began valid.plain in
         let end = ended in
-        gives-panic Of body simulates ran.start ran.began blocks (meaning_of Of end.0) (record { fuel = end.0; reached = refl; over = end.1 }) (never-stuck cost end.0) word
+        gives-panic Of body simulates ran.start ran.began blocks (meaning_of Of end.0) (record { fuel = end.0; reached = refl; over = end.1 }) (never-stuck laid end.0) word
         (sym is ∙ runs.is ∙ ap carried ran.ended)
 
     run-completes : (body : MirBody) → IsLowered world def body → RunsTo world body blocks turns answer → AnswersWithin Of blocks answer

@@ -1,10 +1,16 @@
 -- What a valid body with a defined cost is refused for: want of memory alone.
 use Rattle.std.proofs.Common.{◌≡◌, ◌≢◌, ℕ, ◌<◌, ◌≤◌, ⊎_elim, eqb-true, Bool, true, false, List, [], Option, Some, None, refl, sym, ap, ◌∙◌, subst, arith}
 use Rattle.std.specs.Prelude.{option_and_then, ◌==◌, ◌||◌}
-use Rattle.world.specs.declared.body.ArithOp.TheVariants.{Add}
-use Rattle.world.specs.declared.body.BinaryOp.TheVariants.{ArithOp}
+use Rattle.std.proofs.lemmas.List.Elements.{All-contains}
+use Rattle.world.specs.declared.body.BinaryOp.{BinaryOp}
+use Rattle.world.specs.declared.body.BinaryOp.TheVariants as binary
 use Rattle.world.specs.declared.body.Expr.{Expr}
 use Rattle.world.specs.declared.body.Expr.TheVariants as expr
+use Rattle.world.specs.declared.body.Literal.TheVariants as literal
+use Rattle.world.specs.declared.body.Statement.{Statement}
+use Rattle.world.specs.declared.body.Statement.TheVariants as statement
+use Rattle.world.specs.declared.body.UnaryOp.TheVariants as unary
+use Rattle.world.specs.declared.ids.BindingId.{BindingId}
 use Rattle.world.specs.declared.database.BodyRow.{BodyRow}
 use Rattle.world.specs.declared.database.HirDatabase.{HirDatabase}
 use Rattle.world.specs.declared.ids.DefWithBodyId.{DefWithBodyId}
@@ -21,11 +27,12 @@ use Rattle.mir.specs.declared.errors.MirEvalError as error
 use Rattle.mir.specs.declared.errors.MirLowerError.{MirLowerError}
 use Rattle.mir.specs.declared.errors.MirLowerError.TheVariants as refusal
 use Rattle.mir.specs.Errors.{from_lower_error, from_eval_error}
-use Rattle.mir_lower.specs.Refusals.{IsNumber, LacksOperator, IsUnbuilt, RefusesNode, Refuses, HasTypingErrors}
+use Rattle.mir_lower.specs.Refusals.{IsNumber, LacksOperator, IsUnbuiltStatement, IsUnbuilt, LetBindsNone, LacksLocal, RefusesNode, Refuses, HasTypingErrors}
 use Rattle.mir_lower.specs.Simulates.{Simulates}
 use Rattle.source_meaning.proofs.Sizes.{integer_is_width}
-use Rattle.source_meaning.specs.Source.{Source, node}
-use Rattle.source_meaning.specs.Valid.{IsInteger, HasPlainForm, IsPlainNode, HasSizedLayout, HasDefinedCost}
+use Rattle.source_meaning.specs.Meaning.{eager_operator}
+use Rattle.source_meaning.specs.Source.{Source, node, node_type, named_by, binding_type}
+use Rattle.source_meaning.specs.Valid.{IsInteger, IsPlainBinary, IsPlainStatement, HasPlainForm, IsPlainNode, HasSizedLayout, HasDefinedCost}
 use Rattle.consteval.specs.Answers.{RefusesBody, RefusesRun, panic_of}
 use Rattle.consteval.specs.Kept.{source_of}
 use Rattle.consteval.specs.Valid.{IsValid}
@@ -35,6 +42,8 @@ use Rattle.consteval.proofs.Begins.{begins, begun-is-frameless}
 pub lower-error-is-no-panic : (e : MirLowerError) (word : List ℕ) → from_lower_error e ≡ panic_of word → ⊥
 lower-error-is-no-panic (refusal.LayoutError e) word h = cc
 lower-error-is-no-panic refusal.IncompleteExpr word h = cc
+lower-error-is-no-panic (refusal.UnresolvedName name) word h = cc
+lower-error-is-no-panic refusal.InaccessibleLocal word h = cc
 lower-error-is-no-panic refusal.HasErrors word h = cc
 lower-error-is-no-panic (refusal.TypeError text) word h = cc
 lower-error-is-no-panic (refusal.NotSupported text) word h = cc
@@ -86,38 +95,92 @@ wide-is-no-width size is wide =
     cc
 
 -- no plain form lacks an operator, or is unbuilt
-plain-has-operator : (source : Source) (form : Option Expr) (ty : Ty) → HasPlainForm source form ty → LacksOperator form → ⊥
-plain-has-operator source (Some (expr.BinaryOp lhs rhs None)) ty plain lacks = plain
-plain-has-operator source (Some (expr.BinaryOp lhs rhs (Some op))) ty plain lacks = lacks
-plain-has-operator source (Some (expr.Literal l)) ty plain lacks = lacks
-plain-has-operator source (Some (expr.Path name)) ty plain lacks = lacks
-plain-has-operator source (Some (expr.Block statements tail)) ty plain lacks = lacks
-plain-has-operator source (Some (expr.UnaryOp e op)) ty plain lacks = lacks
-plain-has-operator source None ty plain lacks = lacks
+plain-has-operator : (source : Source) (e : ℕ) (form : Option Expr) (ty : Ty) → HasPlainForm source e form ty → LacksOperator form → ⊥
+plain-has-operator source e (Some (expr.BinaryOp lhs rhs None)) ty plain lacks = plain
+plain-has-operator source e (Some (expr.BinaryOp lhs rhs (Some op))) ty plain lacks = lacks
+plain-has-operator source e (Some (expr.Literal l)) ty plain lacks = lacks
+plain-has-operator source e (Some (expr.Path name)) ty plain lacks = lacks
+plain-has-operator source e (Some (expr.Block statements tail)) ty plain lacks = lacks
+plain-has-operator source e (Some (expr.UnaryOp a op)) ty plain lacks = lacks
+plain-has-operator source e None ty plain lacks = lacks
 
-plain-is-built : (source : Source) (form : Option Expr) (ty : Ty) → HasPlainForm source form ty → IsUnbuilt form → ⊥
-plain-is-built source (Some (expr.Literal l)) ty plain unbuilt = unbuilt plain.0
-plain-is-built source (Some (expr.BinaryOp lhs rhs (Some (ArithOp Add)))) ty plain unbuilt = unbuilt
-plain-is-built source (Some _) ty plain unbuilt = plain
-plain-is-built source None ty plain unbuilt = plain
+plain-statement-is-built : (source : Source) (st : Statement) → IsPlainStatement source st → IsUnbuiltStatement source st → ⊥
+plain-statement-is-built source (statement.Let pat (Some init) None) plain unbuilt = let there = plain.binds in cc
+plain-statement-is-built source (statement.Let pat (Some init) (Some other)) plain unbuilt = plain
+plain-statement-is-built source (statement.Let pat None other) plain unbuilt = plain
+plain-statement-is-built source (statement.Expr e has_semi) plain unbuilt = unbuilt
+
+plain-operator-is-built : (source : Source) (op : BinaryOp) (lhs rhs : ℕ) (ty : Ty) → IsPlainBinary source op lhs rhs ty → eager_operator op ≡ None → ⊥
+unfolding eager_operator
+plain-operator-is-built source (binary.ArithOp op) lhs rhs ty plain none = cc
+plain-operator-is-built source (binary.CmpOp op) lhs rhs ty plain none = cc
+plain-operator-is-built source (binary.LogicOp op) lhs rhs ty plain none = plain
+plain-operator-is-built source (binary.Assignment op) lhs rhs ty plain none = plain
+
+plain-is-built : (source : Source) (e : ℕ) (form : Option Expr) (ty : Ty) → HasPlainForm source e form ty → IsUnbuilt source form → ⊥
+plain-is-built source e (Some (expr.Literal l)) ty plain unbuilt = unbuilt
+plain-is-built source e (Some (expr.Path name)) ty plain unbuilt = unbuilt
+plain-is-built source e (Some (expr.UnaryOp a unary.Deref)) ty plain unbuilt = plain.0
+plain-is-built source e (Some (expr.UnaryOp a unary.Not)) ty plain unbuilt = unbuilt
+plain-is-built source e (Some (expr.UnaryOp a unary.Neg)) ty plain unbuilt = unbuilt
+plain-is-built source e (Some (expr.BinaryOp lhs rhs (Some op))) ty plain unbuilt = plain-operator-is-built source op lhs.0 rhs.0 ty plain unbuilt
+plain-is-built source e (Some (expr.BinaryOp lhs rhs None)) ty plain unbuilt = unbuilt
+plain-is-built source e (Some (expr.Block statements tail)) ty plain unbuilt =
+    plain-statement-is-built source unbuilt.0 (All-contains (IsPlainStatement source) statements unbuilt.0 plain.0 unbuilt.1) unbuilt.2
+plain-is-built source e None ty plain unbuilt = plain
+
+-- a plain path names a binding of the body, and so do the patterns of a plain block
+plain-statement-binds : (source : Source) (st : Statement) → IsPlainStatement source st → LetBindsNone source st → ⊥
+plain-statement-binds source (statement.Let pat (Some init) None) plain lacks =
+    let one = plain.binds in
+    let other = lacks.1 in
+    let same : plain.binding ≡ lacks.0 = cc in
+    let has = plain.binding_has in
+    let none : binding_type source plain.binding.0 ≡ None = ap (λ (b : BindingId). binding_type source b.0) same ∙ lacks.2 in
+    cc
+plain-statement-binds source (statement.Let pat (Some init) (Some other)) plain lacks = plain
+plain-statement-binds source (statement.Let pat None other) plain lacks = plain
+plain-statement-binds source (statement.Expr e has_semi) plain lacks = lacks
+
+plain-has-local : (source : Source) (e : ℕ) (form : Option Expr) (ty : Ty) → HasPlainForm source e form ty → LacksLocal source e form → ⊥
+plain-has-local source e (Some (expr.Path name)) ty plain lacks =
+    let one = plain.1 in
+    let other = lacks.1 in
+    let same : plain.0 ≡ lacks.0 = cc in
+    let has = plain.2 in
+    let none : binding_type source plain.0.0 ≡ None = ap (λ (b : BindingId). binding_type source b.0) same ∙ lacks.2 in
+    cc
+plain-has-local source e (Some (expr.Block statements tail)) ty plain lacks =
+    plain-statement-binds source lacks.0 (All-contains (IsPlainStatement source) statements lacks.0 plain.0 lacks.1) lacks.2
+plain-has-local source e (Some (expr.Literal l)) ty plain lacks = lacks
+plain-has-local source e (Some (expr.UnaryOp a op)) ty plain lacks = lacks
+plain-has-local source e (Some (expr.BinaryOp lhs rhs op)) ty plain lacks = lacks
+plain-has-local source e None ty plain lacks = lacks
+
+plain-is-named : (source : Source) (e : ℕ) (name : _) (ty : Ty) → HasPlainForm source e (Some (expr.Path name)) ty → named_by source e ≡ None → ⊥
+plain-is-named source e name ty plain none = let is = plain.1 in cc
 
 -- a number literal of a plain form is of an integer type
-number-is-integer : (source : Source) (form : Option Expr) (ty : Ty) → HasPlainForm source form ty → IsNumber form → IsInteger ty
-number-is-integer source (Some (expr.Literal l)) ty plain number = plain.1
-number-is-integer source (Some (expr.BinaryOp lhs rhs op)) ty plain number = absurd number
-number-is-integer source (Some (expr.Path name)) ty plain number = absurd number
-number-is-integer source (Some (expr.Block statements tail)) ty plain number = absurd number
-number-is-integer source (Some (expr.UnaryOp e op)) ty plain number = absurd number
-number-is-integer source None ty plain number = absurd number
+number-is-integer : (source : Source) (e : ℕ) (form : Option Expr) (ty : Ty) → HasPlainForm source e form ty → IsNumber form → IsInteger ty
+number-is-integer source e (Some (expr.Literal (literal.Bool test))) ty plain number = absurd number
+number-is-integer source e (Some (expr.Literal (literal.Int n s))) ty plain number = plain
+number-is-integer source e (Some (expr.Literal (literal.Uint n s))) ty plain number = plain
+number-is-integer source e (Some (expr.BinaryOp lhs rhs op)) ty plain number = absurd number
+number-is-integer source e (Some (expr.Path name)) ty plain number = absurd number
+number-is-integer source e (Some (expr.Block statements tail)) ty plain number = absurd number
+number-is-integer source e (Some (expr.UnaryOp a op)) ty plain number = absurd number
+number-is-integer source e None ty plain number = absurd number
 
-refuses-node : (source : Source) (e : ℕ) (error : MirLowerError) → IsChecked source.world → IsPlainNode source e → HasSizedLayout source e → RefusesNode source e error → error ≡ refusal.NoMemory
+refuses-node : (source : Source) (e : ℕ) (error : MirLowerError) → IsChecked source.world → IsPlainNode source e → HasSizedLayout source (node_type source e) → RefusesNode source e error → error ≡ refusal.NoMemory
 refuses-node source e (refusal.LayoutError layout_error) checked plain sized refuses = absurd (let is = refuses.1 in let there = sized.found in cc)
-refuses-node source e refusal.IncompleteExpr checked plain sized refuses = absurd (plain-has-operator source (node source e) plain.ty plain.form refuses)
+refuses-node source e refusal.IncompleteExpr checked plain sized refuses = absurd (plain-has-operator source e (node source e) plain.ty plain.form refuses)
+refuses-node source e (refusal.UnresolvedName name) checked plain sized refuses = absurd (plain-is-named source e name plain.ty (subst (λ n. HasPlainForm source e n plain.ty) refuses.0 plain.form) refuses.1)
+refuses-node source e refusal.InaccessibleLocal checked plain sized refuses = absurd (plain-has-local source e (node source e) plain.ty plain.form refuses)
 refuses-node source e refusal.HasErrors checked plain sized refuses = absurd refuses
 refuses-node source e (refusal.TypeError text) checked plain sized refuses =
     let layout : layout_of source.world plain.ty ≡ Some refuses.2 = ap (option_and_then (layout_of source.world)) (sym plain.has_type) ∙ refuses.3 in
-    absurd (wide-is-no-width refuses.2.size (integer_is_width source.world plain.ty refuses.2 checked (number-is-integer source (node source e) plain.ty plain.form refuses.1) layout) refuses.4)
-refuses-node source e (refusal.NotSupported text) checked plain sized refuses = absurd (plain-is-built source (node source e) plain.ty plain.form refuses.1)
+    absurd (wide-is-no-width refuses.2.size (integer_is_width source.world plain.ty refuses.2 checked (number-is-integer source e (node source e) plain.ty plain.form refuses.1) layout) refuses.4)
+refuses-node source e (refusal.NotSupported text) checked plain sized refuses = absurd (plain-is-built source e (node source e) plain.ty plain.form refuses.1)
 refuses-node source e refusal.NoMemory checked plain sized refuses = refl
 
 -- there is no typing error where inference found none
@@ -131,5 +194,5 @@ lowering-is-not-refused world def args row e checked valid cost =
     (⊎_elim (λ given. absurd (given.1 valid.no_args)) (λ refused.
     let same : refused.0 ≡ row = (let is = refused.1 in let there = valid.body in cc) in
     ⊎_elim (λ errors. absurd (no-typing-errors world row valid.inferred valid.fitting errors.1))
-    (λ at. refuses-node (source_of world row) at.0 e checked (valid.plain at.0 at.1) (cost at.0 at.1) at.2)
+    (λ at. refuses-node (source_of world row) at.0 e checked (valid.plain at.0 at.1) (cost.nodes at.0 at.1) at.2)
     (subst (λ (r : BodyRow). Refuses (source_of world r) e) same refused.2)))

@@ -2,7 +2,6 @@
 use Rattle.std.proofs.Common.{◌≡◌, ℕ, ◌+◌, ⊎_elim, List, [], ◌∷◌, ◌++◌, flat_map, Contains, Option, Some, None, Ok, refl, sym, ap, ◌∙◌, subst, arith, append_assoc, append-nil}
 use Rattle.std.proofs.lemmas.Grind.{flat_map-append}
 use Rattle.std.proofs.lemmas.List.Elements.{Contains-append_cases}
-use Rattle.world.specs.declared.body.Expr.{Expr}
 use Rattle.world.specs.declared.body.Expr.TheVariants as expr
 use Rattle.world.specs.declared.body.Pat.{Pat}
 use Rattle.world.specs.declared.body.Pat.TheVariants.{Bind}
@@ -11,7 +10,6 @@ use Rattle.world.specs.declared.body.Statement.TheVariants as statement
 use Rattle.world.specs.declared.ids.BindingId.{BindingId}
 use Rattle.world.specs.declared.ids.ExprId.{ExprId}
 use Rattle.world.specs.declared.ids.PatId.{PatId}
-use Rattle.world.specs.declared.ty.Ty.{Ty}
 use Rattle.world_check.specs.Checked.{optional}
 use Rattle.mir.specs.declared.operand.Operand.{Operand as MirOperand}
 use Rattle.mir.specs.declared.operand.OperandKind.TheVariants.{Copy}
@@ -19,19 +17,19 @@ use Rattle.mir.specs.declared.operand.Place.{Place}
 use Rattle.mir.specs.declared.operand.Rvalue.TheVariants.{Use}
 use Rattle.mir.specs.declared.span.MirSpan.{MirSpan}
 use Rattle.mir.specs.declared.statement.Statement.{Statement as MirStatement}
-use Rattle.mir.specs.declared.statement.StatementKind.TheVariants.{Assign, FakeRead}
+use Rattle.mir.specs.declared.statement.StatementKind.TheVariants.{FakeRead}
 use Rattle.mir.specs.Memory.{Memory}
 use Rattle.mir.specs.Run.{Frame, after_statement}
-use Rattle.source_meaning.specs.Ends.{Cost, no_cost, so_many_turns, plus, End, Go, Panic, Stuck, More, after, then_do}
-use Rattle.source_meaning.specs.Meaning.{Level, level_at, put, bind, statement_of, statements_of, tail_into, block_into, into_of}
+use Rattle.source_meaning.specs.Ends.{Cost, no_cost, plus, End, Go, Panic, Stuck, More, after, then_do}
+use Rattle.source_meaning.specs.Meaning.{Level, level_at, put, bind, statement_of, statements_of, tail_into}
 use Rattle.source_meaning.specs.Source.{Source, node, node_type, pattern, Cell, Binding, Path, Store, marked, marked_by, marked_as_place, marked_by_statement, marked_by_tail, marked_in_block, bound_by, drops}
 use Rattle.source_meaning.specs.Valid.{Evaluates, itself, part, parts_of, statement_parts, HasPlainForm, IsPlainNode, IsPlainFrom, IsPlainTail, IsLaidOut}
-use Rattle.source_meaning.proofs.Depth.{marked_unrolls, tail_is_part}
-use Rattle.mir_lower.specs.Does.{Point, here, local_of, IsFrameOf, Holds, Comes, Reaches, Performs, Nothing, LeadsTo, DoesStatements, DoesTail, DoesBind}
+use Rattle.source_meaning.proofs.Depth.{marked_unrolls}
+use Rattle.mir_lower.specs.Does.{Point, here, local_of, IsFrameOf, Holds, Comes, Reaches, Performs, Nothing, LeadsTo, DoesStatements}
 use Rattle.mir_lower.specs.Graph.{Shape, with_statement, with_scope}
 use Rattle.mir_lower.specs.Growth.{count_at, Grows, IsSound, IsOpen, IsReady}
 use Rattle.mir_lower.specs.Leaving.{Idles}
-use Rattle.mir_lower.specs.Lowered.{Keeps, HasLayouts, LaysOut, IsGiven, Binds, LowersInto, LowersPlace, LowersStatements, LowersTail}
+use Rattle.mir_lower.specs.Lowered.{LaysOut, IsGiven, Binds, LowersInto, LowersPlace, LowersStatements, LowersTail}
 use Rattle.mir_lower.proofs.Growing.{grows-refl, grows-trans, with_statement-grows, with_scope-grows}
 use Rattle.mir_lower.proofs.Laid.{layouts-before, plain-part, one-of}
 use Rattle.mir_lower.proofs.Leaving.{here-scope}
@@ -243,8 +241,7 @@ lowers-expr-statement source s0 s1 s2 s3 e has_semi local place read left =
             reaches-then frame (here s0) (here s1) (here s3) memory (λ path after later. Holds whole frame after later × LeadsTo place.does.cell whole frame path) (Done whole frame) ((level_at source fuel).place e.0 store) _
             (place.does.does.reaches whole frame (grows-trans s1 s2 whole read.grows grown2) sound is fuel store memory holds)
             (λ path store1 memory1 claims.
-            let turns : drops source s2.scope ≡ drops source (marked_as_place source (marked source) e.0) = ap (drops source) inner in
-            (
+            let turns : drops source s2.scope ≡ drops source (marked_as_place source (marked source) e.0) = ap (drops source) inner in (
               0 + drops source s2.scope,
               memory1,
               omega (arith, turns),
@@ -316,8 +313,7 @@ lowers-block source s0 s1 s2 s3 e statements tail c ready form first last left =
             reaches-then frame (here s1) (here s2) (here s3) memory1 (Done whole frame) (Done whole frame) (tail_into below tail (record { cell = c }) store1) _
             (last.does.reaches whole frame grown2 sound is fuel store1 memory1 claims1.0)
             (λ value store2 memory2 claims2.
-            let turns : drops source s2.scope ≡ drops source (marked_in_block source statements tail) = ap (drops source) inner in
-            (
+            let turns : drops source s2.scope ≡ drops source (marked_in_block source statements tail) = ap (drops source) inner in (
               drops source s2.scope,
               memory2,
               omega (arith, turns),

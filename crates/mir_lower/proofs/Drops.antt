@@ -1,5 +1,5 @@
 -- Counting what is dropped of a scope.
-use Rattle.std.proofs.Common.{◌≡◌, ℕ, ◌+◌, Bool, true, false, cond, List, [], ◌∷◌, ◌++◌, length, refl, ap, ◌∙◌, arith}
+use Rattle.std.proofs.Common.{◌≡◌, ◌+◌, Bool, true, false, cond, List, [], ◌∷◌, ◌++◌, length, refl, ap, ◌∙◌, arith}
 use Rattle.std.specs.Prelude.{filter}
 use Rattle.source_meaning.specs.Source.{Source, Cell, is_dropped, drops}
 use Rattle.mir_lower.specs.declared.graph.Marked.{Marked}

@@ -1,7 +1,6 @@
 -- Locals that come into use in a scope.
-use Rattle.std.proofs.Common.{◌≡◌, ℕ, ◌+◌, ◌<◌, ⊎_elim, List, [], ◌∷◌, ◌++◌, length, Option, Some, None, Ok, refl, sym, ap, ◌∙◌, subst, arith}
-use Rattle.std.specs.Prelude.{slice_get, option_map}
-use Rattle.world.specs.declared.ids.BindingId.{BindingId}
+use Rattle.std.proofs.Common.{◌≡◌, ℕ, ◌<◌, [], ◌∷◌, ◌++◌, length, Option, Some, None, Ok, refl, sym, ap, ◌∙◌, subst, arith}
+use Rattle.std.specs.Prelude.{option_map}
 use Rattle.world.specs.declared.ty.Ty.{Ty}
 use Rattle.mir.specs.declared.ids.LocalId.{LocalId}
 use Rattle.mir.specs.declared.span.MirSpan.{MirSpan}
@@ -9,15 +8,14 @@ use Rattle.mir.specs.declared.statement.Statement.{Statement}
 use Rattle.mir.specs.declared.statement.StatementKind.TheVariants.{StorageLive}
 use Rattle.mir.specs.Memory.{Memory}
 use Rattle.mir.specs.Run.{Frame, after_statement}
-use Rattle.source_meaning.specs.Source.{Source, Cell, Node, Binding, node_type, binding_type, root}
-use Rattle.source_meaning.specs.Valid.{Evaluates}
-use Rattle.mir_lower.specs.Does.{Point, here, local_of, IsFrameOf, Comes}
-use Rattle.mir_lower.specs.Graph.{Shape, binding_local, with_statement, with_temp, with_mark, with_scope, temp_of}
+use Rattle.source_meaning.specs.Source.{Source, Cell, Node, node_type, binding_type}
+use Rattle.mir_lower.specs.Does.{Point, here, local_of, Comes}
+use Rattle.mir_lower.specs.Graph.{Shape, binding_local, with_statement, with_temp, with_mark, temp_of}
 use Rattle.mir_lower.specs.Growth.{count_at, Grows, IsSound, IsOpen, IsReady}
 use Rattle.mir_lower.specs.Lowered.{IsGiven}
 use Rattle.mir_lower.proofs.Growing.{grows-trans, with_statement-grows, with_scope-grows, with_temp-grows, temp_of-with_temp_same}
 use Rattle.mir_lower.proofs.Leaving.{here-scope}
-use Rattle.mir_lower.proofs.Lists.{slice_get_in, slice_get_below}
+use Rattle.mir_lower.proofs.Lists.{slice_get_below}
 use Rattle.mir_lower.proofs.Running.{comes-statement}
 use Rattle.mir_lower.proofs.Sound.{with_statement-sound, with_statement-open, with_statement-scope, with_temp-sound, with_temp-open, with_temp-scope, with_scope-sound, with_scope-open, binding-missing}
 use Rattle.mir_lower.proofs.Steps.{local_of-grows}

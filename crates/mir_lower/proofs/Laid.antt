@@ -1,31 +1,21 @@
 -- In a plain source, where the locals of the graph have layouts, the types of what is evaluated have.
-use Rattle.std.proofs.Common.{◌≡◌, ℕ, zero, suc, ◌⊎◌, ⊎_elim, inl, inr, List, [], ◌∷◌, ◌++◌, flat_map, Contains, Option, Some, None, refl, sym, ap, ◌∙◌, subst, arith}
-use Rattle.std.specs.Prelude.{slice_get, option_map, option_and_then}
-use Rattle.std.proofs.lemmas.List.Elements.{Contains-append_cases}
-use Rattle.world.specs.declared.body.BinaryOp.{BinaryOp}
-use Rattle.world.specs.declared.body.Expr.{Expr}
+use Rattle.std.proofs.Common.{◌≡◌, ℕ, zero, suc, ◌⊎◌, inl, inr, List, [], ◌∷◌, Contains, Option, Some, None, refl, sym, ap, subst, arith}
+use Rattle.std.specs.Prelude.{option_map}
 use Rattle.world.specs.declared.body.Expr.TheVariants as expr
 use Rattle.world.specs.declared.body.Literal.{Literal}
 use Rattle.world.specs.declared.body.Literal.TheVariants as literal
-use Rattle.world.specs.declared.body.Statement.{Statement}
-use Rattle.world.specs.declared.ids.ExprId.{ExprId}
-use Rattle.world.specs.declared.infer.ValueNs.{ValueNs}
 use Rattle.world.specs.declared.infer.ValueNs.TheVariants.{LocalBinding}
 use Rattle.world.specs.declared.ids.BindingId.{BindingId}
 use Rattle.world.specs.declared.layout.Layout.{Layout}
-use Rattle.world.specs.declared.ty.Ty.{Ty}
-use Rattle.world_check.specs.Checked.{optional}
-use Rattle.mir.specs.declared.body.Local.{Local}
 use Rattle.mir.specs.declared.operand.OperandKind.{OperandKind}
 use Rattle.source_meaning.specs.Meaning.{literal_bytes}
 use Rattle.source_meaning.specs.Source.{Source, node, node_type, node_layout, named_by, binding_type, Node}
-use Rattle.source_meaning.specs.Valid.{Evaluates, itself, part, parts_of, statement_parts, HasPlainForm, IsPlainFrom, IsPlainNode, IsLaidOut}
-use Rattle.mir_lower.specs.Graph.{Shape, local_of_type, temp_of, binding_local}
+use Rattle.source_meaning.specs.Valid.{Evaluates, itself, part, parts_of, HasPlainForm, IsPlainFrom, IsPlainNode, IsLaidOut}
+use Rattle.mir_lower.specs.Graph.{Shape, local_of_type, temp_of}
 use Rattle.mir_lower.specs.Growth.{Grows, IsSound}
 use Rattle.mir_lower.specs.Literals.{IsLiteral}
 use Rattle.mir_lower.specs.Lowered.{HasLayouts, LaysOut, IsTruthLiteral, IsNamed, LowersInto}
-use Rattle.mir_lower.proofs.Sound.{binding-there, local-there}
-use Rattle.mir_lower.proofs.Lists.{slice_get_in}
+use Rattle.mir_lower.proofs.Sound.{local-there}
 
 -- what holds in a graph that grew, held before
 pub layouts-before : (source : Source) (old new : Shape) → Grows old new → HasLayouts source new → HasLayouts source old

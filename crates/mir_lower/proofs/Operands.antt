@@ -1,5 +1,5 @@
 -- Literals, paths, and other expressions as operands and as places.
-use Rattle.std.proofs.Common.{◌≡◌, ℕ, zero, suc, Bool, true, false, cond, List, [], ◌∷◌, ◌++◌, Option, Some, None, Ok, refl, sym, ap, ◌∙◌, subst, arith, append_assoc, append-nil}
+use Rattle.std.proofs.Common.{◌≡◌, ℕ, zero, suc, false, cond, List, [], ◌∷◌, ◌++◌, Option, Some, None, refl, sym, ap, ◌∙◌, subst, arith, append_assoc, append-nil}
 use Rattle.std.specs.Prelude.{slice_get, option_map}
 use Rattle.world.specs.declared.body.Expr.{Expr}
 use Rattle.world.specs.declared.body.Expr.TheVariants as expr
@@ -9,14 +9,14 @@ use Rattle.mir.specs.declared.operand.OperandKind.{OperandKind}
 use Rattle.mir.specs.declared.operand.OperandKind.TheVariants.{Copy}
 use Rattle.mir.specs.declared.operand.Place.{Place}
 use Rattle.mir.specs.Memory.{Memory}
-use Rattle.mir.specs.Run.{Frame, operand_bytes as mir_bytes, operand_type as mir_type, constant_bytes}
-use Rattle.source_meaning.specs.Ends.{no_cost, End, Go, Stuck, then_do}
+use Rattle.mir.specs.Run.{Frame, operand_bytes as mir_bytes, operand_type as mir_type}
+use Rattle.source_meaning.specs.Ends.{no_cost, Go, Stuck, then_do}
 use Rattle.source_meaning.specs.Meaning.{level_at, literal_operand, named_place, operand_of, place_of}
-use Rattle.source_meaning.specs.Source.{Source, node, node_type, named_by, Cell, Node, Binding, Path, Store, Operand, Literally, At, is_literal, is_path, marked, marked_as_place, marked_as_operand}
-use Rattle.mir_lower.specs.Does.{here, local_of, local_bytes, IsFrameOf, Holds, Comes, Reaches, Performs, LeadsTo, Fits, Does, DoesOperand, DoesPlace}
+use Rattle.source_meaning.specs.Source.{Source, node, Cell, Node, Binding, Path, Store, Literally, At, is_literal, is_path, marked, marked_as_place, marked_as_operand}
+use Rattle.mir_lower.specs.Does.{here, local_of, local_bytes, IsFrameOf, Holds, Comes, Reaches, LeadsTo, Fits, Does, DoesPlace}
 use Rattle.mir_lower.specs.Graph.{Shape}
 use Rattle.mir_lower.specs.Growth.{Grows, IsSound, IsOpen}
-use Rattle.mir_lower.specs.Literals.{IsConstantOf, IsLiteral}
+use Rattle.mir_lower.specs.Literals.{IsLiteral}
 use Rattle.mir_lower.specs.Lowered.{IsTruthLiteral, IsGiven, IsNamed, LowersInto, LowersPlace, LowersOperand}
 use Rattle.mir_lower.proofs.Growing.{grows-refl, grows-trans}
 use Rattle.mir_lower.proofs.Laid.{lays-literal, lays-name, lays-temp}

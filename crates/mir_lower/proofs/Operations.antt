@@ -1,6 +1,5 @@
 -- What is assigned to a place: a literal, what a path names, and what operators make of their operands.
 use Rattle.std.proofs.Common.{arith, ◌≡◌, ℕ, ⊎_elim, ◌⊎◌, inl, inr, List, [], ◌∷◌, ◌++◌, Contains, Option, Some, None, Ok, refl, sym, ap, ◌∙◌, subst, append_assoc, append-nil}
-use Rattle.std.specs.Prelude.{option_and_then}
 use Rattle.world.specs.declared.body.ArithOp.TheVariants as arith_op
 use Rattle.world.specs.declared.body.BinaryOp.{BinaryOp}
 use Rattle.world.specs.declared.body.BinaryOp.TheVariants as binary
@@ -8,14 +7,10 @@ use Rattle.world.specs.declared.body.Expr.{Expr}
 use Rattle.world.specs.declared.body.Expr.TheVariants as expr
 use Rattle.world.specs.declared.body.Literal.{Literal}
 use Rattle.world.specs.declared.body.Literal.TheVariants as literal
-use Rattle.world.specs.declared.body.UnaryOp.{UnaryOp}
-use Rattle.world.specs.declared.body.UnaryOp.TheVariants as unary
 use Rattle.world.specs.declared.ids.ExprId.{ExprId}
 use Rattle.world.specs.declared.infer.ValueNs.{ValueNs}
 use Rattle.world.specs.declared.ty.Ty.{Ty, Bool as BoolTy, Int as IntTy, Uint as UintTy, Tuple'}
-use Rattle.world_check.specs.Checked.{IsCheckedBody}
-use Rattle.numbers.specs.declared.operator.Operator.{Operator}
-use Rattle.numbers.specs.Operators.{Answer, Computes, computed, kind_of, of_arith, of_compare}
+use Rattle.numbers.specs.Operators.{computed}
 use Rattle.mir.specs.declared.operand.BinOp.{BinOp}
 use Rattle.mir.specs.declared.operand.Operand.{Operand as MirOperand}
 use Rattle.mir.specs.declared.operand.OperandKind.TheVariants.{Copy}
@@ -29,17 +24,17 @@ use Rattle.mir.specs.declared.statement.Statement.{Statement}
 use Rattle.mir.specs.declared.statement.StatementKind.TheVariants.{Assign}
 use Rattle.mir.specs.Memory.{Memory}
 use Rattle.mir.specs.Run.{Frame, rvalue_bytes, operated, operated_on, computed_of, answered, operator_of, operand_bytes as mir_bytes, operand_type as mir_type, read}
-use Rattle.source_meaning.specs.Ends.{End, then_do}
-use Rattle.source_meaning.specs.Meaning.{Level, level_at, eager_operator, computed_of_one, operand_kind, put, put_if_any, put_answer, named_into, unary_into, binary_into, into_of}
-use Rattle.source_meaning.specs.Source.{Source, node, node_type, named_by, Cell, Binding, Path, Store, Operand, operand_bytes, operand_type, marked, marked_by, marked_as_operand}
-use Rattle.source_meaning.specs.Valid.{Evaluates, itself, part, parts_of, operands_of, IsInteger, IsBool, HasPlainForm, IsPlainBinary, AreOf, IsPlainFrom, IsPlainNode, IsLaidOut}
+use Rattle.source_meaning.specs.Ends.{then_do}
+use Rattle.source_meaning.specs.Meaning.{Level, level_at, eager_operator, computed_of_one, operand_kind, put_if_any, put_answer, named_into, unary_into, binary_into, into_of}
+use Rattle.source_meaning.specs.Source.{Source, node, node_type, Cell, Binding, Path, Store, Operand, operand_bytes, operand_type, marked, marked_by, marked_as_operand}
+use Rattle.source_meaning.specs.Valid.{Evaluates, itself, part, parts_of, operands_of, IsInteger, IsBool, HasPlainForm, IsPlainBinary, AreOf, IsPlainNode, IsLaidOut}
 use Rattle.source_meaning.proofs.Depth.{marked_unrolls}
-use Rattle.mir_lower.specs.Does.{here, local_of, IsFrameOf, Holds, Reaches, Performs, Nothing, Fits, Does, DoesOperand}
+use Rattle.mir_lower.specs.Does.{here, local_of, IsFrameOf, Holds, Reaches, Fits}
 use Rattle.mir_lower.specs.Form.{unary_of}
 use Rattle.mir_lower.specs.Graph.{Shape, with_statement}
 use Rattle.mir_lower.specs.Growth.{Grows, IsSound, IsOpen, IsReady}
 use Rattle.mir_lower.specs.Literals.{IsLiteral}
-use Rattle.mir_lower.specs.Lowered.{Keeps, HasLayouts, LaysOut, IsTruthLiteral, IsNamed, LowersInto, LowersOperand}
+use Rattle.mir_lower.specs.Lowered.{Keeps, LaysOut, IsTruthLiteral, IsNamed, LowersInto, LowersOperand}
 use Rattle.mir_lower.proofs.Growing.{grows-trans, with_statement-grows}
 use Rattle.mir_lower.proofs.Laid.{lays-literal-into, lays-name-into, layouts-before, plain-part, one-of, one-of-two}
 use Rattle.mir_lower.proofs.Operands.{literal-fits, place-fits}

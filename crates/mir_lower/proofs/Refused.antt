@@ -1,17 +1,17 @@
 -- The causes of refusals, carried upwards, and what is known of an expression's parts.
-use Rattle.std.proofs.Common.{◌≡◌, ℕ, ◌<◌, false, List, Contains, Option, Some, None, Result, refl, sym, ap, ◌∙◌, subst, ⊎_elim, ◌⊎◌, arith}
+use Rattle.std.proofs.Common.{◌≡◌, ℕ, ◌<◌, false, Contains, Option, Some, None, Result, refl, sym, ap, ◌∙◌, subst, ⊎_elim, ◌⊎◌, arith}
 use Rattle.std.specs.Prelude.{codes, IfErr, IsErrAnd}
 use Rattle.std.proofs.lemmas.Result.{err_from_is_err_and}
 use Rattle.world.specs.declared.body.Expr.{Expr}
 use Rattle.world.specs.declared.body.Expr.TheVariants as expr
 use Rattle.world.specs.declared.body.Statement.{Statement}
 use Rattle.world.specs.declared.body.Statement.TheVariants as statement
-use Rattle.world.specs.declared.body.UnaryOp.TheVariants as unary
+use Rattle.world.specs.declared.ids.ExprId.{ExprId}
+use Rattle.world.specs.declared.ids.PatId.{PatId}
 use Rattle.mir.specs.declared.errors.MirLowerError.{MirLowerError}
 use Rattle.mir.specs.declared.errors.MirLowerError.TheVariants as refusal
-use Rattle.mir.specs.declared.operand.UnOp.TheVariants as one
-use Rattle.source_meaning.specs.Source.{Source, node, root, pattern, is_literal, is_path}
-use Rattle.source_meaning.specs.Valid.{Evaluates, itself, part, parts_of, statement_parts}
+use Rattle.source_meaning.specs.Source.{Source, node, is_literal, is_path}
+use Rattle.source_meaning.specs.Valid.{itself, part, parts_of, statement_parts}
 use Rattle.source_meaning.proofs.Depth.{evaluates_then, statement_part_is_part}
 use Rattle.source_meaning.proofs.Fuel.{part_is_below}
 use Rattle.mir_lower.specs.declared.form.Form.{Form}
@@ -20,7 +20,7 @@ use Rattle.mir_lower.specs.Form.{HasForm}
 use Rattle.mir_lower.specs.Graph.{Shape}
 use Rattle.mir_lower.specs.Growth.{IsSound, IsOpen, IsReady}
 use Rattle.mir_lower.specs.Lowered.{IsStatementOf}
-use Rattle.mir_lower.specs.Refusals.{LacksOperator, IsUnbuiltForm, IsUnbuiltStatement, IsUnbuilt, BindsNone, LetBindsNone, LacksLocal, RefusesNode, RefusesPattern, RefusesAt}
+use Rattle.mir_lower.specs.Refusals.{IsUnbuiltForm, IsUnbuiltStatement, IsUnbuilt, LacksLocal, RefusesNode, RefusesPattern, RefusesAt}
 
 pub refuses-here : (source : Source) (e : ℕ) (error : MirLowerError) → RefusesNode source e error → RefusesAt source e error
 refuses-here source e error h = (e, itself, h)
@@ -51,6 +51,19 @@ refuses-unbuilt-form source e error unbuilt cases = refuses-unbuilt source e err
 pub refuses-statement : (source : Source) (e : ℕ) (error : MirLowerError) (st : Statement) → IsStatementOf source e st → IsUnbuiltStatement source st → (error ≡ refusal.NotSupported (codes "form not built")) ⊎ (error ≡ refusal.NoMemory) → RefusesAt source e error
 refuses-statement source e error st stands unbuilt cases =
     refuses-unbuilt source e error (subst (IsUnbuilt source) (sym stands.form) (st, stands.within, unbuilt)) cases
+
+-- a `let` without an initializer, and one with `else`
+pub without-initializer : (source : Source) (st : Statement) (pat : PatId) (init other : Option ExprId) → st ≡ statement.Let pat init other → init ≡ None → IsUnbuiltStatement source st
+without-initializer source st pat init other is none = subst (IsUnbuiltStatement source) (sym (is ∙ ap (λ (i : Option ExprId). statement.Let pat i other) none)) (by-else other) where
+  by-else : (o : Option ExprId) → IsUnbuiltStatement source (statement.Let pat None o)
+  by-else None = tt
+  by-else (Some e) = tt
+
+pub with-else : (source : Source) (st : Statement) (pat : PatId) (init other : Option ExprId) (e : ExprId) → st ≡ statement.Let pat init other → other ≡ Some e → IsUnbuiltStatement source st
+with-else source st pat init other e is some = subst (IsUnbuiltStatement source) (sym (is ∙ ap (statement.Let pat init) some)) (by-initializer init) where
+  by-initializer : (i : Option ExprId) → IsUnbuiltStatement source (statement.Let pat i (Some e))
+  by-initializer None = tt
+  by-initializer (Some i) = tt
 
 -- the refusal of the pattern of a `let` with an initializer
 pub refuses-pattern : (source : Source) (e : ℕ) (error : MirLowerError) (pat : _) (init : _) → IsStatementOf source e (statement.Let pat (Some init) None) → RefusesPattern source pat.0 error → RefusesAt source e error
@@ -89,6 +102,10 @@ no-path there (form.Binary op lhs rhs) has differ = ap is_path has.1
 no-path there (form.Block statements tail) has differ = ap is_path has
 no-path there form.NoOperator has differ = has.1.1
 no-path there form.Unbuilt has differ = has.1.1
+
+-- a part has a lower number
+pub part-below : (source : Source) {s : Shape} (e child : ℕ) → IsReady source s e → Contains (parts_of (node source e)) child → child < e
+part-below source e child ready is = part_is_below source ready.checked e child is
 
 -- a part of what can be lowered can be lowered
 pub ready-part : (source : Source) (s new : Shape) (e child : ℕ) → IsReady source s e → Contains (parts_of (node source e)) child → IsSound source new → IsOpen new → IsReady source new child

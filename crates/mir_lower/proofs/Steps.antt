@@ -12,14 +12,14 @@ use Rattle.mir.specs.declared.statement.Statement.{Statement}
 use Rattle.mir.specs.declared.statement.StatementKind.TheVariants.{Assign}
 use Rattle.mir.specs.Memory.{Memory}
 use Rattle.mir.specs.Run.{Frame, after_statement, copied, rvalue_bytes, answered}
-use Rattle.source_meaning.specs.Ends.{Cost, no_cost, End, Go, Panic, Stuck, More, after, then_do}
+use Rattle.source_meaning.specs.Ends.{no_cost, End, Go, Panic, Stuck, More, after}
 use Rattle.source_meaning.specs.Meaning.{level_at, put, put_answer, into_of}
 use Rattle.source_meaning.specs.Source.{Source, node, Cell, Result as Slot, Node, Binding, Path, Store, with_cell_bytes}
 use Rattle.mir_lower.specs.Does.{Point, here, local_of, IsFrameOf, Holds, Comes, Reaches, Performs, Nothing, Does}
 use Rattle.mir_lower.specs.Graph.{Shape, with_statement}
 use Rattle.mir_lower.specs.Growth.{Grows, IsSound, IsOpen}
 use Rattle.mir_lower.proofs.Holding.{assigns, interval-of}
-use Rattle.mir_lower.proofs.Reaching.{comes-refl, reaches-after}
+use Rattle.mir_lower.proofs.Reaching.{reaches-after}
 use Rattle.mir_lower.proofs.Running.{comes-statement, ends-statement}
 use Rattle.mir_lower.proofs.Sound.{binding_local-grows}
 

@@ -16,9 +16,9 @@ use Rattle.mir.specs.Memory.{Interval, Memory, first_memory, bytes_at, cells_of}
 use Rattle.mir.specs.Run.{Frame, Ending, Returned, Faulted, out_of_blocks, entering, begun}
 use Rattle.source_meaning.specs.Ends.{Cost, so_many_turns, End, Go, Panic, Stuck, More, after, then_do}
 use Rattle.source_meaning.specs.Meaning.{level_at, meaning_of}
-use Rattle.source_meaning.specs.Source.{Source, node_type, binding_type, root, Cell, Result as Slot, Node, Binding, cell_type, cell_layout, marked, drops, Store, zeroed}
-use Rattle.source_meaning.specs.Valid.{Evaluates, itself, IsPlain, IsLaidOut, AreLaidOut}
-use Rattle.mir_lower.specs.Does.{Point, here, run_from, local_of, local_bytes, IsFrameOf, Holds, Comes, Reaches}
+use Rattle.source_meaning.specs.Source.{Source, node_type, root, Cell, Result as Slot, Binding, cell_type, cell_layout, marked, drops, Store, zeroed}
+use Rattle.source_meaning.specs.Valid.{IsPlain, IsLaidOut, AreLaidOut}
+use Rattle.mir_lower.specs.Does.{Point, here, run_from, local_bytes, IsFrameOf, Holds, Comes, Reaches}
 use Rattle.mir_lower.specs.Graph.{Shape, first_shape, local_of_type, with_terminator, with_scope, temp_of}
 use Rattle.mir_lower.specs.Growth.{Grows, IsUsed, IsSound, IsOpen, count_at, terminator_at}
 use Rattle.mir_lower.specs.Leaving.{Idles}

@@ -56,6 +56,11 @@ pub record LowersOperand (source : Source) (old new : Shape) (e : ℕ) (operand 
   pub does : DoesOperand source old new e operand
   pub laid : (IsTruthLiteral (node source e) → IsLaidOut source (node_type source e)) → LaysOut source new e
 
+-- a local holds the value of a cell
+pub record IsPlaced (s : Shape) (local : ℕ) : Type 0 where
+  pub cell : Cell
+  pub found : local_of s cell ≡ Some local
+
 -- a cell came into use in the scope: its local is known, and the code goes on with memory as it was
 pub record IsGiven (source : Source) (old new : Shape) (cell : Cell) (local : ℕ) : Type 0 where
   pub keeps : Keeps source old new (cell ∷ [])

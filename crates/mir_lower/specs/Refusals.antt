@@ -1,5 +1,5 @@
 -- Why a typed body can't be lowered.
-use Rattle.std.specs.Prelude.{◌≡◌, ◌≢◌, ℕ, ◌<◌, IsTrue, [], ◌⊎◌, Contains, List, Option, Some, None, codes}
+use Rattle.std.specs.Prelude.{◌≡◌, ◌≢◌, ℕ, ◌<◌, IsTrue, [], ◌⊎◌, Contains, Option, Some, None, codes}
 use Rattle.world.specs.declared.body.Expr.{Expr}
 use Rattle.world.specs.declared.body.Expr.TheVariants as expr
 use Rattle.world.specs.declared.body.Literal.{Literal}

@@ -52,12 +52,7 @@ fn is_dropped(context: &Context<'_>, held: Held) -> bool
 }
 
 /// Ends the current block by a drop, and goes on in a new one. The room for ids ends at 2^32 - 1.
-fn drop_local(
-    alloc: Global,
-    graph: &mut Graph,
-    local: LocalId,
-    at: ExprId,
-) -> Result<(), NoMemory>
+fn drop_local(alloc: Global, graph: &mut Graph, local: LocalId, at: ExprId) -> Result<(), NoMemory>
     requires { IsOpen (shape graph.old) }
     ensures { OnOk result ((target : _) × (target.0 ≡ length (shape graph.old).blocks)
         × (shape graph.new ≡ with_block (with_terminator (record { span = MirSpan.ExprId at; kind = Dropping (record { local = local }) target None }) (shape graph.old)))) }

@@ -85,11 +85,7 @@ fn constant(
 }
 
 /// A number literal with these lowest bytes as a constant: as many of them as its type has.
-fn lower_number(
-    context: &Context<'_>,
-    e: ExprId,
-    bytes: [u8; 16],
-) -> Result<Operand, MirLowerError>
+fn lower_number(context: &Context<'_>, e: ExprId, bytes: [u8; 16]) -> Result<Operand, MirLowerError>
     requires checked { IsCheckedBody context.now.body.now context.now.infer.now }
     requires number { IsNumber (node (source_of context.now) e.0) }
     ensures lowered { IfOk result (λ operand. IsNumberOf (source_of context.now) e.0 bytes operand.kind) }

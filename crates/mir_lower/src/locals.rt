@@ -5,6 +5,8 @@ ghost use Rattle.mir.specs.declared.errors.MirLowerError.TheVariants as refusal;
 ghost use Rattle.mir.specs.declared.statement.StatementKind.TheVariants.{Assign, FakeRead};
 ghost use Rattle.source_meaning.specs.Source.{Cell, Node, Binding, node};
 ghost use Rattle.world.specs.declared.body.Expr.TheVariants as expr;
+ghost use Rattle.world.specs.declared.body.Pat.TheVariants.{Bind};
+ghost use Rattle.world.specs.declared.infer.ValueNs.TheVariants.{LocalBinding};
 ghost use Rattle.mir_lower.specs.Contexts.{source_of};
 ghost use Rattle.mir_lower.specs.Does.{local_of};
 ghost use Rattle.mir_lower.specs.Graph.{shape, with_statement};
@@ -48,6 +50,22 @@ fn unresolved(context: &Context<'_>, name: &Text) -> MirLowerError
     }
 }
 
+/// The binding that a path names.
+fn binding_named(named: ValueNs) -> BindingId
+    ensures { named ≡ LocalBinding result }
+{
+    let ValueNs::LocalBinding(binding) = named;
+    binding
+}
+
+/// The binding that a pattern binds.
+fn binding_bound(pat: Pat) -> BindingId
+    ensures { pat ≡ Bind result }
+{
+    let Pat::Bind { id } = pat;
+    id
+}
+
 /// The place that a path names: the local of a binding.
 pub(crate) fn place_named(
     context: &Context<'_>,
@@ -61,7 +79,7 @@ pub(crate) fn place_named(
     ensures refused { IfErr result (RefusesNode (source_of context.now) e.0) }
 {
     match context.infer.value_res.get(&e) {
-        Some(ValueNs::LocalBinding(binding)) => match graph.binding_local(*binding) {
+        Some(named) => match graph.binding_local(binding_named(*named)) {
             Some(local) => Ok(Place { local }),
             None => Err(MirLowerError::InaccessibleLocal),
         },
@@ -138,13 +156,14 @@ pub(crate) fn bind(
         → Binds (source_of context.now) (shape graph.old) (shape graph.new) pat.0 cell) }
     ensures refused { IfErr result (RefusesPattern (source_of context.now) pat.0) }
 {
-    let Some(Pat::Bind { id }) = context.body.pats.get(pat.0 as u64) else {
+    let Some(bound) = context.body.pats.get(pat.0 as u64) else {
         return Err(form_not_built(context.alloc));
     };
-    let Some(local) = graph.binding_local(*id) else {
+    let binding = binding_bound(*bound);
+    let Some(local) = graph.binding_local(binding) else {
         return Err(MirLowerError::InaccessibleLocal);
     };
-    storage_live(context, graph, *id, local)?;
+    storage_live(context, graph, binding, local)?;
     let operand = Operand {
         kind: OperandKind::Copy(from),
         span: None,

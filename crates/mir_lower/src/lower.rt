@@ -11,7 +11,7 @@ ghost use Rattle.mir_lower.specs.declared.form.Form.TheVariants as form;
 ghost use Rattle.mir_lower.specs.Form.{HasForm, unary_of};
 ghost use Rattle.mir_lower.specs.Graph.{shape};
 ghost use Rattle.mir_lower.specs.Growth.{IsReady};
-ghost use Rattle.mir_lower.specs.Lowered.{LowersInto, LowersPlace, LowersOperand, LowersStatements, LowersTail, IsStatementOf};
+ghost use Rattle.mir_lower.specs.Lowered.{IsPlaced, LowersInto, LowersPlace, LowersOperand, LowersStatements, LowersTail, IsStatementOf};
 ghost use Rattle.mir_lower.specs.Refusals.{RefusesAt};
 
 use crate::context::Context;
@@ -20,9 +20,7 @@ use crate::graph::Graph;
 use crate::leave::leave_scope;
 use crate::literal::{form_not_built, lower_literal};
 use crate::locals::{assign, bind, fake_read, new_temp, place_named};
-use mir::{
-    BinOp, MirLowerError, MirSpan, Operand, OperandKind, Place, Rvalue, UnOp,
-};
+use mir::{BinOp, MirLowerError, MirSpan, Operand, OperandKind, Place, Rvalue, UnOp};
 use world::{ExprId, List, Literal, PatId, Statement, Text};
 
 /// The form of an expression of the body.
@@ -152,7 +150,8 @@ pub(crate) fn lower_into(
     e: ExprId,
     place: Place,
 ) -> Result<(), MirLowerError>
-    requires { IsReady (source_of context.now) (shape graph.old) e.0 }
+    requires ready { IsReady (source_of context.now) (shape graph.old) e.0 }
+    requires placed { IsPlaced (shape graph.old) place.local.0 }
     ensures lowered { OnOk result ((cell : Cell) → local_of (shape graph.old) cell ≡ Some place.local.0
         → LowersInto (source_of context.now) (shape graph.old) (shape graph.new) e.0 cell) }
     ensures refused { IfErr result (RefusesAt (source_of context.now) e.0) }
@@ -185,12 +184,7 @@ fn lower_unary(
     ensures refused { IfErr result (RefusesAt (source_of context.now) e.0) }
 {
     let value = lower_operand(context, graph, operand)?;
-    assign(
-        graph,
-        place,
-        Rvalue::UnaryOp(op, value),
-        MirSpan::ExprId(e),
-    )
+    assign(graph, place, Rvalue::UnaryOp(op, value), MirSpan::ExprId(e))
 }
 
 /// An operator on two operands: the operands from left to right, and then the operation.
@@ -232,6 +226,7 @@ fn lower_block(
 ) -> Result<(), MirLowerError>
     requires ready { IsReady (source_of context.now) (shape graph.old) e.0 }
     requires form { node (source_of context.now) e.0 ≡ Some (expr.Block statements.now tail) }
+    requires placed { IsPlaced (shape graph.old) place.local.0 }
     ensures lowered { OnOk result ((cell : Cell) → local_of (shape graph.old) cell ≡ Some place.local.0
         → LowersInto (source_of context.now) (shape graph.old) (shape graph.new) e.0 cell) }
     ensures refused { IfErr result (RefusesAt (source_of context.now) e.0) }
@@ -273,6 +268,7 @@ fn lower_tail(
 ) -> Result<(), MirLowerError>
     requires ready { IsReady (source_of context.now) (shape graph.old) e.0 }
     requires form { (statements : _) × (node (source_of context.now) e.0 ≡ Some (expr.Block statements tail)) }
+    requires placed { IsPlaced (shape graph.old) place.local.0 }
     ensures lowered { OnOk result ((cell : Cell) → local_of (shape graph.old) cell ≡ Some place.local.0
         → LowersTail (source_of context.now) (shape graph.old) (shape graph.new) tail cell) }
     ensures refused { IfErr result (RefusesAt (source_of context.now) e.0) }
@@ -299,10 +295,15 @@ fn lower_statement(
     match statement {
         Statement::Let {
             pat,
-            initializer: Some(initializer),
-            else_branch: None,
-        } => lower_let(context, graph, e, pat, initializer),
-        Statement::Let { .. } => Err(form_not_built(context.alloc)),
+            initializer,
+            else_branch,
+        } => match else_branch {
+            None => match initializer {
+                Some(initializer) => lower_let(context, graph, e, pat, initializer),
+                None => Err(form_not_built(context.alloc)),
+            },
+            Some(_) => Err(form_not_built(context.alloc)),
+        },
         Statement::Expr { expr, has_semi } => {
             lower_expr_statement(context, graph, e, expr, has_semi)
         }

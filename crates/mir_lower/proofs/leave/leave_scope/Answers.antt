@@ -1,5 +1,5 @@
 -- The scope is taken out of the graph, and then left.
-use Rattle.std.proofs.Common.{List, sym, ap, subst}
+use Rattle.std.proofs.Common.{List, sym, subst}
 use Rattle.std.proofs.lemmas.Result.{on_ok_weaker}
 use Rattle.source_meaning.specs.Source.{Cell, drops}
 use Rattle.mir_lower.specs.Contexts.{source_of}

@@ -1,5 +1,5 @@
 -- The constant has the bytes, and the operand the type.
-use Rattle.std.proofs.Common.{refl, ap, sym, ◌∙◌, Some}
+use Rattle.std.proofs.Common.{refl, ap}
 use Rattle.mir.specs.declared.operand.OperandKind.TheVariants.{Constant}
 use Rattle.world.specs.declared.ty.Const.TheVariants.{Value}
 use Rattle.world.specs.declared.ty.MemoryMap.TheVariants.{Empty}

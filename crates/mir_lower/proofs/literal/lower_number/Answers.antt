@@ -9,7 +9,7 @@ use Rattle.mir_lower.proofs.literal.lower_number.Goals as goal
 pub returns-then-layout-gt16-clause-refused : goal.returns-then-layout-gt16-clause-refused
 returns-then-layout-gt16-clause-refused c =
     let source = source_of c.args.context.now in
-    let layout = ap (option_and_then (layout_of source.world)) (sym c.in-Some-node_ty.ensures) ∙ sym c.in-Some-layout_of.ensures in
+    let layout = ap (option_and_then (layout_of source.world)) (sym c.in-Some.ensures) ∙ sym c.in-Some-layout_of.ensures in
     ⊎_elim
     (λ text. subst (RefusesNode source c.args.e.0) (sym text) (refl, c.requires.number, c.in-Some-layout_of.layout.now, layout, c.if-layout-gt16.true))
     (λ none. subst (RefusesNode source c.args.e.0) (sym none) tt)

@@ -1,7 +1,13 @@
-use Rattle.std.proofs.Common.{sym, subst, refl}
+-- The path names a binding that the body lacks.
+use Rattle.std.proofs.Common.{Some, sym, ap, ◌∙◌, subst}
 use Rattle.mir_lower.specs.Contexts.{source_of}
+use Rattle.mir_lower.specs.Graph.{shape}
+use Rattle.mir_lower.specs.Refusals.{LacksLocal}
 use Rattle.mir_lower.proofs.InUse.{lacks-binding}
 use Rattle.mir_lower.proofs.locals.place_named.Goals as goal
 
 pub returns-in-None-binding_local-clause-refused : goal.returns-in-None-binding_local-clause-refused
-returns-in-None-binding_local-clause-refused c = ?
+returns-in-None-binding_local-clause-refused c =
+    let source = source_of c.args.context.now in
+    subst (LacksLocal source c.args.e.0) (sym c.requires.path)
+    (c.binding_named.result, sym c.in-Some.ensures ∙ ap Some c.binding_named.ensures, lacks-binding source (shape c.args.graph.now) _ c.binding_local.result c.requires.sound c.binding_local.ensures c.in-None-binding_local.is)

@@ -1,11 +1,16 @@
+-- The binding's local is marked, and its storage begins.
+use Rattle.std.proofs.Common.{subst, sym}
 use Rattle.mir.specs.declared.span.MirSpan.TheVariants.{BindingId}
 use Rattle.source_meaning.specs.Source.{Binding}
 use Rattle.mir_lower.specs.Contexts.{source_of}
-use Rattle.mir_lower.specs.Graph.{shape}
-use Rattle.mir_lower.proofs.locals.storage_live.Goals as goal
-use Rattle.std.proofs.Common.{subst, sym}
+use Rattle.mir_lower.specs.Graph.{Shape, shape}
 use Rattle.mir_lower.proofs.InUse.{IsMarked, marks-cell, given-marked}
-use Rattle.std.proofs.lemmas.Result.{on_ok_weaker}
+use Rattle.mir_lower.proofs.locals.storage_live.Goals as goal
 
 pub returns-clause-given : goal.returns-clause-given
-returns-clause-given c = ?
+returns-clause-given c =
+    let source = source_of c.args.context.now in
+    given-marked source (shape c.args.graph.now) (shape c.mark.new.self) (shape c.push_statement.new.self) (Binding c.args.binding.0) c.args.local (BindingId c.args.binding)
+    (subst (λ (s : Shape). IsMarked source (shape c.args.graph.now) s (Binding c.args.binding.0) c.args.local.0) (sym c.in_ok-mark.ensures)
+    (marks-cell source (shape c.args.graph.now) (Binding c.args.binding.0) c.args.local.0 c.requires.sound c.requires.opened c.requires.found))
+    c.in_ok-push_statement.ensures

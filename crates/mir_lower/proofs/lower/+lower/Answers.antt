@@ -1,0 +1,327 @@
+-- Each form does what it means, by what its parts do; each refusal has its cause.
+use Rattle.std.proofs.Common.{List, [], take, Option, Some, refl, sym, ap, ◌∙◌, subst, arith}
+use Rattle.std.proofs.lemmas.List.{take_more}
+use Rattle.std.proofs.lemmas.Result.{IfOk-weaker, on_ok_weaker, IfErr-weaker}
+use Rattle.mir.specs.declared.errors.MirLowerError.TheVariants as refusal
+use Rattle.mir.specs.declared.span.MirSpan.TheVariants.{ExprId}
+use Rattle.source_meaning.specs.Source.{Cell, Node, drops}
+use Rattle.source_meaning.proofs.Depth.{tail_is_part}
+use Rattle.mir_lower.specs.Contexts.{source_of}
+use Rattle.mir_lower.specs.Graph.{Shape, shape, with_scope}
+use Rattle.mir_lower.specs.Growth.{Grows, IsReady}
+use Rattle.mir_lower.specs.Leaving.{Idles}
+use Rattle.mir_lower.specs.Lowered.{LowersOperand, LowersPlace, LowersStatements}
+use Rattle.mir.specs.declared.operand.OperandKind.{OperandKind}
+use Rattle.world.specs.declared.body.Expr.TheVariants.{Block}
+use Rattle.world.specs.declared.body.Statement.{Statement}
+use Rattle.mir_lower.specs.Refusals.{RefusesAt}
+use Rattle.mir_lower.proofs.Blocks.{idles-read, lowers-none, lowers-more, lowers-let, lowers-expr-statement, lowers-block}
+use Rattle.mir_lower.proofs.Operands.{lowers-literal-operand, lowers-place-operand, lowers-temp}
+use Rattle.mir_lower.proofs.Operations.{unary-part, left-part, right-part, lowers-unary, lowers-binary}
+use Rattle.mir_lower.proofs.Refused.{refuses-here, refuses-no-memory, refuses-part, refuses-unbuilt-form, refuses-statement, without-initializer, with-else, refuses-pattern, refused-exit, no-literal, part-below, ready-part, ready-in, part-of-statement}
+use Rattle.mir_lower.proofs.Growing.{grows-trans, with_scope-grows}
+use Rattle.mir_lower.proofs.Steps.{local_of-grows}
+use Rattle.mir_lower.proofs.Sound.{with_scope-sound, with_scope-open}
+use Rattle.mir_lower.proofs.lower.+lower.Goals as goal
+
+-- an operand, a place, and a local
+
+pub lower_operand-returns-in-Literal-clause-lowered : goal.lower_operand-returns-in-Literal-clause-lowered
+lower_operand-returns-in-Literal-clause-lowered t c =
+    let source = source_of c.args.context.now in
+    IfOk-weaker c.lower_literal.result _ _
+    (λ operand is. lowers-literal-operand source (shape c.args.graph.now) c.args.e.0 c.in-Literal.literal.now operand.kind c.requires.sound c.requires.«open» c.in-Literal.ensures is)
+    c.lower_literal.ensures.lowered
+
+pub lower_operand-returns-in-Literal-clause-refused : goal.lower_operand-returns-in-Literal-clause-refused
+lower_operand-returns-in-Literal-clause-refused t c =
+    IfErr-weaker c.lower_literal.result _ _ (λ error refused. refuses-here (source_of c.args.context.now) c.args.e.0 error refused) c.lower_literal.ensures.refused
+
+pub lower_operand-returns-in_ok-place-in_default : goal.lower_operand-returns-in_ok-place-in_default
+lower_operand-returns-in_ok-place-in_default t c =
+    let source = source_of c.args.context.now in
+    record {
+      lowered = subst (λ (k : OperandKind). LowersOperand source (shape c.args.graph.now) (shape c.lower_place.new.graph) c.args.e.0 k) (sym c.copied.ensures)
+          (lowers-place-operand source (shape c.args.graph.now) (shape c.lower_place.new.graph) c.args.e.0 c.in_ok-place-in_default.place c.in_ok-place-in_default.ensures.lowered
+          (no-literal _ c.form_at.result c.form_at.ensures c.in_default.not-Literal));
+      refused = tt;
+    }
+
+pub lower_temp-returns-in_err-place-clause-refused : goal.lower_temp-returns-in_err-place-clause-refused
+lower_temp-returns-in_err-place-clause-refused t c =
+    refused-exit (RefusesAt (source_of c.args.context.now) c.args.e.0) _ c.from_residual.result c.from_residual.ensures.1
+    (λ error same. subst (RefusesAt (source_of c.args.context.now) c.args.e.0) (sym same) (refuses-no-memory (source_of c.args.context.now) c.args.e.0 _ c.in_err-place.ensures.refused))
+
+pub lower_temp-returns-clause-lowered : goal.lower_temp-returns-clause-lowered
+lower_temp-returns-clause-lowered t c =
+    lowers-temp (source_of c.args.context.now) (shape c.args.graph.now) (shape c.new_temp.new.graph) (shape c.lower_into.new.graph) c.args.e.0 c.in_ok-place.place.local.0 c.requires.form c.in_ok-place.ensures.given
+    (c.in_ok-lower_into.ensures.lowered (Node c.args.e.0) c.in_ok-place.ensures.given.found)
+
+-- an expression into a place
+
+pub lower_into-returns-in-NoOperator-clause-refused : goal.lower_into-returns-in-NoOperator-clause-refused
+lower_into-returns-in-NoOperator-clause-refused t c = refuses-here (source_of c.args.context.now) c.args.e.0 refusal.IncompleteExpr c.in-NoOperator.ensures.0
+
+pub lower_into-returns-in-Unbuilt-clause-refused : goal.lower_into-returns-in-Unbuilt-clause-refused
+lower_into-returns-in-Unbuilt-clause-refused t c = refuses-unbuilt-form (source_of c.args.context.now) c.args.e.0 c.form_not_built.result c.in-Unbuilt.ensures.0 c.form_not_built.ensures
+
+-- an operator on one operand
+
+pub lower_unary-lower_operand-requires : goal.lower_unary-lower_operand-requires
+lower_unary-lower_operand-requires t c =
+    let source = source_of c.args.context.now in
+    let is = unary-part source c.args.e.0 c.args.op c.args.operand c.requires.form in
+    let below = part-below source c.args.e.0 c.args.operand.0 c.requires.ready is in
+    (omega (arith, below), ready-part source (shape c.args.graph.now) (shape c.args.graph.now) c.args.e.0 c.args.operand.0 c.requires.ready is c.requires.ready.sound c.requires.ready.«open»)
+
+pub lower_unary-returns-in_err-value-clause-refused : goal.lower_unary-returns-in_err-value-clause-refused
+lower_unary-returns-in_err-value-clause-refused t c =
+    let source = source_of c.args.context.now in
+    refused-exit (RefusesAt source c.args.e.0) _ c.from_residual.result c.from_residual.ensures.1
+    (λ error same. subst (RefusesAt source c.args.e.0) (sym same) (refuses-part source c.args.e.0 c.args.operand.0 _ (unary-part source c.args.e.0 c.args.op c.args.operand c.requires.form) c.in_err-value.ensures.refused))
+
+pub lower_unary-returns-clause-lowered : goal.lower_unary-returns-clause-lowered
+lower_unary-returns-clause-lowered t c =
+    on_ok_weaker c.assign.result
+    (λ added cell local. lowers-unary (source_of c.args.context.now) (shape c.args.graph.now) (shape c.lower_operand.new.graph) (shape c.assign.new.graph) c.args.e.0 c.args.op c.args.operand c.in_ok-value.value c.args.place (ExprId c.args.e) c.requires.ready c.requires.form c.in_ok-value.ensures.lowered added cell local)
+    c.assign.ensures.added
+
+pub lower_unary-returns-clause-refused : goal.lower_unary-returns-clause-refused
+lower_unary-returns-clause-refused t c =
+    IfErr-weaker c.assign.result _ _ (λ error none. refuses-no-memory (source_of c.args.context.now) c.args.e.0 error none) c.assign.ensures.refused
+
+-- an operator on two operands
+
+pub lower_binary-lower_operand-requires : goal.lower_binary-lower_operand-requires
+lower_binary-lower_operand-requires t c =
+    let source = source_of c.args.context.now in
+    let is = left-part source c.args.e.0 c.requires.form.0 c.args.op c.args.lhs c.args.rhs c.requires.form.1 c.requires.form.2 in
+    let below = part-below source c.args.e.0 c.args.lhs.0 c.requires.ready is in
+    (omega (arith, below), ready-part source (shape c.args.graph.now) (shape c.args.graph.now) c.args.e.0 c.args.lhs.0 c.requires.ready is c.requires.ready.sound c.requires.ready.«open»)
+
+pub lower_binary-returns-in_err-left-clause-refused : goal.lower_binary-returns-in_err-left-clause-refused
+lower_binary-returns-in_err-left-clause-refused t c =
+    let source = source_of c.args.context.now in
+    refused-exit (RefusesAt source c.args.e.0) _ c.from_residual.result c.from_residual.ensures.1
+    (λ error same. subst (RefusesAt source c.args.e.0) (sym same) (refuses-part source c.args.e.0 c.args.lhs.0 _ (left-part source c.args.e.0 c.requires.form.0 c.args.op c.args.lhs c.args.rhs c.requires.form.1 c.requires.form.2) c.in_err-left.ensures.refused))
+
+pub lower_binary-lower_operand-requires-2 : goal.lower_binary-lower_operand-requires-2
+lower_binary-lower_operand-requires-2 t c =
+    let source = source_of c.args.context.now in
+    let is = right-part source c.args.e.0 c.requires.form.0 c.args.op c.args.lhs c.args.rhs c.requires.form.1 c.requires.form.2 in
+    let below = part-below source c.args.e.0 c.args.rhs.0 c.requires.ready is in
+    (omega (arith, below), ready-part source (shape c.args.graph.now) (shape c.lower_operand.new.graph) c.args.e.0 c.args.rhs.0 c.requires.ready is c.in_ok-left.ensures.lowered.keeps.sound c.in_ok-left.ensures.lowered.keeps.«open»)
+
+pub lower_binary-returns-in_err-right-clause-refused : goal.lower_binary-returns-in_err-right-clause-refused
+lower_binary-returns-in_err-right-clause-refused t c =
+    let source = source_of c.args.context.now in
+    refused-exit (RefusesAt source c.args.e.0) _ c.from_residual-in_err-right.result c.from_residual-in_err-right.ensures.1
+    (λ error same. subst (RefusesAt source c.args.e.0) (sym same) (refuses-part source c.args.e.0 c.args.rhs.0 _ (right-part source c.args.e.0 c.requires.form.0 c.args.op c.args.lhs c.args.rhs c.requires.form.1 c.requires.form.2) c.in_err-right.ensures.refused))
+
+pub lower_binary-returns-clause-lowered : goal.lower_binary-returns-clause-lowered
+lower_binary-returns-clause-lowered t c =
+    on_ok_weaker c.assign.result
+    (λ added cell local. lowers-binary (source_of c.args.context.now) (shape c.args.graph.now) (shape c.lower_operand.new.graph) (shape c.lower_operand-2.new.graph) (shape c.assign.new.graph) c.args.e.0 c.requires.form.0 c.args.op c.args.lhs c.args.rhs c.in_ok-left.left c.in_ok-right.right c.args.place (ExprId c.args.e) c.requires.ready c.requires.form.1 c.requires.form.2 c.in_ok-left.ensures.lowered c.in_ok-right.ensures.lowered added cell local)
+    c.assign.ensures.added
+
+pub lower_binary-returns-clause-refused : goal.lower_binary-returns-clause-refused
+lower_binary-returns-clause-refused t c =
+    IfErr-weaker c.assign.result _ _ (λ error none. refuses-no-memory (source_of c.args.context.now) c.args.e.0 error none) c.assign.ensures.refused
+
+-- statements in order
+
+pub lower_statements-loop-statement-init : goal.lower_statements-loop-statement-init
+lower_statements-loop-statement-init t c = lowers-none (source_of c.args.context.now) (shape c.args.graph.now) c.requires.ready.sound c.requires.ready.«open»
+
+pub lower_statements-loop-statement-preserved : goal.lower_statements-loop-statement-preserved
+lower_statements-loop-statement-preserved t c =
+    let source = source_of c.args.context.now in
+    let i = c.loop-statement.statement-index in
+    subst (λ (list : List Statement). LowersStatements source (shape c.args.graph.now) (shape c.lower_statement.new.graph) list) (sym (take_more c.args.statements.now i _ c.loop-statement-test.true))
+    (lowers-more source (shape c.args.graph.now) (shape c.loop-statement.graph) (shape c.lower_statement.new.graph) (take i c.args.statements.now) _ c.loop-statement.invariant c.in_ok-lower_statement.ensures.lowered)
+
+-- the tail of a block
+
+pub lower_tail-lower_into-requires : goal.lower_tail-lower_into-requires
+lower_tail-lower_into-requires t c =
+    let source = source_of c.args.context.now in
+    let form = c.requires.form.1 ∙ ap (λ (o : Option _). Some (Block c.requires.form.0 o)) c.in-Some.is in
+    let is = tail_is_part source c.args.e.0 c.requires.form.0 c.in-Some.tail form in
+    let below = part-below source c.args.e.0 c.in-Some.tail.0 c.requires.ready is in
+    (omega (arith, below), (ready-part source (shape c.args.graph.now) (shape c.args.graph.now) c.args.e.0 c.in-Some.tail.0 c.requires.ready is c.requires.ready.sound c.requires.ready.«open», c.requires.placed))
+
+pub lower_tail-returns-in-Some-clause-refused : goal.lower_tail-returns-in-Some-clause-refused
+lower_tail-returns-in-Some-clause-refused t c =
+    let source = source_of c.args.context.now in
+    let form = c.requires.form.1 ∙ ap (λ (o : Option _). Some (Block c.requires.form.0 o)) c.in-Some.is in
+    IfErr-weaker c.lower_into.result _ _ (λ error refused. refuses-part source c.args.e.0 c.in-Some.tail.0 error (tail_is_part source c.args.e.0 c.requires.form.0 c.in-Some.tail form) refused) c.lower_into.ensures.refused
+
+-- a `let` without an initializer, and one with `else`
+
+pub lower_statement-returns-in-None-initializer-clause-refused : goal.lower_statement-returns-in-None-initializer-clause-refused
+lower_statement-returns-in-None-initializer-clause-refused t c =
+    let source = source_of c.args.context.now in
+    refuses-statement source c.args.e.0 c.form_not_built.result c.args.statement c.requires.stands (without-initializer source c.args.statement c.in-Let.pat c.in-Let.initializer c.in-Let.else_branch c.in-Let.is c.in-None-initializer.is) c.form_not_built.ensures
+
+pub lower_statement-returns-in-Some-clause-refused : goal.lower_statement-returns-in-Some-clause-refused
+lower_statement-returns-in-Some-clause-refused t c =
+    let source = source_of c.args.context.now in
+    refuses-statement source c.args.e.0 c.form_not_built-in-Some.result c.args.statement c.requires.stands (with-else source c.args.statement c.in-Let.pat c.in-Let.initializer c.in-Let.else_branch _ c.in-Let.is c.in-Some.is) c.form_not_built-in-Some.ensures
+
+-- a `let`
+
+pub lower_let-lower_place-requires : goal.lower_let-lower_place-requires
+lower_let-lower_place-requires t c =
+    let source = source_of c.args.context.now in
+    let is = part-of-statement source c.args.e.0 _ c.args.initializer.0 c.requires.stands (0, omega arith, refl) in
+    let below = part-below source c.args.e.0 c.args.initializer.0 c.requires.ready is in
+    (omega (arith, below), ready-part source (shape c.args.graph.now) (shape c.args.graph.now) c.args.e.0 c.args.initializer.0 c.requires.ready is c.requires.ready.sound c.requires.ready.«open»)
+
+pub lower_let-returns-in_err-place-clause-refused : goal.lower_let-returns-in_err-place-clause-refused
+lower_let-returns-in_err-place-clause-refused t c =
+    let source = source_of c.args.context.now in
+    refused-exit (RefusesAt source c.args.e.0) _ c.from_residual.result c.from_residual.ensures.1
+    (λ error same. subst (RefusesAt source c.args.e.0) (sym same) (refuses-part source c.args.e.0 c.args.initializer.0 _ (part-of-statement source c.args.e.0 _ c.args.initializer.0 c.requires.stands (0, omega arith, refl)) c.in_err-place.ensures.refused))
+
+pub lower_let-returns-in_err-fake_read-clause-refused : goal.lower_let-returns-in_err-fake_read-clause-refused
+lower_let-returns-in_err-fake_read-clause-refused t c =
+    let source = source_of c.args.context.now in
+    refused-exit (RefusesAt source c.args.e.0) _ c.from_residual-in_err-fake_read.result c.from_residual-in_err-fake_read.ensures.1
+    (λ error same. subst (RefusesAt source c.args.e.0) (sym same) (refuses-no-memory source c.args.e.0 _ c.in_err-fake_read.ensures.refused))
+
+pub lower_let-bind-requires-clause-sound : goal.lower_let-bind-requires-clause-sound
+lower_let-bind-requires-clause-sound t c =
+    let place = c.in_ok-place.ensures.lowered in
+    (idles-read (source_of c.args.context.now) (shape c.lower_place.new.graph) (shape c.fake_read.new.graph) c.in_ok-place.place (ExprId c.args.initializer) place.keeps.sound place.keeps.«open» c.in_ok-fake_read.ensures.added).sound
+
+pub lower_let-bind-requires-clause-opened : goal.lower_let-bind-requires-clause-opened
+lower_let-bind-requires-clause-opened t c =
+    let place = c.in_ok-place.ensures.lowered in
+    (idles-read (source_of c.args.context.now) (shape c.lower_place.new.graph) (shape c.fake_read.new.graph) c.in_ok-place.place (ExprId c.args.initializer) place.keeps.sound place.keeps.«open» c.in_ok-fake_read.ensures.added).«open»
+
+pub lower_let-returns-clause-lowered : goal.lower_let-returns-clause-lowered
+lower_let-returns-clause-lowered t c =
+    let source = source_of c.args.context.now in
+    let place = c.in_ok-place.ensures.lowered in
+    on_ok_weaker c.bind.result
+    (λ binding. lowers-let source (shape c.args.graph.now) (shape c.lower_place.new.graph) (shape c.fake_read.new.graph) (shape c.bind.new.graph) c.args.pat c.args.initializer c.in_ok-place.place.local.0 place
+    (idles-read source (shape c.lower_place.new.graph) (shape c.fake_read.new.graph) c.in_ok-place.place (ExprId c.args.initializer) place.keeps.sound place.keeps.«open» c.in_ok-fake_read.ensures.added) binding)
+    c.bind.ensures.lowered
+
+pub lower_let-returns-clause-refused : goal.lower_let-returns-clause-refused
+lower_let-returns-clause-refused t c =
+    IfErr-weaker c.bind.result _ _ (λ error refused. refuses-pattern (source_of c.args.context.now) c.args.e.0 error c.args.pat c.args.initializer c.requires.stands refused) c.bind.ensures.refused
+
+-- an expression statement
+
+pub lower_expr_statement-lower_place-requires : goal.lower_expr_statement-lower_place-requires
+lower_expr_statement-lower_place-requires t c =
+    let source = source_of c.args.context.now in
+    let is = part-of-statement source c.args.e.0 _ c.args.expr.0 c.requires.stands (0, omega arith, refl) in
+    let below = part-below source c.args.e.0 c.args.expr.0 c.requires.ready is in (
+      omega (arith, below),
+      subst (λ (s : Shape). IsReady source s c.args.expr.0) (sym c.push_drop_scope-outer.ensures.inner)
+          (ready-part source (shape c.args.graph.now) (with_scope [] (shape c.args.graph.now)) c.args.e.0 c.args.expr.0 c.requires.ready is (with_scope-sound source [] (shape c.args.graph.now) c.requires.ready.sound) (with_scope-open [] (shape c.args.graph.now) c.requires.ready.«open»)),
+    )
+
+pub lower_expr_statement-returns-in_err-place-clause-refused : goal.lower_expr_statement-returns-in_err-place-clause-refused
+lower_expr_statement-returns-in_err-place-clause-refused t c =
+    let source = source_of c.args.context.now in
+    refused-exit (RefusesAt source c.args.e.0) _ c.from_residual.result c.from_residual.ensures.1
+    (λ error same. subst (RefusesAt source c.args.e.0) (sym same) (refuses-part source c.args.e.0 c.args.expr.0 _ (part-of-statement source c.args.e.0 _ c.args.expr.0 c.requires.stands (0, omega arith, refl)) c.in_err-place.ensures.refused))
+
+pub lower_expr_statement-returns-in_err-fake_read-clause-refused : goal.lower_expr_statement-returns-in_err-fake_read-clause-refused
+lower_expr_statement-returns-in_err-fake_read-clause-refused t c =
+    let source = source_of c.args.context.now in
+    refused-exit (RefusesAt source c.args.e.0) _ c.from_residual-in_err-fake_read.result c.from_residual-in_err-fake_read.ensures.1
+    (λ error same. subst (RefusesAt source c.args.e.0) (sym same) (refuses-no-memory source c.args.e.0 _ c.in_err-fake_read.ensures.refused))
+
+pub lower_expr_statement-leave_scope-requires-clause-sound : goal.lower_expr_statement-leave_scope-requires-clause-sound
+lower_expr_statement-leave_scope-requires-clause-sound t c =
+    let place = c.in_ok-place.ensures.lowered in
+    (idles-read (source_of c.args.context.now) (shape c.lower_place.new.graph) (shape c.fake_read.new.graph) c.in_ok-place.place (ExprId c.args.expr) place.keeps.sound place.keeps.«open» c.in_ok-fake_read.ensures.added).sound
+
+pub lower_expr_statement-leave_scope-requires-clause-opened : goal.lower_expr_statement-leave_scope-requires-clause-opened
+lower_expr_statement-leave_scope-requires-clause-opened t c =
+    let place = c.in_ok-place.ensures.lowered in
+    (idles-read (source_of c.args.context.now) (shape c.lower_place.new.graph) (shape c.fake_read.new.graph) c.in_ok-place.place (ExprId c.args.expr) place.keeps.sound place.keeps.«open» c.in_ok-fake_read.ensures.added).«open»
+
+pub lower_expr_statement-returns-in_err-leave_scope-clause-refused : goal.lower_expr_statement-returns-in_err-leave_scope-clause-refused
+lower_expr_statement-returns-in_err-leave_scope-clause-refused t c =
+    refused-exit (RefusesAt (source_of c.args.context.now) c.args.e.0) _ c.from_residual-in_err-leave_scope.result c.from_residual-in_err-leave_scope.ensures.1 (refuses-no-memory (source_of c.args.context.now) c.args.e.0)
+
+pub lower_expr_statement-returns-clause-lowered : goal.lower_expr_statement-returns-clause-lowered
+lower_expr_statement-returns-clause-lowered t c =
+    let source = source_of c.args.context.now in
+    let s0 = shape c.args.graph.now in
+    let s1 = shape c.lower_place.new.graph in
+    let s2 = shape c.fake_read.new.graph in
+    let s3 = shape c.leave_scope.new.graph in
+    let place : LowersPlace source (with_scope [] s0) s1 c.args.expr.0 c.in_ok-place.place.local.0 = subst (λ (s : Shape). LowersPlace source s s1 c.args.expr.0 c.in_ok-place.place.local.0) c.push_drop_scope-outer.ensures.inner c.in_ok-place.ensures.lowered in
+    let left : Idles source (with_scope s0.scope s2) s3 (drops source s2.scope) = subst (λ (cells : List Cell). Idles source (with_scope cells s2) s3 (drops source s2.scope)) c.push_drop_scope-outer.ensures.outer c.in_ok-leave_scope.ensures in
+    lowers-expr-statement source s0 s1 s2 s3 c.args.expr c.args.has_semi c.in_ok-place.place.local.0 place
+    (idles-read source s1 s2 c.in_ok-place.place (ExprId c.args.expr) place.keeps.sound place.keeps.«open» c.in_ok-fake_read.ensures.added) left
+
+-- a block
+
+pub lower_block-lower_tail-requires : goal.lower_block-lower_tail-requires
+lower_block-lower_tail-requires t c =
+    let source = source_of c.args.context.now in
+    let placed = c.requires.placed in
+    let s0 = shape c.args.graph.now in
+    let s1 = shape c.lower_statements.new.graph in
+    let kept = c.in_ok-lower_statements.ensures.lowered.keeps in
+    let grown = subst (λ (s : Shape). Grows s s1) c.push_drop_scope-outer.ensures.inner kept.grows in (
+      omega arith,
+      (
+        ready-in source s0 s1 c.args.e.0 c.requires.ready kept.sound kept.«open»,
+        (
+          (c.args.statements.now, c.requires.form),
+          record { cell = placed.cell; found = local_of-grows s0 s1 (grows-trans s0 (with_scope [] s0) s1 (with_scope-grows [] s0) grown) placed.cell c.args.place.local.0 placed.found },
+        ),
+      ),
+    )
+
+pub lower_block-lower_statements-requires : goal.lower_block-lower_statements-requires
+lower_block-lower_statements-requires t c =
+    let source = source_of c.args.context.now in (
+      omega arith,
+      (
+        subst (λ (s : Shape). IsReady source s c.args.e.0) (sym c.push_drop_scope-outer.ensures.inner)
+            (ready-in source (shape c.args.graph.now) (with_scope [] (shape c.args.graph.now)) c.args.e.0 c.requires.ready (with_scope-sound source [] (shape c.args.graph.now) c.requires.ready.sound) (with_scope-open [] (shape c.args.graph.now) c.requires.ready.«open»)),
+        (c.args.tail, c.requires.form ∙ ap (λ s. Some (Block s c.args.tail)) (sym c.as_slice.ensures)),
+      ),
+    )
+
+pub lower_block-leave_scope-requires-clause-sound : goal.lower_block-leave_scope-requires-clause-sound
+lower_block-leave_scope-requires-clause-sound t c =
+    let placed = c.requires.placed in
+    let s0 = shape c.args.graph.now in
+    let s1 = shape c.lower_statements.new.graph in
+    let grown = subst (λ (s : Shape). Grows s s1) c.push_drop_scope-outer.ensures.inner c.in_ok-lower_statements.ensures.lowered.keeps.grows in
+    (c.in_ok-lower_tail.ensures.lowered placed.cell (local_of-grows s0 s1 (grows-trans s0 (with_scope [] s0) s1 (with_scope-grows [] s0) grown) placed.cell c.args.place.local.0 placed.found)).keeps.sound
+
+pub lower_block-leave_scope-requires-clause-opened : goal.lower_block-leave_scope-requires-clause-opened
+lower_block-leave_scope-requires-clause-opened t c =
+    let placed = c.requires.placed in
+    let s0 = shape c.args.graph.now in
+    let s1 = shape c.lower_statements.new.graph in
+    let grown = subst (λ (s : Shape). Grows s s1) c.push_drop_scope-outer.ensures.inner c.in_ok-lower_statements.ensures.lowered.keeps.grows in
+    (c.in_ok-lower_tail.ensures.lowered placed.cell (local_of-grows s0 s1 (grows-trans s0 (with_scope [] s0) s1 (with_scope-grows [] s0) grown) placed.cell c.args.place.local.0 placed.found)).keeps.«open»
+
+pub lower_block-returns-in_err-leave_scope-clause-refused : goal.lower_block-returns-in_err-leave_scope-clause-refused
+lower_block-returns-in_err-leave_scope-clause-refused t c =
+    refused-exit (RefusesAt (source_of c.args.context.now) c.args.e.0) _ c.from_residual-in_err-leave_scope.result c.from_residual-in_err-leave_scope.ensures.1 (refuses-no-memory (source_of c.args.context.now) c.args.e.0)
+
+pub lower_block-returns-clause-lowered : goal.lower_block-returns-clause-lowered
+lower_block-returns-clause-lowered t c =
+    λ cell found.
+    let source = source_of c.args.context.now in
+    let s0 = shape c.args.graph.now in
+    let s1 = shape c.lower_statements.new.graph in
+    let s2 = shape c.lower_tail.new.graph in
+    let s3 = shape c.leave_scope.new.graph in
+    let first : LowersStatements source (with_scope [] s0) s1 c.args.statements.now = subst (λ (s : Shape). LowersStatements source s s1 c.args.statements.now) c.push_drop_scope-outer.ensures.inner (subst (λ (list : List Statement). LowersStatements source (shape c.push_drop_scope-outer.new.self) s1 list) c.as_slice.ensures c.in_ok-lower_statements.ensures.lowered) in
+    let last = c.in_ok-lower_tail.ensures.lowered cell (local_of-grows s0 s1 (grows-trans s0 (with_scope [] s0) s1 (with_scope-grows [] s0) first.keeps.grows) cell c.args.place.local.0 found) in
+    let left : Idles source (with_scope s0.scope s2) s3 (drops source s2.scope) = subst (λ (cells : List Cell). Idles source (with_scope cells s2) s3 (drops source s2.scope)) c.push_drop_scope-outer.ensures.outer c.in_ok-leave_scope.ensures in
+    lowers-block source s0 s1 s2 s3 c.args.e.0 c.args.statements.now c.args.tail cell c.requires.ready c.requires.form first last left
