@@ -1,19 +1,17 @@
 -- The causes of answers, over what is kept.
-use Rattle.std.proofs.Common.{◌≡◌, ℕ, ◌⊎◌, ⊎_elim, inl, inr, [], Result, Ok, Err, refl, sym, ap, subst}
-use Rattle.std.specs.Prelude.{Contains, IfOk}
+use Rattle.std.proofs.Common.{◌≡◌, ℕ, ◌⊎◌, ⊎_elim, inl, inr, [], Result, Err, refl, sym, ap, subst}
+use Rattle.std.specs.Prelude.{Contains}
 use Rattle.world.specs.declared.database.HirDatabase.{HirDatabase}
 use Rattle.world.specs.declared.ids.DefWithBodyId.{DefWithBodyId}
 use Rattle.world.specs.declared.ty.Const.{Const}
 use Rattle.world.specs.declared.ty.GenericArgs.{GenericArgs}
 use Rattle.mir.specs.declared.body.MirBody.{MirBody}
 use Rattle.mir.specs.declared.errors.ConstEvalError.{ConstEvalError}
-use Rattle.mir.specs.declared.errors.MirEvalError.{MirEvalError}
 use Rattle.mir.specs.declared.errors.MirLowerError.{MirLowerError}
 use Rattle.mir.specs.declared.errors.MirLowerError.TheVariants as refusal
 use Rattle.mir.specs.Errors.{from_lower_error}
 use Rattle.consteval.specs.Answers.{HasCause, AnswersBody, RefusesBody}
-use Rattle.consteval.specs.Kept.{Kept, IsValueOf, Ran, Stays}
-use Rattle.consteval.proofs.Headline.{carried-value}
+use Rattle.consteval.specs.Kept.{Kept, Stays}
 
 -- a refusal to lower a body
 pub cause-refused : (kept : Kept) (world : HirDatabase) (def : DefWithBodyId) (args : GenericArgs) (blocks : ℕ) (e : MirLowerError) → kept.world ≡ world → (e ≡ refusal.NoMemory) ⊎ RefusesBody world def args e → HasCause kept def args blocks 0 (Err (from_lower_error e))
@@ -31,16 +29,3 @@ pub cause-stays : (before after : Kept) (def : DefWithBodyId) (args : GenericArg
 cause-stays before after def args blocks turns answer stays =
     ⊎_elim (λ answers. inl (answers.0, answers.1, stays.bodies def answers.1 answers.2, subst (λ w. AnswersBody w def answers.1 blocks turns answer) (sym stays.world) answers.3))
     (⊎_elim (λ refused. inr (inl (refused.0, refused.1, refused.2, subst (λ w. RefusesBody w def args refused.1) (sym stays.world) refused.3))) (λ none. inr (inr none)))
-
--- a value is what a run of a kept body returned
-pub cause-value : (kept : Kept) (def : DefWithBodyId) (args : GenericArgs) (blocks turns : ℕ) (answer : Result Const ConstEvalError) → HasCause kept def args blocks turns answer → IfOk answer (IsValueOf kept def)
-cause-value kept def args blocks turns (Err e) cause = tt
-cause-value kept def args blocks turns (Ok konst) cause =
-    ⊎_elim (λ answers. ⊎_elim (λ runs. record {
-      body = answers.1;
-      from = answers.2;
-      blocks = blocks;
-      turns = turns;
-      ran = subst (λ (o : Result Const MirEvalError). Ran kept.world answers.1 blocks turns o) (sym (carried-value runs.outcome konst runs.is)) runs.ran;
-    }) (⊎_elim (λ refused. let err = refused.2 in absurd cc) (λ none. absurd cc)) answers.3)
-    (⊎_elim (λ refused. let err = refused.2 in absurd cc) (λ none. absurd cc)) cause

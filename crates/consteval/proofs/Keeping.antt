@@ -13,14 +13,6 @@ use Rattle.consteval.specs.Kept.{Kept, IsKept, IsLowered, IsValueOf, IsSound, Ra
 pub stays : (kept : Kept) → Stays kept kept
 stays kept = record { world = refl; bodies = λ def body h. h; values = λ def konst h. h }
 
-pub stays-then : (first second third : Kept) → Stays first second → Stays second third → Stays first third
-stays-then first second third one two =
-    record {
-      world = two.world ∙ one.world;
-      bodies = λ def body h. two.bodies def body (one.bodies def body h);
-      values = λ def konst h. two.values def konst (one.values def konst h);
-    }
-
 -- what is kept with one more body, and with one more value
 abbrev pub with_body : DefWithBodyId → MirBody → Kept → Kept
 with_body def body kept = record kept { bodies = kept.bodies ++ (def, body) ∷ [] }
@@ -115,11 +107,6 @@ module _ {Z : Type 0} (world : HirDatabase) (bodies : List (DefWithBodyId × Rc 
   kept-value-sound kept value sound =
       ⊎_elim (λ is. subst (λ values. IsSound (kept_of world bodies values)) (sym is) (with_value-sound def konst (kept_of world bodies old) value sound))
       (λ same. subst (λ values. IsSound (kept_of world bodies values)) (sym same) sound) kept
-
-  pub kept-value-stays : (new ≡ old ++ (def, konst) ∷ []) ⊎ (new ≡ old) → Stays (kept_of world bodies old) (kept_of world bodies new)
-  kept-value-stays kept =
-      ⊎_elim (λ is. subst (λ values. Stays (kept_of world bodies old) (kept_of world bodies values)) (sym is) (with_value-stays def konst (kept_of world bodies old)))
-      (λ same. subst (λ values. Stays (kept_of world bodies old) (kept_of world bodies values)) (sym same) (stays (kept_of world bodies old))) kept
 
   pub kept-value-found : new ≡ old ++ (def, konst) ∷ [] → IsKept new def
   kept-value-found is = (konst, subst (λ values. Contains values (def, konst)) (sym is) (Contains-push old (def, konst)))

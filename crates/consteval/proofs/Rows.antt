@@ -8,12 +8,6 @@ use Rattle.world.specs.declared.ids.DefWithBodyId.{DefWithBodyId}
 use Rattle.world.specs.declared.infer.InferenceResult.{InferenceResult}
 use Rattle.world.specs.Lookups.{body_row}
 use Rattle.world_check.specs.Checked.{IsChecked, IsCheckedBody}
-use Rattle.mir.specs.declared.body.MirBody.{MirBody}
-use Rattle.mir.specs.declared.errors.MirLowerError.{MirLowerError}
-use Rattle.mir_lower.specs.Refusals.{Refuses}
-use Rattle.mir_lower.specs.Simulates.{Simulates}
-use Rattle.source_meaning.specs.Source.{Source}
-use Rattle.consteval.specs.Kept.{IsLowered, source_of}
 use Rattle.consteval.proofs.Headline.{checked-body}
 
 -- the row that a body and what inference found of it stand in
@@ -29,20 +23,6 @@ row-of (Some row) body infer b i =
     record { row = row; there = refl; is = ap (λ (x : Body). record { body = x; infer = row.infer }) (sym same) ∙ ap (λ (x : InferenceResult). record { body = body; infer = x }) (sym other) }
 row-of None body infer b i = absurd cc
 
-pub none-of : {X : Type 0} (found : Option BodyRow) (part : BodyRow → X) → None ≡ option_map part found → found ≡ None
-none-of None part h = refl
-none-of (Some row) part h = absurd cc
-
 module _ (world : HirDatabase) (def : DefWithBodyId) (body : Body) (infer : InferenceResult) (row : RowOf (body_row world def) body infer) where
   pub row-checked : IsChecked world → IsCheckedBody body infer
   row-checked checked = subst (λ (r : BodyRow). IsCheckedBody r.body r.infer) row.is (checked-body world def row.row checked row.there)
-
-  abbrev Of : Source
-  Of = record { world = world; body = body; infer = infer }
-
-  pub row-lowered : (lowered : MirBody) → Simulates Of lowered → IsLowered world def lowered
-  row-lowered lowered simulates =
-      record { row = row.row; found = row.there; simulates = subst (λ (r : BodyRow). Simulates (source_of world r) lowered) (sym row.is) simulates }
-
-  pub row-refused : (e : MirLowerError) → Refuses Of e → Refuses (source_of world row.row) e
-  row-refused e refuses = subst (λ (r : BodyRow). Refuses (source_of world r) e) (sym row.is) refuses

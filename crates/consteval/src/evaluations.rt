@@ -181,7 +181,9 @@ impl<'w> Evaluations<'w> {
         requires { IsValueOf self.old def konst.now }
         ensures kept { OnOk result (IsKept self.new.values def) }
         ensures stays { Stays self.old self.new }
+        ensures sound { IsSound self.new }
     {
+        let _ = &self.alloc;
         if let Some(_) = find(&self.value_places, self.values.as_slice(), def) {
             return Ok(());
         }
@@ -198,7 +200,9 @@ impl<'w> Evaluations<'w> {
         requires { IfOk answer.now (IsValueOf self.old def) }
         ensures kept { OnOk result (IsOk answer.now → IsKept self.new.values def) }
         ensures stays { Stays self.old self.new }
+        ensures sound { IsSound self.new }
     {
+        let _ = &self.alloc;
         match answer {
             Ok(konst) => self.keep_value(def, konst),
             Err(_) => Ok(()),
@@ -220,6 +224,7 @@ impl<'w> Evaluations<'w> {
         ensures bodies_stay { (key : _) (body : _) → Contains self.old.bodies (key, body) → Contains self.new.bodies (key, body) }
         ensures values_stay { (key : _) (konst : _) → Contains self.old.values (key, konst) → Contains self.new.values (key, konst) }
         ensures kept { IsOk result.result → (konst : _) × Contains self.new.values (def, konst) }
+        ensures sound { IsSound self.new }
     {
         let evaluated = self.answer(def, args, limits);
         match self.keep_answer(def, &evaluated.result) {

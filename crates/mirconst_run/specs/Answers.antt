@@ -5,7 +5,7 @@ use Rattle.mir.specs.declared.errors.ConstEvalError.TheVariants as constant
 use Rattle.mir.specs.declared.body.MirBody.{MirBody}
 use Rattle.mir_eval.specs.Limits.{default_limits}
 use Rattle.source_meaning.specs.Valid.{HasDefinedCost}
-use Rattle.consteval.specs.Kept.{Kept, source_of}
+use Rattle.consteval.specs.Kept.{Kept, IsSound, source_of}
 use Rattle.consteval.specs.Valid.{IsValid}
 use Rattle.consteval.specs.Answers.{GivesValue, GivesPanic, AnswersWithin, HasCause, panic_of}
 use Rattle.consteval.specs.declared.evaluated.Evaluated.{Evaluated}
@@ -32,6 +32,7 @@ pub record IsAnswer (before after : Kept) (def : DefWithBodyId) (args : GenericA
   pub bodies_stay : (key : DefWithBodyId) (body : MirBody) → Contains before.bodies (key, body) → Contains after.bodies (key, body)
   pub values_stay : (key : DefWithBodyId) (konst : Const) → Contains before.values (key, konst) → Contains after.values (key, konst)
   pub kept : IsOk answer.result → (konst : Const) × Contains after.values (def, konst)
+  pub sound : IsSound after
 
 -- whether there was no memory for a result
 abbrev pub is_want_of_memory : Result Const ConstEvalError → Bool

@@ -18,5 +18,6 @@ returns c =
       bodies_stay = told.bodies_stay;
       values_stay = told.values_stay;
       kept = told.kept;
+      sound = told.sound;
     })
     (sym c.is_want_of_memory.ensures ∙ c.if-is_want_of_memory.false)

@@ -25,3 +25,6 @@ invariant_of-self c =
 pub returns-clause-kept : goal.returns-clause-kept
 returns-clause-kept c =
     on_ok_weaker c.keep.result (kept-value-found c.self.inside.world.now c.self.inside.bodies.items c.self.inside.values.items c.keep.new.kept.items c.args.def c.in_ok-konst.konst) c.keep.ensures.kept
+
+pub returns-clause-sound : goal.returns-clause-sound
+returns-clause-sound c = invariant_of-self c
