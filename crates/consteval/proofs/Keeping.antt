@@ -1,6 +1,6 @@
 -- What is kept stays right when more is kept.
-use Rattle.std.proofs.Common.{◌≡◌, ℕ, zero, suc, arith, ◌⊎◌, ⊎_elim, inl, inr, List, [], ◌∷◌, ◌++◌, Some, Result, Ok, Err, refl, sym, ap, ◌∙◌, subst}
-use Rattle.std.specs.Prelude.{Contains, slice_get, map, OnOk, OnErr}
+use Rattle.std.proofs.Common.{◌≡◌, zero, suc, arith, ◌⊎◌, ⊎_elim, inl, inr, List, [], ◌∷◌, ◌++◌, Result, Ok, Err, refl, sym, ap, ◌∙◌, subst}
+use Rattle.std.specs.Prelude.{Contains, map, OnOk, OnErr}
 use Rattle.std.specs.declared.rc.Rc.{Rc}
 use Rattle.std.proofs.lemmas.List.{map-append}
 use Rattle.std.proofs.lemmas.List.Elements.{Contains-push, Contains-push_cases, Contains-append_left}
@@ -71,12 +71,6 @@ with_value-sound def konst kept is sound =
     } where
       moved : (other : DefWithBodyId) (old : Const) → ◌≡◌ {A = DefWithBodyId × Const} (def, konst) (other, old) → IsValueOf kept other old
       moved other old same = subst (λ (pair : DefWithBodyId × Const). IsValueOf kept pair.0 pair.1) same is
-
--- what stands at a place is contained
-pub contains-at : {X : Type 0} (xs : List X) (i : ℕ) (x : X) → slice_get xs i ≡ Some x → Contains xs x
-contains-at [] i x h = absurd cc
-contains-at (y ∷ xs) zero x h = let same : y ≡ x = cc in (0, omega arith, same)
-contains-at (y ∷ xs) (suc i) x h = let rest = contains-at xs i x h in (suc rest.0, (let below = rest.1 in omega arith), rest.2)
 
 -- a call that kept, or left all as it was
 pub kept_or_not : {T E : Type 0} {A B : Type 0} (result : Result T E) → OnOk result A → OnErr result B → A ⊎ B

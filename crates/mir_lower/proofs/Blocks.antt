@@ -254,23 +254,6 @@ lowers-expr-statement source s0 s1 s2 s3 e has_semi local place read left =
           place.laid (subst (IsPlainFrom source) (sym same) plain) (layouts-before source s1 s3 into layouts) f (subst (λ x. Evaluates source x f) (sym same) evaluates);
     }
 
--- a block without a tail, and one with
-pub lowers-no-tail : (source : Source) (s : Shape) (c : Cell) → IsSound source s → IsOpen s → LowersTail source s s None c
-lowers-no-tail source s c sound opened =
-    record {
-      keeps = record { grows = grows-refl s; sound = sound; «open» = opened; scope = sym (append-nil s.scope) };
-      does = record { reaches = λ whole frame grows whole-sound is fuel store memory holds. (0, memory, omega arith, comes-refl frame (here s) memory, (holds, tt)) };
-      laid = λ e is. absurd cc;
-    }
-
-pub lowers-tail : (source : Source) (old new : Shape) (e : ExprId) (c : Cell) → LowersInto source old new e.0 c → LowersTail source old new (Some e) c
-lowers-tail source old new e c into =
-    record {
-      keeps = into.keeps;
-      does = into.does;
-      laid = λ f is. let same : e ≡ f = cc in subst (λ (g : ExprId). IsLaidOut source (node_type source g.0) → LaysOut source new g.0) same into.laid;
-    }
-
 -- the types of what a block evaluates
 lays-block : (source : Source) (s0 s1 s2 new : Shape) (e : ℕ) (statements : List Statement) (tail : Option ExprId) (c : Cell) → node source e ≡ Some (expr.Block statements tail) → LowersStatements source s0 s1 statements → LowersTail source s1 s2 tail c → Grows s1 new → Grows s2 new → IsLaidOut source (node_type source e) → LaysOut source new e
 lays-block source s0 s1 s2 new e statements tail c form first last grows1 grows2 laid plain layouts f itself = laid

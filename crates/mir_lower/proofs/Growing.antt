@@ -125,10 +125,6 @@ pub with_scope-grows : (scope : List Cell) (s : Shape) → Grows s (with_scope s
 unfolding statement_at temp_of
 with_scope-grows scope s = record { statements = λ b i x h. h; ended = λ b block t h is. h; locals = λ i l h. h; bindings = refl; temps = λ e l h. h }
 
-pub scope-grows-back : (scope : List Cell) (s : Shape) → Grows (with_scope scope s) s
-unfolding statement_at temp_of
-scope-grows-back scope s = record { statements = λ b i x h. h; ended = λ b block t h is. h; locals = λ i l h. h; bindings = refl; temps = λ e l h. h }
-
 -- the locals of expressions after one was given a new one
 pub temp_of-with_temp_same : (e : ℕ) (ty : Ty) (s : Shape) → e < length s.temps → temp_of (with_temp e ty s) e ≡ Some (length s.locals)
 unfolding temp_of with_temp

@@ -17,7 +17,7 @@ use Rattle.mir_lower.specs.Does.{here, local_of, local_bytes, IsFrameOf, Holds, 
 use Rattle.mir_lower.specs.Graph.{Shape}
 use Rattle.mir_lower.specs.Growth.{Grows, IsSound, IsOpen}
 use Rattle.mir_lower.specs.Literals.{IsLiteral}
-use Rattle.mir_lower.specs.Lowered.{IsTruthLiteral, IsGiven, IsNamed, LowersInto, LowersPlace, LowersOperand}
+use Rattle.mir_lower.specs.Lowered.{IsGiven, IsNamed, LowersInto, LowersPlace, LowersOperand}
 use Rattle.mir_lower.proofs.Growing.{grows-refl, grows-trans}
 use Rattle.mir_lower.proofs.Laid.{lays-literal, lays-name, lays-temp}
 use Rattle.mir_lower.proofs.Reaching.{comes-refl, reaches-then}
@@ -99,10 +99,6 @@ place-operand source old new whole frame e place sound is grows does form (suc f
       no-literal : (form : Option Expr) → is_literal form ≡ false → operand_of source (level_at source fuel) e form store ≡ then_do ((level_at source fuel).place e store) (λ path later. Go (At path) later no_cost)
       no-literal (Some (expr.Literal literal)) is = absurd cc
       no-literal _ is = refl
-
-no-truth : (form : Option Expr) → is_literal form ≡ false → IsTruthLiteral form → ⊥
-no-truth (Some (expr.Literal literal)) is truth = cc
-no-truth _ is truth = truth
 
 pub lowers-place-operand : (source : Source) (old new : Shape) (e : ℕ) (place : Place) → LowersPlace source old new e place.local.0 → is_literal (node source e) ≡ false → LowersOperand source old new e (Copy place)
 lowers-place-operand source old new e place lowers form =

@@ -64,10 +64,3 @@ reaches-then frame from at to memory first claim (Go value store cost) next does
 reaches-then frame from at to memory first claim (Panic word cost) next does rest = does
 reaches-then frame from at to memory first claim Stuck next does rest = tt
 reaches-then frame from at to memory first claim (More cost) next does rest = tt
-
--- a claim may be weakened
-pub reaches-weaker : {A : Type 0} (frame : Frame) (from to : Point) (memory : Memory) (strong claim : A → Store → Memory → Type 0) (end : End A) → ((value : A) (store : Store) (later : Memory) → strong value store later → claim value store later) → Reaches frame from to memory strong end → Reaches frame from to memory claim end
-reaches-weaker frame from to memory strong claim (Go value store cost) weaker does = (does.0, does.1, does.2, does.3, weaker value store does.1 does.4)
-reaches-weaker frame from to memory strong claim (Panic word cost) weaker does = does
-reaches-weaker frame from to memory strong claim Stuck weaker does = tt
-reaches-weaker frame from to memory strong claim (More cost) weaker does = tt

@@ -126,11 +126,6 @@ unfolding meaning_of
 more_fuel source fuel more le over =
     after_agrees _ _ _ (then_do_agrees ((level_at source fuel).into (root source) _ _) ((level_at source more).into (root source) _ _) _ _ ((more_agrees source fuel more le).into (root source) _ _) (λ value store o. refl)) over
 
--- so two ends of one body are the same
-pub one_end : (source : Source) (fuel other : ℕ) → IsOver (meaning_of source fuel) → IsOver (meaning_of source other) → meaning_of source fuel ≡ meaning_of source other
-one_end source fuel other over over' =
-    ⊎_elim (λ lt. sym (more_fuel source fuel other (omega arith) over)) (λ le. more_fuel source other fuel le over') (cases_lt fuel other)
-
 -- Enough fuel comes to an end.
 
 then_do_over : {A B : Type 0} (first : End A) (next : A → Store → End B) → IsOver first → ((value : A) (store : Store) → IsOver (next value store)) → IsOver (then_do first next)
