@@ -6,7 +6,7 @@
 //! neither literals nor paths, the initializers that are no paths, the names, and the values of expression
 //! statements that are no paths. The numbers were counted by hand; a comment says what is left.
 
-use crate::integers::{I8, I32, U8, U16, USIZE};
+use crate::integers::{I8_TYPE, I32_TYPE, U8_TYPE, U16_TYPE, USIZE_TYPE};
 use crate::tests::run_cases;
 use crate::worlds::{BOOL, Cases, Nodes, SCALARS, ScalarType, Step, UNIT};
 use std::alloc::Global;
@@ -86,7 +86,7 @@ fn highest_bit(nodes: &mut Nodes, ty: ScalarType) -> Result<u32, NoMemory> {
     let left = nodes.unary("Not", zero, ty)?;
     let zero = nodes.number("0", ty)?;
     let ones = nodes.unary("Not", zero, ty)?;
-    let amount = nodes.number("1", I32.ty)?;
+    let amount = nodes.number("1", I32_TYPE)?;
     let shifted = nodes.arithmetic("Shr", ones, amount, ty)?;
     let right = nodes.unary("Not", shifted, ty)?;
     nodes.arithmetic("BitAnd", left, right, ty)
@@ -95,7 +95,7 @@ fn highest_bit(nodes: &mut Nodes, ty: ScalarType) -> Result<u32, NoMemory> {
 /// The amount of the shift is an `i32`.
 fn ninth_bit(nodes: &mut Nodes, ty: ScalarType) -> Result<u32, NoMemory> {
     let one = nodes.number("1", ty)?;
-    let amount = nodes.number("8", I32.ty)?;
+    let amount = nodes.number("8", I32_TYPE)?;
     nodes.arithmetic("Shl", one, amount, ty)
 }
 
@@ -227,7 +227,7 @@ fn left_panic(nodes: &mut Nodes, ty: ScalarType) -> Result<u32, NoMemory> {
 
 /// The number is an `i32`; the block has the type `ty`.
 fn no_tail(nodes: &mut Nodes, ty: ScalarType) -> Result<u32, NoMemory> {
-    let one = nodes.number("1", I32.ty)?;
+    let one = nodes.number("1", I32_TYPE)?;
     nodes.block(&[Step::Expr(one)], None, ty)
 }
 
@@ -259,22 +259,22 @@ const SHL_PANICS: &str = r#"error eval InFunction(Panic("Overflow in Shl"), [])"
 type Block = (Source, ScalarType, &'static str, &'static str, u32);
 
 const BLOCKS: [Block; 31] = [
-    (Source::HighestBit, I8.ty, SCALARS, "value i8 00", 1),
-    (Source::HighestBit, U8.ty, SCALARS, "value u8 80", 1),
+    (Source::HighestBit, I8_TYPE, SCALARS, "value i8 00", 1),
+    (Source::HighestBit, U8_TYPE, SCALARS, "value u8 80", 1),
     // each of the four operands that are no literals
-    (Source::HighestBit, U8.ty, "", "value u8 80", 5),
-    (Source::NinthBit, I8.ty, SCALARS, SHL_PANICS, 1),
-    (Source::NinthBit, U8.ty, SCALARS, SHL_PANICS, 1),
-    (Source::NinthBit, U16.ty, SCALARS, "value u16 0001", 1),
+    (Source::HighestBit, U8_TYPE, "", "value u8 80", 5),
+    (Source::NinthBit, I8_TYPE, SCALARS, SHL_PANICS, 1),
+    (Source::NinthBit, U8_TYPE, SCALARS, SHL_PANICS, 1),
+    (Source::NinthBit, U16_TYPE, SCALARS, "value u16 0001", 1),
     // Rust panics at `-x`: the value is that of `x.wrapping_neg()`
-    (Source::MinusLeast, I8.ty, SCALARS, "value i8 80", 1),
+    (Source::MinusLeast, I8_TYPE, SCALARS, "value i8 80", 1),
     // the initializer, and `x`
-    (Source::MinusLeast, I8.ty, "", "value i8 80", 3),
+    (Source::MinusLeast, I8_TYPE, "", "value i8 80", 3),
     // likewise
-    (Source::MinusLiteral, I8.ty, SCALARS, "value i8 80", 1),
+    (Source::MinusLiteral, I8_TYPE, SCALARS, "value i8 80", 1),
     (
         Source::Square,
-        USIZE.ty,
+        USIZE_TYPE,
         SCALARS,
         "value usize 1900000000000000",
         1,
@@ -282,43 +282,55 @@ const BLOCKS: [Block; 31] = [
     // the initializers, `a` and `b`
     (
         Source::Square,
-        USIZE.ty,
+        USIZE_TYPE,
         "",
         "value usize 1900000000000000",
         5,
     ),
-    (Source::Renamed, U8.ty, SCALARS, "value u8 07", 1),
+    (Source::Renamed, U8_TYPE, SCALARS, "value u8 07", 1),
     // the first initializer, `x` and `y`; the second is a path, and has no local
-    (Source::Renamed, U8.ty, "", "value u8 07", 4),
-    (Source::Compared, U8.ty, SCALARS, "value bool 01", 1),
+    (Source::Renamed, U8_TYPE, "", "value u8 07", 4),
+    (Source::Compared, U8_TYPE, SCALARS, "value bool 01", 1),
     // the initializers, `a`, `b` and the operand `!b`
-    (Source::Compared, U8.ty, "", "value bool 01", 6),
-    (Source::InnerName, I32.ty, SCALARS, "value i32 01000000", 1),
+    (Source::Compared, U8_TYPE, "", "value bool 01", 6),
+    (
+        Source::InnerName,
+        I32_TYPE,
+        SCALARS,
+        "value i32 01000000",
+        1,
+    ),
     // in the inner block the initializer and `x`; the statement's value; in the outer block the
     // initializer and `x`
-    (Source::InnerName, I32.ty, "", "value i32 01000000", 6),
-    (Source::InnerSum, I32.ty, SCALARS, "value i32 03000000", 1),
+    (Source::InnerName, I32_TYPE, "", "value i32 01000000", 6),
+    (Source::InnerSum, I32_TYPE, SCALARS, "value i32 03000000", 1),
     // in the inner block the initializer and `x`; in the outer block the initializer, `x` and the left
     // operand
-    (Source::InnerSum, I32.ty, "", "value i32 03000000", 6),
-    (Source::NameAlone, U8.ty, SCALARS, "value u8 07", 1),
+    (Source::InnerSum, I32_TYPE, "", "value i32 03000000", 6),
+    (Source::NameAlone, U8_TYPE, SCALARS, "value u8 07", 1),
     // the initializer and `x`
-    (Source::NameAlone, U8.ty, "", "value u8 07", 3),
-    (Source::LostPanic, U8.ty, SCALARS, ADD_PANICS, 1),
-    (Source::LostPanic, I32.ty, SCALARS, "value i32 07000000", 1),
-    (Source::LatePanic, U8.ty, SCALARS, ADD_PANICS, 1),
+    (Source::NameAlone, U8_TYPE, "", "value u8 07", 3),
+    (Source::LostPanic, U8_TYPE, SCALARS, ADD_PANICS, 1),
+    (
+        Source::LostPanic,
+        I32_TYPE,
+        SCALARS,
+        "value i32 07000000",
+        1,
+    ),
+    (Source::LatePanic, U8_TYPE, SCALARS, ADD_PANICS, 1),
     // the initializer, `x` and the statement's value; the panic leaves nothing
-    (Source::LatePanic, U8.ty, "", ADD_PANICS, 4),
-    (Source::LeftPanic, U8.ty, SCALARS, DIV_PANICS, 1),
+    (Source::LatePanic, U8_TYPE, "", ADD_PANICS, 4),
+    (Source::LeftPanic, U8_TYPE, SCALARS, DIV_PANICS, 1),
     (Source::NoTail, UNIT, SCALARS, "value () -", 1),
     // the statement's value, as `()` isn't listed
-    (Source::UnitStatement, U8.ty, SCALARS, "value u8 02", 2),
+    (Source::UnitStatement, U8_TYPE, SCALARS, "value u8 02", 2),
     // the values of both statements
-    (Source::UnitStatement, U8.ty, "", "value u8 02", 3),
+    (Source::UnitStatement, U8_TYPE, "", "value u8 02", 3),
     // Rust has no such body: a block without a tail that has another type than `()`
-    (Source::NoTail, I32.ty, SCALARS, "value i32 00000000", 1),
+    (Source::NoTail, I32_TYPE, SCALARS, "value i32 00000000", 1),
     // Rust has no such body: the operand `x` is read after the inner block bound it anew
-    (Source::OneName, I32.ty, SCALARS, "value i32 06000000", 1),
+    (Source::OneName, I32_TYPE, SCALARS, "value i32 06000000", 1),
 ];
 
 fn add_block(cases: &mut Cases, row: Block) -> Result<(), NoMemory> {

@@ -85,12 +85,80 @@ pub(crate) const ALL: [Integer; 12] = [
     I8, I16, I32, I64, I128, ISIZE, U8, U16, U32, U64, U128, USIZE,
 ];
 
+pub(crate) const I8_TYPE: ScalarType = ScalarType {
+    json: r#"{"Int":"I8"}"#,
+    name: "i8",
+    literal: "Int",
+};
+
+pub(crate) const I16_TYPE: ScalarType = ScalarType {
+    json: r#"{"Int":"I16"}"#,
+    name: "i16",
+    literal: "Int",
+};
+
+pub(crate) const I32_TYPE: ScalarType = ScalarType {
+    json: r#"{"Int":"I32"}"#,
+    name: "i32",
+    literal: "Int",
+};
+
+pub(crate) const I64_TYPE: ScalarType = ScalarType {
+    json: r#"{"Int":"I64"}"#,
+    name: "i64",
+    literal: "Int",
+};
+
+pub(crate) const I128_TYPE: ScalarType = ScalarType {
+    json: r#"{"Int":"I128"}"#,
+    name: "i128",
+    literal: "Int",
+};
+
+pub(crate) const ISIZE_TYPE: ScalarType = ScalarType {
+    json: r#"{"Int":"Isize"}"#,
+    name: "isize",
+    literal: "Int",
+};
+
+pub(crate) const U8_TYPE: ScalarType = ScalarType {
+    json: r#"{"Uint":"U8"}"#,
+    name: "u8",
+    literal: "Uint",
+};
+
+pub(crate) const U16_TYPE: ScalarType = ScalarType {
+    json: r#"{"Uint":"U16"}"#,
+    name: "u16",
+    literal: "Uint",
+};
+
+pub(crate) const U32_TYPE: ScalarType = ScalarType {
+    json: r#"{"Uint":"U32"}"#,
+    name: "u32",
+    literal: "Uint",
+};
+
+pub(crate) const U64_TYPE: ScalarType = ScalarType {
+    json: r#"{"Uint":"U64"}"#,
+    name: "u64",
+    literal: "Uint",
+};
+
+pub(crate) const U128_TYPE: ScalarType = ScalarType {
+    json: r#"{"Uint":"U128"}"#,
+    name: "u128",
+    literal: "Uint",
+};
+
+pub(crate) const USIZE_TYPE: ScalarType = ScalarType {
+    json: r#"{"Uint":"Usize"}"#,
+    name: "usize",
+    literal: "Uint",
+};
+
 pub(crate) const I8: Integer = Integer {
-    ty: ScalarType {
-        json: r#"{"Int":"I8"}"#,
-        name: "i8",
-        literal: "Int",
-    },
+    ty: I8_TYPE,
     last: "7",
     bits: "8",
     least: ("-128", "80"),
@@ -103,11 +171,7 @@ pub(crate) const I8: Integer = Integer {
 };
 
 pub(crate) const I16: Integer = Integer {
-    ty: ScalarType {
-        json: r#"{"Int":"I16"}"#,
-        name: "i16",
-        literal: "Int",
-    },
+    ty: I16_TYPE,
     last: "15",
     bits: "16",
     least: ("-32768", "0080"),
@@ -120,11 +184,7 @@ pub(crate) const I16: Integer = Integer {
 };
 
 pub(crate) const I32: Integer = Integer {
-    ty: ScalarType {
-        json: r#"{"Int":"I32"}"#,
-        name: "i32",
-        literal: "Int",
-    },
+    ty: I32_TYPE,
     last: "31",
     bits: "32",
     least: ("-2147483648", "00000080"),
@@ -137,11 +197,7 @@ pub(crate) const I32: Integer = Integer {
 };
 
 pub(crate) const I64: Integer = Integer {
-    ty: ScalarType {
-        json: r#"{"Int":"I64"}"#,
-        name: "i64",
-        literal: "Int",
-    },
+    ty: I64_TYPE,
     last: "63",
     bits: "64",
     least: ("-9223372036854775808", "0000000000000080"),
@@ -154,11 +210,7 @@ pub(crate) const I64: Integer = Integer {
 };
 
 pub(crate) const I128: Integer = Integer {
-    ty: ScalarType {
-        json: r#"{"Int":"I128"}"#,
-        name: "i128",
-        literal: "Int",
-    },
+    ty: I128_TYPE,
     last: "127",
     bits: "128",
     least: (
@@ -183,11 +235,7 @@ pub(crate) const I128: Integer = Integer {
 };
 
 pub(crate) const ISIZE: Integer = Integer {
-    ty: ScalarType {
-        json: r#"{"Int":"Isize"}"#,
-        name: "isize",
-        literal: "Int",
-    },
+    ty: ISIZE_TYPE,
     last: "63",
     bits: "64",
     least: ("-9223372036854775808", "0000000000000080"),
@@ -200,11 +248,7 @@ pub(crate) const ISIZE: Integer = Integer {
 };
 
 pub(crate) const U8: Integer = Integer {
-    ty: ScalarType {
-        json: r#"{"Uint":"U8"}"#,
-        name: "u8",
-        literal: "Uint",
-    },
+    ty: U8_TYPE,
     last: "7",
     bits: "8",
     least: ("0", "00"),
@@ -217,11 +261,7 @@ pub(crate) const U8: Integer = Integer {
 };
 
 pub(crate) const U16: Integer = Integer {
-    ty: ScalarType {
-        json: r#"{"Uint":"U16"}"#,
-        name: "u16",
-        literal: "Uint",
-    },
+    ty: U16_TYPE,
     last: "15",
     bits: "16",
     least: ("0", "0000"),
@@ -234,11 +274,7 @@ pub(crate) const U16: Integer = Integer {
 };
 
 pub(crate) const U32: Integer = Integer {
-    ty: ScalarType {
-        json: r#"{"Uint":"U32"}"#,
-        name: "u32",
-        literal: "Uint",
-    },
+    ty: U32_TYPE,
     last: "31",
     bits: "32",
     least: ("0", "00000000"),
@@ -251,11 +287,7 @@ pub(crate) const U32: Integer = Integer {
 };
 
 pub(crate) const U64: Integer = Integer {
-    ty: ScalarType {
-        json: r#"{"Uint":"U64"}"#,
-        name: "u64",
-        literal: "Uint",
-    },
+    ty: U64_TYPE,
     last: "63",
     bits: "64",
     least: ("0", "0000000000000000"),
@@ -268,11 +300,7 @@ pub(crate) const U64: Integer = Integer {
 };
 
 pub(crate) const U128: Integer = Integer {
-    ty: ScalarType {
-        json: r#"{"Uint":"U128"}"#,
-        name: "u128",
-        literal: "Uint",
-    },
+    ty: U128_TYPE,
     last: "127",
     bits: "128",
     least: ("0", "00000000000000000000000000000000"),
@@ -294,11 +322,7 @@ pub(crate) const U128: Integer = Integer {
 };
 
 pub(crate) const USIZE: Integer = Integer {
-    ty: ScalarType {
-        json: r#"{"Uint":"Usize"}"#,
-        name: "usize",
-        literal: "Uint",
-    },
+    ty: USIZE_TYPE,
     last: "63",
     bits: "64",
     least: ("0", "0000000000000000"),

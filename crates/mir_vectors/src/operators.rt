@@ -6,8 +6,9 @@
 //! minus it takes `wrapping_neg`.
 
 use crate::integers::{
-    ALL, ALL_BITS, GREATEST, I8, I16, I32, I64, I128, ISIZE, Integer, LEAST, NEXT, Number, ONE,
-    SIGNED, TOP_BIT, U8, U16, U64, U128, UNSIGNED, USIZE, ZERO,
+    ALL, ALL_BITS, GREATEST, I8_TYPE, I16_TYPE, I32_TYPE, I64_TYPE, I128_TYPE, ISIZE_TYPE, Integer,
+    LEAST, NEXT, Number, ONE, SIGNED, TOP_BIT, U8_TYPE, U16_TYPE, U64_TYPE, U128_TYPE, UNSIGNED,
+    USIZE_TYPE, ZERO,
 };
 use crate::tests::run_cases;
 use crate::worlds::{BOOL, Cases, Nodes, SCALARS, ScalarType, Step};
@@ -266,7 +267,7 @@ fn add_shift(cases: &mut Cases, integer: &Integer, row: Shift) -> Result<(), NoM
     let (left, op, amount, answer) = row;
     let mut nodes = Nodes::new(cases.alloc(), SCALARS);
     let lhs = nodes.number(integer.digits(left), integer.ty)?;
-    let rhs = nodes.number(amount_digits(integer, amount), I32.ty)?;
+    let rhs = nodes.number(amount_digits(integer, amount), I32_TYPE)?;
     nodes.arithmetic(op, lhs, rhs, integer.ty)?;
     add_answer(cases, integer, &nodes, op, answer)
 }
@@ -323,38 +324,45 @@ type FarShift = (
 
 /// The amounts from 2^32 on would be good ones if their high bytes were lost.
 const FAR_SHIFTS: [FarShift; 11] = [
-    (U8.ty, "1", "Shl", U128.ty, "7", Some("80")),
-    (U8.ty, "1", "Shl", U128.ty, "18446744073709551616", None),
-    (U8.ty, "1", "Shl", U64.ty, "4294967296", None),
+    (U8_TYPE, "1", "Shl", U128_TYPE, "7", Some("80")),
+    (U8_TYPE, "1", "Shl", U128_TYPE, "18446744073709551616", None),
+    (U8_TYPE, "1", "Shl", U64_TYPE, "4294967296", None),
     (
-        U8.ty,
+        U8_TYPE,
         "1",
         "Shl",
-        I128.ty,
+        I128_TYPE,
         "-170141183460469231731687303715884105728",
         None,
     ),
-    (I16.ty, "-1", "Shr", U8.ty, "15", Some("ffff")),
-    (I64.ty, "1", "Shl", I8.ty, "63", Some("0000000000000080")),
+    (I16_TYPE, "-1", "Shr", U8_TYPE, "15", Some("ffff")),
     (
-        U128.ty,
+        I64_TYPE,
         "1",
         "Shl",
-        U8.ty,
+        I8_TYPE,
+        "63",
+        Some("0000000000000080"),
+    ),
+    (
+        U128_TYPE,
+        "1",
+        "Shl",
+        U8_TYPE,
         "127",
         Some("00000000000000000000000000000080"),
     ),
-    (U128.ty, "1", "Shl", U8.ty, "128", None),
+    (U128_TYPE, "1", "Shl", U8_TYPE, "128", None),
     (
-        I128.ty,
+        I128_TYPE,
         "-1",
         "Shr",
-        USIZE.ty,
+        USIZE_TYPE,
         "127",
         Some("ffffffffffffffffffffffffffffffff"),
     ),
-    (USIZE.ty, "1", "Shl", I16.ty, "-1", None),
-    (ISIZE.ty, "1", "Shl", U16.ty, "64", None),
+    (USIZE_TYPE, "1", "Shl", I16_TYPE, "-1", None),
+    (ISIZE_TYPE, "1", "Shl", U16_TYPE, "64", None),
 ];
 
 fn add_far_shift(cases: &mut Cases, row: FarShift) -> Result<(), NoMemory> {

@@ -1,6 +1,6 @@
 //! Bodies that are refused before they run, each with its refusal.
 
-use crate::integers::{I32, U8, U16};
+use crate::integers::{I32_TYPE, U8_TYPE, U16_TYPE};
 use crate::tests::run_cases;
 use crate::worlds::{BOOL, Cases, Nodes, SCALARS, ScalarType, Step, UNIT};
 use std::alloc::Global;
@@ -117,17 +117,17 @@ const NOT_BUILT: &str = r#"error lower NotSupported("form not built")"#;
 
 /// A body, the type of the constant, and the answer.
 const REFUSALS: [(Source, ScalarType, &str); 11] = [
-    (Source::Nameless, I32.ty, NAMES_NOTHING),
-    (Source::NamelessLast, U8.ty, NAMES_NOTHING),
+    (Source::Nameless, I32_TYPE, NAMES_NOTHING),
+    (Source::NamelessLast, U8_TYPE, NAMES_NOTHING),
     (Source::And, BOOL, NOT_BUILT),
     (Source::Or, BOOL, NOT_BUILT),
-    (Source::NoOperator, I32.ty, "error lower IncompleteExpr"),
-    (Source::Dereference, I32.ty, NOT_BUILT),
-    (Source::LetAlone, I32.ty, NOT_BUILT),
-    (Source::LetElse, I32.ty, NOT_BUILT),
-    (Source::Assignment, I32.ty, NOT_BUILT),
-    (Source::SumAssignment, I32.ty, NOT_BUILT),
-    (Source::Erroneous, I32.ty, "error lower HasErrors"),
+    (Source::NoOperator, I32_TYPE, "error lower IncompleteExpr"),
+    (Source::Dereference, I32_TYPE, NOT_BUILT),
+    (Source::LetAlone, I32_TYPE, NOT_BUILT),
+    (Source::LetElse, I32_TYPE, NOT_BUILT),
+    (Source::Assignment, I32_TYPE, NOT_BUILT),
+    (Source::SumAssignment, I32_TYPE, NOT_BUILT),
+    (Source::Erroneous, I32_TYPE, "error lower HasErrors"),
 ];
 
 fn add_refusal(
@@ -157,7 +157,7 @@ fn refusals(rt: HostRuntime) -> Result<(), Fail> {
 fn types_without_layouts(rt: HostRuntime) -> Result<(), Fail> {
     let mut cases = Cases::without_layouts(rt.alloc());
     let mut number = Nodes::new(rt.alloc(), SCALARS);
-    number.number("1", U16.ty)?;
+    number.number("1", U16_TYPE)?;
     cases.add(&number, "error lower LayoutError(Unknown)", 0)?;
     let mut truth = Nodes::new(rt.alloc(), SCALARS);
     truth.truth(true)?;
