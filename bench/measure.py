@@ -1,9 +1,10 @@
 #!/usr/bin/env python3
-"""Runs a command three times on a file, and prints the median time and the highest peak memory.
+"""Runs a command three times on a file, and prints the median times and the highest peak memory.
 
 usage: measure.py FILE COMMAND WORD..
 
-The file is the command's standard input. Prints one line, and ends with the command's status.
+The file is the command's standard input. Prints one line (the time that passed, the processor's time,
+the peak memory in MB, which are 10^6 bytes), and ends with the command's status.
 """
 
 import os
@@ -16,14 +17,15 @@ RUNS = 3
 
 
 def run_once(path, command):
-    """The seconds, the peak memory in MB (10^6 bytes) and the status of one run."""
+    """The seconds that passed, those of the processor, the peak memory and the status of one run."""
     with open(path, "rb") as source:
         start = time.monotonic()
         child = subprocess.Popen(command, stdin=source, stdout=subprocess.DEVNULL)
         _, status, usage = os.wait4(child.pid, 0)
         seconds = time.monotonic() - start
     child.returncode = os.waitstatus_to_exitcode(status)
-    return seconds, usage.ru_maxrss * 1024 / 1e6, child.returncode
+    processor = usage.ru_utime + usage.ru_stime
+    return seconds, processor, usage.ru_maxrss * 1024 / 1e6, child.returncode
 
 
 def main():
@@ -32,9 +34,10 @@ def main():
     path, command = sys.argv[1], sys.argv[2:]
     runs = [run_once(path, command) for _ in range(RUNS)]
     seconds = statistics.median(run[0] for run in runs)
-    peak = max(run[1] for run in runs)
-    status = max(run[2] for run in runs)
-    print(f"{seconds:.2f} s, peak {peak:.0f} MB, status {status}")
+    processor = statistics.median(run[1] for run in runs)
+    peak = max(run[2] for run in runs)
+    status = max(run[3] for run in runs)
+    print(f"{seconds:.2f} s, processor {processor:.2f} s, peak {peak:.0f} MB, status {status}")
     sys.exit(status)
 
 
