@@ -8,6 +8,8 @@ mod integers;
 #[cfg(test)]
 mod operators;
 #[cfg(test)]
+mod program;
+#[cfg(test)]
 mod refusals;
 #[cfg(test)]
 mod tests;

@@ -1,15 +1,20 @@
 -- What a run has read and written.
-use Rattle.std.specs.Prelude.{◌≡◌, ℕ, Bool, true, false, List, [], ◌++◌, Option, Some, option_map, IfSome}
+use Rattle.std.specs.Prelude.{◌≡◌, ℕ, ◌<◌, Bool, true, false, List, [], ◌++◌, length, take, drop, String, Option, Some, ◌⊎◌, option_map, IfSome}
 use Rattle.std.specs.List.{list_all}
+use Rattle.std.specs.declared.alloc.Global.{Global}
 use Rattle.consteval.specs.Kept.{Kept}
 use Rattle.consteval.specs.declared.evaluated.Evaluated.{Evaluated}
+use Rattle.streams.specs.Faults.{HasCause}
 use Rattle.world.specs.declared.database.HirDatabase.{HirDatabase}
+use Rattle.world_check.specs.declared.fault.InvalidWorld.{InvalidWorld}
 use Rattle.world_json.specs.declared.goal.Goal.{Goal}
 use Rattle.mirconst_run.specs.declared.status.Status.{Status}
 use Rattle.mirconst_run.specs.declared.status.Status.TheVariants.{Values, Errors, BadWords, NotJson, NotAWorld, BadWorld, TooLong, ReadFault, WriteFault, NoMemory}
 use Rattle.mirconst_run.specs.Answers.{AreAnswers, has_value, nothing_kept}
-use Rattle.mirconst_run.specs.Input.{StandsFor}
+use Rattle.mirconst_run.specs.Input.{StandsFor, IsNoJson, HasMisfit, HasMisfitGoal, HasFailure}
+use Rattle.mirconst_run.specs.Refusals.{most_bytes}
 use Rattle.mirconst_run.specs.Report.{report_text}
+use Rattle.mirconst_run.specs.Words.{is_command}
 
 -- outcomes of the goals that bytes stand for
 pub record AreOutcomes (bytes : List ℕ) (outcomes : List Evaluated) : Type 0 where
@@ -37,15 +42,87 @@ abbrev pub IsAnswered : Option (List ℕ) → Option (List ℕ) → Option (List
 IsAnswered left left' written written' all =
     IfSome left (λ bytes. (left' ≡ Some []) × IsReported bytes all written written')
 
--- What a status says of a run, by what was left to read and what was written, before and after it.
-abbrev pub Means : Option (List ℕ) → Option (List ℕ) → Option (List ℕ) → Option (List ℕ) → Status → Type 0
-Means left left' written written' Values = IsAnswered left left' written written' true
-Means left left' written written' Errors = IsAnswered left left' written written' false
-Means left left' written written' BadWords = Unit {0}
-Means left left' written written' NotJson = Unit {0}
-Means left left' written written' (NotAWorld path) = Unit {0}
-Means left left' written written' (BadWorld invalid) = Unit {0}
-Means left left' written written' TooLong = Unit {0}
-Means left left' written written' ReadFault = Unit {0}
-Means left left' written written' WriteFault = Unit {0}
-Means left left' written written' NoMemory = Unit {0}
+-- a text was written in part: some bytes of its front, after what was there before
+pub record IsBegun (text : List ℕ) (written written' : Option (List ℕ)) : Type 0 where
+  pub count : ℕ
+  pub appended : written' ≡ option_map (λ before. before ++ take count text) written
+
+-- the report of the goals that bytes stand for was written in part
+pub record IsReportBegun (bytes : List ℕ) (written written' : Option (List ℕ)) : Type 0 where
+  pub text : List ℕ
+  pub all : Bool
+  pub is_report : IsReportOf bytes text all
+  pub begun : IsBegun text written written'
+
+-- where the source tells its bytes, they were read to the end
+abbrev pub IsReadToEnd : Option (List ℕ) → Option (List ℕ) → Type 0
+IsReadToEnd left left' = IfSome left (λ bytes. left' ≡ Some [])
+
+-- a run whose words are no command
+pub record StopsAtWords (words : List (String Global)) (left left' written written' : Option (List ℕ)) : Type 0 where
+  pub no_command : is_command words ≡ false
+  pub nothing_read : left' ≡ left
+  pub nothing_written : written' ≡ written
+
+-- a run whose input is no JSON
+pub record StopsAtJson (left left' written written' : Option (List ℕ)) : Type 0 where
+  pub read : IsReadToEnd left left'
+  pub no_json : IfSome left (λ bytes. IsNoJson bytes)
+  pub nothing_written : written' ≡ written
+
+-- a run whose input is JSON that stands for no world with goals in it, with the path of the first place that doesn't fit
+pub record StopsAtWorld (path : List ℕ) (left left' written written' : Option (List ℕ)) : Type 0 where
+  pub read : IsReadToEnd left left'
+  pub misfit : IfSome left (λ bytes. HasMisfit bytes path ⊎ HasMisfitGoal bytes path)
+  pub nothing_written : written' ≡ written
+
+-- a run whose input stands for a world that fails the check
+pub record StopsAtCheck (invalid : InvalidWorld) (left left' written written' : Option (List ℕ)) : Type 0 where
+  pub read : IsReadToEnd left left'
+  pub fails : IfSome left (λ bytes. HasFailure bytes invalid)
+  pub nothing_written : written' ≡ written
+
+-- a run whose input is too long: just one byte too many was taken
+pub record StopsAtLength (left left' written written' : Option (List ℕ)) : Type 0 where
+  pub longer : IfSome left (λ bytes. most_bytes < length bytes)
+  pub taken : left' ≡ option_map (drop 67108865) left
+  pub nothing_written : written' ≡ written
+
+-- a run where a read failed
+pub record StopsAtRead (faults faults' : ℕ) (written written' : Option (List ℕ)) : Type 0 where
+  pub cause : HasCause faults faults'
+  pub nothing_written : written' ≡ written
+
+-- a run where a write failed
+pub record StopsAtWrite (left left' written written' : Option (List ℕ)) (faults faults' : ℕ) : Type 0 where
+  pub read : IsReadToEnd left left'
+  pub cause : HasCause faults faults'
+  pub begun : IfSome left (λ bytes. IsReportBegun bytes written written')
+
+-- a run without memory
+pub record StopsForMemory (written written' : Option (List ℕ)) : Type 0 where
+  pub nothing_written : written' ≡ written
+
+-- What a status says of a run for a command that ended without an answer.
+abbrev pub Stops : Option (List ℕ) → Option (List ℕ) → ℕ → ℕ → Option (List ℕ) → Option (List ℕ) → ℕ → ℕ → Status → Type 0
+Stops left left' source_faults source_faults' written written' sink_faults sink_faults' NotJson = StopsAtJson left left' written written'
+Stops left left' source_faults source_faults' written written' sink_faults sink_faults' (NotAWorld path) =
+    StopsAtWorld path left left' written written'
+Stops left left' source_faults source_faults' written written' sink_faults sink_faults' (BadWorld invalid) =
+    StopsAtCheck invalid left left' written written'
+Stops left left' source_faults source_faults' written written' sink_faults sink_faults' TooLong = StopsAtLength left left' written written'
+Stops left left' source_faults source_faults' written written' sink_faults sink_faults' ReadFault =
+    StopsAtRead source_faults source_faults' written written'
+Stops left left' source_faults source_faults' written written' sink_faults sink_faults' WriteFault =
+    StopsAtWrite left left' written written' sink_faults sink_faults'
+Stops left left' source_faults source_faults' written written' sink_faults sink_faults' NoMemory = StopsForMemory written written'
+Stops left left' source_faults source_faults' written written' sink_faults sink_faults' status = ⊥
+
+-- What a status says of a run, by its words, and by what was left to read, what was written and the counts of faults of both, before and after it.
+abbrev pub Means : List (String Global) → Option (List ℕ) → Option (List ℕ) → ℕ → ℕ → Option (List ℕ) → Option (List ℕ) → ℕ → ℕ → Status → Type 0
+Means words left left' source_faults source_faults' written written' sink_faults sink_faults' Values = IsAnswered left left' written written' true
+Means words left left' source_faults source_faults' written written' sink_faults sink_faults' Errors = IsAnswered left left' written written' false
+Means words left left' source_faults source_faults' written written' sink_faults sink_faults' BadWords =
+    StopsAtWords words left left' written written'
+Means words left left' source_faults source_faults' written written' sink_faults sink_faults' status =
+    Stops left left' source_faults source_faults' written written' sink_faults sink_faults' status

@@ -38,16 +38,3 @@ line_of TooLong = codes "mirconst: input is longer than 67108864 bytes"
 line_of ReadFault = codes "mirconst: read fault"
 line_of WriteFault = codes "mirconst: write fault"
 line_of NoMemory = codes "mirconst: no memory"
-
--- the run ended without an answer
-abbrev pub IsStop : Status → Type 0
-IsStop Values = ⊥
-IsStop Errors = ⊥
-IsStop BadWords = Unit {0}
-IsStop NotJson = Unit {0}
-IsStop (NotAWorld path) = Unit {0}
-IsStop (BadWorld invalid) = Unit {0}
-IsStop TooLong = Unit {0}
-IsStop ReadFault = Unit {0}
-IsStop WriteFault = Unit {0}
-IsStop NoMemory = Unit {0}

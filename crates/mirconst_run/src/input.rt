@@ -1,11 +1,11 @@
 //! What the input stands for.
 
-ghost use Rattle.std.specs.Prelude.{◌≡◌, ◌++◌, codes, decimal, IfOk, IfErr, OnOk, IsUtf8, position};
+ghost use Rattle.std.specs.Prelude.{◌≡◌, IfOk, IfErr, OnOk, IsUtf8, position};
 ghost use Rattle.serde_json.specs.Read.{read};
 ghost use Rattle.serde_json.specs.View.{view};
 ghost use Rattle.mirconst_run.specs.Answers.{is_misfit};
-ghost use Rattle.mirconst_run.specs.Input.{StandsFor};
-ghost use Rattle.mirconst_run.specs.Statuses.{IsStop};
+ghost use Rattle.mirconst_run.specs.Input.{StandsFor, goal_path};
+ghost use Rattle.mirconst_run.specs.Refusals.{IsOfInput, IsOfTree, IsOfCheck, IsOfFault, IsOfGoal};
 ghost use Rattle.world_check.specs.Rows.{first_failure};
 ghost use Rattle.world_json.specs.Input.{world_of};
 
@@ -17,10 +17,11 @@ use world_check::{CheckFault, CheckedWorld};
 use world_json::{Goal, NotAWorld, read_world};
 
 /// The tree that bytes are in JSON.
+#[tactic(auto, using(crate::proofs::Refusing::no_json))]
 fn tree(alloc: Global, bytes: &[u8]) -> Result<Value, Status>
     ensures utf8 { OnOk result (IsUtf8 bytes.now) }
     ensures json { IfOk result (λ tree. read bytes.now ≡ Some (view tree)) }
-    ensures stops { IfErr result (λ status. IsStop status) }
+    ensures refused { IfErr result (λ status. IsOfInput bytes.now status) }
 {
     match Value::from_slice(alloc, bytes) {
         Ok(tree) => Ok(tree),
@@ -37,7 +38,7 @@ fn tree(alloc: Global, bytes: &[u8]) -> Result<Value, Status>
 /// The world and the goals that a tree stands for.
 fn world_and_goals(alloc: Global, tree: &Value) -> Result<(HirDatabase, List<Goal>), Status>
     ensures stands { IfOk result (λ input. world_of (view tree.now) ≡ Ok input) }
-    ensures stops { IfErr result (λ status. IsStop status) }
+    ensures refused { IfErr result (λ status. IsOfTree (view tree.now) status) }
 {
     match read_world(alloc, tree) {
         Ok(input) => Ok(input),
@@ -50,7 +51,7 @@ fn world_and_goals(alloc: Global, tree: &Value) -> Result<(HirDatabase, List<Goa
 fn checked(alloc: Global, db: HirDatabase) -> Result<CheckedWorld, Status>
     ensures same { IfOk result (λ world. world ≡ db) }
     ensures passes { OnOk result (first_failure db ≡ None) }
-    ensures stops { IfErr result (λ status. IsStop status) }
+    ensures refused { IfErr result (λ status. IsOfCheck db status) }
 {
     match CheckedWorld::new(alloc, db) {
         Ok(world) => Ok(world),
@@ -60,7 +61,7 @@ fn checked(alloc: Global, db: HirDatabase) -> Result<CheckedWorld, Status>
 
 /// The status of a world that fails the check.
 fn refused(fault: CheckFault) -> Status
-    ensures { IsStop result }
+    ensures { IsOfFault fault result }
 {
     match fault {
         CheckFault::InvalidWorld(invalid) => Status::BadWorld(invalid),
@@ -94,7 +95,7 @@ pub fn goals_fit(world: &CheckedWorld, goals: &List<Goal>) -> Option<u64>
 
 /// The status of a goal that doesn't fit.
 fn misfit(alloc: Global, i: u64) -> Status
-    ensures { IsStop result }
+    ensures { IsOfGoal i result }
 {
     match misfit_path(alloc, i) {
         Ok(path) => Status::NotAWorld(path),
@@ -104,7 +105,7 @@ fn misfit(alloc: Global, i: u64) -> Status
 
 /// The path of a goal.
 fn misfit_path(alloc: Global, i: u64) -> Result<Text, NoMemory>
-    ensures { IfOk result (λ path. path ≡ codes "goals[" ++ (decimal i ++ codes "]")) }
+    ensures { IfOk result (λ path. path ≡ goal_path i) }
 {
     let path = format!(in alloc; "goals[{i}]")?;
     Text::from_str(alloc, path.as_str())
@@ -112,10 +113,10 @@ fn misfit_path(alloc: Global, i: u64) -> Result<Text, NoMemory>
 
 /// The world and the goals that bytes stand for, once the world has passed the check and the goals are
 /// in it.
-#[tactic(auto, using(crate::proofs::Running::stands_for))]
+#[tactic(auto, using(crate::proofs::Running::stands_for, crate::proofs::Refusing::tree_refused, crate::proofs::Refusing::check_refused, crate::proofs::Refusing::goal_refused))]
 pub(crate) fn input(alloc: Global, bytes: &[u8]) -> Result<(CheckedWorld, List<Goal>), Status>
     ensures stands { IfOk result (λ input. StandsFor bytes.now input.0 input.1) }
-    ensures stops { IfErr result (λ status. IsStop status) }
+    ensures refused { IfErr result (λ status. IsOfInput bytes.now status) }
 {
     let tree = tree(alloc, bytes)?;
     let (db, goals) = world_and_goals(alloc, &tree)?;

@@ -2,7 +2,7 @@
 
 ghost use Rattle.std.specs.Prelude.{◌≡◌, ◌+◌, ◌<◌, ◌≤◌, [], Some, length, IfOk, IfErr, IfSome, OnOk};
 ghost use Rattle.mirconst_run.specs.Input.{Moves};
-ghost use Rattle.mirconst_run.specs.Statuses.{IsStop};
+ghost use Rattle.mirconst_run.specs.Refusals.{IsOfRead, IsOfReading};
 
 use crate::Status;
 use std::alloc::{AllocError, Global};
@@ -29,7 +29,8 @@ fn read_piece<S: Source>(src: &mut S, room: &mut [u8], bytes: &mut Vec<u8>) -> R
     ensures grows { IfOk result (λ n. length bytes.new.items ≡ length bytes.old.items + n) }
     ensures fits { IfOk result (λ n. n ≤ length room.old) }
     ensures end { IfOk result (λ n. n ≡ 0 → IfSome (S.left src.new) (λ rest. rest ≡ [])) }
-    ensures stops { IfErr result (λ status. IsStop status) }
+    ensures rising { S.faults src.old ≤ S.faults src.new }
+    ensures refused { IfErr result (λ status. IsOfRead (S.faults src.old) (S.faults src.new) status) }
 {
     let n = match src.read(room) {
         Ok(n) => n,
@@ -42,11 +43,11 @@ fn read_piece<S: Source>(src: &mut S, room: &mut [u8], bytes: &mut Vec<u8>) -> R
 }
 
 /// Reads the input to its end, in pieces, and never past the first byte that is too many.
-#[tactic(auto, using(crate::proofs::Moving::all_moved, crate::proofs::Moving::none_left))]
+#[tactic(auto, using(crate::proofs::Moving::all_moved, crate::proofs::Moving::none_left, crate::proofs::Moving::too_long, crate::proofs::Refusing::read_refused))]
 pub(crate) fn read_input<S: Source>(alloc: Global, src: &mut S) -> Result<Vec<u8>, Status>
     ensures all { IfOk result (λ bytes. IfSome (S.left src.old) (λ all. all ≡ bytes.items)) }
     ensures end { IfOk result (λ bytes. IfSome (S.left src.old) (λ all. S.left src.new ≡ Some [])) }
-    ensures stops { IfErr result (λ status. IsStop status) }
+    ensures refused { IfErr result (λ status. IsOfReading (S.left src.old) (S.left src.new) (S.faults src.old) (S.faults src.new) status) }
 {
     let mut bytes = Vec::new(alloc);
     let Ok(mut room) = piece(alloc) else {

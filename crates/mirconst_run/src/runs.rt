@@ -1,8 +1,9 @@
 //! A whole run.
 
-ghost use Rattle.std.specs.Prelude.{IfOk, IfErr};
-ghost use Rattle.mirconst_run.specs.Runs.{IsReportOf, IsAnswered, Means};
-ghost use Rattle.mirconst_run.specs.Statuses.{IsStop};
+ghost use Rattle.std.specs.Prelude.{◌≡◌, false, IfOk, IfErr};
+ghost use Rattle.mirconst_run.specs.Refusals.{IsOfInput};
+ghost use Rattle.mirconst_run.specs.Runs.{IsReportOf, IsAnswered, Stops, Means};
+ghost use Rattle.mirconst_run.specs.Words.{is_command};
 
 use crate::answers::{all_have_values, answers};
 use crate::input::input;
@@ -25,7 +26,7 @@ struct Output {
 #[tactic(auto, using(crate::proofs::Running::reports))]
 fn answered(alloc: Global, bytes: &[u8]) -> Result<Output, Status>
     ensures reports { IfOk result (λ output. IsReportOf bytes.now output.text output.all) }
-    ensures stops { IfErr result (λ status. IsStop status) }
+    ensures refused { IfErr result (λ status. IsOfInput bytes.now status) }
 {
     let (world, goals) = input(alloc, bytes)?;
     let Ok(outcomes) = answers(alloc, &world, &goals) else {
@@ -39,10 +40,10 @@ fn answered(alloc: Global, bytes: &[u8]) -> Result<Output, Status>
 }
 
 /// Reads the input, and writes the report of its goals; whether each has a value.
-#[tactic(auto, using(crate::proofs::Running::answered))]
+#[tactic(auto, using(crate::proofs::Running::answered, crate::proofs::Stopping::unread, crate::proofs::Stopping::refused, crate::proofs::Stopping::unwritten))]
 fn answer_input<S: Source, K: Sink>(alloc: Global, src: &mut S, out: &mut K) -> Result<bool, Status>
     ensures answers { IfOk result (λ all. IsAnswered (S.left src.old) (S.left src.new) (K.written out.old) (K.written out.new) all) }
-    ensures stops { IfErr result (λ status. IsStop status) }
+    ensures stops { IfErr result (λ status. Stops (S.left src.old) (S.left src.new) (S.faults src.old) (S.faults src.new) (K.written out.old) (K.written out.new) (K.faults out.old) (K.faults out.new) status) }
 {
     let bytes = read_input(alloc, src)?;
     let answered = answered(alloc, bytes.as_slice())?;
@@ -54,14 +55,15 @@ fn answer_input<S: Source, K: Sink>(alloc: Global, src: &mut S, out: &mut K) -> 
 
 /// Runs the program: reads the world and its goals, evaluates the goals in order, and writes the report.
 /// The words are none, or `eval` alone.
-#[tactic(auto, using(crate::proofs::Running::stop_means))]
+#[tactic(auto, using(crate::proofs::Stopping::stop_means))]
 pub fn run<S: Source, K: Sink>(
     alloc: Global,
     words: &Vec<String>,
     src: &mut S,
     out: &mut K,
 ) -> Status
-    ensures { Means (S.left src.old) (S.left src.new) (K.written out.old) (K.written out.new) result }
+    ensures means { Means words.now.items (S.left src.old) (S.left src.new) (S.faults src.old) (S.faults src.new) (K.written out.old) (K.written out.new) (K.faults out.old) (K.faults out.new) result }
+    ensures words { is_command words.now.items ≡ false → result ≡ Status.BadWords }
 {
     if !is_command(words) {
         return Status::BadWords;

@@ -1,28 +1,21 @@
 //! Writing the whole report.
 
-ghost use Rattle.std.specs.Prelude.{◌≡◌, ◌++◌, ◌<◌, length, option_map, IfOk, OnOk};
+ghost use Rattle.std.specs.Prelude.{◌≡◌, ◌++◌, option_map, OnOk, OnErr};
+ghost use Rattle.mirconst_run.specs.Runs.{IsBegun};
+ghost use Rattle.streams.specs.Faults.{HasCause};
 
 use streams::{Failed, Sink};
 
-/// Writes some bytes of the front; what is left to write.
-#[tactic(auto, using(crate::proofs::Moving::piece_written))]
-fn write_piece<'a, K: Sink>(out: &mut K, bytes: &'a [u8]) -> Result<&'a [u8], Failed>
-    requires { 0 < length bytes.now }
-    ensures writes { IfOk result (λ rest. option_map (λ before. before ++ rest.now) (K.written out.new) ≡ option_map (λ before. before ++ bytes.now) (K.written out.old)) }
-    ensures shorter { IfOk result (λ rest. length rest.now < length bytes.now) }
-{
-    let n = out.write(bytes)?;
-    Ok(&bytes[n..])
-}
-
-/// Writes all the bytes.
-#[tactic(auto, using(crate::proofs::Moving::nothing_more))]
+/// Writes all the bytes, piece by piece.
+#[tactic(auto, using(crate::proofs::Moving::more_written, crate::proofs::Moving::all_written))]
 pub(crate) fn write_whole<K: Sink>(out: &mut K, bytes: &[u8]) -> Result<(), Failed>
-    ensures { OnOk result (K.written out.new ≡ option_map (λ before. before ++ bytes.now) (K.written out.old)) }
+    ensures written { OnOk result (K.written out.new ≡ option_map (λ before. before ++ bytes.now) (K.written out.old)) }
+    ensures begun { OnErr result (IsBegun bytes.now (K.written out.old) (K.written out.new)) }
+    ensures cause { OnErr result (HasCause (K.faults out.old) (K.faults out.new)) }
 {
-    let mut rest = bytes;
-    while !rest.is_empty() {
-        rest = write_piece(out, rest)?;
+    let mut done = 0;
+    while done < bytes.len() {
+        done += out.write(&bytes[done..])?;
     }
     Ok(())
 }
