@@ -2,8 +2,8 @@
 use Rattle.std.proofs.Common.{◌≡◌, ℕ, ◌+◌, ◌<◌, ◌≤◌, List, [], ◌++◌, Option, None, Some, length, take, drop, option_map, IfSome, refl, sym, ap, subst, ◌∙◌, append_assoc, length-append, length-drop, arith}
 use Rattle.std.proofs.Math.Seq.{take-add}
 use Rattle.std.proofs.lemmas.List.{take-append-drop, append-nil, drop_at, take_all}
-use Rattle.mirconst_run.specs.Input.{Moves}
-use Rattle.mirconst_run.specs.Refusals.{IsTooLong, most_bytes}
+use Rattle.mirconst_run.specs.Input.{Moves, most_bytes, IsReadToEnd}
+use Rattle.mirconst_run.specs.Refusals.{IsTooLong}
 
 -- the first bytes of what was left were taken
 pub piece_moves : (taken taken' part : List ℕ) (left left' : Option (List ℕ)) (n : ℕ) →
@@ -28,10 +28,13 @@ all_moved bytes (Some all) (Some rest) moves none =
     same ∙ (rw none (append-nil bytes))
 
 pub none_left : (bytes : List ℕ) (left left' : Option (List ℕ)) → Moves [] left bytes left' → IfSome left' (λ rest. rest ≡ []) →
-    IfSome left (λ all. left' ≡ Some [])
-none_left bytes None left' moves none = tt
-none_left bytes (Some all) None moves none = absurd cc
-none_left bytes (Some all) (Some rest) moves none = rw none refl
+    length bytes ≤ most_bytes → IsReadToEnd left left'
+none_left bytes None left' moves none few = tt
+none_left bytes (Some all) None moves none few = absurd cc
+none_left bytes (Some all) (Some rest) moves none few =
+    let same : all ≡ bytes ++ rest = cc in
+    let whole : all ≡ bytes = same ∙ (rw none (append-nil bytes)) in
+    (rw none refl, subst (λ (taken : List ℕ). length taken ≤ most_bytes) (sym whole) few)
 
 -- one byte more than may be was taken, and the input has it
 pub too_long : (bytes : List ℕ) (left left' : Option (List ℕ)) → Moves [] left bytes left' → most_bytes < length bytes → length bytes ≤ 67108865 →

@@ -3,7 +3,8 @@ use Rattle.std.proofs.Common.{◌≡◌, ℕ, Bool, List, Option, None, Some, St
 use Rattle.std.specs.declared.alloc.Global.{Global}
 use Rattle.streams.specs.Faults.{HasCause}
 use Rattle.mirconst_run.specs.Refusals.{IsOfReading, IsOfInput}
-use Rattle.mirconst_run.specs.Runs.{IsBegun, IsReportOf, IsReportBegun, IsReadToEnd, Stops, Means}
+use Rattle.mirconst_run.specs.Input.{IsReadToEnd}
+use Rattle.mirconst_run.specs.Runs.{IsBegun, IsReportOf, IsReportBegun, Stops, Means}
 use Rattle.mirconst_run.specs.declared.status.Status.{Status}
 use Rattle.mirconst_run.specs.declared.status.Status.TheVariants.{Values, Errors, BadWords, NotJson, NotAWorld, BadWorld, TooLong, ReadFault, WriteFault, NoMemory}
 

@@ -1,5 +1,5 @@
 -- What the input stands for, and what is wrong with one that stands for nothing.
-use Rattle.std.specs.Prelude.{◌≡◌, ℕ, List, ◌++◌, Option, None, Some, Ok, Err, IsUtf8, codes, decimal, option_map, position}
+use Rattle.std.specs.Prelude.{◌≡◌, ℕ, ◌≤◌, List, [], ◌++◌, length, Option, None, Some, Ok, Err, IsUtf8, IfSome, codes, decimal, option_map, position}
 use Rattle.serde_json.specs.Data.{Data}
 use Rattle.serde_json.specs.Read.{read}
 use Rattle.world.specs.declared.database.HirDatabase.{HirDatabase}
@@ -12,6 +12,14 @@ use Rattle.mirconst_run.specs.Answers.{is_misfit}
 -- Bytes went over from what is left to what was taken: both in a row are the same as before.
 abbrev pub Moves : List ℕ → Option (List ℕ) → List ℕ → Option (List ℕ) → Type 0
 Moves taken left taken' left' = option_map (λ rest. taken ++ rest) left ≡ option_map (λ rest. taken' ++ rest) left'
+
+-- how many bytes the input may have
+abbrev pub most_bytes : ℕ
+most_bytes = 67108864
+
+-- where the source tells its bytes, they were read to the end, and are no more than may be
+abbrev pub IsReadToEnd : Option (List ℕ) → Option (List ℕ) → Type 0
+IsReadToEnd left left' = IfSome left (λ bytes. (left' ≡ Some []) × (length bytes ≤ most_bytes))
 
 -- bytes are JSON that stands for a world and goals; the world passes the check, and the goals are in it
 pub record StandsFor (bytes : List ℕ) (world : HirDatabase) (goals : List Goal) : Type 0 where

@@ -9,17 +9,13 @@ use Rattle.world_check.specs.declared.fault.CheckFault.TheVariants as check
 use Rattle.world_json.specs.Input.{world_of}
 use Rattle.mirconst_run.specs.declared.status.Status.{Status}
 use Rattle.mirconst_run.specs.declared.status.Status.TheVariants.{NotJson, NotAWorld, BadWorld, TooLong, ReadFault, NoMemory}
-use Rattle.mirconst_run.specs.Input.{IsNoJson, HasMisfit, HasMisfitGoal, HasFailure, goal_path}
+use Rattle.mirconst_run.specs.Input.{most_bytes, IsNoJson, HasMisfit, HasMisfitGoal, HasFailure, goal_path}
 
 -- a read failed, by the count of faults before and after it
 abbrev pub IsOfRead : ℕ → ℕ → Status → Type 0
 IsOfRead faults faults' ReadFault = HasCause faults faults'
 IsOfRead faults faults' NoMemory = Unit {0}
 IsOfRead faults faults' status = ⊥
-
--- how many bytes the input may have
-abbrev pub most_bytes : ℕ
-most_bytes = 67108864
 
 -- the input has more bytes than it may have, and just one more was taken
 pub record IsTooLong (left left' : Option (List ℕ)) : Type 0 where

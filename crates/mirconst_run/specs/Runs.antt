@@ -1,5 +1,5 @@
 -- What a run has read and written.
-use Rattle.std.specs.Prelude.{◌≡◌, ℕ, ◌<◌, Bool, true, false, List, [], ◌++◌, length, take, drop, String, Option, Some, ◌⊎◌, option_map, IfSome}
+use Rattle.std.specs.Prelude.{◌≡◌, ℕ, ◌<◌, Bool, true, false, List, ◌++◌, length, take, drop, String, Option, ◌⊎◌, option_map, IfSome}
 use Rattle.std.specs.List.{list_all}
 use Rattle.std.specs.declared.alloc.Global.{Global}
 use Rattle.consteval.specs.Kept.{Kept}
@@ -11,8 +11,7 @@ use Rattle.world_json.specs.declared.goal.Goal.{Goal}
 use Rattle.mirconst_run.specs.declared.status.Status.{Status}
 use Rattle.mirconst_run.specs.declared.status.Status.TheVariants.{Values, Errors, BadWords, NotJson, NotAWorld, BadWorld, TooLong, ReadFault, WriteFault, NoMemory}
 use Rattle.mirconst_run.specs.Answers.{AreAnswers, has_value, nothing_kept}
-use Rattle.mirconst_run.specs.Input.{StandsFor, IsNoJson, HasMisfit, HasMisfitGoal, HasFailure}
-use Rattle.mirconst_run.specs.Refusals.{most_bytes}
+use Rattle.mirconst_run.specs.Input.{most_bytes, IsReadToEnd, StandsFor, IsNoJson, HasMisfit, HasMisfitGoal, HasFailure}
 use Rattle.mirconst_run.specs.Report.{report_text}
 use Rattle.mirconst_run.specs.Words.{is_command}
 
@@ -37,10 +36,10 @@ pub record IsReported (bytes : List ℕ) (all : Bool) (written written' : Option
   pub is_report : IsReportOf bytes text all
   pub appended : written' ≡ option_map (λ before. before ++ text) written
 
--- a run that was answered: where the source tells its bytes, they were read to the end, and the report was written
-abbrev pub IsAnswered : Option (List ℕ) → Option (List ℕ) → Option (List ℕ) → Option (List ℕ) → Bool → Type 0
-IsAnswered left left' written written' all =
-    IfSome left (λ bytes. (left' ≡ Some []) × IsReported bytes all written written')
+-- a run that was answered: where the source tells its bytes, they were read to the end, and their report was written
+pub record IsAnswered (left left' written written' : Option (List ℕ)) (all : Bool) : Type 0 where
+  pub read : IsReadToEnd left left'
+  pub reported : IfSome left (λ bytes. IsReported bytes all written written')
 
 -- a text was written in part: some bytes of its front, after what was there before
 pub record IsBegun (text : List ℕ) (written written' : Option (List ℕ)) : Type 0 where
@@ -53,10 +52,6 @@ pub record IsReportBegun (bytes : List ℕ) (written written' : Option (List ℕ
   pub all : Bool
   pub is_report : IsReportOf bytes text all
   pub begun : IsBegun text written written'
-
--- where the source tells its bytes, they were read to the end
-abbrev pub IsReadToEnd : Option (List ℕ) → Option (List ℕ) → Type 0
-IsReadToEnd left left' = IfSome left (λ bytes. left' ≡ Some [])
 
 -- a run whose words are no command
 pub record StopsAtWords (words : List (String Global)) (left left' written written' : Option (List ℕ)) : Type 0 where

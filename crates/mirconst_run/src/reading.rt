@@ -1,7 +1,7 @@
 //! Reading the whole input.
 
 ghost use Rattle.std.specs.Prelude.{◌≡◌, ◌+◌, ◌<◌, ◌≤◌, [], Some, length, IfOk, IfErr, IfSome, OnOk};
-ghost use Rattle.mirconst_run.specs.Input.{Moves};
+ghost use Rattle.mirconst_run.specs.Input.{Moves, IsReadToEnd};
 ghost use Rattle.mirconst_run.specs.Refusals.{IsOfRead, IsOfReading};
 
 use crate::Status;
@@ -46,7 +46,7 @@ fn read_piece<S: Source>(src: &mut S, room: &mut [u8], bytes: &mut Vec<u8>) -> R
 #[tactic(auto, using(crate::proofs::Moving::all_moved, crate::proofs::Moving::none_left, crate::proofs::Moving::too_long, crate::proofs::Refusing::read_refused))]
 pub(crate) fn read_input<S: Source>(alloc: Global, src: &mut S) -> Result<Vec<u8>, Status>
     ensures all { IfOk result (λ bytes. IfSome (S.left src.old) (λ all. all ≡ bytes.items)) }
-    ensures end { IfOk result (λ bytes. IfSome (S.left src.old) (λ all. S.left src.new ≡ Some [])) }
+    ensures end { IfOk result (λ bytes. IsReadToEnd (S.left src.old) (S.left src.new)) }
     ensures refused { IfErr result (λ status. IsOfReading (S.left src.old) (S.left src.new) (S.faults src.old) (S.faults src.new) status) }
 {
     let mut bytes = Vec::new(alloc);
