@@ -51,11 +51,6 @@ too_long bytes (Some all) (Some rest) moves more most =
       taken = ap Some (sym (ap (drop 67108865) same ∙ drop_at bytes rest 67108865 long));
     }
 
--- nothing is written before the first piece
-pub none_written : (written : Option (List ℕ)) (bytes : List ℕ) → written ≡ option_map (λ before. before ++ take 0 bytes) written
-none_written None bytes = refl
-none_written (Some before) bytes = ap Some (sym (append-nil before))
-
 -- after the first bytes, some more were written
 pub more_written : (first written written' : Option (List ℕ)) (bytes part : List ℕ) (n k : ℕ) → part ≡ drop n bytes →
     written ≡ option_map (λ before. before ++ take n bytes) first → written' ≡ option_map (λ before. before ++ take k part) written →
