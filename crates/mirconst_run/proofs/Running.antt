@@ -1,5 +1,5 @@
 -- A run, from its parts.
-use Rattle.std.proofs.Common.{◌≡◌, ℕ, Bool, List, ◌++◌, Option, None, Some, option_map, IfSome, sym, subst, Ok}
+use Rattle.std.proofs.Common.{◌≡◌, ℕ, Bool, List, ◌++◌, Option, None, Some, option_map, sym, subst, Ok}
 use Rattle.std.specs.List.{list_all}
 use Rattle.std.specs.Prelude.{IsUtf8, position}
 use Rattle.serde_json.specs.Data.{Data}
@@ -16,11 +16,10 @@ use Rattle.mirconst_run.specs.Report.{report_text}
 use Rattle.mirconst_run.specs.Runs.{IsReportOf, IsAnswered}
 
 pub answered : (left left' written written' : Option (List ℕ)) (bytes text : List ℕ) (all : Bool) →
-    IfSome left (λ whole. whole ≡ bytes) → IsReadToEnd left left' → IsReportOf bytes text all →
+    IsReadToEnd left left' bytes → IsReportOf bytes text all →
     written' ≡ option_map (λ before. before ++ text) written → IsAnswered left left' written written' all
-answered None left' written written' bytes text all same end reports appended = record { read = end; reported = tt }
-answered (Some whole) left' written written' bytes text all same end reports appended =
-    record { read = end; reported = record { text = text; is_report = rw same reports; appended = appended } }
+answered left left' written written' bytes text all read reports appended =
+    record { bytes = bytes; read = read; reported = record { text = text; is_report = reports; appended = appended } }
 
 -- what bytes stand for, from what each step found
 pub stands_for : (bytes : List ℕ) (tree : Data) (world db : HirDatabase) (goals : List Goal) → IsUtf8 bytes → read bytes ≡ Some tree →

@@ -1,5 +1,5 @@
 -- What the input stands for, and what is wrong with one that stands for nothing.
-use Rattle.std.specs.Prelude.{◌≡◌, ℕ, ◌≤◌, List, [], ◌++◌, length, Option, None, Some, Ok, Err, IsUtf8, IfSome, codes, decimal, option_map, position}
+use Rattle.std.specs.Prelude.{◌≡◌, ℕ, ◌≤◌, List, [], ◌++◌, length, drop, Option, None, Some, Ok, Err, IsUtf8, IfSome, codes, decimal, option_map, position}
 use Rattle.serde_json.specs.Data.{Data}
 use Rattle.serde_json.specs.Read.{read}
 use Rattle.world.specs.declared.database.HirDatabase.{HirDatabase}
@@ -17,9 +17,21 @@ Moves taken left taken' left' = option_map (λ rest. taken ++ rest) left ≡ opt
 abbrev pub most_bytes : ℕ
 most_bytes = 67108864
 
--- where the source tells its bytes, they were read to the end, and are no more than may be
-abbrev pub IsReadToEnd : Option (List ℕ) → Option (List ℕ) → Type 0
-IsReadToEnd left left' = IfSome left (λ bytes. (left' ≡ Some []) × (length bytes ≤ most_bytes))
+-- These bytes were read to the end of the input. Where the source tells its bytes, they are these, and none is left.
+pub record IsReadToEnd (left left' : Option (List ℕ)) (bytes : List ℕ) : Type 0 where
+  pub told : IfSome left (λ all. all ≡ bytes)
+  pub ended : IfSome left (λ all. left' ≡ Some [])
+  pub few : length bytes ≤ most_bytes
+
+-- some bytes of the front were taken, and no more than so many
+pub record Takes (most : ℕ) (left left' : Option (List ℕ)) : Type 0 where
+  pub count : ℕ
+  pub few : count ≤ most
+  pub taken : left' ≡ option_map (drop count) left
+
+-- never more than one byte too many was taken
+abbrev pub TakesFew : Option (List ℕ) → Option (List ℕ) → Type 0
+TakesFew left left' = Takes 67108865 left left'
 
 -- bytes are JSON that stands for a world and goals; the world passes the check, and the goals are in it
 pub record StandsFor (bytes : List ℕ) (world : HirDatabase) (goals : List Goal) : Type 0 where

@@ -36,10 +36,11 @@ pub record IsReported (bytes : List ℕ) (all : Bool) (written written' : Option
   pub is_report : IsReportOf bytes text all
   pub appended : written' ≡ option_map (λ before. before ++ text) written
 
--- a run that was answered: where the source tells its bytes, they were read to the end, and their report was written
+-- a run that was answered: bytes were read to the end, and their report was written
 pub record IsAnswered (left left' written written' : Option (List ℕ)) (all : Bool) : Type 0 where
-  pub read : IsReadToEnd left left'
-  pub reported : IfSome left (λ bytes. IsReported bytes all written written')
+  pub bytes : List ℕ
+  pub read : IsReadToEnd left left' bytes
+  pub reported : IsReported bytes all written written'
 
 -- a text was written in part: some bytes of its front, after what was there before
 pub record IsBegun (text : List ℕ) (written written' : Option (List ℕ)) : Type 0 where
@@ -61,20 +62,23 @@ pub record StopsAtWords (words : List (String Global)) (left left' written writt
 
 -- a run whose input is no JSON
 pub record StopsAtJson (left left' written written' : Option (List ℕ)) : Type 0 where
-  pub read : IsReadToEnd left left'
-  pub no_json : IfSome left (λ bytes. IsNoJson bytes)
+  pub bytes : List ℕ
+  pub read : IsReadToEnd left left' bytes
+  pub no_json : IsNoJson bytes
   pub nothing_written : written' ≡ written
 
 -- a run whose input is JSON that stands for no world with goals in it, with the path of the first place that doesn't fit
 pub record StopsAtWorld (path : List ℕ) (left left' written written' : Option (List ℕ)) : Type 0 where
-  pub read : IsReadToEnd left left'
-  pub misfit : IfSome left (λ bytes. HasMisfit bytes path ⊎ HasMisfitGoal bytes path)
+  pub bytes : List ℕ
+  pub read : IsReadToEnd left left' bytes
+  pub misfit : HasMisfit bytes path ⊎ HasMisfitGoal bytes path
   pub nothing_written : written' ≡ written
 
 -- a run whose input stands for a world that fails the check
 pub record StopsAtCheck (invalid : InvalidWorld) (left left' written written' : Option (List ℕ)) : Type 0 where
-  pub read : IsReadToEnd left left'
-  pub fails : IfSome left (λ bytes. HasFailure bytes invalid)
+  pub bytes : List ℕ
+  pub read : IsReadToEnd left left' bytes
+  pub fails : HasFailure bytes invalid
   pub nothing_written : written' ≡ written
 
 -- a run whose input is too long: just one byte too many was taken
@@ -90,9 +94,10 @@ pub record StopsAtRead (faults faults' : ℕ) (written written' : Option (List �
 
 -- a run where a write failed
 pub record StopsAtWrite (left left' written written' : Option (List ℕ)) (faults faults' : ℕ) : Type 0 where
-  pub read : IsReadToEnd left left'
+  pub bytes : List ℕ
+  pub read : IsReadToEnd left left' bytes
   pub cause : HasCause faults faults'
-  pub begun : IfSome left (λ bytes. IsReportBegun bytes written written')
+  pub begun : IsReportBegun bytes written written'
 
 -- a run without memory
 pub record StopsForMemory (written written' : Option (List ℕ)) : Type 0 where

@@ -1,7 +1,7 @@
 //! Reading the whole input.
 
 ghost use Rattle.std.specs.Prelude.{◌≡◌, ◌+◌, ◌<◌, ◌≤◌, [], Some, length, IfOk, IfErr, IfSome, OnOk};
-ghost use Rattle.mirconst_run.specs.Input.{Moves, IsReadToEnd};
+ghost use Rattle.mirconst_run.specs.Input.{Moves, IsReadToEnd, Takes, TakesFew};
 ghost use Rattle.mirconst_run.specs.Refusals.{IsOfRead, IsOfReading};
 
 use crate::Status;
@@ -22,13 +22,14 @@ fn piece(alloc: Global) -> Result<Vec<u8>, AllocError>
 }
 
 /// Reads some bytes and adds them at the end; how many they are.
-#[tactic(auto, using(crate::proofs::Moving::piece_moves, crate::proofs::Moving::ends))]
+#[tactic(auto, using(crate::proofs::Moving::piece_moves, crate::proofs::Moving::ends, crate::proofs::Moving::takes_piece, crate::proofs::Moving::takes_none))]
 fn read_piece<S: Source>(src: &mut S, room: &mut [u8], bytes: &mut Vec<u8>) -> Result<usize, Status>
     requires { 0 < length room.old }
     ensures moves { OnOk result (Moves bytes.old.items (S.left src.old) bytes.new.items (S.left src.new)) }
     ensures grows { IfOk result (λ n. length bytes.new.items ≡ length bytes.old.items + n) }
     ensures fits { IfOk result (λ n. n ≤ length room.old) }
     ensures end { IfOk result (λ n. n ≡ 0 → IfSome (S.left src.new) (λ rest. rest ≡ [])) }
+    ensures taken { Takes (length room.old) (S.left src.old) (S.left src.new) }
     ensures rising { S.faults src.old ≤ S.faults src.new }
     ensures refused { IfErr result (λ status. IsOfRead (S.faults src.old) (S.faults src.new) status) }
 {
@@ -43,10 +44,10 @@ fn read_piece<S: Source>(src: &mut S, room: &mut [u8], bytes: &mut Vec<u8>) -> R
 }
 
 /// Reads the input to its end, in pieces, and never past the first byte that is too many.
-#[tactic(auto, using(crate::proofs::Moving::all_moved, crate::proofs::Moving::none_left, crate::proofs::Moving::too_long, crate::proofs::Refusing::read_refused))]
+#[tactic(auto, using(crate::proofs::Moving::read_to_end, crate::proofs::Moving::takes_few, crate::proofs::Moving::takes_more, crate::proofs::Moving::too_long, crate::proofs::Refusing::read_refused))]
 pub(crate) fn read_input<S: Source>(alloc: Global, src: &mut S) -> Result<Vec<u8>, Status>
-    ensures all { IfOk result (λ bytes. IfSome (S.left src.old) (λ all. all ≡ bytes.items)) }
-    ensures end { IfOk result (λ bytes. IsReadToEnd (S.left src.old) (S.left src.new)) }
+    ensures end { IfOk result (λ bytes. IsReadToEnd (S.left src.old) (S.left src.new) bytes.items) }
+    ensures few { TakesFew (S.left src.old) (S.left src.new) }
     ensures refused { IfErr result (λ status. IsOfReading (S.left src.old) (S.left src.new) (S.faults src.old) (S.faults src.new) status) }
 {
     let mut bytes = Vec::new(alloc);

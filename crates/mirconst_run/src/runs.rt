@@ -1,6 +1,7 @@
 //! A whole run.
 
 ghost use Rattle.std.specs.Prelude.{◌≡◌, false, IfOk, IfErr};
+ghost use Rattle.mirconst_run.specs.Input.{TakesFew};
 ghost use Rattle.mirconst_run.specs.Refusals.{IsOfInput};
 ghost use Rattle.mirconst_run.specs.Runs.{IsReportOf, IsAnswered, Stops, Means};
 ghost use Rattle.mirconst_run.specs.Words.{is_command};
@@ -42,6 +43,7 @@ fn answered(alloc: Global, bytes: &[u8]) -> Result<Output, Status>
 /// Reads the input, and writes the report of its goals; whether each has a value.
 #[tactic(auto, using(crate::proofs::Running::answered, crate::proofs::Stopping::unread, crate::proofs::Stopping::refused, crate::proofs::Stopping::unwritten))]
 fn answer_input<S: Source, K: Sink>(alloc: Global, src: &mut S, out: &mut K) -> Result<bool, Status>
+    ensures few { TakesFew (S.left src.old) (S.left src.new) }
     ensures answers { IfOk result (λ all. IsAnswered (S.left src.old) (S.left src.new) (K.written out.old) (K.written out.new) all) }
     ensures stops { IfErr result (λ status. Stops (S.left src.old) (S.left src.new) (S.faults src.old) (S.faults src.new) (K.written out.old) (K.written out.new) (K.faults out.old) (K.faults out.new) status) }
 {
@@ -55,7 +57,7 @@ fn answer_input<S: Source, K: Sink>(alloc: Global, src: &mut S, out: &mut K) -> 
 
 /// Runs the program: reads the world and its goals, evaluates the goals in order, and writes the report.
 /// The words are none, or `eval` alone.
-#[tactic(auto, using(crate::proofs::Stopping::stop_means))]
+#[tactic(auto, using(crate::proofs::Stopping::stop_means, crate::proofs::Moving::takes_none))]
 pub fn run<S: Source, K: Sink>(
     alloc: Global,
     words: &Vec<String>,
@@ -63,6 +65,7 @@ pub fn run<S: Source, K: Sink>(
     out: &mut K,
 ) -> Status
     ensures means { Means words.now.items (S.left src.old) (S.left src.new) (S.faults src.old) (S.faults src.new) (K.written out.old) (K.written out.new) (K.faults out.old) (K.faults out.new) result }
+    ensures few { TakesFew (S.left src.old) (S.left src.new) }
     ensures words { is_command words.now.items ≡ false → result ≡ Status.BadWords }
 {
     if !is_command(words) {
