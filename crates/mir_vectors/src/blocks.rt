@@ -7,247 +7,246 @@
 //! statements that are no paths. The numbers were counted by hand; a comment says what is left.
 
 use crate::integers::{I8_TYPE, I32_TYPE, U8_TYPE, U16_TYPE, USIZE_TYPE};
-use crate::tests::run_cases;
-use crate::worlds::{BOOL, Cases, Nodes, SCALARS, ScalarType, Step, UNIT};
+use crate::tests::assert_report;
+use crate::worlds::{
+    BOOL, Body, Cases, Expr, LAYOUTS, OWN, SCALARS, ScalarType, Source, Step, UNIT,
+};
 use std::alloc::Global;
+use std::process::Abort;
 use std::test::Fail;
-use world::NoMemory;
 
-/// A body.
-#[derive(Clone, Copy)]
-enum Source {
-    /// `!0 & !(!0 >> 1)`
-    HighestBit,
-    /// `1 << 8`
-    NinthBit,
-    /// `{ let x = -128; -x }`, with `-128` as unary minus on a literal.
-    MinusLeast,
-    /// `{ let x = -128; -x }`, with `-128` as a literal.
-    MinusLiteral,
-    /// `{ let a = 3 + 2; let b = a * a; b }`
-    Square,
-    /// `{ let x = 7; let y = x; y }`
-    Renamed,
-    /// `{ let a = 1 < 2; let b = 3 < 2; !b & a }`
-    Compared,
-    /// `{ let x = 1; { let x = 2; x }; x }`
-    InnerName,
-    /// `{ let x = 1; ({ let x = x + 1; x }) + x }`
-    InnerSum,
-    /// `{ let x = 7; x; x }`
-    NameAlone,
-    /// `{ 200 + 100; 7 }`
-    LostPanic,
-    /// `{ { let x = 1; x }; 200 + 100 }`
-    LatePanic,
-    /// `(1 / 0) + (200 + 100)`
-    LeftPanic,
-    /// `{ 1; }`
-    NoTail,
-    /// `{ { 1; }; 2 }`
-    UnitStatement,
-    /// `{ let x = 1; x + { let x = 5; 1 } }`, where both patterns bind the first `x`.
-    OneName,
-}
+const LESS: &str = r#"{"CmpOp":{"Ord":{"ordering":"Less","strict":true}}}"#;
 
-/// The nodes of a body, with these types listed as `Copy`. Literals and names have the type `ty`, where
-/// nothing else is said.
-fn nodes_of(
-    alloc: Global,
-    source: Source,
-    ty: ScalarType,
-    copy_types: &'static str,
-) -> Result<Nodes, NoMemory> {
-    let mut nodes = Nodes::new(alloc, copy_types);
-    match source {
-        Source::HighestBit => highest_bit(&mut nodes, ty)?,
-        Source::NinthBit => ninth_bit(&mut nodes, ty)?,
-        Source::MinusLeast => minus_least(&mut nodes, ty)?,
-        Source::MinusLiteral => minus_literal(&mut nodes, ty)?,
-        Source::Square => square(&mut nodes, ty)?,
-        Source::Renamed => renamed(&mut nodes, ty)?,
-        Source::Compared => compared(&mut nodes, ty)?,
-        Source::InnerName => inner_name(&mut nodes, ty)?,
-        Source::InnerSum => inner_sum(&mut nodes, ty)?,
-        Source::NameAlone => name_alone(&mut nodes, ty)?,
-        Source::LostPanic => lost_panic(&mut nodes, ty)?,
-        Source::LatePanic => late_panic(&mut nodes, ty)?,
-        Source::LeftPanic => left_panic(&mut nodes, ty)?,
-        Source::NoTail => no_tail(&mut nodes, ty)?,
-        Source::UnitStatement => unit_statement(&mut nodes, ty)?,
-        Source::OneName => one_name(&mut nodes, ty)?,
-    };
-    Ok(nodes)
-}
+/// `!0 & !(!0 >> 1)`; the amount of the shift is an `i32`.
+const HIGHEST_BIT: Source = Source {
+    names: &[],
+    patterns: &[],
+    exprs: &[
+        (Expr::Number("0"), OWN),
+        (Expr::Unary("Not", 0), OWN),
+        (Expr::Number("0"), OWN),
+        (Expr::Unary("Not", 2), OWN),
+        (Expr::Number("1"), Some(I32_TYPE)),
+        (Expr::Arithmetic("Shr", 3, 4), OWN),
+        (Expr::Unary("Not", 5), OWN),
+        (Expr::Arithmetic("BitAnd", 1, 6), OWN),
+    ],
+};
 
-/// The amount of the shift is an `i32`.
-fn highest_bit(nodes: &mut Nodes, ty: ScalarType) -> Result<u32, NoMemory> {
-    let zero = nodes.number("0", ty)?;
-    let left = nodes.unary("Not", zero, ty)?;
-    let zero = nodes.number("0", ty)?;
-    let ones = nodes.unary("Not", zero, ty)?;
-    let amount = nodes.number("1", I32_TYPE)?;
-    let shifted = nodes.arithmetic("Shr", ones, amount, ty)?;
-    let right = nodes.unary("Not", shifted, ty)?;
-    nodes.arithmetic("BitAnd", left, right, ty)
-}
+/// `1 << 8`; the amount of the shift is an `i32`.
+const NINTH_BIT: Source = Source {
+    names: &[],
+    patterns: &[],
+    exprs: &[
+        (Expr::Number("1"), OWN),
+        (Expr::Number("8"), Some(I32_TYPE)),
+        (Expr::Arithmetic("Shl", 0, 1), OWN),
+    ],
+};
 
-/// The amount of the shift is an `i32`.
-fn ninth_bit(nodes: &mut Nodes, ty: ScalarType) -> Result<u32, NoMemory> {
-    let one = nodes.number("1", ty)?;
-    let amount = nodes.number("8", I32_TYPE)?;
-    nodes.arithmetic("Shl", one, amount, ty)
-}
+/// `{ let x = -128; -x }`, with `-128` as unary minus on a literal.
+const MINUS_LEAST: Source = Source {
+    names: &[("x", OWN)],
+    patterns: &[(0, OWN)],
+    exprs: &[
+        (Expr::Number("128"), OWN),
+        (Expr::Unary("Neg", 0), OWN),
+        (Expr::Path("x", 0), OWN),
+        (Expr::Unary("Neg", 2), OWN),
+        (Expr::Block(&[Step::Let(0, 1)], Some(3)), OWN),
+    ],
+};
 
-/// `{ let x = INITIALIZER; -x }`
-fn minus_name(nodes: &mut Nodes, initializer: u32, ty: ScalarType) -> Result<u32, NoMemory> {
-    let x = nodes.name("x", ty)?;
-    let named = nodes.path("x", x, ty)?;
-    let tail = nodes.unary("Neg", named, ty)?;
-    nodes.block(&[Step::Let(x, initializer)], Some(tail), ty)
-}
+/// `{ let x = -128; -x }`, with `-128` as a literal.
+const MINUS_LITERAL: Source = Source {
+    names: &[("x", OWN)],
+    patterns: &[(0, OWN)],
+    exprs: &[
+        (Expr::Number("-128"), OWN),
+        (Expr::Path("x", 0), OWN),
+        (Expr::Unary("Neg", 1), OWN),
+        (Expr::Block(&[Step::Let(0, 0)], Some(2)), OWN),
+    ],
+};
 
-fn minus_least(nodes: &mut Nodes, ty: ScalarType) -> Result<u32, NoMemory> {
-    let number = nodes.number("128", ty)?;
-    let least = nodes.unary("Neg", number, ty)?;
-    minus_name(nodes, least, ty)
-}
+/// `{ let a = 3 + 2; let b = a * a; b }`
+const SQUARE: Source = Source {
+    names: &[("a", OWN), ("b", OWN)],
+    patterns: &[(0, OWN), (1, OWN)],
+    exprs: &[
+        (Expr::Number("3"), OWN),
+        (Expr::Number("2"), OWN),
+        (Expr::Arithmetic("Add", 0, 1), OWN),
+        (Expr::Path("a", 0), OWN),
+        (Expr::Path("a", 0), OWN),
+        (Expr::Arithmetic("Mul", 3, 4), OWN),
+        (Expr::Path("b", 1), OWN),
+        (
+            Expr::Block(&[Step::Let(0, 2), Step::Let(1, 5)], Some(6)),
+            OWN,
+        ),
+    ],
+};
 
-fn minus_literal(nodes: &mut Nodes, ty: ScalarType) -> Result<u32, NoMemory> {
-    let least = nodes.number("-128", ty)?;
-    minus_name(nodes, least, ty)
-}
+/// `{ let x = 7; let y = x; y }`
+const RENAMED: Source = Source {
+    names: &[("x", OWN), ("y", OWN)],
+    patterns: &[(0, OWN), (1, OWN)],
+    exprs: &[
+        (Expr::Number("7"), OWN),
+        (Expr::Path("x", 0), OWN),
+        (Expr::Path("y", 1), OWN),
+        (
+            Expr::Block(&[Step::Let(0, 0), Step::Let(1, 1)], Some(2)),
+            OWN,
+        ),
+    ],
+};
 
-fn square(nodes: &mut Nodes, ty: ScalarType) -> Result<u32, NoMemory> {
-    let three = nodes.number("3", ty)?;
-    let two = nodes.number("2", ty)?;
-    let sum = nodes.arithmetic("Add", three, two, ty)?;
-    let a = nodes.name("a", ty)?;
-    let lhs = nodes.path("a", a, ty)?;
-    let rhs = nodes.path("a", a, ty)?;
-    let product = nodes.arithmetic("Mul", lhs, rhs, ty)?;
-    let b = nodes.name("b", ty)?;
-    let tail = nodes.path("b", b, ty)?;
-    nodes.block(&[Step::Let(a, sum), Step::Let(b, product)], Some(tail), ty)
-}
+/// `{ let a = 1 < 2; let b = 3 < 2; !b & a }`; the names are truth values.
+const COMPARED: Source = Source {
+    names: &[("a", Some(BOOL)), ("b", Some(BOOL))],
+    patterns: &[(0, Some(BOOL)), (1, Some(BOOL))],
+    exprs: &[
+        (Expr::Number("1"), OWN),
+        (Expr::Number("2"), OWN),
+        (Expr::Binary(LESS, 0, 1), Some(BOOL)),
+        (Expr::Number("3"), OWN),
+        (Expr::Number("2"), OWN),
+        (Expr::Binary(LESS, 3, 4), Some(BOOL)),
+        (Expr::Path("b", 1), Some(BOOL)),
+        (Expr::Unary("Not", 6), Some(BOOL)),
+        (Expr::Path("a", 0), Some(BOOL)),
+        (Expr::Arithmetic("BitAnd", 7, 8), Some(BOOL)),
+        (
+            Expr::Block(&[Step::Let(0, 2), Step::Let(1, 5)], Some(9)),
+            Some(BOOL),
+        ),
+    ],
+};
 
-fn renamed(nodes: &mut Nodes, ty: ScalarType) -> Result<u32, NoMemory> {
-    let seven = nodes.number("7", ty)?;
-    let x = nodes.name("x", ty)?;
-    let named = nodes.path("x", x, ty)?;
-    let y = nodes.name("y", ty)?;
-    let tail = nodes.path("y", y, ty)?;
-    nodes.block(&[Step::Let(x, seven), Step::Let(y, named)], Some(tail), ty)
-}
+/// `{ let x = 1; { let x = 2; x }; x }`
+const INNER_NAME: Source = Source {
+    names: &[("x", OWN), ("x", OWN)],
+    patterns: &[(0, OWN), (1, OWN)],
+    exprs: &[
+        (Expr::Number("1"), OWN),
+        (Expr::Number("2"), OWN),
+        (Expr::Path("x", 1), OWN),
+        (Expr::Block(&[Step::Let(1, 1)], Some(2)), OWN),
+        (Expr::Path("x", 0), OWN),
+        (Expr::Block(&[Step::Let(0, 0), Step::Expr(3)], Some(4)), OWN),
+    ],
+};
 
-/// The comparisons are of numbers of the type `ty`; the names are truth values.
-fn compared(nodes: &mut Nodes, ty: ScalarType) -> Result<u32, NoMemory> {
-    let less = r#"{"CmpOp":{"Ord":{"ordering":"Less","strict":true}}}"#;
-    let one = nodes.number("1", ty)?;
-    let two = nodes.number("2", ty)?;
-    let first = nodes.binary(less, one, two, BOOL)?;
-    let a = nodes.name("a", BOOL)?;
-    let three = nodes.number("3", ty)?;
-    let two = nodes.number("2", ty)?;
-    let second = nodes.binary(less, three, two, BOOL)?;
-    let b = nodes.name("b", BOOL)?;
-    let named = nodes.path("b", b, BOOL)?;
-    let lhs = nodes.unary("Not", named, BOOL)?;
-    let rhs = nodes.path("a", a, BOOL)?;
-    let tail = nodes.arithmetic("BitAnd", lhs, rhs, BOOL)?;
-    nodes.block(
-        &[Step::Let(a, first), Step::Let(b, second)],
-        Some(tail),
-        BOOL,
-    )
-}
+/// `{ let x = 1; ({ let x = x + 1; x }) + x }`
+const INNER_SUM: Source = Source {
+    names: &[("x", OWN), ("x", OWN)],
+    patterns: &[(0, OWN), (1, OWN)],
+    exprs: &[
+        (Expr::Number("1"), OWN),
+        (Expr::Path("x", 0), OWN),
+        (Expr::Number("1"), OWN),
+        (Expr::Arithmetic("Add", 1, 2), OWN),
+        (Expr::Path("x", 1), OWN),
+        (Expr::Block(&[Step::Let(1, 3)], Some(4)), OWN),
+        (Expr::Path("x", 0), OWN),
+        (Expr::Arithmetic("Add", 5, 6), OWN),
+        (Expr::Block(&[Step::Let(0, 0)], Some(7)), OWN),
+    ],
+};
 
-fn inner_name(nodes: &mut Nodes, ty: ScalarType) -> Result<u32, NoMemory> {
-    let one = nodes.number("1", ty)?;
-    let outer = nodes.name("x", ty)?;
-    let two = nodes.number("2", ty)?;
-    let inner = nodes.name("x", ty)?;
-    let named = nodes.path("x", inner, ty)?;
-    let block = nodes.block(&[Step::Let(inner, two)], Some(named), ty)?;
-    let tail = nodes.path("x", outer, ty)?;
-    nodes.block(&[Step::Let(outer, one), Step::Expr(block)], Some(tail), ty)
-}
+/// `{ let x = 7; x; x }`
+const NAME_ALONE: Source = Source {
+    names: &[("x", OWN)],
+    patterns: &[(0, OWN)],
+    exprs: &[
+        (Expr::Number("7"), OWN),
+        (Expr::Path("x", 0), OWN),
+        (Expr::Path("x", 0), OWN),
+        (Expr::Block(&[Step::Let(0, 0), Step::Expr(1)], Some(2)), OWN),
+    ],
+};
 
-fn inner_sum(nodes: &mut Nodes, ty: ScalarType) -> Result<u32, NoMemory> {
-    let one = nodes.number("1", ty)?;
-    let outer = nodes.name("x", ty)?;
-    let old = nodes.path("x", outer, ty)?;
-    let more = nodes.number("1", ty)?;
-    let sum = nodes.arithmetic("Add", old, more, ty)?;
-    let inner = nodes.name("x", ty)?;
-    let named = nodes.path("x", inner, ty)?;
-    let lhs = nodes.block(&[Step::Let(inner, sum)], Some(named), ty)?;
-    let rhs = nodes.path("x", outer, ty)?;
-    let tail = nodes.arithmetic("Add", lhs, rhs, ty)?;
-    nodes.block(&[Step::Let(outer, one)], Some(tail), ty)
-}
+/// `{ 200 + 100; 7 }`
+const LOST_PANIC: Source = Source {
+    names: &[],
+    patterns: &[],
+    exprs: &[
+        (Expr::Number("200"), OWN),
+        (Expr::Number("100"), OWN),
+        (Expr::Arithmetic("Add", 0, 1), OWN),
+        (Expr::Number("7"), OWN),
+        (Expr::Block(&[Step::Expr(2)], Some(3)), OWN),
+    ],
+};
 
-fn name_alone(nodes: &mut Nodes, ty: ScalarType) -> Result<u32, NoMemory> {
-    let seven = nodes.number("7", ty)?;
-    let x = nodes.name("x", ty)?;
-    let alone = nodes.path("x", x, ty)?;
-    let tail = nodes.path("x", x, ty)?;
-    nodes.block(&[Step::Let(x, seven), Step::Expr(alone)], Some(tail), ty)
-}
+/// `{ { let x = 1; x }; 200 + 100 }`
+const LATE_PANIC: Source = Source {
+    names: &[("x", OWN)],
+    patterns: &[(0, OWN)],
+    exprs: &[
+        (Expr::Number("1"), OWN),
+        (Expr::Path("x", 0), OWN),
+        (Expr::Block(&[Step::Let(0, 0)], Some(1)), OWN),
+        (Expr::Number("200"), OWN),
+        (Expr::Number("100"), OWN),
+        (Expr::Arithmetic("Add", 3, 4), OWN),
+        (Expr::Block(&[Step::Expr(2)], Some(5)), OWN),
+    ],
+};
 
-/// `200 + 100`
-fn large_sum(nodes: &mut Nodes, ty: ScalarType) -> Result<u32, NoMemory> {
-    let lhs = nodes.number("200", ty)?;
-    let rhs = nodes.number("100", ty)?;
-    nodes.arithmetic("Add", lhs, rhs, ty)
-}
+/// `(1 / 0) + (200 + 100)`
+const LEFT_PANIC: Source = Source {
+    names: &[],
+    patterns: &[],
+    exprs: &[
+        (Expr::Number("1"), OWN),
+        (Expr::Number("0"), OWN),
+        (Expr::Arithmetic("Div", 0, 1), OWN),
+        (Expr::Number("200"), OWN),
+        (Expr::Number("100"), OWN),
+        (Expr::Arithmetic("Add", 3, 4), OWN),
+        (Expr::Arithmetic("Add", 2, 5), OWN),
+    ],
+};
 
-fn lost_panic(nodes: &mut Nodes, ty: ScalarType) -> Result<u32, NoMemory> {
-    let sum = large_sum(nodes, ty)?;
-    let tail = nodes.number("7", ty)?;
-    nodes.block(&[Step::Expr(sum)], Some(tail), ty)
-}
+/// `{ 1; }`, where the number is an `i32`.
+const NO_TAIL: Source = Source {
+    names: &[],
+    patterns: &[],
+    exprs: &[
+        (Expr::Number("1"), Some(I32_TYPE)),
+        (Expr::Block(&[Step::Expr(0)], None), OWN),
+    ],
+};
 
-fn late_panic(nodes: &mut Nodes, ty: ScalarType) -> Result<u32, NoMemory> {
-    let one = nodes.number("1", ty)?;
-    let x = nodes.name("x", ty)?;
-    let named = nodes.path("x", x, ty)?;
-    let block = nodes.block(&[Step::Let(x, one)], Some(named), ty)?;
-    let tail = large_sum(nodes, ty)?;
-    nodes.block(&[Step::Expr(block)], Some(tail), ty)
-}
+/// `{ { 1; }; 2 }`, where the first number is an `i32`.
+const UNIT_STATEMENT: Source = Source {
+    names: &[],
+    patterns: &[],
+    exprs: &[
+        (Expr::Number("1"), Some(I32_TYPE)),
+        (Expr::Block(&[Step::Expr(0)], None), Some(UNIT)),
+        (Expr::Number("2"), OWN),
+        (Expr::Block(&[Step::Expr(1)], Some(2)), OWN),
+    ],
+};
 
-fn left_panic(nodes: &mut Nodes, ty: ScalarType) -> Result<u32, NoMemory> {
-    let one = nodes.number("1", ty)?;
-    let zero = nodes.number("0", ty)?;
-    let lhs = nodes.arithmetic("Div", one, zero, ty)?;
-    let rhs = large_sum(nodes, ty)?;
-    nodes.arithmetic("Add", lhs, rhs, ty)
-}
-
-/// The number is an `i32`; the block has the type `ty`.
-fn no_tail(nodes: &mut Nodes, ty: ScalarType) -> Result<u32, NoMemory> {
-    let one = nodes.number("1", I32_TYPE)?;
-    nodes.block(&[Step::Expr(one)], None, ty)
-}
-
-fn unit_statement(nodes: &mut Nodes, ty: ScalarType) -> Result<u32, NoMemory> {
-    let unit = no_tail(nodes, UNIT)?;
-    let tail = nodes.number("2", ty)?;
-    nodes.block(&[Step::Expr(unit)], Some(tail), ty)
-}
-
-fn one_name(nodes: &mut Nodes, ty: ScalarType) -> Result<u32, NoMemory> {
-    let one = nodes.number("1", ty)?;
-    let x = nodes.name("x", ty)?;
-    let lhs = nodes.path("x", x, ty)?;
-    let five = nodes.number("5", ty)?;
-    let again = nodes.pattern(x, ty)?;
-    let value = nodes.number("1", ty)?;
-    let rhs = nodes.block(&[Step::Let(again, five)], Some(value), ty)?;
-    let tail = nodes.arithmetic("Add", lhs, rhs, ty)?;
-    nodes.block(&[Step::Let(x, one)], Some(tail), ty)
-}
+/// `{ let x = 1; x + { let x = 5; 1 } }`, where both patterns bind the first `x`.
+const ONE_NAME: Source = Source {
+    names: &[("x", OWN)],
+    patterns: &[(0, OWN), (0, OWN)],
+    exprs: &[
+        (Expr::Number("1"), OWN),
+        (Expr::Path("x", 0), OWN),
+        (Expr::Number("5"), OWN),
+        (Expr::Number("1"), OWN),
+        (Expr::Block(&[Step::Let(1, 2)], Some(3)), OWN),
+        (Expr::Arithmetic("Add", 1, 4), OWN),
+        (Expr::Block(&[Step::Let(0, 0)], Some(5)), OWN),
+    ],
+};
 
 const ADD_PANICS: &str = r#"error eval InFunction(Panic("Overflow in Add"), [])"#;
 
@@ -255,98 +254,184 @@ const DIV_PANICS: &str = r#"error eval InFunction(Panic("Overflow in Div"), [])"
 
 const SHL_PANICS: &str = r#"error eval InFunction(Panic("Overflow in Shl"), [])"#;
 
-/// A body, its type `ty`, the types that are listed as `Copy`, the answer, and how many blocks are entered.
-type Block = (Source, ScalarType, &'static str, &'static str, u32);
+/// A type, the types that are listed as `Copy`, the answer, and how many blocks are entered.
+type Run = (ScalarType, &'static str, &'static str, u32);
 
-const BLOCKS: [Block; 31] = [
-    (Source::HighestBit, I8_TYPE, SCALARS, "value i8 00", 1),
-    (Source::HighestBit, U8_TYPE, SCALARS, "value u8 80", 1),
-    // each of the four operands that are no literals
-    (Source::HighestBit, U8_TYPE, "", "value u8 80", 5),
-    (Source::NinthBit, I8_TYPE, SCALARS, SHL_PANICS, 1),
-    (Source::NinthBit, U8_TYPE, SCALARS, SHL_PANICS, 1),
-    (Source::NinthBit, U16_TYPE, SCALARS, "value u16 0001", 1),
-    // Rust panics at `-x`: the value is that of `x.wrapping_neg()`
-    (Source::MinusLeast, I8_TYPE, SCALARS, "value i8 80", 1),
-    // the initializer, and `x`
-    (Source::MinusLeast, I8_TYPE, "", "value i8 80", 3),
-    // likewise
-    (Source::MinusLiteral, I8_TYPE, SCALARS, "value i8 80", 1),
+/// A body, and its runs.
+type Block = (Source<'static>, &'static [Run]);
+
+/// Operators on bits and signs.
+static BITS: [Block; 4] = [
     (
-        Source::Square,
-        USIZE_TYPE,
-        SCALARS,
-        "value usize 1900000000000000",
-        1,
+        HIGHEST_BIT,
+        &[
+            (I8_TYPE, SCALARS, "value i8 00", 1),
+            (U8_TYPE, SCALARS, "value u8 80", 1),
+            // each of the four operands that are no literals
+            (U8_TYPE, "", "value u8 80", 5),
+        ],
     ),
-    // the initializers, `a` and `b`
     (
-        Source::Square,
-        USIZE_TYPE,
-        "",
-        "value usize 1900000000000000",
-        5,
+        NINTH_BIT,
+        &[
+            (I8_TYPE, SCALARS, SHL_PANICS, 1),
+            (U8_TYPE, SCALARS, SHL_PANICS, 1),
+            (U16_TYPE, SCALARS, "value u16 0001", 1),
+        ],
     ),
-    (Source::Renamed, U8_TYPE, SCALARS, "value u8 07", 1),
-    // the first initializer, `x` and `y`; the second is a path, and has no local
-    (Source::Renamed, U8_TYPE, "", "value u8 07", 4),
-    (Source::Compared, U8_TYPE, SCALARS, "value bool 01", 1),
-    // the initializers, `a`, `b` and the operand `!b`
-    (Source::Compared, U8_TYPE, "", "value bool 01", 6),
     (
-        Source::InnerName,
-        I32_TYPE,
-        SCALARS,
-        "value i32 01000000",
-        1,
+        MINUS_LEAST,
+        &[
+            // Rust panics at `-x`: the value is that of `x.wrapping_neg()`
+            (I8_TYPE, SCALARS, "value i8 80", 1),
+            // the initializer, and `x`
+            (I8_TYPE, "", "value i8 80", 3),
+        ],
     ),
-    // in the inner block the initializer and `x`; the statement's value; in the outer block the
-    // initializer and `x`
-    (Source::InnerName, I32_TYPE, "", "value i32 01000000", 6),
-    (Source::InnerSum, I32_TYPE, SCALARS, "value i32 03000000", 1),
-    // in the inner block the initializer and `x`; in the outer block the initializer, `x` and the left
-    // operand
-    (Source::InnerSum, I32_TYPE, "", "value i32 03000000", 6),
-    (Source::NameAlone, U8_TYPE, SCALARS, "value u8 07", 1),
-    // the initializer and `x`
-    (Source::NameAlone, U8_TYPE, "", "value u8 07", 3),
-    (Source::LostPanic, U8_TYPE, SCALARS, ADD_PANICS, 1),
     (
-        Source::LostPanic,
-        I32_TYPE,
-        SCALARS,
-        "value i32 07000000",
-        1,
+        MINUS_LITERAL,
+        &[
+            // Rust panics at `-x`: the value is that of `x.wrapping_neg()`
+            (I8_TYPE, SCALARS, "value i8 80", 1),
+        ],
     ),
-    (Source::LatePanic, U8_TYPE, SCALARS, ADD_PANICS, 1),
-    // the initializer, `x` and the statement's value; the panic leaves nothing
-    (Source::LatePanic, U8_TYPE, "", ADD_PANICS, 4),
-    (Source::LeftPanic, U8_TYPE, SCALARS, DIV_PANICS, 1),
-    (Source::NoTail, UNIT, SCALARS, "value () -", 1),
-    // the statement's value, as `()` isn't listed
-    (Source::UnitStatement, U8_TYPE, SCALARS, "value u8 02", 2),
-    // the values of both statements
-    (Source::UnitStatement, U8_TYPE, "", "value u8 02", 3),
-    // Rust has no such body: a block without a tail that has another type than `()`
-    (Source::NoTail, I32_TYPE, SCALARS, "value i32 00000000", 1),
-    // Rust has no such body: the operand `x` is read after the inner block bound it anew
-    (Source::OneName, I32_TYPE, SCALARS, "value i32 06000000", 1),
 ];
 
-fn add_block(cases: &mut Cases, row: Block) -> Result<(), NoMemory> {
-    let (source, ty, copy_types, answer, turns) = row;
-    let nodes = nodes_of(cases.alloc(), source, ty, copy_types)?;
-    cases.add(&nodes, answer, turns)
+/// Names in one block.
+static NAMES: [Block; 4] = [
+    (
+        SQUARE,
+        &[
+            (USIZE_TYPE, SCALARS, "value usize 1900000000000000", 1),
+            // the initializers, `a` and `b`
+            (USIZE_TYPE, "", "value usize 1900000000000000", 5),
+        ],
+    ),
+    (
+        RENAMED,
+        &[
+            (U8_TYPE, SCALARS, "value u8 07", 1),
+            // the first initializer, `x` and `y`; the second is a path, and has no local
+            (U8_TYPE, "", "value u8 07", 4),
+        ],
+    ),
+    (
+        COMPARED,
+        &[
+            (U8_TYPE, SCALARS, "value bool 01", 1),
+            // the initializers, `a`, `b` and the operand `!b`
+            (U8_TYPE, "", "value bool 01", 6),
+        ],
+    ),
+    (
+        NAME_ALONE,
+        &[
+            (U8_TYPE, SCALARS, "value u8 07", 1),
+            // the initializer and `x`
+            (U8_TYPE, "", "value u8 07", 3),
+        ],
+    ),
+];
+
+/// Names in a block that stands in another.
+static INNER_NAMES: [Block; 3] = [
+    (
+        INNER_NAME,
+        &[
+            (I32_TYPE, SCALARS, "value i32 01000000", 1),
+            // in the inner block the initializer and `x`; the statement's value; in the outer block the
+            // initializer and `x`
+            (I32_TYPE, "", "value i32 01000000", 6),
+        ],
+    ),
+    (
+        INNER_SUM,
+        &[
+            (I32_TYPE, SCALARS, "value i32 03000000", 1),
+            // in the inner block the initializer and `x`; in the outer block the initializer, `x` and the
+            // left operand
+            (I32_TYPE, "", "value i32 03000000", 6),
+        ],
+    ),
+    (
+        ONE_NAME,
+        &[
+            // Rust has no such body: the operand `x` is read after the inner block bound it anew
+            (I32_TYPE, SCALARS, "value i32 06000000", 1),
+        ],
+    ),
+];
+
+/// Statements, and which operator panics.
+static STATEMENTS: [Block; 5] = [
+    (
+        LOST_PANIC,
+        &[
+            (U8_TYPE, SCALARS, ADD_PANICS, 1),
+            (I32_TYPE, SCALARS, "value i32 07000000", 1),
+        ],
+    ),
+    (
+        LATE_PANIC,
+        &[
+            (U8_TYPE, SCALARS, ADD_PANICS, 1),
+            // the initializer, `x` and the statement's value; the panic leaves nothing
+            (U8_TYPE, "", ADD_PANICS, 4),
+        ],
+    ),
+    (LEFT_PANIC, &[(U8_TYPE, SCALARS, DIV_PANICS, 1)]),
+    (
+        NO_TAIL,
+        &[
+            (UNIT, SCALARS, "value () -", 1),
+            // Rust has no such body: a block without a tail that has another type than `()`
+            (I32_TYPE, SCALARS, "value i32 00000000", 1),
+        ],
+    ),
+    (
+        UNIT_STATEMENT,
+        &[
+            // the statement's value, as `()` isn't listed
+            (U8_TYPE, SCALARS, "value u8 02", 2),
+            // the values of both statements
+            (U8_TYPE, "", "value u8 02", 3),
+        ],
+    ),
+];
+
+/// Runs over these bodies, and asserts what is written and the exit code.
+fn assert_blocks(rt: &impl Abort, alloc: Global, blocks: &[Block], code: u8) -> Result<(), Fail> {
+    let mut cases = Cases::new(alloc, LAYOUTS);
+    for &(source, runs) in blocks {
+        for &(ty, copy_types, answer, turns) in runs {
+            let body = Body {
+                source,
+                ty,
+                copy_types,
+                erroneous: false,
+            };
+            cases.add(&body, answer, turns)?;
+        }
+    }
+    assert_report(rt, alloc, &cases, code)
 }
 
 #[test]
-fn blocks_and_names(rt: HostRuntime) -> Result<(), Fail> {
-    let mut cases = Cases::new(rt.alloc());
-    for row in BLOCKS {
-        add_block(&mut cases, row)?;
-    }
-    let (code, written) = run_cases(rt.alloc(), &cases)?;
-    assert_eq!(rt; std::str::from_utf8(written.as_slice())?, cases.report());
-    assert_eq!(rt; code, 1);
-    Ok(())
+fn bits(rt: HostRuntime) -> Result<(), Fail> {
+    assert_blocks(&rt, rt.alloc(), &BITS, 1)
+}
+
+#[test]
+fn names(rt: HostRuntime) -> Result<(), Fail> {
+    assert_blocks(&rt, rt.alloc(), &NAMES, 0)
+}
+
+#[test]
+fn inner_names(rt: HostRuntime) -> Result<(), Fail> {
+    assert_blocks(&rt, rt.alloc(), &INNER_NAMES, 0)
+}
+
+#[test]
+fn statements(rt: HostRuntime) -> Result<(), Fail> {
+    assert_blocks(&rt, rt.alloc(), &STATEMENTS, 1)
 }

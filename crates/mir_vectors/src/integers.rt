@@ -77,11 +77,11 @@ impl Integer {
     }
 }
 
-pub(crate) const SIGNED: [Integer; 6] = [I8, I16, I32, I64, I128, ISIZE];
+pub(crate) static SIGNED: [Integer; 6] = [I8, I16, I32, I64, I128, ISIZE];
 
-pub(crate) const UNSIGNED: [Integer; 6] = [U8, U16, U32, U64, U128, USIZE];
+pub(crate) static UNSIGNED: [Integer; 6] = [U8, U16, U32, U64, U128, USIZE];
 
-pub(crate) const ALL: [Integer; 12] = [
+pub(crate) static ALL: [Integer; 12] = [
     I8, I16, I32, I64, I128, ISIZE, U8, U16, U32, U64, U128, USIZE,
 ];
 

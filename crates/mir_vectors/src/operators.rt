@@ -10,11 +10,11 @@ use crate::integers::{
     LEAST, NEXT, Number, ONE, SIGNED, TOP_BIT, U8_TYPE, U16_TYPE, U64_TYPE, U128_TYPE, UNSIGNED,
     USIZE_TYPE, ZERO,
 };
-use crate::tests::run_cases;
-use crate::worlds::{BOOL, Cases, Nodes, SCALARS, ScalarType, Step};
+use crate::tests::assert_report;
+use crate::worlds::{BOOL, Cases, Expr, LAYOUTS, OWN, ScalarType, Step, body_of, nameless};
 use std::alloc::Global;
+use std::process::Abort;
 use std::test::Fail;
-use world::NoMemory;
 
 const AND: &str = r#"{"ArithOp":"BitAnd"}"#;
 
@@ -39,10 +39,18 @@ fn truth_hex(test: bool) -> &'static str {
     if test { "01" } else { "00" }
 }
 
+/// The bytes of a result.
+fn answer_hex(integer: &Integer, answer: Option<Number>) -> Option<&'static str> {
+    match answer {
+        Some(number) => Some(integer.hex(number)),
+        None => None,
+    }
+}
+
 /// A left operand, an operator, a right operand, and the result where the run doesn't panic.
 type Operation = (Number, &'static str, Number, Option<Number>);
 
-const SIGNED_ARITHMETIC: [Operation; 50] = [
+static SIGNED_ARITHMETIC: [Operation; 50] = [
     (LEAST, "Add", LEAST, None),
     (LEAST, "Add", GREATEST, Some(ALL_BITS)),
     (GREATEST, "Add", LEAST, Some(ALL_BITS)),
@@ -95,7 +103,7 @@ const SIGNED_ARITHMETIC: [Operation; 50] = [
     (GREATEST, "BitXor", GREATEST, Some(ZERO)),
 ];
 
-const UNSIGNED_ARITHMETIC: [Operation; 34] = [
+static UNSIGNED_ARITHMETIC: [Operation; 34] = [
     (LEAST, "Add", LEAST, Some(LEAST)),
     (LEAST, "Add", GREATEST, Some(GREATEST)),
     (GREATEST, "Add", LEAST, Some(GREATEST)),
@@ -132,66 +140,33 @@ const UNSIGNED_ARITHMETIC: [Operation; 34] = [
     (GREATEST, "BitXor", GREATEST, Some(LEAST)),
 ];
 
-/// The value or the panic of an operation, whose nodes are given.
-fn add_answer(
-    cases: &mut Cases,
+/// Runs over an operator on two literals of a type, for each row.
+fn assert_arithmetic(
+    rt: &impl Abort,
+    alloc: Global,
     integer: &Integer,
-    nodes: &Nodes,
-    op: &str,
-    answer: Option<Number>,
-) -> Result<(), NoMemory> {
-    match answer {
-        Some(number) => cases.add_value(nodes, integer.hex(number)),
-        None => cases.add_panic(nodes, op),
+    rows: &[Operation],
+) -> Result<(), Fail> {
+    let mut cases = Cases::new(alloc, LAYOUTS);
+    for &(left, op, right, answer) in rows {
+        let exprs = [
+            (Expr::Number(integer.digits(left)), OWN),
+            (Expr::Number(integer.digits(right)), OWN),
+            (Expr::Arithmetic(op, 0, 1), OWN),
+        ];
+        let bytes = answer_hex(integer, answer);
+        cases.add_result(&nameless(integer.ty, &exprs), op, bytes)?;
     }
-}
-
-/// An operator on two literals of a type.
-fn add_operation(cases: &mut Cases, integer: &Integer, row: Operation) -> Result<(), NoMemory> {
-    let (left, op, right, answer) = row;
-    let mut nodes = Nodes::new(cases.alloc(), SCALARS);
-    let lhs = nodes.number(integer.digits(left), integer.ty)?;
-    let rhs = nodes.number(integer.digits(right), integer.ty)?;
-    nodes.arithmetic(op, lhs, rhs, integer.ty)?;
-    add_answer(cases, integer, &nodes, op, answer)
-}
-
-fn operations(alloc: Global, integer: &Integer, rows: &[Operation]) -> Result<Cases, NoMemory> {
-    let mut cases = Cases::new(alloc);
-    for row in rows {
-        add_operation(&mut cases, integer, *row)?;
-    }
-    Ok(cases)
+    assert_report(rt, alloc, &cases, 1)
 }
 
 #[test]
-fn signed_arithmetic(rt: HostRuntime) -> Result<(), Fail> {
-    for integer in SIGNED {
-        let cases = operations(rt.alloc(), &integer, &SIGNED_ARITHMETIC)?;
-        let (code, written) = run_cases(rt.alloc(), &cases)?;
-        let name = integer.ty.name;
-        assert_eq!(rt;
-            std::str::from_utf8(written.as_slice())?,
-            cases.report(),
-            "at {name}"
-        );
-        assert_eq!(rt; code, 1, "at {name}");
+fn arithmetic(rt: HostRuntime) -> Result<(), Fail> {
+    for integer in &SIGNED {
+        assert_arithmetic(&rt, rt.alloc(), integer, &SIGNED_ARITHMETIC)?;
     }
-    Ok(())
-}
-
-#[test]
-fn unsigned_arithmetic(rt: HostRuntime) -> Result<(), Fail> {
-    for integer in UNSIGNED {
-        let cases = operations(rt.alloc(), &integer, &UNSIGNED_ARITHMETIC)?;
-        let (code, written) = run_cases(rt.alloc(), &cases)?;
-        let name = integer.ty.name;
-        assert_eq!(rt;
-            std::str::from_utf8(written.as_slice())?,
-            cases.report(),
-            "at {name}"
-        );
-        assert_eq!(rt; code, 1, "at {name}");
+    for integer in &UNSIGNED {
+        assert_arithmetic(&rt, rt.alloc(), integer, &UNSIGNED_ARITHMETIC)?;
     }
     Ok(())
 }
@@ -210,7 +185,7 @@ enum Amount {
 /// A left operand, a shift, its amount, and the result where the run doesn't panic.
 type Shift = (Number, &'static str, Amount, Option<Number>);
 
-const SIGNED_SHIFTS: [Shift; 18] = [
+static SIGNED_SHIFTS: [Shift; 18] = [
     (LEAST, "Shl", Amount::Zero, Some(LEAST)),
     (LEAST, "Shl", Amount::Last, Some(ZERO)),
     (LEAST, "Shl", Amount::Bits, None),
@@ -231,7 +206,7 @@ const SIGNED_SHIFTS: [Shift; 18] = [
     (ALL_BITS, "Shr", Amount::Last, Some(ALL_BITS)),
 ];
 
-const UNSIGNED_SHIFTS: [Shift; 18] = [
+static UNSIGNED_SHIFTS: [Shift; 18] = [
     (LEAST, "Shl", Amount::Zero, Some(LEAST)),
     (LEAST, "Shl", Amount::Last, Some(LEAST)),
     (LEAST, "Shl", Amount::Bits, None),
@@ -262,52 +237,33 @@ fn amount_digits(integer: &Integer, amount: Amount) -> &'static str {
     }
 }
 
-/// A shift of a literal of a type by a literal of the type `i32`.
-fn add_shift(cases: &mut Cases, integer: &Integer, row: Shift) -> Result<(), NoMemory> {
-    let (left, op, amount, answer) = row;
-    let mut nodes = Nodes::new(cases.alloc(), SCALARS);
-    let lhs = nodes.number(integer.digits(left), integer.ty)?;
-    let rhs = nodes.number(amount_digits(integer, amount), I32_TYPE)?;
-    nodes.arithmetic(op, lhs, rhs, integer.ty)?;
-    add_answer(cases, integer, &nodes, op, answer)
-}
-
-fn shifts(alloc: Global, integer: &Integer, rows: &[Shift]) -> Result<Cases, NoMemory> {
-    let mut cases = Cases::new(alloc);
-    for row in rows {
-        add_shift(&mut cases, integer, *row)?;
+/// Runs over a shift of a literal of a type by a literal of the type `i32`, for each row.
+fn assert_shifts(
+    rt: &impl Abort,
+    alloc: Global,
+    integer: &Integer,
+    rows: &[Shift],
+) -> Result<(), Fail> {
+    let mut cases = Cases::new(alloc, LAYOUTS);
+    for &(left, op, amount, answer) in rows {
+        let exprs = [
+            (Expr::Number(integer.digits(left)), OWN),
+            (Expr::Number(amount_digits(integer, amount)), Some(I32_TYPE)),
+            (Expr::Arithmetic(op, 0, 1), OWN),
+        ];
+        let bytes = answer_hex(integer, answer);
+        cases.add_result(&nameless(integer.ty, &exprs), op, bytes)?;
     }
-    Ok(cases)
+    assert_report(rt, alloc, &cases, 1)
 }
 
 #[test]
-fn signed_shifts(rt: HostRuntime) -> Result<(), Fail> {
-    for integer in SIGNED {
-        let cases = shifts(rt.alloc(), &integer, &SIGNED_SHIFTS)?;
-        let (code, written) = run_cases(rt.alloc(), &cases)?;
-        let name = integer.ty.name;
-        assert_eq!(rt;
-            std::str::from_utf8(written.as_slice())?,
-            cases.report(),
-            "at {name}"
-        );
-        assert_eq!(rt; code, 1, "at {name}");
+fn shifts(rt: HostRuntime) -> Result<(), Fail> {
+    for integer in &SIGNED {
+        assert_shifts(&rt, rt.alloc(), integer, &SIGNED_SHIFTS)?;
     }
-    Ok(())
-}
-
-#[test]
-fn unsigned_shifts(rt: HostRuntime) -> Result<(), Fail> {
-    for integer in UNSIGNED {
-        let cases = shifts(rt.alloc(), &integer, &UNSIGNED_SHIFTS)?;
-        let (code, written) = run_cases(rt.alloc(), &cases)?;
-        let name = integer.ty.name;
-        assert_eq!(rt;
-            std::str::from_utf8(written.as_slice())?,
-            cases.report(),
-            "at {name}"
-        );
-        assert_eq!(rt; code, 1, "at {name}");
+    for integer in &UNSIGNED {
+        assert_shifts(&rt, rt.alloc(), integer, &UNSIGNED_SHIFTS)?;
     }
     Ok(())
 }
@@ -323,7 +279,7 @@ type FarShift = (
 );
 
 /// The amounts from 2^32 on would be good ones if their high bytes were lost.
-const FAR_SHIFTS: [FarShift; 11] = [
+static FAR_SHIFTS: [FarShift; 11] = [
     (U8_TYPE, "1", "Shl", U128_TYPE, "7", Some("80")),
     (U8_TYPE, "1", "Shl", U128_TYPE, "18446744073709551616", None),
     (U8_TYPE, "1", "Shl", U64_TYPE, "4294967296", None),
@@ -365,34 +321,24 @@ const FAR_SHIFTS: [FarShift; 11] = [
     (ISIZE_TYPE, "1", "Shl", U16_TYPE, "64", None),
 ];
 
-fn add_far_shift(cases: &mut Cases, row: FarShift) -> Result<(), NoMemory> {
-    let (ty, left, op, amount_ty, amount, answer) = row;
-    let mut nodes = Nodes::new(cases.alloc(), SCALARS);
-    let lhs = nodes.number(left, ty)?;
-    let rhs = nodes.number(amount, amount_ty)?;
-    nodes.arithmetic(op, lhs, rhs, ty)?;
-    match answer {
-        Some(hex) => cases.add_value(&nodes, hex),
-        None => cases.add_panic(&nodes, op),
-    }
-}
-
 #[test]
 fn shifts_by_other_types(rt: HostRuntime) -> Result<(), Fail> {
-    let mut cases = Cases::new(rt.alloc());
-    for row in FAR_SHIFTS {
-        add_far_shift(&mut cases, row)?;
+    let mut cases = Cases::new(rt.alloc(), LAYOUTS);
+    for &(ty, left, op, amount_ty, amount, bytes) in &FAR_SHIFTS {
+        let exprs = [
+            (Expr::Number(left), OWN),
+            (Expr::Number(amount), Some(amount_ty)),
+            (Expr::Arithmetic(op, 0, 1), OWN),
+        ];
+        cases.add_result(&nameless(ty, &exprs), op, bytes)?;
     }
-    let (code, written) = run_cases(rt.alloc(), &cases)?;
-    assert_eq!(rt; std::str::from_utf8(written.as_slice())?, cases.report());
-    assert_eq!(rt; code, 1);
-    Ok(())
+    assert_report(&rt, rt.alloc(), &cases, 1)
 }
 
 /// An operator on one operand, the operand, and the result.
 type Unary = (&'static str, Number, Number);
 
-const SIGNED_UNARY: [Unary; 9] = [
+static SIGNED_UNARY: [Unary; 9] = [
     ("Neg", LEAST, LEAST),
     ("Neg", GREATEST, NEXT),
     ("Neg", NEXT, GREATEST),
@@ -405,7 +351,7 @@ const SIGNED_UNARY: [Unary; 9] = [
 ];
 
 /// Rust has no unary minus on unsigned types, but a world can.
-const UNSIGNED_UNARY: [Unary; 6] = [
+static UNSIGNED_UNARY: [Unary; 6] = [
     ("Neg", LEAST, LEAST),
     ("Neg", GREATEST, ONE),
     ("Neg", ONE, GREATEST),
@@ -414,51 +360,32 @@ const UNSIGNED_UNARY: [Unary; 6] = [
     ("Not", GREATEST, LEAST),
 ];
 
-/// An operator on a literal.
-fn add_unary(cases: &mut Cases, integer: &Integer, row: Unary) -> Result<(), NoMemory> {
-    let (op, operand, answer) = row;
-    let mut nodes = Nodes::new(cases.alloc(), SCALARS);
-    let e = nodes.number(integer.digits(operand), integer.ty)?;
-    nodes.unary(op, e, integer.ty)?;
-    cases.add_value(&nodes, integer.hex(answer))
-}
-
-fn unaries(alloc: Global, integer: &Integer, rows: &[Unary]) -> Result<Cases, NoMemory> {
-    let mut cases = Cases::new(alloc);
-    for row in rows {
-        add_unary(&mut cases, integer, *row)?;
+/// Runs over an operator on a literal, for each row.
+fn assert_unary(
+    rt: &impl Abort,
+    alloc: Global,
+    integer: &Integer,
+    rows: &[Unary],
+) -> Result<(), Fail> {
+    let mut cases = Cases::new(alloc, LAYOUTS);
+    for &(op, operand, answer) in rows {
+        let exprs = [
+            (Expr::Number(integer.digits(operand)), OWN),
+            (Expr::Unary(op, 0), OWN),
+        ];
+        let bytes = Some(integer.hex(answer));
+        cases.add_result(&nameless(integer.ty, &exprs), op, bytes)?;
     }
-    Ok(cases)
+    assert_report(rt, alloc, &cases, 0)
 }
 
 #[test]
-fn signed_unary(rt: HostRuntime) -> Result<(), Fail> {
-    for integer in SIGNED {
-        let cases = unaries(rt.alloc(), &integer, &SIGNED_UNARY)?;
-        let (code, written) = run_cases(rt.alloc(), &cases)?;
-        let name = integer.ty.name;
-        assert_eq!(rt;
-            std::str::from_utf8(written.as_slice())?,
-            cases.report(),
-            "at {name}"
-        );
-        assert_eq!(rt; code, 0, "at {name}");
+fn unary(rt: HostRuntime) -> Result<(), Fail> {
+    for integer in &SIGNED {
+        assert_unary(&rt, rt.alloc(), integer, &SIGNED_UNARY)?;
     }
-    Ok(())
-}
-
-#[test]
-fn unsigned_unary(rt: HostRuntime) -> Result<(), Fail> {
-    for integer in UNSIGNED {
-        let cases = unaries(rt.alloc(), &integer, &UNSIGNED_UNARY)?;
-        let (code, written) = run_cases(rt.alloc(), &cases)?;
-        let name = integer.ty.name;
-        assert_eq!(rt;
-            std::str::from_utf8(written.as_slice())?,
-            cases.report(),
-            "at {name}"
-        );
-        assert_eq!(rt; code, 0, "at {name}");
+    for integer in &UNSIGNED {
+        assert_unary(&rt, rt.alloc(), integer, &UNSIGNED_UNARY)?;
     }
     Ok(())
 }
@@ -467,7 +394,7 @@ fn unsigned_unary(rt: HostRuntime) -> Result<(), Fail> {
 type Comparison = (&'static str, Number, Number, bool);
 
 /// They hold of signed types and of unsigned ones.
-const COMPARISONS: [Comparison; 24] = [
+static COMPARISONS: [Comparison; 24] = [
     (EQ, LEAST, LEAST, true),
     (EQ, LEAST, GREATEST, false),
     (EQ, GREATEST, LEAST, false),
@@ -494,46 +421,33 @@ const COMPARISONS: [Comparison; 24] = [
     (GE, GREATEST, GREATEST, true),
 ];
 
-/// `{ let a = LEFT; let b = RIGHT; a < b }`, and likewise for the other comparisons.
-fn add_comparison(cases: &mut Cases, integer: &Integer, row: Comparison) -> Result<(), NoMemory> {
-    let (op, left, right, answer) = row;
-    let ty = integer.ty;
-    let mut nodes = Nodes::new(cases.alloc(), SCALARS);
-    let first = nodes.number(integer.digits(left), ty)?;
-    let a = nodes.name("a", ty)?;
-    let second = nodes.number(integer.digits(right), ty)?;
-    let b = nodes.name("b", ty)?;
-    let lhs = nodes.path("a", a, ty)?;
-    let rhs = nodes.path("b", b, ty)?;
-    let tail = nodes.binary(op, lhs, rhs, BOOL)?;
-    nodes.block(
-        &[Step::Let(a, first), Step::Let(b, second)],
-        Some(tail),
-        BOOL,
-    )?;
-    cases.add_value(&nodes, truth_hex(answer))
-}
-
-fn comparisons_of(alloc: Global, integer: &Integer) -> Result<Cases, NoMemory> {
-    let mut cases = Cases::new(alloc);
-    for row in COMPARISONS {
-        add_comparison(&mut cases, integer, row)?;
+/// Runs over `{ let a = LEFT; let b = RIGHT; a < b }`, and likewise for the other comparisons.
+fn assert_comparisons(rt: &impl Abort, alloc: Global, integer: &Integer) -> Result<(), Fail> {
+    let mut cases = Cases::new(alloc, LAYOUTS);
+    for &(op, left, right, answer) in &COMPARISONS {
+        let exprs = [
+            (Expr::Number(integer.digits(left)), OWN),
+            (Expr::Number(integer.digits(right)), OWN),
+            (Expr::Path("a", 0), OWN),
+            (Expr::Path("b", 1), OWN),
+            (Expr::Binary(op, 2, 3), Some(BOOL)),
+            (
+                Expr::Block(&[Step::Let(0, 0), Step::Let(1, 1)], Some(4)),
+                Some(BOOL),
+            ),
+        ];
+        let names = [("a", OWN), ("b", OWN)];
+        let patterns = [(0, OWN), (1, OWN)];
+        let body = body_of(integer.ty, &names, &patterns, &exprs);
+        cases.add_result(&body, op, Some(truth_hex(answer)))?;
     }
-    Ok(cases)
+    assert_report(rt, alloc, &cases, 0)
 }
 
 #[test]
 fn comparisons(rt: HostRuntime) -> Result<(), Fail> {
-    for integer in ALL {
-        let cases = comparisons_of(rt.alloc(), &integer)?;
-        let (code, written) = run_cases(rt.alloc(), &cases)?;
-        let name = integer.ty.name;
-        assert_eq!(rt;
-            std::str::from_utf8(written.as_slice())?,
-            cases.report(),
-            "at {name}"
-        );
-        assert_eq!(rt; code, 0, "at {name}");
+    for integer in &ALL {
+        assert_comparisons(&rt, rt.alloc(), integer)?;
     }
     Ok(())
 }
@@ -541,7 +455,7 @@ fn comparisons(rt: HostRuntime) -> Result<(), Fail> {
 /// An operator, its operands, and the result.
 type Truth = (&'static str, bool, bool, bool);
 
-const TRUTHS: [Truth; 36] = [
+static TRUTHS: [Truth; 36] = [
     (AND, false, false, false),
     (AND, false, true, false),
     (AND, true, false, false),
@@ -580,32 +494,20 @@ const TRUTHS: [Truth; 36] = [
     (GE, true, true, true),
 ];
 
-fn add_truth(cases: &mut Cases, row: Truth) -> Result<(), NoMemory> {
-    let (op, left, right, answer) = row;
-    let mut nodes = Nodes::new(cases.alloc(), SCALARS);
-    let lhs = nodes.truth(left)?;
-    let rhs = nodes.truth(right)?;
-    nodes.binary(op, lhs, rhs, BOOL)?;
-    cases.add_value(&nodes, truth_hex(answer))
-}
-
-fn add_denial(cases: &mut Cases, test: bool) -> Result<(), NoMemory> {
-    let mut nodes = Nodes::new(cases.alloc(), SCALARS);
-    let e = nodes.truth(test)?;
-    nodes.unary("Not", e, BOOL)?;
-    cases.add_value(&nodes, truth_hex(!test))
-}
-
 #[test]
 fn truth_values(rt: HostRuntime) -> Result<(), Fail> {
-    let mut cases = Cases::new(rt.alloc());
-    add_denial(&mut cases, false)?;
-    add_denial(&mut cases, true)?;
-    for row in TRUTHS {
-        add_truth(&mut cases, row)?;
+    let mut cases = Cases::new(rt.alloc(), LAYOUTS);
+    for test in [false, true] {
+        let exprs = [(Expr::Truth(test), OWN), (Expr::Unary("Not", 0), OWN)];
+        cases.add_result(&nameless(BOOL, &exprs), "Not", Some(truth_hex(!test)))?;
     }
-    let (code, written) = run_cases(rt.alloc(), &cases)?;
-    assert_eq!(rt; std::str::from_utf8(written.as_slice())?, cases.report());
-    assert_eq!(rt; code, 0);
-    Ok(())
+    for &(op, left, right, answer) in &TRUTHS {
+        let exprs = [
+            (Expr::Truth(left), OWN),
+            (Expr::Truth(right), OWN),
+            (Expr::Binary(op, 0, 1), OWN),
+        ];
+        cases.add_result(&nameless(BOOL, &exprs), op, Some(truth_hex(answer)))?;
+    }
+    assert_report(&rt, rt.alloc(), &cases, 0)
 }

@@ -2,6 +2,7 @@
 
 use mirconst_run::run;
 use std::alloc::Global;
+use std::process::Abort;
 use std::test::Fail;
 use streams::{BytesSink, BytesSource};
 use world::{Bytes, List, NoMemory};
@@ -24,7 +25,7 @@ fn failing(alloc: Global, call: Option<u64>) -> Result<List<u64>, NoMemory> {
 
 /// A run: its words, its input, the calls of `read` and of `write` that fail, and the room for the report.
 #[derive(Clone, Copy)]
-struct Setting<'a> {
+pub(crate) struct Setting<'a> {
     words: &'a [&'a str],
     input: &'a [u8],
     read_fails: Option<u64>,
@@ -34,16 +35,21 @@ struct Setting<'a> {
 
 /// How a run ended: its exit code, the line of its status, and what it wrote.
 #[derive(Drop)]
-struct Ended {
-    code: u8,
+pub(crate) struct Ended {
+    pub(crate) code: u8,
     line: String,
-    written: Bytes,
+    pub(crate) written: Bytes,
 }
 
 /// A run over this input without words and failures.
 fn over(input: &[u8]) -> Setting {
+    with_words(&[], input)
+}
+
+/// A run with these words over this input without failures.
+pub(crate) fn with_words<'a>(words: &'a [&'a str], input: &'a [u8]) -> Setting<'a> {
     Setting {
-        words: &[],
+        words,
         input,
         read_fails: None,
         write_fails: None,
@@ -52,7 +58,7 @@ fn over(input: &[u8]) -> Setting {
 }
 
 /// Runs the program.
-fn run_of(alloc: Global, setting: &Setting) -> Result<Ended, NoMemory> {
+pub(crate) fn run_of(alloc: Global, setting: &Setting) -> Result<Ended, NoMemory> {
     let mut words = Vec::new(alloc);
     for word in setting.words {
         words.push(String::from_str(alloc, *word)?)?;
@@ -70,6 +76,13 @@ fn run_of(alloc: Global, setting: &Setting) -> Result<Ended, NoMemory> {
     })
 }
 
+/// Asserts how a run ended.
+pub(crate) fn assert_end(rt: &impl Abort, ended: &Ended, code: u8, line: &str, written: &[u8]) {
+    assert_eq!(rt; ended.line.as_str(), line);
+    assert_eq!(rt; ended.code, code);
+    assert_eq!(rt; ended.written.as_slice(), written);
+}
+
 const USAGE: &str = "usage: mirconst [eval [--blocks N] [--nesting N] [--bytes N] | make N]";
 
 const NOT_JSON: &str = "mirconst: input is not JSON";
@@ -81,7 +94,7 @@ const READ_FAULT: &str = "mirconst: read fault";
 const WRITE_FAULT: &str = "mirconst: write fault";
 
 /// Words, the exit code, the line of the status, and what is written.
-const WORDS: [(&[&str], u8, &str, &str); 9] = [
+static WORDS: [(&[&str], u8, &str, &str); 9] = [
     (&[], 0, "", REPORT),
     (&["eval"], 0, "", REPORT),
     (&["eval", "x"], 2, USAGE, ""),
@@ -95,20 +108,16 @@ const WORDS: [(&[&str], u8, &str, &str); 9] = [
 
 #[test]
 fn words(rt: HostRuntime) -> Result<(), Fail> {
-    for (words, code, line, written) in WORDS {
-        let mut setting = over(SUM.as_bytes());
-        setting.words = words;
-        let ended = run_of(rt.alloc(), &setting)?;
-        assert_eq!(rt; ended.line.as_str(), line);
-        assert_eq!(rt; ended.code, code);
-        assert_eq!(rt; ended.written.as_slice(), written.as_bytes());
+    for &(words, code, line, written) in &WORDS {
+        let ended = run_of(rt.alloc(), &with_words(words, SUM.as_bytes()))?;
+        assert_end(&rt, &ended, code, line, written.as_bytes());
     }
     Ok(())
 }
 
 /// A part of the sum's input and what stands there in its place, the exit code, the line of the status,
 /// and what is written.
-const EDITS: [(&str, &str, u8, &str, &str); 24] = [
+static EDITS: [(&str, &str, u8, &str, &str); 24] = [
     (
         r#""goals":[{"def":{"ConstId":0}}]"#,
         r#""goals":[]"#,
@@ -283,12 +292,10 @@ fn edited(alloc: Global, old: &str, new: &str) -> Result<String, NoMemory> {
 
 #[test]
 fn edits(rt: HostRuntime) -> Result<(), Fail> {
-    for (old, new, code, line, written) in EDITS {
+    for &(old, new, code, line, written) in &EDITS {
         let input = edited(rt.alloc(), old, new)?;
         let ended = run_of(rt.alloc(), &over(input.as_bytes()))?;
-        assert_eq!(rt; ended.line.as_str(), line);
-        assert_eq!(rt; ended.code, code);
-        assert_eq!(rt; ended.written.as_slice(), written.as_bytes());
+        assert_end(&rt, &ended, code, line, written.as_bytes());
     }
     Ok(())
 }
@@ -298,16 +305,14 @@ fn no_prefix_is_json(rt: HostRuntime) -> Result<(), Fail> {
     let whole = SUM.as_bytes();
     for n in 0..whole.len() {
         let ended = run_of(rt.alloc(), &over(&whole[..n]))?;
-        assert_eq!(rt; ended.line.as_str(), NOT_JSON);
-        assert_eq!(rt; ended.code, 3);
-        assert_eq!(rt; ended.written.as_slice(), b"".as_slice());
+        assert_end(&rt, &ended, 3, NOT_JSON, b"");
     }
     Ok(())
 }
 
 /// What stands before and after arrays in one another, how many these are, the exit code and the line of
 /// the status.
-const NESTED: [(&str, usize, &str, u8, &str); 4] = [
+static NESTED: [(&str, usize, &str, u8, &str); 4] = [
     ("", 127, "", 4, "mirconst: not a world: "),
     ("", 128, "", 3, NOT_JSON),
     (
@@ -341,18 +346,16 @@ fn nested(alloc: Global, front: &str, depth: usize, back: &str) -> Result<String
 
 #[test]
 fn json_is_nested(rt: HostRuntime) -> Result<(), Fail> {
-    for (front, depth, back, code, line) in NESTED {
+    for &(front, depth, back, code, line) in &NESTED {
         let input = nested(rt.alloc(), front, depth, back)?;
         let ended = run_of(rt.alloc(), &over(input.as_bytes()))?;
-        assert_eq!(rt; ended.line.as_str(), line);
-        assert_eq!(rt; ended.code, code);
-        assert_eq!(rt; ended.written.as_slice(), b"".as_slice());
+        assert_end(&rt, &ended, code, line, b"");
     }
     Ok(())
 }
 
 /// Bytes that stand in the place of the constant's name, and the exit code.
-const NAMES: [(&[u8], u8); 8] = [
+static NAMES: [(&[u8], u8); 8] = [
     (b"\xc3\xa9", 0),
     (b"\xff", 3),
     (b"\x80", 3),
@@ -376,7 +379,7 @@ fn named(alloc: Global, name: &[u8]) -> Result<Vec<u8>, NoMemory> {
 
 #[test]
 fn names_are_text(rt: HostRuntime) -> Result<(), Fail> {
-    for (name, code) in NAMES {
+    for &(name, code) in &NAMES {
         let input = named(rt.alloc(), name)?;
         let ended = run_of(rt.alloc(), &over(input.as_slice()))?;
         assert_eq!(rt; ended.code, code);
@@ -416,7 +419,7 @@ fn inputs_are_not_too_long(rt: HostRuntime) -> Result<(), Fail> {
 
 /// How many blanks follow the sum's input, the read that fails, the exit code, the line of the status, and
 /// what is written. A read gives at most 65536 bytes, and the last one none.
-const READS: [(usize, u64, u8, &str, &str); 8] = [
+static READS: [(usize, u64, u8, &str, &str); 8] = [
     (0, 1, 7, READ_FAULT, ""),
     (0, 2, 7, READ_FAULT, ""),
     (0, 3, 0, "", REPORT),
@@ -438,30 +441,26 @@ fn padded(alloc: Global, blanks: usize) -> Result<String, NoMemory> {
 
 #[test]
 fn reads_fail(rt: HostRuntime) -> Result<(), Fail> {
-    for (blanks, call, code, line, written) in READS {
+    for &(blanks, call, code, line, written) in &READS {
         let input = padded(rt.alloc(), blanks)?;
         let mut setting = over(input.as_bytes());
         setting.read_fails = Some(call);
         let ended = run_of(rt.alloc(), &setting)?;
-        assert_eq!(rt; ended.line.as_str(), line);
-        assert_eq!(rt; ended.code, code);
-        assert_eq!(rt; ended.written.as_slice(), written.as_bytes());
+        assert_end(&rt, &ended, code, line, written.as_bytes());
     }
     Ok(())
 }
 
 /// The write that fails, the exit code, the line of the status, and what is written.
-const WRITES: [(u64, u8, &str, &str); 2] = [(1, 8, WRITE_FAULT, ""), (2, 0, "", REPORT)];
+static WRITES: [(u64, u8, &str, &str); 2] = [(1, 8, WRITE_FAULT, ""), (2, 0, "", REPORT)];
 
 #[test]
 fn writes_fail(rt: HostRuntime) -> Result<(), Fail> {
-    for (call, code, line, written) in WRITES {
+    for &(call, code, line, written) in &WRITES {
         let mut setting = over(SUM.as_bytes());
         setting.write_fails = Some(call);
         let ended = run_of(rt.alloc(), &setting)?;
-        assert_eq!(rt; ended.line.as_str(), line);
-        assert_eq!(rt; ended.code, code);
-        assert_eq!(rt; ended.written.as_slice(), written.as_bytes());
+        assert_end(&rt, &ended, code, line, written.as_bytes());
     }
     Ok(())
 }
@@ -473,9 +472,7 @@ fn room_runs_out(rt: HostRuntime) -> Result<(), Fail> {
         let mut setting = over(SUM.as_bytes());
         setting.room = room as u64;
         let ended = run_of(rt.alloc(), &setting)?;
-        assert_eq!(rt; ended.line.as_str(), WRITE_FAULT);
-        assert_eq!(rt; ended.code, 8);
-        assert_eq!(rt; ended.written.as_slice(), &report[..room]);
+        assert_end(&rt, &ended, 8, WRITE_FAULT, &report[..room]);
     }
     Ok(())
 }

@@ -1,169 +1,204 @@
 //! Bodies that are refused before they run, each with its refusal.
 
 use crate::integers::{I32_TYPE, U8_TYPE, U16_TYPE};
-use crate::tests::run_cases;
-use crate::worlds::{BOOL, Cases, Nodes, SCALARS, ScalarType, Step, UNIT};
+use crate::tests::assert_report;
+use crate::worlds::{
+    BOOL, Body, Cases, Expr, LAYOUTS, OWN, SCALARS, ScalarType, Source, Step, UNIT,
+};
 use std::alloc::Global;
+use std::process::Abort;
 use std::test::Fail;
-use world::NoMemory;
 
-/// A body that is refused.
-#[derive(Clone, Copy)]
-enum Source {
-    /// `x`, which names nothing.
-    Nameless,
-    /// `{ 200 + 100; x }`, where `x` names nothing.
-    NamelessLast,
-    /// `true && false`
-    And,
-    /// `true || false`
-    Or,
-    /// `1` and `2` with an operator between them that is missing.
-    NoOperator,
-    /// `{ let x = 1; *x }`
-    Dereference,
-    /// `{ let x; 1 }`
-    LetAlone,
-    /// `{ let x = 1 else { 2 }; x }`
-    LetElse,
-    /// `{ let x = 1; x = 2; x }`
-    Assignment,
-    /// `{ let x = 1; x += 2; x }`
-    SumAssignment,
-    /// `1`, where inference met an error.
-    Erroneous,
-}
+/// `x`, which names nothing.
+const NAMELESS: Source = Source {
+    names: &[],
+    patterns: &[],
+    exprs: &[(Expr::Nameless("x"), OWN)],
+};
 
-/// The nodes of a body; its numbers have the type `ty`.
-fn nodes_of(alloc: Global, source: Source, ty: ScalarType) -> Result<Nodes, NoMemory> {
-    let mut nodes = Nodes::new(alloc, SCALARS);
-    match source {
-        Source::Nameless => nodes.unresolved("x", ty)?,
-        Source::NamelessLast => nameless_last(&mut nodes, ty)?,
-        Source::And => truths(&mut nodes, r#"{"LogicOp":"And"}"#)?,
-        Source::Or => truths(&mut nodes, r#"{"LogicOp":"Or"}"#)?,
-        Source::NoOperator => no_operator(&mut nodes, ty)?,
-        Source::Dereference => dereference(&mut nodes, ty)?,
-        Source::LetAlone => let_alone(&mut nodes, ty)?,
-        Source::LetElse => let_else(&mut nodes, ty)?,
-        Source::Assignment => assignment(&mut nodes, r#"{"Assignment":{"op":null}}"#, ty)?,
-        Source::SumAssignment => assignment(&mut nodes, r#"{"Assignment":{"op":"Add"}}"#, ty)?,
-        Source::Erroneous => erroneous(&mut nodes, ty)?,
-    };
-    Ok(nodes)
-}
+/// `{ 200 + 100; x }`, where `x` names nothing.
+const NAMELESS_LAST: Source = Source {
+    names: &[],
+    patterns: &[],
+    exprs: &[
+        (Expr::Number("200"), OWN),
+        (Expr::Number("100"), OWN),
+        (Expr::Arithmetic("Add", 0, 1), OWN),
+        (Expr::Nameless("x"), OWN),
+        (Expr::Block(&[Step::Expr(2)], Some(3)), OWN),
+    ],
+};
 
-fn nameless_last(nodes: &mut Nodes, ty: ScalarType) -> Result<u32, NoMemory> {
-    let lhs = nodes.number("200", ty)?;
-    let rhs = nodes.number("100", ty)?;
-    let sum = nodes.arithmetic("Add", lhs, rhs, ty)?;
-    let tail = nodes.unresolved("x", ty)?;
-    nodes.block(&[Step::Expr(sum)], Some(tail), ty)
-}
+/// `true && false`
+const AND: Source = Source {
+    names: &[],
+    patterns: &[],
+    exprs: &[
+        (Expr::Truth(true), OWN),
+        (Expr::Truth(false), OWN),
+        (Expr::Binary(r#"{"LogicOp":"And"}"#, 0, 1), OWN),
+    ],
+};
 
-fn truths(nodes: &mut Nodes, op: &str) -> Result<u32, NoMemory> {
-    let lhs = nodes.truth(true)?;
-    let rhs = nodes.truth(false)?;
-    nodes.binary(op, lhs, rhs, BOOL)
-}
+/// `true || false`
+const OR: Source = Source {
+    names: &[],
+    patterns: &[],
+    exprs: &[
+        (Expr::Truth(true), OWN),
+        (Expr::Truth(false), OWN),
+        (Expr::Binary(r#"{"LogicOp":"Or"}"#, 0, 1), OWN),
+    ],
+};
 
-fn no_operator(nodes: &mut Nodes, ty: ScalarType) -> Result<u32, NoMemory> {
-    let lhs = nodes.number("1", ty)?;
-    let rhs = nodes.number("2", ty)?;
-    nodes.binary("null", lhs, rhs, ty)
-}
+/// `1` and `2` with an operator between them that is missing.
+const NO_OPERATOR: Source = Source {
+    names: &[],
+    patterns: &[],
+    exprs: &[
+        (Expr::Number("1"), OWN),
+        (Expr::Number("2"), OWN),
+        (Expr::Binary("null", 0, 1), OWN),
+    ],
+};
 
-fn dereference(nodes: &mut Nodes, ty: ScalarType) -> Result<u32, NoMemory> {
-    let one = nodes.number("1", ty)?;
-    let x = nodes.name("x", ty)?;
-    let named = nodes.path("x", x, ty)?;
-    let tail = nodes.unary("Deref", named, ty)?;
-    nodes.block(&[Step::Let(x, one)], Some(tail), ty)
-}
+/// `{ let x = 1; *x }`
+const DEREFERENCE: Source = Source {
+    names: &[("x", OWN)],
+    patterns: &[(0, OWN)],
+    exprs: &[
+        (Expr::Number("1"), OWN),
+        (Expr::Path("x", 0), OWN),
+        (Expr::Unary("Deref", 1), OWN),
+        (Expr::Block(&[Step::Let(0, 0)], Some(2)), OWN),
+    ],
+};
 
-fn let_alone(nodes: &mut Nodes, ty: ScalarType) -> Result<u32, NoMemory> {
-    let x = nodes.name("x", ty)?;
-    let tail = nodes.number("1", ty)?;
-    nodes.block(&[Step::LetAlone(x)], Some(tail), ty)
-}
+/// `{ let x; 1 }`
+const LET_ALONE: Source = Source {
+    names: &[("x", OWN)],
+    patterns: &[(0, OWN)],
+    exprs: &[
+        (Expr::Number("1"), OWN),
+        (Expr::Block(&[Step::LetAlone(0)], Some(0)), OWN),
+    ],
+};
 
-fn let_else(nodes: &mut Nodes, ty: ScalarType) -> Result<u32, NoMemory> {
-    let one = nodes.number("1", ty)?;
-    let x = nodes.name("x", ty)?;
-    let two = nodes.number("2", ty)?;
-    let other = nodes.block(&[], Some(two), ty)?;
-    let tail = nodes.path("x", x, ty)?;
-    nodes.block(&[Step::LetElse(x, one, other)], Some(tail), ty)
-}
+/// `{ let x = 1 else { 2 }; x }`
+const LET_ELSE: Source = Source {
+    names: &[("x", OWN)],
+    patterns: &[(0, OWN)],
+    exprs: &[
+        (Expr::Number("1"), OWN),
+        (Expr::Number("2"), OWN),
+        (Expr::Block(&[], Some(1)), OWN),
+        (Expr::Path("x", 0), OWN),
+        (Expr::Block(&[Step::LetElse(0, 0, 2)], Some(3)), OWN),
+    ],
+};
 
-fn assignment(nodes: &mut Nodes, op: &str, ty: ScalarType) -> Result<u32, NoMemory> {
-    let one = nodes.number("1", ty)?;
-    let x = nodes.name("x", ty)?;
-    let lhs = nodes.path("x", x, ty)?;
-    let two = nodes.number("2", ty)?;
-    let assigned = nodes.binary(op, lhs, two, UNIT)?;
-    let tail = nodes.path("x", x, ty)?;
-    nodes.block(&[Step::Let(x, one), Step::Expr(assigned)], Some(tail), ty)
-}
+/// `{ let x = 1; x = 2; x }`
+const ASSIGNMENT: Source = Source {
+    names: &[("x", OWN)],
+    patterns: &[(0, OWN)],
+    exprs: &[
+        (Expr::Number("1"), OWN),
+        (Expr::Path("x", 0), OWN),
+        (Expr::Number("2"), OWN),
+        (
+            Expr::Binary(r#"{"Assignment":{"op":null}}"#, 1, 2),
+            Some(UNIT),
+        ),
+        (Expr::Path("x", 0), OWN),
+        (Expr::Block(&[Step::Let(0, 0), Step::Expr(3)], Some(4)), OWN),
+    ],
+};
 
-fn erroneous(nodes: &mut Nodes, ty: ScalarType) -> Result<u32, NoMemory> {
-    nodes.set_erroneous();
-    nodes.number("1", ty)
-}
+/// `{ let x = 1; x += 2; x }`
+const SUM_ASSIGNMENT: Source = Source {
+    names: &[("x", OWN)],
+    patterns: &[(0, OWN)],
+    exprs: &[
+        (Expr::Number("1"), OWN),
+        (Expr::Path("x", 0), OWN),
+        (Expr::Number("2"), OWN),
+        (
+            Expr::Binary(r#"{"Assignment":{"op":"Add"}}"#, 1, 2),
+            Some(UNIT),
+        ),
+        (Expr::Path("x", 0), OWN),
+        (Expr::Block(&[Step::Let(0, 0), Step::Expr(3)], Some(4)), OWN),
+    ],
+};
+
+/// `1`
+const ONE: Source = Source {
+    names: &[],
+    patterns: &[],
+    exprs: &[(Expr::Number("1"), OWN)],
+};
+
+/// `true`
+const TRUE: Source = Source {
+    names: &[],
+    patterns: &[],
+    exprs: &[(Expr::Truth(true), OWN)],
+};
 
 const NAMES_NOTHING: &str = r#"error lower UnresolvedName("x")"#;
 
 const NOT_BUILT: &str = r#"error lower NotSupported("form not built")"#;
 
-/// A body, the type of the constant, and the answer.
-const REFUSALS: [(Source, ScalarType, &str); 11] = [
-    (Source::Nameless, I32_TYPE, NAMES_NOTHING),
-    (Source::NamelessLast, U8_TYPE, NAMES_NOTHING),
-    (Source::And, BOOL, NOT_BUILT),
-    (Source::Or, BOOL, NOT_BUILT),
-    (Source::NoOperator, I32_TYPE, "error lower IncompleteExpr"),
-    (Source::Dereference, I32_TYPE, NOT_BUILT),
-    (Source::LetAlone, I32_TYPE, NOT_BUILT),
-    (Source::LetElse, I32_TYPE, NOT_BUILT),
-    (Source::Assignment, I32_TYPE, NOT_BUILT),
-    (Source::SumAssignment, I32_TYPE, NOT_BUILT),
-    (Source::Erroneous, I32_TYPE, "error lower HasErrors"),
+/// A body, its type, whether inference met an error, and the answer.
+type Refusal = (Source<'static>, ScalarType, bool, &'static str);
+
+static REFUSALS: [Refusal; 11] = [
+    (NAMELESS, I32_TYPE, false, NAMES_NOTHING),
+    (NAMELESS_LAST, U8_TYPE, false, NAMES_NOTHING),
+    (AND, BOOL, false, NOT_BUILT),
+    (OR, BOOL, false, NOT_BUILT),
+    (NO_OPERATOR, I32_TYPE, false, "error lower IncompleteExpr"),
+    (DEREFERENCE, I32_TYPE, false, NOT_BUILT),
+    (LET_ALONE, I32_TYPE, false, NOT_BUILT),
+    (LET_ELSE, I32_TYPE, false, NOT_BUILT),
+    (ASSIGNMENT, I32_TYPE, false, NOT_BUILT),
+    (SUM_ASSIGNMENT, I32_TYPE, false, NOT_BUILT),
+    (ONE, I32_TYPE, true, "error lower HasErrors"),
 ];
 
-fn add_refusal(
-    cases: &mut Cases,
-    source: Source,
-    ty: ScalarType,
-    answer: &str,
-) -> Result<(), NoMemory> {
-    let nodes = nodes_of(cases.alloc(), source, ty)?;
-    cases.add(&nodes, answer, 0)
+/// In a world without layouts: that of a number is missed at the literal, and that of `true` as the run
+/// places its result.
+static NO_LAYOUTS: [Refusal; 2] = [
+    (ONE, U16_TYPE, false, "error lower LayoutError(Unknown)"),
+    (TRUE, BOOL, false, "error eval LayoutError(Unknown, bool)"),
+];
+
+/// Runs over the bodies of these rows, in a world with these layouts.
+fn assert_refusals(
+    rt: &impl Abort,
+    alloc: Global,
+    layouts: &'static str,
+    rows: &[Refusal],
+) -> Result<(), Fail> {
+    let mut cases = Cases::new(alloc, layouts);
+    for &(source, ty, erroneous, answer) in rows {
+        let body = Body {
+            source,
+            ty,
+            copy_types: SCALARS,
+            erroneous,
+        };
+        cases.add(&body, answer, 0)?;
+    }
+    assert_report(rt, alloc, &cases, 1)
 }
 
 #[test]
 fn refusals(rt: HostRuntime) -> Result<(), Fail> {
-    let mut cases = Cases::new(rt.alloc());
-    for (source, ty, answer) in REFUSALS {
-        add_refusal(&mut cases, source, ty, answer)?;
-    }
-    let (code, written) = run_cases(rt.alloc(), &cases)?;
-    assert_eq!(rt; std::str::from_utf8(written.as_slice())?, cases.report());
-    assert_eq!(rt; code, 1);
-    Ok(())
+    assert_refusals(&rt, rt.alloc(), LAYOUTS, &REFUSALS)
 }
 
-/// `1` at `u16`, which is found at the literal, and `true`, which is found as the run places its result.
 #[test]
 fn types_without_layouts(rt: HostRuntime) -> Result<(), Fail> {
-    let mut cases = Cases::without_layouts(rt.alloc());
-    let mut number = Nodes::new(rt.alloc(), SCALARS);
-    number.number("1", U16_TYPE)?;
-    cases.add(&number, "error lower LayoutError(Unknown)", 0)?;
-    let mut truth = Nodes::new(rt.alloc(), SCALARS);
-    truth.truth(true)?;
-    cases.add(&truth, "error eval LayoutError(Unknown, bool)", 0)?;
-    let (code, written) = run_cases(rt.alloc(), &cases)?;
-    assert_eq!(rt; std::str::from_utf8(written.as_slice())?, cases.report());
-    assert_eq!(rt; code, 1);
-    Ok(())
+    assert_refusals(&rt, rt.alloc(), "", &NO_LAYOUTS)
 }

@@ -1,9 +1,8 @@
+use crate::program::{assert_end, run_of, with_words};
 use crate::worlds::Cases;
-use mirconst_run::{Status, run};
 use std::alloc::Global;
+use std::process::Abort;
 use std::test::Fail;
-use streams::{BytesSink, BytesSource};
-use world::{Bytes, List, NoMemory};
 
 /// `const GOAL: usize = 2 + 2`.
 const SUM: &str =
@@ -29,28 +28,25 @@ const NO_TREE: &str =
 const NO_SUCH_GOAL: &str =
     r#"{"version":1,"world":{"crates":[{"pointer_bytes":8}],"consts":[{"name":"GOAL","krate":0,"ty":{"Uint":"Usize"},"body":0}],"bodies":[{"body":{"exprs":[{"Literal":{"Int":["2",null]}},{"Literal":{"Int":["2",null]}},{"BinaryOp":{"lhs":0,"rhs":1,"op":{"ArithOp":"Add"}}}],"body_expr":2},"infer":{"expr_types":[{"Uint":"Usize"},{"Uint":"Usize"},{"Uint":"Usize"}],"copy_types":[{"Uint":"Usize"}]}}],"layouts":[[{"Uint":"Usize"},{"size":8,"align":8,"sized":true,"offsets":[],"variants":{"Single":0}}]]},"goals":[{"def":{"ConstId":1}}]}"#;
 
-/// Runs over these bytes, and gives the status and what was written.
-fn run_over(alloc: Global, words: &[&str], input: &[u8]) -> Result<(Status, Bytes), NoMemory> {
-    let mut owned = Vec::new(alloc);
-    for word in words {
-        owned.push(String::from_str(alloc, *word)?)?;
-    }
-    let mut src = BytesSource::new(Bytes::from_slice(alloc, input)?, List::new(alloc));
-    let mut out = BytesSink::new(alloc, 65_536, List::new(alloc))?;
-    let status = run(alloc, &owned, &mut src, &mut out);
-    let written = Bytes::from_slice(alloc, out.bytes())?;
-    Ok((status, written))
-}
-
-/// Runs over cases, and gives the exit code and what was written.
-pub(crate) fn run_cases(alloc: Global, cases: &Cases) -> Result<(u8, Bytes), NoMemory> {
+/// Runs over cases, and asserts what is written and the exit code.
+pub(crate) fn assert_report(
+    rt: &impl Abort,
+    alloc: Global,
+    cases: &Cases,
+    code: u8,
+) -> Result<(), Fail> {
     let input = cases.input()?;
-    let (status, written) = run_over(alloc, &["eval"], input.as_bytes())?;
-    Ok((status.code(), written))
+    let ended = run_of(alloc, &with_words(&["eval"], input.as_bytes()))?;
+    assert_eq!(rt;
+        std::str::from_utf8(ended.written.as_slice())?,
+        cases.report()
+    );
+    assert_eq!(rt; ended.code, code);
+    Ok(())
 }
 
 /// Words, the input, the exit code, the line of the status, and what is written.
-const RUNS: [(&[&str], &str, u8, &str, &str); 9] = [
+static RUNS: [(&[&str], &str, u8, &str, &str); 9] = [
     (
         &[],
         SUM,
@@ -100,12 +96,9 @@ const RUNS: [(&[&str], &str, u8, &str, &str); 9] = [
 
 #[test]
 fn runs(rt: HostRuntime) -> Result<(), Fail> {
-    for (words, input, code, line, written) in RUNS {
-        let (status, bytes) = run_over(rt.alloc(), words, input.as_bytes())?;
-        let text = format!(in rt.alloc(); "{status}")?;
-        assert_eq!(rt; text.as_str(), line);
-        assert_eq!(rt; status.code(), code);
-        assert_eq!(rt; bytes.as_slice(), written.as_bytes());
+    for &(words, input, code, line, written) in &RUNS {
+        let ended = run_of(rt.alloc(), &with_words(words, input.as_bytes()))?;
+        assert_end(&rt, &ended, code, line, written.as_bytes());
     }
     Ok(())
 }
