@@ -2,9 +2,9 @@
 use Rattle.std.proofs.Common.{◌≡◌, ℕ, ◌⊎◌, ⊎_elim, inl, inr, [], Result, Err, refl, sym, ap, subst}
 use Rattle.std.specs.Prelude.{Contains}
 use Rattle.world.specs.declared.database.HirDatabase.{HirDatabase}
-use Rattle.world.specs.declared.ids.DefWithBodyId.{DefWithBodyId}
-use Rattle.world.specs.declared.ty.Const.{Const}
-use Rattle.world.specs.declared.ty.GenericArgs.{GenericArgs}
+use Rattle.types.specs.declared.ids.DefWithBodyId.{DefWithBodyId}
+use Rattle.types.specs.declared.ty.Const.{Const}
+use Rattle.types.specs.declared.ty.GenericArgs.{GenericArgs}
 use Rattle.mir.specs.declared.body.MirBody.{MirBody}
 use Rattle.mir.specs.declared.errors.ConstEvalError.{ConstEvalError}
 use Rattle.mir.specs.declared.errors.MirLowerError.{MirLowerError}

@@ -2,12 +2,11 @@
 use Rattle.std.proofs.Common.{◌≡◌, ◌≢◌, ℕ, ⊎_elim, inl, inr, List, Option, Some, None, Result, Ok, Err, refl, sym, ap, ◌∙◌, subst}
 use Rattle.std.specs.Prelude.{slice_get, option_and_then}
 use Rattle.world.specs.declared.database.BodyRow.{BodyRow}
-use Rattle.world.specs.declared.database.ConstRow.{ConstRow}
 use Rattle.world.specs.declared.database.HirDatabase.{HirDatabase}
-use Rattle.world.specs.declared.ids.DefWithBodyId.{DefWithBodyId}
-use Rattle.world.specs.declared.ty.Const.{Const}
-use Rattle.world.specs.declared.ty.GenericArgs.{GenericArgs}
-use Rattle.world.specs.Lookups.{const_row, body_row}
+use Rattle.types.specs.declared.ids.DefWithBodyId.{DefWithBodyId}
+use Rattle.types.specs.declared.ty.Const.{Const}
+use Rattle.types.specs.declared.ty.GenericArgs.{GenericArgs}
+use Rattle.world.specs.Lookups.{body_place, body_row}
 use Rattle.world_check.specs.Checked.{IsChecked, IsCheckedBody}
 use Rattle.mir.specs.declared.body.MirBody.{MirBody}
 use Rattle.mir.specs.declared.errors.ConstEvalError.{ConstEvalError}
@@ -30,7 +29,7 @@ use Rattle.consteval.proofs.Refused.{lower-error-is-no-panic, refused-run-is-no-
 
 -- the body of a definition of a checked world is checked
 pub checked-body : (world : HirDatabase) (def : DefWithBodyId) (row : BodyRow) → IsChecked world → body_row world def ≡ Some row → IsCheckedBody row.body row.infer
-checked-body world def row checked found = by-place (option_and_then (λ (r : ConstRow). r.body) (const_row world def)) found where
+checked-body world def row checked found = by-place (body_place world def) found where
   by-place : (place : Option ℕ) → option_and_then (slice_get world.bodies) place ≡ Some row → IsCheckedBody row.body row.infer
   by-place (Some i) is = checked.bodies i row is
   by-place None is = absurd cc

@@ -5,8 +5,8 @@ use Rattle.std.specs.declared.rc.Rc.{Rc}
 use Rattle.std.proofs.lemmas.List.{map-append}
 use Rattle.std.proofs.lemmas.List.Elements.{Contains-push, Contains-push_cases, Contains-append_left}
 use Rattle.world.specs.declared.database.HirDatabase.{HirDatabase}
-use Rattle.world.specs.declared.ids.DefWithBodyId.{DefWithBodyId}
-use Rattle.world.specs.declared.ty.Const.{Const}
+use Rattle.types.specs.declared.ids.DefWithBodyId.{DefWithBodyId}
+use Rattle.types.specs.declared.ty.Const.{Const}
 use Rattle.mir.specs.declared.body.MirBody.{MirBody}
 use Rattle.consteval.specs.Kept.{Kept, IsKept, IsLowered, IsValueOf, IsSound, Ran, Stays, kept_of}
 

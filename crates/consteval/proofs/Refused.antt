@@ -1,22 +1,28 @@
 -- What a valid body with a defined cost is refused for: want of memory alone.
 use Rattle.std.proofs.Common.{◌≡◌, ◌≢◌, ℕ, ◌<◌, ◌≤◌, ⊎_elim, eqb-true, Bool, true, false, List, [], Option, Some, None, refl, sym, ap, ◌∙◌, subst, arith}
-use Rattle.std.specs.Prelude.{option_and_then, ◌==◌, ◌||◌}
+use Rattle.std.specs.Prelude.{option_and_then, not, ◌==◌, ◌||◌}
 use Rattle.std.proofs.lemmas.List.Elements.{All-contains}
-use Rattle.world.specs.declared.body.BinaryOp.{BinaryOp}
-use Rattle.world.specs.declared.body.BinaryOp.TheVariants as binary
-use Rattle.world.specs.declared.body.Expr.{Expr}
-use Rattle.world.specs.declared.body.Expr.TheVariants as expr
-use Rattle.world.specs.declared.body.Literal.TheVariants as literal
+use Rattle.types.specs.declared.operators.BinaryOp.{BinaryOp}
+use Rattle.types.specs.declared.operators.BinaryOp.TheVariants as binary
+use Rattle.source_meaning.specs.Core.{CoreExpr}
+use Rattle.source_meaning.specs.Core as expr
+use Rattle.source_meaning.specs.Core.{local_named}
+use Rattle.world.specs.declared.infer.ValueNs.TheVariants.{LocalBinding}
+use Rattle.world.specs.declared.items.ConstRow.{ConstRow}
+use Rattle.world.specs.declared.literal.Literal.{Literal}
+use Rattle.types.specs.declared.ids.DefWithBodyId.TheVariants.{ConstId, FunctionId, StaticId, VariantId}
+use Rattle.types.specs.declared.ids.GenericParamId.{GenericParamId}
+use Rattle.world.specs.declared.literal.Literal.TheVariants as literal
 use Rattle.world.specs.declared.body.Statement.{Statement}
 use Rattle.world.specs.declared.body.Statement.TheVariants as statement
-use Rattle.world.specs.declared.body.UnaryOp.TheVariants as unary
-use Rattle.world.specs.declared.ids.BindingId.{BindingId}
+use Rattle.types.specs.declared.operators.UnaryOp.TheVariants as unary
+use Rattle.types.specs.declared.ids.BindingId.{BindingId}
 use Rattle.world.specs.declared.database.BodyRow.{BodyRow}
 use Rattle.world.specs.declared.database.HirDatabase.{HirDatabase}
-use Rattle.world.specs.declared.ids.DefWithBodyId.{DefWithBodyId}
-use Rattle.world.specs.declared.ty.GenericArgs.{GenericArgs}
-use Rattle.world.specs.declared.ty.Ty.{Ty}
-use Rattle.world.specs.Lookups.{layout_of}
+use Rattle.types.specs.declared.ids.DefWithBodyId.{DefWithBodyId}
+use Rattle.types.specs.declared.ty.GenericArgs.{GenericArgs}
+use Rattle.types.specs.declared.ty.Ty.{Ty}
+use Rattle.world.specs.Lookups.{const_row, layout_of}
 use Rattle.world_check.specs.Checked.{IsChecked}
 use Rattle.numbers.specs.Bytes.{is_width}
 use Rattle.mir.specs.declared.body.MirBody.{MirBody}
@@ -27,13 +33,13 @@ use Rattle.mir.specs.declared.errors.MirEvalError as error
 use Rattle.mir.specs.declared.errors.MirLowerError.{MirLowerError}
 use Rattle.mir.specs.declared.errors.MirLowerError.TheVariants as refusal
 use Rattle.mir.specs.Errors.{from_lower_error, from_eval_error}
-use Rattle.mir_lower.specs.Refusals.{IsNumber, LacksOperator, IsUnbuiltStatement, IsUnbuilt, LetBindsNone, LacksLocal, RefusesNode, Refuses, HasTypingErrors}
+use Rattle.mir_lower.specs.Refusals.{IsNumber, LacksOperator, IsUnbuiltLiteral, IsUnbuiltStatement, IsUnbuilt, LetBindsNone, LacksLocal, RefusesNode, Refuses, HasTypingErrors}
 use Rattle.mir_lower.specs.Simulates.{Simulates}
 use Rattle.source_meaning.proofs.Sizes.{integer_is_width}
 use Rattle.source_meaning.specs.Meaning.{eager_operator}
 use Rattle.source_meaning.specs.Source.{Source, node, node_type, named_by, binding_type}
-use Rattle.source_meaning.specs.Valid.{IsInteger, IsPlainBinary, IsPlainStatement, HasPlainForm, IsPlainNode, HasSizedLayout, HasDefinedCost}
-use Rattle.consteval.specs.Answers.{RefusesBody, RefusesRun, panic_of}
+use Rattle.source_meaning.specs.Valid.{IsInteger, IsPlainLiteral, IsPlainBinary, IsPlainStatement, HasPlainForm, IsPlainNode, HasSizedLayout, HasDefinedCost}
+use Rattle.consteval.specs.Answers.{RefusesBody, RefusesRun, has_generics, is_empty, is_unbuilt_item, panic_of}
 use Rattle.consteval.specs.Kept.{source_of}
 use Rattle.consteval.specs.Valid.{IsValid}
 use Rattle.consteval.proofs.Begins.{begins, begun-is-frameless}
@@ -95,7 +101,7 @@ wide-is-no-width size is wide =
     cc
 
 -- no plain form lacks an operator, or is unbuilt
-plain-has-operator : (source : Source) (e : ℕ) (form : Option Expr) (ty : Ty) → HasPlainForm source e form ty → LacksOperator form → ⊥
+plain-has-operator : (source : Source) (e : ℕ) (form : Option CoreExpr) (ty : Ty) → HasPlainForm source e form ty → LacksOperator form → ⊥
 plain-has-operator source e (Some (expr.BinaryOp lhs rhs None)) ty plain lacks = plain
 plain-has-operator source e (Some (expr.BinaryOp lhs rhs (Some op))) ty plain lacks = lacks
 plain-has-operator source e (Some (expr.Literal l)) ty plain lacks = lacks
@@ -109,6 +115,7 @@ plain-statement-is-built source (statement.Let pat (Some init) None) plain unbui
 plain-statement-is-built source (statement.Let pat (Some init) (Some other)) plain unbuilt = plain
 plain-statement-is-built source (statement.Let pat None other) plain unbuilt = plain
 plain-statement-is-built source (statement.Expr e has_semi) plain unbuilt = unbuilt
+plain-statement-is-built source statement.Item plain unbuilt = plain
 
 plain-operator-is-built : (source : Source) (op : BinaryOp) (lhs rhs : ℕ) (ty : Ty) → IsPlainBinary source op lhs rhs ty → eager_operator op ≡ None → ⊥
 unfolding eager_operator
@@ -117,9 +124,20 @@ plain-operator-is-built source (binary.CmpOp op) lhs rhs ty plain none = cc
 plain-operator-is-built source (binary.LogicOp op) lhs rhs ty plain none = plain
 plain-operator-is-built source (binary.Assignment op) lhs rhs ty plain none = plain
 
-plain-is-built : (source : Source) (e : ℕ) (form : Option Expr) (ty : Ty) → HasPlainForm source e form ty → IsUnbuilt source form → ⊥
-plain-is-built source e (Some (expr.Literal l)) ty plain unbuilt = unbuilt
-plain-is-built source e (Some (expr.Path name)) ty plain unbuilt = unbuilt
+plain-literal-is-built : (l : Literal) (ty : Ty) → IsPlainLiteral l ty → IsUnbuiltLiteral l → ⊥
+plain-literal-is-built (literal.Bool test) ty plain unbuilt = unbuilt
+plain-literal-is-built (literal.Int n s) ty plain unbuilt = unbuilt
+plain-literal-is-built (literal.Uint n s) ty plain unbuilt = unbuilt
+plain-literal-is-built _ ty plain unbuilt = plain
+
+plain-is-built : (source : Source) (e : ℕ) (form : Option CoreExpr) (ty : Ty) → HasPlainForm source e form ty → IsUnbuilt source e form → ⊥
+plain-is-built source e (Some (expr.Literal l)) ty plain unbuilt = plain-literal-is-built l ty plain unbuilt
+plain-is-built source e (Some (expr.Path name)) ty plain unbuilt =
+    let is = plain.1 in
+    let names = unbuilt.1 in
+    let same : LocalBinding plain.0 ≡ unbuilt.0 = cc in
+    let none = ap local_named same ∙ unbuilt.2 in
+    cc
 plain-is-built source e (Some (expr.UnaryOp a unary.Deref)) ty plain unbuilt = plain.0
 plain-is-built source e (Some (expr.UnaryOp a unary.Not)) ty plain unbuilt = unbuilt
 plain-is-built source e (Some (expr.UnaryOp a unary.Neg)) ty plain unbuilt = unbuilt
@@ -141,8 +159,9 @@ plain-statement-binds source (statement.Let pat (Some init) None) plain lacks =
 plain-statement-binds source (statement.Let pat (Some init) (Some other)) plain lacks = plain
 plain-statement-binds source (statement.Let pat None other) plain lacks = plain
 plain-statement-binds source (statement.Expr e has_semi) plain lacks = lacks
+plain-statement-binds source statement.Item plain lacks = lacks
 
-plain-has-local : (source : Source) (e : ℕ) (form : Option Expr) (ty : Ty) → HasPlainForm source e form ty → LacksLocal source e form → ⊥
+plain-has-local : (source : Source) (e : ℕ) (form : Option CoreExpr) (ty : Ty) → HasPlainForm source e form ty → LacksLocal source e form → ⊥
 plain-has-local source e (Some (expr.Path name)) ty plain lacks =
     let one = plain.1 in
     let other = lacks.1 in
@@ -161,10 +180,10 @@ plain-is-named : (source : Source) (e : ℕ) (name : _) (ty : Ty) → HasPlainFo
 plain-is-named source e name ty plain none = let is = plain.1 in cc
 
 -- a number literal of a plain form is of an integer type
-number-is-integer : (source : Source) (e : ℕ) (form : Option Expr) (ty : Ty) → HasPlainForm source e form ty → IsNumber form → IsInteger ty
-number-is-integer source e (Some (expr.Literal (literal.Bool test))) ty plain number = absurd number
+number-is-integer : (source : Source) (e : ℕ) (form : Option CoreExpr) (ty : Ty) → HasPlainForm source e form ty → IsNumber form → IsInteger ty
 number-is-integer source e (Some (expr.Literal (literal.Int n s))) ty plain number = plain
 number-is-integer source e (Some (expr.Literal (literal.Uint n s))) ty plain number = plain
+number-is-integer source e (Some (expr.Literal _)) ty plain number = absurd number
 number-is-integer source e (Some (expr.BinaryOp lhs rhs op)) ty plain number = absurd number
 number-is-integer source e (Some (expr.Path name)) ty plain number = absurd number
 number-is-integer source e (Some (expr.Block statements tail)) ty plain number = absurd number
@@ -187,12 +206,23 @@ refuses-node source e refusal.NoMemory checked plain sized refuses = refl
 no-typing-errors : (world : HirDatabase) (row : BodyRow) → row.infer.erroneous ≡ false → row.infer.mismatches ≡ [] → HasTypingErrors row.infer → ⊥
 no-typing-errors world row inferred fitting = ⊎_elim (λ erroneous. cc) (λ some. some fitting)
 
+-- a constant without generic parameters is of a kind that is built
+valid-is-built : (world : HirDatabase) (def : DefWithBodyId) (item : ConstRow) → const_row world def ≡ Some item → item.generics ≡ [] → is_unbuilt_item world def ≡ true → ⊥
+valid-is-built world (ConstId id) item is none unbuilt =
+    let some : has_generics (Some item) ≡ true = ap has_generics (sym is) ∙ unbuilt in
+    let built : has_generics (Some item) ≡ false = ap (λ (generics : List GenericParamId). not (is_empty generics)) none in
+    cc
+valid-is-built world (FunctionId id) item is none unbuilt = cc
+valid-is-built world (StaticId id) item is none unbuilt = cc
+valid-is-built world (VariantId id) item is none unbuilt = cc
+
 -- a valid body with a defined cost is lowered, but for want of memory
 pub lowering-is-not-refused : (world : HirDatabase) (def : DefWithBodyId) (args : GenericArgs) (row : BodyRow) (e : MirLowerError) → IsChecked world → IsValid world def args row → HasDefinedCost (source_of world row) → RefusesBody world def args e → e ≡ refusal.NoMemory
 lowering-is-not-refused world def args row e checked valid cost =
     ⊎_elim (λ missing. absurd (let is = missing.1 in let there = valid.body in cc))
-    (⊎_elim (λ given. absurd (given.1 valid.no_args)) (λ refused.
+    (⊎_elim (λ given. absurd (given.1 valid.no_args))
+    (⊎_elim (λ unbuilt. absurd (valid-is-built world def valid.item valid.is_item valid.no_generics unbuilt.1)) (λ refused.
     let same : refused.0 ≡ row = (let is = refused.1 in let there = valid.body in cc) in
     ⊎_elim (λ errors. absurd (no-typing-errors world row valid.inferred valid.fitting errors.1))
     (λ at. refuses-node (source_of world row) at.0 e checked (valid.plain at.0 at.1) (cost.nodes at.0 at.1) at.2)
-    (subst (λ (r : BodyRow). Refuses (source_of world r) e) same refused.2)))
+    (subst (λ (r : BodyRow). Refuses (source_of world r) e) same refused.2))))

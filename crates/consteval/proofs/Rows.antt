@@ -4,7 +4,7 @@ use Rattle.std.specs.Prelude.{option_map}
 use Rattle.world.specs.declared.body.Body.{Body}
 use Rattle.world.specs.declared.database.BodyRow.{BodyRow}
 use Rattle.world.specs.declared.database.HirDatabase.{HirDatabase}
-use Rattle.world.specs.declared.ids.DefWithBodyId.{DefWithBodyId}
+use Rattle.types.specs.declared.ids.DefWithBodyId.{DefWithBodyId}
 use Rattle.world.specs.declared.infer.InferenceResult.{InferenceResult}
 use Rattle.world.specs.Lookups.{body_row}
 use Rattle.world_check.specs.Checked.{IsChecked, IsCheckedBody}

@@ -1,13 +1,15 @@
 -- What the answer to a definition says: the value or the panic that its source means, and the cause of any other.
-use Rattle.std.specs.Prelude.{◌≡◌, ◌≢◌, ℕ, ◌≤◌, List, [], ◌⊎◌, Some, None, Result, Ok, Err, Contains, codes}
+use Rattle.std.specs.Prelude.{◌≡◌, ◌≢◌, ℕ, ◌≤◌, Bool, true, false, not, List, [], ◌∷◌, ◌⊎◌, Option, Some, None, Result, Ok, Err, Contains, codes, slice_get}
 use Rattle.world.specs.declared.database.BodyRow.{BodyRow}
+use Rattle.world.specs.declared.items.ConstRow.{ConstRow}
 use Rattle.world.specs.declared.database.HirDatabase.{HirDatabase}
-use Rattle.world.specs.declared.ids.DefWithBodyId.{DefWithBodyId}
-use Rattle.world.specs.declared.ty.Const.{Const}
-use Rattle.world.specs.declared.ty.Const.TheVariants.{Value}
-use Rattle.world.specs.declared.ty.GenericArgs.{GenericArgs}
-use Rattle.world.specs.declared.ty.MemoryMap.TheVariants.{Empty}
-use Rattle.world.specs.declared.ty.Ty.{Ty}
+use Rattle.types.specs.declared.ids.DefWithBodyId.{DefWithBodyId}
+use Rattle.types.specs.declared.ids.DefWithBodyId.TheVariants.{ConstId}
+use Rattle.types.specs.declared.ty.Const.{Const}
+use Rattle.types.specs.declared.ty.Const.TheVariants.{Value}
+use Rattle.types.specs.declared.ty.GenericArgs.{GenericArgs}
+use Rattle.types.specs.declared.ty.MemoryMap.TheVariants.{Empty}
+use Rattle.types.specs.declared.ty.Ty.{Ty}
 use Rattle.world.specs.Lookups.{body_row}
 use Rattle.mir.specs.declared.body.MirBody.{MirBody}
 use Rattle.mir.specs.declared.errors.ConstEvalError.{ConstEvalError}
@@ -18,7 +20,7 @@ use Rattle.mir.specs.declared.errors.MirLowerError.{MirLowerError}
 use Rattle.mir.specs.declared.errors.MirLowerError.TheVariants as refusal
 use Rattle.mir.specs.Errors.{from_lower_error, from_eval_error}
 use Rattle.mir.specs.Run.{begun}
-use Rattle.mir_eval.specs.Evaluators.{crate_of}
+use Rattle.mir_eval.specs.Evaluators.{crate_or_first}
 use Rattle.mir_eval.specs.Machine.{pointer_bytes}
 use Rattle.mir_lower.specs.Refusals.{Refuses}
 use Rattle.source_meaning.specs.Ends.{Cost, Go, Panic}
@@ -70,17 +72,33 @@ pub record RunsTo (world : HirDatabase) (body : MirBody) (blocks turns : ℕ) (a
   pub ran : Ran world body blocks turns outcome
   pub is : answer ≡ carried outcome
 
--- the body could not be lowered: it has none, it was given arguments, or its lowering was refused
+abbrev pub is_empty : {X : Type 0} → List X → Bool
+is_empty [] = true
+is_empty (x ∷ xs) = false
+
+-- whether a constant has generic parameters
+abbrev pub has_generics : Option ConstRow → Bool
+has_generics (Some row) = not (is_empty row.generics)
+has_generics None = false
+
+-- whether a definition's kind isn't built yet: a function, a static, a variant, or a constant with generic parameters
+abbrev pub is_unbuilt_item : HirDatabase → DefWithBodyId → Bool
+is_unbuilt_item world (ConstId id) = has_generics (slice_get world.consts id.0)
+is_unbuilt_item world _ = true
+
+-- the body could not be lowered: it has none, it was given arguments, its definition's kind isn't built yet, or its
+-- lowering was refused
 abbrev pub RefusesBody : HirDatabase → DefWithBodyId → GenericArgs → MirLowerError → Type 0
 RefusesBody world def args e =
     ((e ≡ refusal.IncompleteExpr) × (body_row world def ≡ None) × (args.0 ≡ []))
     ⊎ ((e ≡ refusal.NotSupported (codes "form not built")) × (args.0 ≢ []))
+    ⊎ ((e ≡ refusal.NotSupported (codes "form not built")) × (is_unbuilt_item world def ≡ true))
     ⊎ ((row : BodyRow) × (body_row world def ≡ Some row) × Refuses (source_of world row) e)
 
 -- a body could not begin: the crate's pointers, or a local that can have no cell
 abbrev pub RefusesRun : HirDatabase → DefWithBodyId → MirBody → MirEvalError → Type 0
 RefusesRun world def body e =
-    ((e ≡ error.TargetDataLayoutNotAvailable (crate_of world def)) × (pointer_bytes world def ≡ None))
+    ((e ≡ error.TargetDataLayoutNotAvailable (crate_or_first world def)) × (pointer_bytes world def ≡ None))
     ⊎ ((e ≡ error.NotSupported (codes "targets with different pointer size from host")) × (pointer_bytes world def ≢ Some 8))
     ⊎ (begun world body ≡ Err e)
 

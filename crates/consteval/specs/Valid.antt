@@ -1,21 +1,22 @@
 -- The definitions that the main theorem speaks of.
 use Rattle.std.specs.Prelude.{◌≡◌, false, [], Some}
 use Rattle.world.specs.declared.database.BodyRow.{BodyRow}
-use Rattle.world.specs.declared.database.ConstRow.{ConstRow}
+use Rattle.world.specs.declared.items.ConstRow.{ConstRow}
 use Rattle.world.specs.declared.database.HirDatabase.{HirDatabase}
-use Rattle.world.specs.declared.ids.DefWithBodyId.{DefWithBodyId}
-use Rattle.world.specs.declared.ty.GenericArgs.{GenericArgs}
+use Rattle.types.specs.declared.ids.DefWithBodyId.{DefWithBodyId}
+use Rattle.types.specs.declared.ty.GenericArgs.{GenericArgs}
 use Rattle.world.specs.Lookups.{const_row, body_row}
 use Rattle.mir_eval.specs.Machine.{pointer_bytes}
 use Rattle.source_meaning.specs.Source.{node_type, root}
 use Rattle.source_meaning.specs.Valid.{IsPlain}
 use Rattle.consteval.specs.Kept.{source_of}
 
--- A definition and its arguments are valid: it has a plain body of its type without typing errors, no arguments,
--- and its crate has pointers of 8 bytes.
+-- A definition and its arguments are valid: it is a constant without generic parameters, has a plain body of its type
+-- without typing errors, no arguments, and its crate has pointers of 8 bytes.
 pub record IsValid (world : HirDatabase) (def : DefWithBodyId) (args : GenericArgs) (row : BodyRow) : Type 0 where
   pub item : ConstRow
   pub is_item : const_row world def ≡ Some item
+  pub no_generics : item.generics ≡ []
   pub body : body_row world def ≡ Some row
   pub no_args : args.0 ≡ []
   pub inferred : row.infer.erroneous ≡ false

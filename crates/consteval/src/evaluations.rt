@@ -27,12 +27,14 @@ pub struct Evaluations<'w> {
 
 impl<'w> Model for Evaluations<'w> {
     ghost use Rattle.std.specs.Coded.{codes};
-    ghost use Rattle.world.specs.contracts.ty.Ty as ty;
+    ghost use Rattle.mir.specs.contracts.body.MirBody as body;
+    ghost use Rattle.types.specs.contracts.ty.Const as konst;
+    ghost use Rattle.world.specs.contracts.database.HirDatabase as database;
     ghost use Rattle.consteval.specs.Kept.{Kept, IsSound, kept_of};
 
     ghost Value = { Kept };
 
-    ghost coded = { Prim.hlevel (codes, ty.the_row.coded) };
+    ghost coded = { Prim.hlevel (codes, database.the_row.coded, body.the_row.coded, konst.the_row.coded) };
 
     ghost view = { λ e. kept_of e.world.now e.bodies.items e.values.items };
 
@@ -56,7 +58,7 @@ fn share(body: &Rc<MirBody>) -> Result<Rc<MirBody>, NoMemory>
 impl<'w> Evaluations<'w> {
     ghost use Rattle.std.specs.Prelude.{◌≡◌, ◌⊎◌, ◌≤◌, [], Some, Ok, Err, IfOk, IfErr, IfSome, OnOk, IsOk, Contains};
     ghost use Rattle.mir.specs.declared.errors.MirLowerError.TheVariants as refusal;
-    ghost use Rattle.mir_eval.specs.Limits.{IsWithin};
+    ghost use Rattle.world.specs.Limits.{IsWithin};
     ghost use Rattle.source_meaning.specs.Valid.{HasDefinedCost};
     ghost use Rattle.world_check.specs.Checked.{IsChecked};
     ghost use Rattle.consteval.specs.Kept.{IsKept, IsLowered, IsSound, IsValueOf, Stays, source_of};

@@ -9,9 +9,13 @@ use world::{DefWithBodyId, Map, NoMemory};
 fn is_same(one: DefWithBodyId, other: DefWithBodyId) -> bool
     ensures { IsTrue result → one ≡ other }
 {
-    let DefWithBodyId::ConstId(one) = one;
-    let DefWithBodyId::ConstId(other) = other;
-    one.0 == other.0
+    match (one, other) {
+        (DefWithBodyId::FunctionId(one), DefWithBodyId::FunctionId(other)) => one.0 == other.0,
+        (DefWithBodyId::StaticId(one), DefWithBodyId::StaticId(other)) => one.0 == other.0,
+        (DefWithBodyId::ConstId(one), DefWithBodyId::ConstId(other)) => one.0 == other.0,
+        (DefWithBodyId::VariantId(one), DefWithBodyId::VariantId(other)) => one.0 == other.0,
+        _ => false,
+    }
 }
 
 /// What is kept of a definition.

@@ -2,13 +2,14 @@
 
 ghost use Rattle.std.specs.Prelude.{◌≡◌, ◌⊎◌, [], IsTrue, IfOk, IfErr, OnOk, codes};
 ghost use Rattle.mir.specs.declared.errors.MirLowerError.TheVariants as refusal;
-ghost use Rattle.consteval.specs.Answers.{RefusesBody};
+ghost use Rattle.std.specs.Option.{option_copied};
+ghost use Rattle.consteval.specs.Answers.{RefusesBody, has_generics, is_unbuilt_item};
 ghost use Rattle.consteval.specs.Kept.{IsLowered};
 
 use mir::{MirBody, MirLowerError};
 use mir_lower::lower_to_mir;
 use std::alloc::Global;
-use world::{DefWithBodyId, GenericArgs, Text};
+use world::{ConstRow, DefWithBodyId, GenericArgs, HirDatabase, Text};
 use world_check::CheckedWorld;
 
 /// Whether there are no arguments.
@@ -29,8 +30,30 @@ fn form_not_built(alloc: Global) -> MirLowerError
     }
 }
 
+/// Whether a constant has generic parameters.
+fn has_generics(row: Option<&ConstRow>) -> bool
+    ensures { result ≡ has_generics (option_copied row.entry) }
+{
+    match row {
+        Some(row) => !row.generics.as_slice().is_empty(),
+        None => false,
+    }
+}
+
+/// Whether a definition's kind isn't built yet: a function, a static, a variant, or a constant with
+/// generic parameters.
+fn is_unbuilt_item(db: &HirDatabase, def: DefWithBodyId) -> bool
+    ensures { result ≡ is_unbuilt_item db.now def }
+{
+    match def {
+        DefWithBodyId::ConstId(id) => has_generics(db.consts.get(id.0 as u64)),
+        _ => true,
+    }
+}
+
 /// The lowered body of a definition. The refusals, in this order: `NotSupported` where there are
-/// arguments, `IncompleteExpr` where there is no body, those of `lower_to_mir`, and `NoMemory`.
+/// arguments or the definition's kind isn't built yet, `IncompleteExpr` where there is no body, those
+/// of `lower_to_mir`, and `NoMemory`.
 pub(crate) fn lower(
     alloc: Global,
     world: &CheckedWorld,
@@ -45,6 +68,9 @@ pub(crate) fn lower(
         return Err(form_not_built(alloc));
     }
     let db = world.db();
+    if is_unbuilt_item(db, def) {
+        return Err(form_not_built(alloc));
+    }
     let Some(body) = db.body(def) else {
         return Err(MirLowerError::IncompleteExpr);
     };

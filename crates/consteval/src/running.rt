@@ -3,7 +3,7 @@
 ghost use Rattle.std.specs.Prelude.{◌≡◌, ◌⊎◌, ◌≤◌, [], Err, IfOk, IfErr};
 ghost use Rattle.mir.specs.declared.errors.MirEvalError as error;
 ghost use Rattle.mir_eval.specs.Evaluators.{machine_of};
-ghost use Rattle.mir_eval.specs.Limits.{IsWithin};
+ghost use Rattle.world.specs.Limits.{IsWithin};
 ghost use Rattle.consteval.specs.Answers.{AnswersBody, RefusesRun, carried};
 ghost use Rattle.consteval.specs.Kept.{HasBegun};
 

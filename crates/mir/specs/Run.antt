@@ -1,9 +1,16 @@
 -- What a run of a body means: blocks entered one after another over one memory, under a budget of blocks.
 use Rattle.std.specs.Prelude.{ℕ, zero, suc, List, [], ◌∷◌, drop, Option, Some, None, Result, Ok, Err, slice_get, option_map, option_and_then, codes}
 use Rattle.world.specs.declared.database.HirDatabase.{HirDatabase}
-use Rattle.world.specs.declared.ty.Const.TheVariants.{Value}
-use Rattle.world.specs.declared.ty.Const.{Const}
-use Rattle.world.specs.declared.ty.Ty.{Ty}
+use Rattle.types.specs.declared.ty.ComplexMemoryMap.{ComplexMemoryMap}
+use Rattle.types.specs.declared.ty.Const.{Const, Const-F, out-Const}
+use Rattle.types.specs.declared.ty.Const.TheOpen as layer
+use Rattle.types.specs.declared.ty.GenericArg.{GenericArg}
+use Rattle.types.specs.declared.ty.GenericArgs.{GenericArgs}
+use Rattle.types.specs.declared.ty.MemoryMap.{MemoryMap}
+use Rattle.types.specs.declared.ty.TraitRef.{TraitRef}
+use Rattle.types.specs.declared.ty.UnevaluatedConst.{UnevaluatedConst}
+use Rattle.types.specs.declared.ty.ValueConst.{ValueConst}
+use Rattle.types.specs.declared.ty.Ty.{Ty}
 use Rattle.numbers.specs.declared.operator.Operator.{Operator}
 use Rattle.numbers.specs.declared.operator.Operator.TheVariants as operator
 use Rattle.numbers.specs.declared.operator.Kind.{Kind}
@@ -32,14 +39,22 @@ pub record Frame : Type 0 where
   pub body : MirBody
   pub cells : List Interval
 
--- the bytes of a constant
-abbrev pub constant_bytes : Const → List ℕ
-constant_bytes (Value value) = value.memory
+-- a constant's variant
+abbrev ConstLayer : Type 0
+ConstLayer = Const-F Const GenericArg MemoryMap Ty ComplexMemoryMap GenericArgs TraitRef UnevaluatedConst ValueConst
+
+abbrev pub layer_bytes : ConstLayer → Option (List ℕ)
+layer_bytes (layer.Value value) = Some value.memory
+layer_bytes _ = None
+
+-- the bytes of a constant, where it is a value
+abbrev pub constant_bytes : Const → Option (List ℕ)
+constant_bytes konst = layer_bytes (out-Const konst)
 
 -- the bytes that an operand has now
 unfoldable pub operand_bytes : Frame → Memory → OperandKind → Option (List ℕ)
 operand_bytes frame memory (Copy place) = option_and_then (bytes_at memory) (slice_get frame.cells place.local.0)
-operand_bytes frame memory (Constant konst ty) = Some (constant_bytes konst)
+operand_bytes frame memory (Constant konst ty) = constant_bytes konst
 
 -- the type of an operand
 unfoldable pub operand_type : MirBody → OperandKind → Option Ty

@@ -3,6 +3,7 @@
 #![tactic(auto)]
 
 mod body;
+mod copies;
 mod errors;
 mod ids;
 mod operand;

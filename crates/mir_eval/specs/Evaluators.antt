@@ -1,10 +1,10 @@
 -- The machine that an evaluator is, and how its calls change it.
-use Rattle.std.specs.Prelude.{◌≡◌, ◌⊎◌, ℕ, Bool, true, false, Option, Some, None, Result, Ok, Err, option_map, unwrap_or}
+use Rattle.std.specs.Prelude.{◌≡◌, ◌⊎◌, ℕ, Bool, true, false, Option, Some, None, Result, Ok, Err, unwrap_or}
 use Rattle.world.specs.declared.database.HirDatabase.{HirDatabase}
-use Rattle.world.specs.declared.ids.Crate.{Crate}
-use Rattle.world.specs.declared.ids.DefWithBodyId.{DefWithBodyId}
-use Rattle.world.specs.declared.ty.Const.{Const}
-use Rattle.world.specs.Lookups.{const_row}
+use Rattle.types.specs.declared.ids.Crate.{Crate}
+use Rattle.types.specs.declared.ids.DefWithBodyId.{DefWithBodyId}
+use Rattle.types.specs.declared.ty.Const.{Const}
+use Rattle.world.specs.Lookups.{crate_of}
 use Rattle.mir.specs.declared.errors.MirEvalError.{MirEvalError}
 use Rattle.mir.specs.declared.errors.MirEvalError as error
 use Rattle.mir_eval.specs.declared.evaluator.Turned.{Turned}
@@ -19,8 +19,8 @@ machine_of evaluator =
     record { world = evaluator.db.now; owner = evaluator.owner; blocks = evaluator.blocks; state = state_of evaluator.phase }
 
 -- the crate of what has a body, and the first crate where the world has no row of it
-abbrev pub crate_of : HirDatabase → DefWithBodyId → Crate
-crate_of world owner = unwrap_or (option_map (λ row. row.krate) (const_row world owner)) (record { 0 = 0 })
+abbrev pub crate_or_first : HirDatabase → DefWithBodyId → Crate
+crate_or_first world owner = unwrap_or (crate_of world owner) (record { 0 = 0 })
 
 abbrev pub is_fresh : State → Bool
 is_fresh Fresh = true

@@ -1,5 +1,4 @@
 pub mod Evaluators
-pub mod Limits
 pub mod Machine
 pub mod Phases
 pub mod Start

@@ -1,11 +1,11 @@
 -- The machine that runs a body, as its callers see it, and what its calls do.
 use Rattle.std.specs.Prelude.{◌≡◌, ℕ, zero, suc, ◌-◌, List, [], Option, Some, None, Result, Ok, Err, slice_get, option_and_then}
 use Rattle.world.specs.declared.database.HirDatabase.{HirDatabase}
-use Rattle.world.specs.declared.ty.Const.{Const}
-use Rattle.world.specs.declared.ty.Const.TheVariants.{Value}
-use Rattle.world.specs.declared.ty.MemoryMap.TheVariants.{Empty}
-use Rattle.world.specs.Lookups.{const_row}
-use Rattle.world.specs.declared.ids.DefWithBodyId.{DefWithBodyId}
+use Rattle.types.specs.declared.ty.Const.{Const}
+use Rattle.types.specs.declared.ty.Const.TheVariants.{Value}
+use Rattle.types.specs.declared.ty.MemoryMap.TheVariants.{Empty}
+use Rattle.world.specs.Lookups.{crate_of}
+use Rattle.types.specs.declared.ids.DefWithBodyId.{DefWithBodyId}
 use Rattle.mir.specs.declared.body.MirBody.{MirBody}
 use Rattle.mir.specs.declared.errors.MirEvalError.{MirEvalError}
 use Rattle.mir.specs.declared.errors.MirEvalError as error
@@ -29,7 +29,7 @@ pub record Machine : Type 0 where
 -- the size of a pointer of the owner's crate, where it is known
 abbrev pub pointer_bytes : HirDatabase → DefWithBodyId → Option ℕ
 pointer_bytes world owner =
-    option_and_then (λ row. option_and_then (λ krate. krate.pointer_bytes) (slice_get world.crates row.krate.0)) (const_row world owner)
+    option_and_then (λ krate. option_and_then (λ row. row.pointer_bytes) (slice_get world.crates krate.0)) (crate_of world owner)
 
 -- the value of a body whose return slot has these bytes
 abbrev pub value_of : MirBody → List ℕ → Result Const MirEvalError

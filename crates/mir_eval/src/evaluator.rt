@@ -1,16 +1,15 @@
 //! The machine as its callers use it: made, begun once, run to its end, and taken apart.
 
-ghost use Rattle.std.specs.Prelude.{◌≡◌, ◌↔◌, ◌⊎◌, [], slice_get, option_map, option_and_then, codes, IfOk, IfErr, OnOk, OnErr, IsOk, IsSome, IsTrue};
-ghost use Rattle.world.specs.Lookups.{const_row};
+ghost use Rattle.std.specs.Prelude.{◌≡◌, ◌↔◌, ◌⊎◌, [], slice_get, option_and_then, codes, IfOk, IfErr, OnOk, OnErr, IsOk, IsSome, IsTrue};
 ghost use Rattle.mir_eval.specs.Start.{is_own_width};
 ghost use Rattle.mir.specs.declared.errors.MirEvalError as error;
 
+use crate::MirOutput;
 use crate::runs::{Phase, Run};
-use crate::{Limits, MirOutput};
 use mir::{MirBody, MirEvalError};
 use std::alloc::Global;
 use std::rc::Rc;
-use world::{Const, Crate, DefWithBodyId, HirDatabase, Text};
+use world::{Const, Crate, DefWithBodyId, HirDatabase, Limits, Text};
 
 /// How a run turned out.
 #[derive(Clone, Copy, PartialEq, Eq, Debug)]
@@ -44,17 +43,6 @@ fn pointer_bytes(db: &HirDatabase, krate: Option<Crate>) -> Option<u64>
     }
 }
 
-/// The crate that something belongs to.
-fn crate_of(db: &HirDatabase, owner: DefWithBodyId) -> Option<Crate>
-    ensures { result ≡ option_map (λ row. row.krate) (const_row db.now owner) }
-{
-    let DefWithBodyId::ConstId(id) = owner;
-    match db.consts.get(id.0 as u64) {
-        Some(row) => Some(row.krate),
-        None => None,
-    }
-}
-
 /// Whether a pointer has as many bytes as the machine's own.
 fn is_own_width(bytes: Option<u64>) -> bool
     ensures { result ≡ is_own_width bytes }
@@ -76,10 +64,10 @@ fn other_width(alloc: Global) -> MirEvalError
 }
 
 impl<'a> Evaluator<'a> {
-    ghost use Rattle.mir_eval.specs.Limits.{IsWithin};
+    ghost use Rattle.world.specs.Limits.{IsWithin};
     ghost use Rattle.mir_eval.specs.Machine.{Fresh, pointer_bytes, stepped, finished, turns_of};
     ghost use Rattle.mir_eval.specs.Start.{start_of};
-    ghost use Rattle.mir_eval.specs.Evaluators.{machine_of, crate_of, is_fresh, is_going, is_over, turned, outcome, Became};
+    ghost use Rattle.mir_eval.specs.Evaluators.{machine_of, crate_or_first, is_fresh, is_going, is_over, turned, outcome, Became};
 
     /// A machine for a body that belongs to `owner`. It takes no memory. The refusal is
     /// `TargetDataLayoutNotAvailable`, exactly where the size of a pointer of the owner's crate isn't
@@ -93,10 +81,10 @@ impl<'a> Evaluator<'a> {
     ) -> Result<Evaluator<'a>, MirEvalError>
         requires { IsWithin limits.now }
         ensures made { IfOk result (λ evaluator. machine_of evaluator ≡ record { world = db.now; owner = owner; blocks = limits.now.blocks; state = Fresh }) }
-        ensures refused { IfErr result (λ e. e ≡ error.TargetDataLayoutNotAvailable (crate_of db.now owner)) }
+        ensures refused { IfErr result (λ e. e ≡ error.TargetDataLayoutNotAvailable (crate_or_first db.now owner)) }
         ensures variant { IsOk result ↔ IsSome (pointer_bytes db.now owner) }
     {
-        let krate = crate_of(db, owner);
+        let krate = db.crate_of(owner);
         match pointer_bytes(db, krate) {
             Some(_) => Ok(Evaluator {
                 alloc,
@@ -121,7 +109,7 @@ impl<'a> Evaluator<'a> {
         ensures refused { IfErr result (λ e. (e ≡ error.NoMemory) ⊎ (start_of (machine_of self.old) body.value ≡ Err e)) }
         ensures unchanged { OnErr result (machine_of self.new ≡ machine_of self.old) }
     {
-        if !is_own_width(pointer_bytes(self.db, crate_of(self.db, self.owner))) {
+        if !is_own_width(pointer_bytes(self.db, self.db.crate_of(self.owner))) {
             return Err(other_width(self.alloc));
         }
         match Run::start(self.alloc, self.db, body, self.blocks) {

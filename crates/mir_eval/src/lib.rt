@@ -5,7 +5,6 @@
 mod cells;
 mod evaluator;
 mod faults;
-mod limits;
 mod outcomes;
 mod output;
 mod places;
@@ -15,5 +14,5 @@ mod steps;
 mod tests;
 
 pub use evaluator::{Evaluator, Turned};
-pub use limits::Limits;
 pub use output::MirOutput;
+pub use world::Limits;

@@ -2,7 +2,7 @@
 
 ghost use Rattle.std.specs.Prelude.{◌≡◌, ◌≤◌, IfOk, Some, slice_get, option_and_then, option_copied};
 ghost use Rattle.numbers.specs.Operators.{kind_of};
-ghost use Rattle.mir.specs.Run.{copied, read, operator_of, answered, operated, computed_of, operated_on, rvalue_bytes, operand_bytes, operand_type, after_statement, after_statements, terminated, next_from, entering};
+ghost use Rattle.mir.specs.Run.{constant_bytes, copied, read, operator_of, answered, operated, computed_of, operated_on, rvalue_bytes, operand_bytes, operand_type, after_statement, after_statements, terminated, next_from, entering};
 ghost use Rattle.mir_mem.specs.Computed.{answer_of, count_of};
 ghost use Rattle.mir_eval.specs.Steps.{interval_of, operated_bytes, frame, memory, left_with, next_of, ended_of};
 
@@ -31,6 +31,16 @@ pub(crate) struct Stop {
     pub left: u64,
 }
 
+/// The bytes of a constant, where it is a value.
+fn constant_bytes(konst: &Const) -> Option<&[u8]>
+    ensures { option_copied result ≡ constant_bytes konst.now }
+{
+    match konst {
+        Const::Value(value) => Some(value.memory.as_slice()),
+        _ => None,
+    }
+}
+
 /// The bytes that an operand has now.
 #[tactic(auto, unfolding(mir::specs::Run::operand_bytes))]
 fn operand<'r>(
@@ -46,10 +56,7 @@ fn operand<'r>(
             Some(cell) => read(stack, cell),
             None => None,
         },
-        OperandKind::Constant { konst, .. } => {
-            let Const::Value(value) = konst;
-            Some(value.memory.as_slice())
-        }
+        OperandKind::Constant { konst, .. } => constant_bytes(konst),
     }
 }
 
@@ -83,10 +90,10 @@ fn assign_operand(
             Some(from) => copy(stack, from, to),
             None => Err(Fault::BadRead),
         },
-        OperandKind::Constant { konst, .. } => {
-            let Const::Value(value) = konst;
-            write(stack, to, value.memory.as_slice())
-        }
+        OperandKind::Constant { konst, .. } => match constant_bytes(konst) {
+            Some(bytes) => write(stack, to, bytes),
+            None => Err(Fault::BadRead),
+        },
     }
 }
 

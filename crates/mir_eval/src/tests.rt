@@ -1,14 +1,14 @@
 use crate::{Evaluator, Limits, Turned};
 use mir::{
-    BasicBlock, BasicBlockId, BinOp, Local, LocalId, MirBody, MirSpan, Operand, OperandKind, Place,
-    Rvalue, Statement, StatementKind, Terminator, TerminatorKind, UnOp,
+    BasicBlock, BasicBlockId, BinOp, Local, LocalId, MirBody, MirEvalError, MirSpan, Operand,
+    OperandKind, Place, Rvalue, Statement, StatementKind, Terminator, TerminatorKind, UnOp,
 };
 use std::alloc::Global;
 use std::rc::Rc;
 use std::test::Fail;
 use world::{
     Bytes, Const, ConstId, ConstRow, Crate, CrateRow, DefWithBodyId, HirDatabase, Layout, List,
-    MemoryMap, NoMemory, Table, Ty, UintTy, ValueConst, Variants,
+    MemoryMap, NoMemory, Ty, UintTy, ValueConst, Variants,
 };
 
 const OWNER: DefWithBodyId = DefWithBodyId::ConstId(ConstId(0));
@@ -19,18 +19,17 @@ fn u64_type() -> Ty {
 
 /// A world of one constant of the type `u64`.
 fn world_of_one(alloc: Global) -> Result<HirDatabase, NoMemory> {
-    let mut crates = List::new(alloc);
-    crates.push(CrateRow {
+    let mut db = HirDatabase::new(alloc);
+    db.crates.push(CrateRow {
         pointer_bytes: Some(8),
     })?;
-    let mut consts = List::new(alloc);
-    consts.push(ConstRow {
+    db.consts.push(ConstRow {
         name: None,
         krate: Crate(0),
+        generics: List::new(alloc),
         ty: u64_type(),
         body: None,
     })?;
-    let mut layouts = Table::new(alloc);
     let layout = Layout {
         size: 8,
         align: 8,
@@ -38,13 +37,8 @@ fn world_of_one(alloc: Global) -> Result<HirDatabase, NoMemory> {
         offsets: List::new(alloc),
         variants: Variants::Single(0),
     };
-    layouts.push(u64_type(), layout)?;
-    Ok(HirDatabase {
-        crates,
-        consts,
-        bodies: List::new(alloc),
-        layouts,
-    })
+    db.layouts.push((u64_type(), layout))?;
+    Ok(db)
 }
 
 /// A number as an operand.
@@ -99,12 +93,12 @@ fn body_of(alloc: Global, statements: List<Statement>) -> Result<MirBody, NoMemo
     })
 }
 
-/// One block that puts 2 + 2 into the return slot.
-fn sum_body(alloc: Global) -> Result<MirBody, NoMemory> {
-    let sum = Rvalue::CheckedBinaryOp(BinOp::Add, number(alloc, 2)?, number(alloc, 2)?);
-    let mut statements = List::new(alloc);
-    statements.push(statement(StatementKind::Assign(SLOT, sum)))?;
-    body_of(alloc, statements)
+/// The value that a run gave.
+fn value_of(outcome: Result<Const, MirEvalError>) -> Result<ValueConst, Fail> {
+    match outcome? {
+        Const::Value(value) => Ok(value),
+        _ => Err(Fail::from("no value")),
+    }
 }
 
 /// The value that these statements leave in the return slot.
@@ -116,28 +110,50 @@ fn value_after(alloc: Global, statements: List<Statement>) -> Result<ValueConst,
     evaluator.begin(body)?;
     evaluator.run();
     let (result, _) = evaluator.finish();
-    let Const::Value(value) = result?;
-    Ok(value)
+    value_of(result)
+}
+
+/// What puts 2 + 2 into the return slot.
+fn sum_statements(alloc: Global) -> Result<List<Statement>, NoMemory> {
+    let sum = Rvalue::CheckedBinaryOp(BinOp::Add, number(alloc, 2)?, number(alloc, 2)?);
+    let mut statements = List::new(alloc);
+    statements.push(statement(StatementKind::Assign(SLOT, sum)))?;
+    Ok(statements)
 }
 
 #[test]
 fn two_and_two_are_four(rt: HostRuntime) -> Result<(), Fail> {
     let alloc = rt.alloc();
-    let db = world_of_one(alloc)?;
-    let limits = Limits::default_limits();
-    let mut evaluator = Evaluator::new(alloc, &db, OWNER, false, &limits)?;
-    let body = Rc::new(alloc, sum_body(alloc)?)?;
-    evaluator.begin(body)?;
-    assert_eq!(rt; evaluator.run(), Turned::Done);
-    assert!(rt; evaluator.is_over());
-    assert_eq!(rt; evaluator.turns(), 1);
-    let (result, output) = evaluator.finish();
-    let Const::Value(value) = result?;
+    let value = value_after(alloc, sum_statements(alloc)?)?;
     assert_eq!(rt;
         value.memory.as_slice(),
         [4, 0, 0, 0, 0, 0, 0, 0].as_slice()
     );
-    assert_eq!(rt; output.stdout_bytes().len(), 0);
+    Ok(())
+}
+
+/// How a run of 2 + 2 went: how it ended, whether it is over, its turns, and how many bytes
+/// it wrote.
+fn sum_run(alloc: Global) -> Result<(Turned, bool, u64, usize), Fail> {
+    let db = world_of_one(alloc)?;
+    let limits = Limits::default_limits();
+    let mut evaluator = Evaluator::new(alloc, &db, OWNER, false, &limits)?;
+    let body = Rc::new(alloc, body_of(alloc, sum_statements(alloc)?)?)?;
+    evaluator.begin(body)?;
+    let turned = evaluator.run();
+    let over = evaluator.is_over();
+    let turns = evaluator.turns();
+    let (_, output) = evaluator.finish();
+    Ok((turned, over, turns, output.stdout_bytes().len()))
+}
+
+#[test]
+fn a_run_of_one_block_takes_one_turn(rt: HostRuntime) -> Result<(), Fail> {
+    let (turned, over, turns, written) = sum_run(rt.alloc())?;
+    assert_eq!(rt; turned, Turned::Done);
+    assert!(rt; over);
+    assert_eq!(rt; turns, 1);
+    assert_eq!(rt; written, 0);
     Ok(())
 }
 

@@ -2,14 +2,12 @@
 use Rattle.std.proofs.Common.{◌≡◌, ℕ, ◌+◌, ⊎_elim, List, [], ◌∷◌, ◌++◌, flat_map, Contains, Option, Some, None, Ok, refl, sym, ap, ◌∙◌, subst, arith, append_assoc, append-nil}
 use Rattle.std.proofs.lemmas.Grind.{flat_map-append}
 use Rattle.std.proofs.lemmas.List.Elements.{Contains-append_cases}
-use Rattle.world.specs.declared.body.Expr.TheVariants as expr
-use Rattle.world.specs.declared.body.Pat.{Pat}
-use Rattle.world.specs.declared.body.Pat.TheVariants.{Bind}
+use Rattle.source_meaning.specs.Core as expr
 use Rattle.world.specs.declared.body.Statement.{Statement}
 use Rattle.world.specs.declared.body.Statement.TheVariants as statement
-use Rattle.world.specs.declared.ids.BindingId.{BindingId}
-use Rattle.world.specs.declared.ids.ExprId.{ExprId}
-use Rattle.world.specs.declared.ids.PatId.{PatId}
+use Rattle.types.specs.declared.ids.BindingId.{BindingId}
+use Rattle.types.specs.declared.ids.ExprId.{ExprId}
+use Rattle.types.specs.declared.ids.PatId.{PatId}
 use Rattle.world_check.specs.Checked.{optional}
 use Rattle.mir.specs.declared.operand.Operand.{Operand as MirOperand}
 use Rattle.mir.specs.declared.operand.OperandKind.TheVariants.{Copy}
@@ -57,7 +55,7 @@ idles-read source s new place span sound opened same =
     })
 
 -- a name is bound to the value of a cell
-pub binds-name : (source : Source) (s0 s1 new : Shape) (pat : PatId) (id : BindingId) (place from : Place) (operand : MirOperand) (span : MirSpan) → pattern source pat.0 ≡ Some (Bind id) → IsGiven source s0 s1 (Binding id.0) place.local.0 → operand.kind ≡ Copy from → new ≡ with_statement (assignment place (Use operand) span) s1 → (c : Cell) → local_of s0 c ≡ Some from.local.0 → Binds source s0 new pat.0 c
+pub binds-name : (source : Source) (s0 s1 new : Shape) (pat : PatId) (id : BindingId) (place from : Place) (operand : MirOperand) (span : MirSpan) → pattern source pat.0 ≡ Some id → IsGiven source s0 s1 (Binding id.0) place.local.0 → operand.kind ≡ Copy from → new ≡ with_statement (assignment place (Use operand) span) s1 → (c : Cell) → local_of s0 c ≡ Some from.local.0 → Binds source s0 new pat.0 c
 binds-name source s0 s1 new pat id place from operand span binds given copies same c found =
     let st = assignment place (Use operand) span in
     let opened = given.keeps.«open» in
@@ -75,7 +73,7 @@ binds-name source s0 s1 new pat id place from operand span binds given copies sa
             let grown : Grows s1 whole = grows-trans s1 (with_statement st s1) whole last grows in
             let to = local_of-grows s1 whole grown (Binding id.0) place.local.0 given.found in
             let at = local_of-grows s0 whole (grows-trans s0 s1 whole given.keeps.grows grown) c from.local.0 found in
-            subst (λ (p : Option Pat). Reaches frame (here s0) (here (with_statement st s1)) memory (Done whole frame) (bind p (record { cell = c }) store)) (sym binds)
+            subst (λ (p : Option BindingId). Reaches frame (here s0) (here (with_statement st s1)) memory (Done whole frame) (bind p (record { cell = c }) store)) (sym binds)
             (reaches-from frame (here s0) (here s1) (here (with_statement st s1)) memory (Done whole frame) (given.comes whole frame grown is memory) (put store (record { cell = Binding id.0 }) (store c))
             (assigned-bytes source s1 whole frame place (Use operand) span opened sound is grows (Binding id.0) to store memory holds (store c)
             (name-computes source whole frame c from operand copies sound is at store memory holds)));

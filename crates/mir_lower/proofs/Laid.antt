@@ -1,11 +1,11 @@
 -- In a plain source, where the locals of the graph have layouts, the types of what is evaluated have.
 use Rattle.std.proofs.Common.{◌≡◌, ℕ, zero, suc, ◌⊎◌, inl, inr, List, [], ◌∷◌, Contains, Option, Some, None, refl, sym, ap, subst, arith}
 use Rattle.std.specs.Prelude.{option_map}
-use Rattle.world.specs.declared.body.Expr.TheVariants as expr
-use Rattle.world.specs.declared.body.Literal.{Literal}
-use Rattle.world.specs.declared.body.Literal.TheVariants as literal
+use Rattle.source_meaning.specs.Core as expr
+use Rattle.world.specs.declared.literal.Literal.{Literal}
+use Rattle.world.specs.declared.literal.Literal.TheVariants as literal
 use Rattle.world.specs.declared.infer.ValueNs.TheVariants.{LocalBinding}
-use Rattle.world.specs.declared.ids.BindingId.{BindingId}
+use Rattle.types.specs.declared.ids.BindingId.{BindingId}
 use Rattle.world.specs.declared.layout.Layout.{Layout}
 use Rattle.mir.specs.declared.operand.OperandKind.{OperandKind}
 use Rattle.source_meaning.specs.Meaning.{literal_bytes}
@@ -44,6 +44,7 @@ number-laid source e (literal.Uint n s) bytes told truth = by-layout _ (node_lay
   by-layout : (f : Layout → List ℕ) (found : Option Layout) → node_layout source e ≡ found → option_map f found ≡ Some bytes → IsLaidOut source (node_type source e)
   by-layout f (Some layout) is h = record { layout = layout; found = is }
   by-layout f None is h = absurd cc
+number-laid source e _ bytes told truth = absurd cc
 
 pub lays-literal : (source : Source) (s : Shape) (e : ℕ) (l : Literal) (operand : OperandKind) → node source e ≡ Some (expr.Literal l) → IsLiteral source e l operand → (IsTruthLiteral (node source e) → IsLaidOut source (node_type source e)) → LaysOut source s e
 lays-literal source s e l operand form is truth plain layouts f evaluates =

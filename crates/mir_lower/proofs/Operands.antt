@@ -1,9 +1,9 @@
 -- Literals, paths, and other expressions as operands and as places.
 use Rattle.std.proofs.Common.{◌≡◌, ℕ, zero, suc, false, cond, List, [], ◌∷◌, ◌++◌, Option, Some, None, refl, sym, ap, ◌∙◌, subst, arith, append_assoc, append-nil}
 use Rattle.std.specs.Prelude.{slice_get, option_map}
-use Rattle.world.specs.declared.body.Expr.{Expr}
-use Rattle.world.specs.declared.body.Expr.TheVariants as expr
-use Rattle.world.specs.declared.body.Literal.{Literal}
+use Rattle.source_meaning.specs.Core.{CoreExpr}
+use Rattle.source_meaning.specs.Core as expr
+use Rattle.world.specs.declared.literal.Literal.{Literal}
 use Rattle.world.specs.declared.infer.ValueNs.{ValueNs}
 use Rattle.mir.specs.declared.operand.OperandKind.{OperandKind}
 use Rattle.mir.specs.declared.operand.OperandKind.TheVariants.{Copy}
@@ -29,7 +29,7 @@ pub literal-fits : (source : Source) (whole : Shape) (frame : Frame) (e : ℕ) (
 unfolding mir_bytes mir_type
 literal-fits source whole frame e literal operand is =
     record {
-      bytes = λ store memory holds. ap (mir_bytes frame memory) is.is_constant.is_constant ∙ ap Some is.is_constant.bytes_are;
+      bytes = λ store memory holds. ap (mir_bytes frame memory) is.is_constant.is_constant ∙ is.is_constant.bytes_are;
       ty = ap (mir_type frame.body) is.is_constant.is_constant;
     }
 
@@ -96,7 +96,7 @@ place-operand source old new whole frame e place sound is grows does form (suc f
         subst (λ (p : Path). Fits source (Copy place) whole frame (At p)) (sym claims.1) (place-fits source whole frame does.cell place sound is (local_of-grows new whole grows does.cell place.local.0 does.found)),
       ),
     ))) where
-      no-literal : (form : Option Expr) → is_literal form ≡ false → operand_of source (level_at source fuel) e form store ≡ then_do ((level_at source fuel).place e store) (λ path later. Go (At path) later no_cost)
+      no-literal : (form : Option CoreExpr) → is_literal form ≡ false → operand_of source (level_at source fuel) e form store ≡ then_do ((level_at source fuel).place e store) (λ path later. Go (At path) later no_cost)
       no-literal (Some (expr.Literal literal)) is = absurd cc
       no-literal _ is = refl
 
@@ -124,7 +124,7 @@ into-place source from middle new whole frame e form does grows sound is live (s
     ((level_at source fuel).into e (record { cell = Node e }) store) (λ _ later. Go (record { cell = Node e }) later no_cost)
     (reaches-from frame (here from) (here middle) (here new) memory (λ _ after later. Holds whole frame after later × Unit {0}) (live memory) ((level_at source fuel).into e (record { cell = Node e }) store) (does.reaches whole frame grows sound is fuel store memory holds))
     (λ value after later claims. (0, later, omega arith, comes-refl frame (here new) later, (claims.0, refl)))) where
-      no-path : (form : Option Expr) → is_path form ≡ false → place_of source (level_at source fuel) e form store ≡ then_do ((level_at source fuel).into e (record { cell = Node e }) store) (λ _ later. Go (record { cell = Node e }) later no_cost)
+      no-path : (form : Option CoreExpr) → is_path form ≡ false → place_of source (level_at source fuel) e form store ≡ then_do ((level_at source fuel).into e (record { cell = Node e }) store) (λ _ later. Go (record { cell = Node e }) later no_cost)
       no-path (Some (expr.Path name)) is = absurd cc
       no-path _ is = refl
 

@@ -1,15 +1,15 @@
 -- What is assigned to a place: a literal, what a path names, and what operators make of their operands.
 use Rattle.std.proofs.Common.{arith, ◌≡◌, ℕ, ⊎_elim, ◌⊎◌, inl, inr, List, [], ◌∷◌, ◌++◌, Contains, Option, Some, None, Ok, refl, sym, ap, ◌∙◌, subst, append_assoc, append-nil}
-use Rattle.world.specs.declared.body.ArithOp.TheVariants as arith_op
-use Rattle.world.specs.declared.body.BinaryOp.{BinaryOp}
-use Rattle.world.specs.declared.body.BinaryOp.TheVariants as binary
-use Rattle.world.specs.declared.body.Expr.{Expr}
-use Rattle.world.specs.declared.body.Expr.TheVariants as expr
-use Rattle.world.specs.declared.body.Literal.{Literal}
-use Rattle.world.specs.declared.body.Literal.TheVariants as literal
-use Rattle.world.specs.declared.ids.ExprId.{ExprId}
+use Rattle.types.specs.declared.operators.ArithOp.TheVariants as arith_op
+use Rattle.types.specs.declared.operators.BinaryOp.{BinaryOp}
+use Rattle.types.specs.declared.operators.BinaryOp.TheVariants as binary
+use Rattle.source_meaning.specs.Core.{CoreExpr}
+use Rattle.source_meaning.specs.Core as expr
+use Rattle.world.specs.declared.literal.Literal.{Literal}
+use Rattle.world.specs.declared.literal.Literal.TheVariants as literal
+use Rattle.types.specs.declared.ids.ExprId.{ExprId}
 use Rattle.world.specs.declared.infer.ValueNs.{ValueNs}
-use Rattle.world.specs.declared.ty.Ty.{Ty, Bool as BoolTy, Int as IntTy, Uint as UintTy, Tuple'}
+use Rattle.types.specs.declared.ty.Ty.{Ty, Bool as BoolTy, Int as IntTy, Uint as UintTy}
 use Rattle.numbers.specs.Operators.{computed}
 use Rattle.mir.specs.declared.operand.BinOp.{BinOp}
 use Rattle.mir.specs.declared.operand.Operand.{Operand as MirOperand}
@@ -184,10 +184,9 @@ pub right-part : (source : Source) (e : ℕ) (written : BinaryOp) (op : BinOp) (
 right-part source e written op lhs rhs form is = subst (λ (parts : List ℕ). Contains parts rhs.0) (sym (ap parts_of form ∙ binary-parts written op lhs rhs is)) (1, omega arith, refl)
 
 -- a truth value as it stands is of type `bool`
-truth-is-bool : (source : Source) (e : ℕ) (n : Option Expr) (ty : Ty) → HasPlainForm source e n ty → IsTruthLiteral n → IsBool ty
+truth-is-bool : (source : Source) (e : ℕ) (n : Option CoreExpr) (ty : Ty) → HasPlainForm source e n ty → IsTruthLiteral n → IsBool ty
 truth-is-bool source e (Some (expr.Literal (literal.Bool test))) ty plain truth = plain
-truth-is-bool source e (Some (expr.Literal (literal.Int n s))) ty plain truth = absurd truth
-truth-is-bool source e (Some (expr.Literal (literal.Uint n s))) ty plain truth = absurd truth
+truth-is-bool source e (Some (expr.Literal _)) ty plain truth = absurd truth
 truth-is-bool source e (Some (expr.Path name)) ty plain truth = absurd truth
 truth-is-bool source e (Some (expr.UnaryOp a op)) ty plain truth = absurd truth
 truth-is-bool source e (Some (expr.BinaryOp a b op)) ty plain truth = absurd truth
@@ -198,16 +197,16 @@ bool-is-no-integer : (ty : Ty) → IsBool ty → IsInteger ty → ⊥
 bool-is-no-integer BoolTy bool integer = integer
 bool-is-no-integer (IntTy t) bool integer = bool
 bool-is-no-integer (UintTy t) bool integer = bool
-bool-is-no-integer (Tuple' p t) bool integer = bool
+bool-is-no-integer _ bool integer = bool
 
 same-bool : (one other : Ty) → IsBool one → IsBool other → one ≡ other
 same-bool BoolTy BoolTy bool bool' = refl
 same-bool BoolTy (IntTy t) bool bool' = absurd bool'
 same-bool BoolTy (UintTy t) bool bool' = absurd bool'
-same-bool BoolTy (Tuple' p t) bool bool' = absurd bool'
+same-bool BoolTy _ bool bool' = absurd bool'
 same-bool (IntTy t) other bool bool' = absurd bool
 same-bool (UintTy t) other bool bool' = absurd bool
-same-bool (Tuple' p t) other bool bool' = absurd bool
+same-bool _ other bool bool' = absurd bool
 
 -- a truth value that is an operand has the type of what the operator makes
 truth-types : (source : Source) (written : BinaryOp) (lhs rhs : ℕ) (ty : Ty) → IsPlainBinary source written lhs rhs ty → (f : ℕ) (own : Ty) → node_type source f ≡ Some own → IsBool own → ((lhs ≡ f) ⊎ (rhs ≡ f)) → own ≡ ty

@@ -5,7 +5,7 @@ use Rattle.std.proofs.lemmas.List.{places, same_lists}
 use borrow.Author.Tests.{le-leb}
 use Rattle.world.specs.declared.database.HirDatabase.{HirDatabase}
 use Rattle.world.specs.declared.layout.Layout.{Layout}
-use Rattle.world.specs.declared.ty.Ty.{Ty}
+use Rattle.types.specs.declared.ty.Ty.{Ty}
 use Rattle.world.specs.Lookups.{layout_of}
 use Rattle.mir.specs.declared.body.Local.{Local}
 use Rattle.mir.specs.declared.errors.MirEvalError.{MirEvalError}

@@ -2,12 +2,12 @@
 use Rattle.std.proofs.Common.{◌≡◌, ℕ, ◌<◌, false, Contains, Option, Some, None, Result, refl, sym, ap, ◌∙◌, subst, ⊎_elim, ◌⊎◌, arith}
 use Rattle.std.specs.Prelude.{codes, IfErr, IsErrAnd}
 use Rattle.std.proofs.lemmas.Result.{err_from_is_err_and}
-use Rattle.world.specs.declared.body.Expr.{Expr}
-use Rattle.world.specs.declared.body.Expr.TheVariants as expr
+use Rattle.source_meaning.specs.Core.{CoreExpr}
+use Rattle.source_meaning.specs.Core as expr
 use Rattle.world.specs.declared.body.Statement.{Statement}
 use Rattle.world.specs.declared.body.Statement.TheVariants as statement
-use Rattle.world.specs.declared.ids.ExprId.{ExprId}
-use Rattle.world.specs.declared.ids.PatId.{PatId}
+use Rattle.types.specs.declared.ids.ExprId.{ExprId}
+use Rattle.types.specs.declared.ids.PatId.{PatId}
 use Rattle.mir.specs.declared.errors.MirLowerError.{MirLowerError}
 use Rattle.mir.specs.declared.errors.MirLowerError.TheVariants as refusal
 use Rattle.source_meaning.specs.Source.{Source, node, is_literal, is_path}
@@ -32,25 +32,25 @@ pub refuses-part : (source : Source) (e child : ℕ) (error : MirLowerError) →
 refuses-part source e child error is h = (h.0, part is h.1, h.2)
 
 -- the refusal of an unbuilt form, or want of memory for its text
-pub refuses-unbuilt : (source : Source) (e : ℕ) (error : MirLowerError) → IsUnbuilt source (node source e) → (error ≡ refusal.NotSupported (codes "form not built")) ⊎ (error ≡ refusal.NoMemory) → RefusesAt source e error
+pub refuses-unbuilt : (source : Source) (e : ℕ) (error : MirLowerError) → IsUnbuilt source e (node source e) → (error ≡ refusal.NotSupported (codes "form not built")) ⊎ (error ≡ refusal.NoMemory) → RefusesAt source e error
 refuses-unbuilt source e error unbuilt cases =
     ⊎_elim (λ text. refuses-here source e error (subst (RefusesNode source e) (sym text) (refl, unbuilt))) (refuses-no-memory source e error) cases
 
-unbuilt-by-form : (source : Source) (n : Option Expr) → IsUnbuiltForm n → IsUnbuilt source n
-unbuilt-by-form source (Some (expr.Block statements tail)) unbuilt = absurd unbuilt
-unbuilt-by-form source (Some (expr.Literal l)) unbuilt = unbuilt
-unbuilt-by-form source (Some (expr.Path name)) unbuilt = unbuilt
-unbuilt-by-form source (Some (expr.UnaryOp e op)) unbuilt = unbuilt
-unbuilt-by-form source (Some (expr.BinaryOp lhs rhs op)) unbuilt = unbuilt
-unbuilt-by-form source None unbuilt = unbuilt
+unbuilt-by-form : (source : Source) (e : ℕ) (n : Option CoreExpr) → IsUnbuiltForm n → IsUnbuilt source e n
+unbuilt-by-form source e (Some (expr.Block statements tail)) unbuilt = absurd unbuilt
+unbuilt-by-form source e (Some (expr.Literal l)) unbuilt = absurd unbuilt
+unbuilt-by-form source e (Some (expr.Path name)) unbuilt = absurd unbuilt
+unbuilt-by-form source e (Some (expr.UnaryOp operand op)) unbuilt = unbuilt
+unbuilt-by-form source e (Some (expr.BinaryOp lhs rhs op)) unbuilt = unbuilt
+unbuilt-by-form source e None unbuilt = unbuilt
 
 pub refuses-unbuilt-form : (source : Source) (e : ℕ) (error : MirLowerError) → IsUnbuiltForm (node source e) → (error ≡ refusal.NotSupported (codes "form not built")) ⊎ (error ≡ refusal.NoMemory) → RefusesAt source e error
-refuses-unbuilt-form source e error unbuilt cases = refuses-unbuilt source e error (unbuilt-by-form source (node source e) unbuilt) cases
+refuses-unbuilt-form source e error unbuilt cases = refuses-unbuilt source e error (unbuilt-by-form source e (node source e) unbuilt) cases
 
 -- the refusal of a statement that isn't built
 pub refuses-statement : (source : Source) (e : ℕ) (error : MirLowerError) (st : Statement) → IsStatementOf source e st → IsUnbuiltStatement source st → (error ≡ refusal.NotSupported (codes "form not built")) ⊎ (error ≡ refusal.NoMemory) → RefusesAt source e error
 refuses-statement source e error st stands unbuilt cases =
-    refuses-unbuilt source e error (subst (IsUnbuilt source) (sym stands.form) (st, stands.within, unbuilt)) cases
+    refuses-unbuilt source e error (subst (IsUnbuilt source e) (sym stands.form) (st, stands.within, unbuilt)) cases
 
 -- a `let` without an initializer, and one with `else`
 pub without-initializer : (source : Source) (st : Statement) (pat : PatId) (init other : Option ExprId) → st ≡ statement.Let pat init other → init ≡ None → IsUnbuiltStatement source st
@@ -65,10 +65,14 @@ with-else source st pat init other e is some = subst (IsUnbuiltStatement source)
   by-initializer None = tt
   by-initializer (Some i) = tt
 
+-- an item isn't built
+pub item-is-unbuilt : (source : Source) (st : Statement) → st ≡ statement.Item → IsUnbuiltStatement source st
+item-is-unbuilt source st is = subst (IsUnbuiltStatement source) (sym is) tt
+
 -- the refusal of the pattern of a `let` with an initializer
 pub refuses-pattern : (source : Source) (e : ℕ) (error : MirLowerError) (pat : _) (init : _) → IsStatementOf source e (statement.Let pat (Some init) None) → RefusesPattern source pat.0 error → RefusesAt source e error
 refuses-pattern source e (refusal.NotSupported text) pat init stands refuses =
-    refuses-here source e (refusal.NotSupported text) (refuses.0, subst (IsUnbuilt source) (sym stands.form) (statement.Let pat (Some init) None, stands.within, refuses.1))
+    refuses-here source e (refusal.NotSupported text) (refuses.0, subst (IsUnbuilt source e) (sym stands.form) (statement.Let pat (Some init) None, stands.within, refuses.1))
 refuses-pattern source e refusal.InaccessibleLocal pat init stands refuses =
     refuses-here source e refusal.InaccessibleLocal (subst (LacksLocal source e) (sym stands.form) (statement.Let pat (Some init) None, stands.within, refuses))
 refuses-pattern source e refusal.NoMemory pat init stands refuses = refuses-no-memory source e refusal.NoMemory refl
@@ -85,7 +89,7 @@ refused-exit P Q r returned carries =
     subst (λ (s : Result _ MirLowerError). IfErr s P) (sym p.1) (carries p.0 p.2)
 
 -- a form that is no literal's, and one that is no path's
-pub no-literal : (there : Option Expr) (f : Form) → HasForm there f → ((l : _) → f ≡ form.Literal l → ⊥) → is_literal there ≡ false
+pub no-literal : (there : Option CoreExpr) (f : Form) → HasForm there f → ((l : _) → f ≡ form.Literal l → ⊥) → is_literal there ≡ false
 no-literal there (form.Literal l) has differ = absurd (differ l refl)
 no-literal there (form.Path name) has differ = ap is_literal has
 no-literal there (form.Unary op e) has differ = ap is_literal has
@@ -94,7 +98,7 @@ no-literal there (form.Block statements tail) has differ = ap is_literal has
 no-literal there form.NoOperator has differ = has.1.0
 no-literal there form.Unbuilt has differ = has.1.0
 
-pub no-path : (there : Option Expr) (f : Form) → HasForm there f → ((name : _) → f ≡ form.Path name → ⊥) → is_path there ≡ false
+pub no-path : (there : Option CoreExpr) (f : Form) → HasForm there f → ((name : _) → f ≡ form.Path name → ⊥) → is_path there ≡ false
 no-path there (form.Literal l) has differ = ap is_path has
 no-path there (form.Path name) has differ = absurd (differ name refl)
 no-path there (form.Unary op e) has differ = ap is_path has

@@ -1,7 +1,7 @@
 -- One assignment: what the source writes is written to the local of its cell.
 use Rattle.std.proofs.Common.{◌≡◌, ℕ, zero, suc, ◌⊎◌, ⊎_elim, inl, inr, Bool, true, false, cond, List, length, Option, Some, Ok, Err, refl, sym, ap, ◌∙◌, subst, arith, eqb, ◌+◌}
 use borrow.Author.Tests.{eqb-true}
-use Rattle.world.specs.declared.body.Expr.{Expr}
+use Rattle.source_meaning.specs.Core.{CoreExpr}
 use Rattle.numbers.specs.Operators.{Answer, Computes, Panics, Undefined}
 use Rattle.mir.specs.declared.errors.MirEvalError.{MirEvalError}
 use Rattle.mir.specs.declared.errors.MirEvalError as error
@@ -83,7 +83,7 @@ reaches-from frame p q to memory claim comes end reaches =
     (reaches-after frame 0 p q to memory memory claim no_cost (omega arith) comes end reaches)
 
 -- an expression does what its form does with one unit of fuel less
-pub does-form : (source : Source) (old new : Shape) (e : ℕ) (c : Cell) (form : Option Expr) → node source e ≡ form → Performs source old new Nothing (λ fuel store. into_of source (level_at source fuel) e form (record { cell = c }) store) → Does source old new e c
+pub does-form : (source : Source) (old new : Shape) (e : ℕ) (c : Cell) (form : Option CoreExpr) → node source e ≡ form → Performs source old new Nothing (λ fuel store. into_of source (level_at source fuel) e form (record { cell = c }) store) → Does source old new e c
 unfolding level_at
 does-form source old new e c form is performs =
     record { reaches = λ whole frame grows sound frame-is fuel store memory holds. by-fuel whole frame grows sound frame-is fuel store memory holds } where

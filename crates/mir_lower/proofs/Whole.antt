@@ -4,7 +4,7 @@ use Rattle.std.proofs.Common.{[], map, ◌≡◌, ℕ, zero, suc, ◌+◌, ◌<�
 use Rattle.std.specs.Prelude.{slice_get, replicate, option_map, option_and_then, unwrap_or}
 use Rattle.world.specs.declared.database.HirDatabase.{HirDatabase}
 use Rattle.world.specs.declared.layout.Layout.{Layout}
-use Rattle.world.specs.declared.ty.Ty.{Ty}
+use Rattle.types.specs.declared.ty.Ty.{Ty}
 use Rattle.world.specs.Lookups.{layout_of}
 use Rattle.mir.specs.declared.body.Local.{Local}
 use Rattle.mir.specs.declared.body.MirBody.{MirBody}

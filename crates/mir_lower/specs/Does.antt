@@ -8,7 +8,7 @@ use Rattle.source_meaning.specs.Ends.{End, Go, Panic, Stuck, More}
 use Rattle.source_meaning.specs.Meaning.{level_at, statements_of, tail_into, bind}
 use Rattle.source_meaning.specs.Source.{Source, pattern, Cell, Result, Node, Binding, Path, Store, Operand, operand_bytes, operand_type}
 use Rattle.world.specs.declared.body.Statement.{Statement}
-use Rattle.world.specs.declared.ids.ExprId.{ExprId}
+use Rattle.types.specs.declared.ids.ExprId.{ExprId}
 use Rattle.mir_lower.specs.Graph.{Shape, temp_of, binding_local}
 use Rattle.mir_lower.specs.Growth.{Grows, IsSound, count_at}
 use Rattle.mir_lower.specs.Simulates.{EndsWithin}

@@ -1,10 +1,10 @@
 -- The form of an expression, as far as forms are built.
 use Rattle.std.specs.Prelude.{◌≡◌, false, Option, Some}
-use Rattle.world.specs.declared.body.BinaryOp.{BinaryOp}
-use Rattle.world.specs.declared.body.Expr.{Expr}
-use Rattle.world.specs.declared.body.Expr.TheVariants as expr
-use Rattle.world.specs.declared.body.UnaryOp.{UnaryOp}
-use Rattle.world.specs.declared.body.UnaryOp.TheVariants as unary
+use Rattle.types.specs.declared.operators.BinaryOp.{BinaryOp}
+use Rattle.source_meaning.specs.Core.{CoreExpr}
+use Rattle.source_meaning.specs.Core as expr
+use Rattle.types.specs.declared.operators.UnaryOp.{UnaryOp}
+use Rattle.types.specs.declared.operators.UnaryOp.TheVariants as unary
 use Rattle.mir.specs.declared.operand.UnOp.{UnOp}
 use Rattle.mir.specs.declared.operand.UnOp.TheVariants as one
 use Rattle.mir.specs.Run.{operator_of}
@@ -20,11 +20,11 @@ unary_of one.Not = unary.Not
 unary_of one.Neg = unary.Neg
 
 -- neither a literal nor a path
-abbrev pub IsNoLeaf : Option Expr → Type 0
+abbrev pub IsNoLeaf : Option CoreExpr → Type 0
 IsNoLeaf node = (is_literal node ≡ false) × (is_path node ≡ false)
 
 -- what is known of an expression by its form
-abbrev pub HasForm : Option Expr → Form → Type 0
+abbrev pub HasForm : Option CoreExpr → Form → Type 0
 HasForm node (form.Literal literal) = node ≡ Some (expr.Literal literal.now)
 HasForm node (form.Path name) = node ≡ Some (expr.Path name.now)
 HasForm node (form.Unary op e) = node ≡ Some (expr.UnaryOp e (unary_of op))

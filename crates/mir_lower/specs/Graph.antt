@@ -1,7 +1,7 @@
 -- The graph that lowering builds, as data: its blocks, which of them is the current one, to which statements are added,
 -- its locals, which of them holds which value, and which cells came into use in the scope that is open.
 use Rattle.std.specs.Prelude.{ℕ, suc, false, List, [], ◌∷◌, ◌++◌, length, replicate, map, if◌then◌else◌, nat_lt, Option, Some, None, slice_get, slice_set, option_map, option_and_then}
-use Rattle.world.specs.declared.ty.Ty.{Ty}
+use Rattle.types.specs.declared.ty.Ty.{Ty}
 use Rattle.mir.specs.declared.body.BasicBlock.{BasicBlock}
 use Rattle.mir.specs.declared.body.Local.{Local}
 use Rattle.mir.specs.declared.body.Terminator.{Terminator}

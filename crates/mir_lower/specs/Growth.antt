@@ -4,7 +4,7 @@ use Rattle.mir.specs.declared.body.BasicBlock.{BasicBlock}
 use Rattle.mir.specs.declared.body.Local.{Local}
 use Rattle.mir.specs.declared.body.Terminator.{Terminator}
 use Rattle.mir.specs.declared.statement.Statement.{Statement}
-use Rattle.world.specs.declared.ty.Ty.{Ty}
+use Rattle.types.specs.declared.ty.Ty.{Ty}
 use Rattle.world_check.specs.Checked.{IsCheckedBody}
 use Rattle.source_meaning.specs.Source.{Source, Cell, Result, Node, Binding, cell_type, node_type, binding_type, root}
 use Rattle.source_meaning.specs.Valid.{Evaluates}

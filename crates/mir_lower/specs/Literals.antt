@@ -1,9 +1,9 @@
 -- A literal as an operand of the graph.
 use Rattle.std.specs.Prelude.{◌≡◌, ℕ, ◌≤◌, List, take, Some}
-use Rattle.world.specs.declared.body.Literal.{Literal}
+use Rattle.world.specs.declared.literal.Literal.{Literal}
 use Rattle.world.specs.declared.layout.Layout.{Layout}
-use Rattle.world.specs.declared.ty.Const.{Const}
-use Rattle.world.specs.declared.ty.Ty.{Ty}
+use Rattle.types.specs.declared.ty.Const.{Const}
+use Rattle.types.specs.declared.ty.Ty.{Ty}
 use Rattle.mir.specs.declared.operand.OperandKind.{OperandKind}
 use Rattle.mir.specs.declared.operand.OperandKind.TheVariants.{Constant}
 use Rattle.mir.specs.Run.{constant_bytes}
@@ -15,7 +15,7 @@ pub record IsConstantOf (source : Source) (e : ℕ) (bytes : List ℕ) (operand 
   pub konst : Const
   pub ty : Ty
   pub is_constant : operand ≡ Constant konst ty
-  pub bytes_are : constant_bytes konst ≡ bytes
+  pub bytes_are : constant_bytes konst ≡ Some bytes
   pub typed : node_type source e ≡ Some ty
 
 -- an operand is a constant with as many of these bytes as the expression's type has

@@ -2,12 +2,12 @@
 use Rattle.std.specs.Prelude.{◌≡◌, ℕ, List, ◌++◌, ◌∷◌, [], Contains, flat_map, Option, Some, slice_get}
 use Rattle.mir.specs.declared.body.Local.{Local}
 use Rattle.mir.specs.declared.operand.OperandKind.{OperandKind}
-use Rattle.world.specs.declared.body.Expr.{Expr}
-use Rattle.world.specs.declared.body.Expr.TheVariants.{Block, Literal}
-use Rattle.world.specs.declared.body.Literal.TheVariants.{Bool}
+use Rattle.source_meaning.specs.Core.{CoreExpr}
+use Rattle.source_meaning.specs.Core.{Block, Literal}
+use Rattle.world.specs.declared.literal.Literal.TheVariants.{Bool}
 use Rattle.world.specs.declared.body.Statement.{Statement}
-use Rattle.world.specs.declared.ids.BindingId.{BindingId}
-use Rattle.world.specs.declared.ids.ExprId.{ExprId}
+use Rattle.types.specs.declared.ids.BindingId.{BindingId}
+use Rattle.types.specs.declared.ids.ExprId.{ExprId}
 use Rattle.world.specs.declared.infer.ValueNs.TheVariants.{LocalBinding}
 use Rattle.source_meaning.specs.Source.{Source, Cell, node, node_type, named_by, pattern, marked, marked_as_place, marked_as_operand, marked_by_statement, marked_by_tail, bound_by}
 use Rattle.source_meaning.specs.Valid.{Evaluates, IsPlainFrom, IsLaidOut, statement_parts}
@@ -34,7 +34,7 @@ abbrev pub LaysOut : Source → Shape → ℕ → Type 0
 LaysOut source s e = IsPlainFrom source e → HasLayouts source s → (f : ℕ) → Evaluates source e f → IsLaidOut source (node_type source f)
 
 -- an expression is a truth value as it stands, for whose byte no layout is asked
-abbrev pub IsTruthLiteral : Option Expr → Type 0
+abbrev pub IsTruthLiteral : Option CoreExpr → Type 0
 IsTruthLiteral (Some (Literal (Bool test))) = Unit {0}
 IsTruthLiteral _ = ⊥
 

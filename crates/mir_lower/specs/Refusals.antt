@@ -1,16 +1,17 @@
 -- Why a typed body can't be lowered.
 use Rattle.std.specs.Prelude.{◌≡◌, ◌≢◌, ℕ, ◌<◌, IsTrue, [], ◌⊎◌, Contains, Option, Some, None, codes}
-use Rattle.world.specs.declared.body.Expr.{Expr}
-use Rattle.world.specs.declared.body.Expr.TheVariants as expr
-use Rattle.world.specs.declared.body.Literal.{Literal}
-use Rattle.world.specs.declared.body.Literal.TheVariants as literal
-use Rattle.world.specs.declared.body.Pat.TheVariants.{Bind}
+use Rattle.source_meaning.specs.Core.{CoreExpr}
+use Rattle.source_meaning.specs.Core as expr
+use Rattle.source_meaning.specs.Core.{local_named}
+use Rattle.world.specs.declared.literal.Literal.{Literal}
+use Rattle.world.specs.declared.literal.Literal.TheVariants as literal
 use Rattle.world.specs.declared.body.Statement.{Statement}
 use Rattle.world.specs.declared.body.Statement.TheVariants as statement
-use Rattle.world.specs.declared.body.UnaryOp.TheVariants as unary
-use Rattle.world.specs.declared.ids.BindingId.{BindingId}
+use Rattle.types.specs.declared.operators.UnaryOp.TheVariants as unary
+use Rattle.types.specs.declared.ids.BindingId.{BindingId}
 use Rattle.world.specs.declared.infer.InferenceResult.{InferenceResult}
 use Rattle.world.specs.declared.infer.ValueNs.TheVariants.{LocalBinding}
+use Rattle.world.specs.declared.infer.ValueNs.{ValueNs}
 use Rattle.world.specs.declared.layout.Layout.{Layout}
 use Rattle.mir.specs.declared.errors.MirLowerError.{MirLowerError}
 use Rattle.mir.specs.declared.errors.MirLowerError.TheVariants as refusal
@@ -23,49 +24,64 @@ abbrev pub HasTypingErrors : InferenceResult → Type 0
 HasTypingErrors infer = IsTrue infer.erroneous ⊎ (infer.mismatches ≢ [])
 
 abbrev pub IsNumberLiteral : Literal → Type 0
-IsNumberLiteral (literal.Bool test) = ⊥
 IsNumberLiteral (literal.Int number suffix) = Unit {0}
 IsNumberLiteral (literal.Uint number suffix) = Unit {0}
+IsNumberLiteral _ = ⊥
+
+-- a literal of a kind that isn't built yet: a text, bytes, a character or a number with a point
+abbrev pub IsUnbuiltLiteral : Literal → Type 0
+IsUnbuiltLiteral (literal.Bool test) = ⊥
+IsUnbuiltLiteral (literal.Int number suffix) = ⊥
+IsUnbuiltLiteral (literal.Uint number suffix) = ⊥
+IsUnbuiltLiteral _ = Unit {0}
 
 -- an expression is a number literal
-abbrev pub IsNumber : Option Expr → Type 0
+abbrev pub IsNumber : Option CoreExpr → Type 0
 IsNumber (Some (expr.Literal l)) = IsNumberLiteral l
 IsNumber _ = ⊥
 
 -- an expression whose operator is missing
-abbrev pub LacksOperator : Option Expr → Type 0
+abbrev pub LacksOperator : Option CoreExpr → Type 0
 LacksOperator (Some (expr.BinaryOp lhs rhs None)) = Unit {0}
 LacksOperator _ = ⊥
 
--- an expression of a form that isn't built yet, whatever its parts are: `*`, `&&`, `||`, and an assignment
-abbrev pub IsUnbuiltForm : Option Expr → Type 0
+-- an expression of a form that isn't built yet, whatever its parts are: `*`, `&&`, `||`, an assignment, and those that
+-- have no meaning yet
+abbrev pub IsUnbuiltForm : Option CoreExpr → Type 0
 IsUnbuiltForm (Some (expr.UnaryOp e unary.Deref)) = Unit {0}
 IsUnbuiltForm (Some (expr.BinaryOp lhs rhs (Some op))) = eager_operator op ≡ None
 IsUnbuiltForm None = Unit {0}
 IsUnbuiltForm _ = ⊥
 
--- a statement that isn't built yet: a `let` without an initializer or with `else`
+-- a statement that isn't built yet: an item, and a `let` without an initializer, with `else`, or of more than a name
 abbrev pub IsUnbuiltStatement : Source → Statement → Type 0
 IsUnbuiltStatement source (statement.Let pat (Some e) None) = pattern source pat.0 ≡ None
-IsUnbuiltStatement source (statement.Let pat _ _) = Unit {0}
 IsUnbuiltStatement source (statement.Expr e has_semi) = ⊥
+IsUnbuiltStatement source _ = Unit {0}
 
--- an expression that isn't built yet: by its form, or as a block by one of its statements
-abbrev pub IsUnbuilt : Source → Option Expr → Type 0
-IsUnbuilt source (Some (expr.Block statements tail)) = (one : Statement) × Contains statements one × IsUnbuiltStatement source one
-IsUnbuilt source form = IsUnbuiltForm form
+-- a path that names something else than a binding
+abbrev pub NamesNoBinding : Source → ℕ → Type 0
+NamesNoBinding source e = (named : ValueNs) × (named_by source e ≡ Some named) × (local_named named ≡ None)
+
+-- an expression that isn't built yet: by its form, as a literal by its kind, as a path by what it names, or as a block
+-- by one of its statements
+abbrev pub IsUnbuilt : Source → ℕ → Option CoreExpr → Type 0
+IsUnbuilt source e (Some (expr.Block statements tail)) = (one : Statement) × Contains statements one × IsUnbuiltStatement source one
+IsUnbuilt source e (Some (expr.Literal l)) = IsUnbuiltLiteral l
+IsUnbuilt source e (Some (expr.Path name)) = NamesNoBinding source e
+IsUnbuilt source e form = IsUnbuiltForm form
 
 -- a name pattern of a binding that the body lacks
 abbrev pub BindsNone : Source → ℕ → Type 0
-BindsNone source pat = (binding : BindingId) × (pattern source pat ≡ Some (Bind binding)) × (binding_type source binding.0 ≡ None)
+BindsNone source pat = (binding : BindingId) × (pattern source pat ≡ Some binding) × (binding_type source binding.0 ≡ None)
 
 -- a `let` of a binding that the body lacks
 abbrev pub LetBindsNone : Source → Statement → Type 0
 LetBindsNone source (statement.Let pat initializer else_branch) = BindsNone source pat.0
-LetBindsNone source (statement.Expr e has_semi) = ⊥
+LetBindsNone source _ = ⊥
 
 -- an expression that names, or as a block binds, a binding that the body lacks
-abbrev pub LacksLocal : Source → ℕ → Option Expr → Type 0
+abbrev pub LacksLocal : Source → ℕ → Option CoreExpr → Type 0
 LacksLocal source e (Some (expr.Path name)) = (binding : BindingId) × (named_by source e ≡ Some (LocalBinding binding)) × (binding_type source binding.0 ≡ None)
 LacksLocal source e (Some (expr.Block statements tail)) = (one : Statement) × Contains statements one × LetBindsNone source one
 LacksLocal source e _ = ⊥
@@ -79,7 +95,7 @@ RefusesNode source e refusal.HasErrors = ⊥
 RefusesNode source e (refusal.TypeError text) =
     (text ≡ codes "number literal of more than 16 bytes") × IsNumber (node source e)
     × (layout : Layout) × (node_layout source e ≡ Some layout) × (16 < layout.size)
-RefusesNode source e (refusal.NotSupported text) = (text ≡ codes "form not built") × IsUnbuilt source (node source e)
+RefusesNode source e (refusal.NotSupported text) = (text ≡ codes "form not built") × IsUnbuilt source e (node source e)
 RefusesNode source e refusal.InaccessibleLocal = LacksLocal source e (node source e)
 RefusesNode source e refusal.NoMemory = Unit {0}
 

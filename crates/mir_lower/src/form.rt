@@ -1,15 +1,22 @@
 //! The form of an expression, as far as forms are built.
 
-ghost use Rattle.std.specs.Prelude.{Some};
-ghost use Rattle.std.specs.Option.{option_copied};
-ghost use Rattle.world.specs.declared.body.BinaryOp.TheVariants as binary;
-ghost use Rattle.world.specs.declared.body.Expr.TheVariants as expr;
+ghost use Rattle.std.specs.Prelude.{◌≡◌, Some};
+ghost use Rattle.std.specs.Option.{option_and_then, option_copied};
+ghost use Rattle.types.specs.declared.operators.BinaryOp.TheVariants as binary;
+ghost use Rattle.source_meaning.specs.Core as expr;
+ghost use Rattle.source_meaning.specs.Core.{core_of, is_any_step, is_by_reference, is_positive, is_reworked, is_reworked_pattern, name_of};
+ghost use Rattle.source_meaning.specs.Source.{node, pattern};
+ghost use Rattle.mir_lower.specs.Contexts.{source_of};
 ghost use Rattle.mir_lower.specs.Form.{HasForm};
 
+use crate::context::Context;
 use mir::{BinOp, UnOp};
-use world::{BinaryOp, Expr, ExprId, List, Literal, Statement, Text, UnaryOp};
+use world::{
+    Adjustment, BinaryOp, BindingId, BindingMode, Expr, ExprId, List, Literal, Pat, PatId,
+    Statement, Text, UnaryOp,
+};
 
-/// What lowering does with an expression.
+/// What lowering does with an expression. Its variants are the forms that are built.
 #[derive(Clone, Copy)]
 pub enum Form<'a> {
     Literal(&'a Literal),
@@ -44,9 +51,9 @@ fn binary_form<'a>(lhs: ExprId, rhs: ExprId, op: BinaryOp) -> Form<'a>
     }
 }
 
-/// The form of an expression.
-pub(crate) fn form_of(expr: Option<&Expr>) -> Form<'_>
-    ensures { HasForm (option_copied expr.entry) result }
+/// The form of an expression, whatever is done to its value.
+fn form_of(expr: Option<&Expr>) -> Form<'_>
+    ensures { HasForm (option_and_then core_of (option_copied expr.entry)) result }
 {
     match expr {
         Some(Expr::Literal(literal)) => Form::Literal(literal),
@@ -56,7 +63,91 @@ pub(crate) fn form_of(expr: Option<&Expr>) -> Form<'_>
             Some(op) => binary_form(*lhs, *rhs, *op),
             None => Form::NoOperator,
         },
-        Some(Expr::Block { statements, tail }) => Form::Block(statements, *tail),
-        None => Form::Unbuilt,
+        Some(
+            Expr::Block {
+                statements,
+                tail,
+                label: None,
+            },
+        ) => Form::Block(statements, *tail),
+        _ => Form::Unbuilt,
+    }
+}
+
+fn is_any_step(steps: Option<&List<Adjustment>>) -> bool
+    ensures { result ≡ is_any_step (option_copied steps.entry) }
+{
+    match steps {
+        Some(steps) => !steps.as_slice().is_empty(),
+        None => false,
+    }
+}
+
+/// Whether something is done to an expression's value before it is used, or its path names an
+/// associated item or a variant.
+#[tactic(auto, unfolding(source_meaning::specs::Core::is_reworked))]
+fn is_reworked(context: &Context<'_>, e: ExprId) -> bool
+    ensures { result ≡ is_reworked context.now.infer.now e }
+{
+    is_any_step(context.infer.expr_adjustments.get(&e))
+        || context.infer.assoc_res.get(&e).is_some()
+        || context.infer.variant_res.get(&e).is_some()
+}
+
+/// The form of an expression of the body.
+#[tactic(auto, unfolding(source_meaning::specs::Source::node))]
+pub(crate) fn form_at<'a>(context: &Context<'a>, e: ExprId) -> Form<'a>
+    ensures { HasForm (node (source_of context.now) e.0) result }
+{
+    if is_reworked(context, e) {
+        Form::Unbuilt
+    } else {
+        form_of(context.body.exprs.get(e.0 as u64))
+    }
+}
+
+fn is_by_reference(mode: Option<&BindingMode>) -> bool
+    ensures { result ≡ is_by_reference (option_copied mode.entry) }
+{
+    matches!(mode, Some(BindingMode::Ref(_)))
+}
+
+fn is_positive(count: Option<&u32>) -> bool
+    ensures { result ≡ is_positive (option_copied count.entry) }
+{
+    match count {
+        Some(count) => *count > 0,
+        None => false,
+    }
+}
+
+/// Whether a pattern binds by reference, or dereferences the value first.
+#[tactic(auto, unfolding(source_meaning::specs::Core::is_reworked_pattern))]
+fn is_reworked_pattern(context: &Context<'_>, pat: PatId) -> bool
+    ensures { result ≡ is_reworked_pattern context.now.infer.now pat }
+{
+    is_by_reference(context.infer.binding_modes.get(&pat))
+        || is_positive(context.infer.pat_adjustments.get(&pat))
+}
+
+/// The binding of a pattern that is a name and no more.
+fn name_of(pat: Option<&Pat>) -> Option<BindingId>
+    ensures { result ≡ option_and_then name_of (option_copied pat.entry) }
+{
+    match pat {
+        Some(Pat::Bind { id, subpat: None }) => Some(*id),
+        _ => None,
+    }
+}
+
+/// The binding that a pattern of the body binds, where it is a name that binds by value.
+#[tactic(auto, unfolding(source_meaning::specs::Source::pattern))]
+pub(crate) fn name_bound(context: &Context<'_>, pat: PatId) -> Option<BindingId>
+    ensures { result ≡ pattern (source_of context.now) pat.0 }
+{
+    if is_reworked_pattern(context, pat) {
+        None
+    } else {
+        name_of(context.body.pats.get(pat.0 as u64))
     }
 }

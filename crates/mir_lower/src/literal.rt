@@ -5,12 +5,12 @@ ghost use Rattle.std.specs.Option.{option_copied};
 ghost use Rattle.numbers.specs.Bytes.{low_bytes};
 ghost use Rattle.source_meaning.specs.Meaning.{truth_byte};
 ghost use Rattle.source_meaning.specs.Source.{node, node_type};
-ghost use Rattle.world.specs.declared.body.Expr.TheVariants as expr;
+ghost use Rattle.source_meaning.specs.Core as expr;
 ghost use Rattle.mir.specs.declared.errors.MirLowerError.TheVariants as refusal;
 ghost use Rattle.world_check.specs.Checked.{IsCheckedBody};
 ghost use Rattle.mir.specs.declared.operand.OperandKind.TheVariants.{Constant};
 ghost use Rattle.mir.specs.Run.{constant_bytes};
-ghost use Rattle.world.specs.declared.ty.Const.{Const};
+ghost use Rattle.types.specs.declared.ty.Const.{Const};
 ghost use Rattle.mir_lower.specs.Contexts.{source_of};
 ghost use Rattle.mir_lower.specs.Literals.{IsConstantOf, IsNumberOf, IsLiteral};
 ghost use Rattle.mir_lower.specs.Refusals.{IsNumber, RefusesNode};
@@ -132,5 +132,6 @@ pub(crate) fn lower_literal(
         Literal::Bool(test) => lower_truth(context, e, *test),
         Literal::Int(number, _) => lower_number(context, e, signed_bytes(*number)),
         Literal::Uint(number, _) => lower_number(context, e, unsigned_bytes(*number)),
+        _ => Err(form_not_built(context.alloc)),
     }
 }

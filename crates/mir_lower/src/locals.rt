@@ -1,11 +1,11 @@
 //! Locals: those of the values of expressions, and those of names.
 
-ghost use Rattle.std.specs.Prelude.{◌≡◌, ◌⊎◌, IfOk, IfErr, OnOk, Some};
+ghost use Rattle.std.specs.Prelude.{◌≡◌, ◌⊎◌, IfOk, IfErr, IfSome, OnOk, Some};
 ghost use Rattle.mir.specs.declared.errors.MirLowerError.TheVariants as refusal;
 ghost use Rattle.mir.specs.declared.statement.StatementKind.TheVariants.{Assign, FakeRead};
 ghost use Rattle.source_meaning.specs.Source.{Cell, Node, Binding, node};
-ghost use Rattle.world.specs.declared.body.Expr.TheVariants as expr;
-ghost use Rattle.world.specs.declared.body.Pat.TheVariants.{Bind};
+ghost use Rattle.source_meaning.specs.Core as expr;
+ghost use Rattle.source_meaning.specs.Core.{local_named};
 ghost use Rattle.world.specs.declared.infer.ValueNs.TheVariants.{LocalBinding};
 ghost use Rattle.mir_lower.specs.Contexts.{source_of};
 ghost use Rattle.mir_lower.specs.Does.{local_of};
@@ -15,12 +15,13 @@ ghost use Rattle.mir_lower.specs.Lowered.{IsGiven, IsNamed, Binds};
 ghost use Rattle.mir_lower.specs.Refusals.{RefusesNode, RefusesPattern};
 
 use crate::context::Context;
+use crate::form::name_bound;
 use crate::graph::{Graph, Held};
 use crate::literal::{form_not_built, node_ty};
 use mir::{
     LocalId, MirLowerError, MirSpan, Operand, OperandKind, Place, Rvalue, Statement, StatementKind,
 };
-use world::{BindingId, ExprId, Pat, PatId, Text, TryClone, ValueNs};
+use world::{BindingId, ExprId, PatId, Text, TryClone, ValueNs};
 
 /// Adds an assignment.
 pub(crate) fn assign(
@@ -50,20 +51,15 @@ fn unresolved(context: &Context<'_>, name: &Text) -> MirLowerError
     }
 }
 
-/// The binding that a path names.
-fn binding_named(named: ValueNs) -> BindingId
-    ensures { named ≡ LocalBinding result }
+/// The binding that a path names, where it names one.
+fn binding_named(named: ValueNs) -> Option<BindingId>
+    ensures value { result ≡ local_named named }
+    ensures some { IfSome result (λ binding. named ≡ LocalBinding binding) }
 {
-    let ValueNs::LocalBinding(binding) = named;
-    binding
-}
-
-/// The binding that a pattern binds.
-fn binding_bound(pat: Pat) -> BindingId
-    ensures { pat ≡ Bind result }
-{
-    let Pat::Bind { id } = pat;
-    id
+    match named {
+        ValueNs::LocalBinding(binding) => Some(binding),
+        _ => None,
+    }
 }
 
 /// The place that a path names: the local of a binding.
@@ -79,9 +75,12 @@ pub(crate) fn place_named(
     ensures refused { IfErr result (RefusesNode (source_of context.now) e.0) }
 {
     match context.infer.value_res.get(&e) {
-        Some(named) => match graph.binding_local(binding_named(*named)) {
-            Some(local) => Ok(Place { local }),
-            None => Err(MirLowerError::InaccessibleLocal),
+        Some(named) => match binding_named(*named) {
+            Some(binding) => match graph.binding_local(binding) {
+                Some(local) => Ok(Place { local }),
+                None => Err(MirLowerError::InaccessibleLocal),
+            },
+            None => Err(form_not_built(context.alloc)),
         },
         None => Err(unresolved(context, name)),
     }
@@ -156,10 +155,9 @@ pub(crate) fn bind(
         → Binds (source_of context.now) (shape graph.old) (shape graph.new) pat.0 cell) }
     ensures refused { IfErr result (RefusesPattern (source_of context.now) pat.0) }
 {
-    let Some(bound) = context.body.pats.get(pat.0 as u64) else {
+    let Some(binding) = name_bound(context, pat) else {
         return Err(form_not_built(context.alloc));
     };
-    let binding = binding_bound(*bound);
     let Some(local) = graph.binding_local(binding) else {
         return Err(MirLowerError::InaccessibleLocal);
     };

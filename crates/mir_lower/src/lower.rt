@@ -3,7 +3,7 @@
 ghost use Rattle.std.specs.Prelude.{◌≡◌, ◌∷◌, false, [], IfOk, IfErr, OnOk, Some, None};
 ghost use Rattle.mir.specs.declared.operand.OperandKind.TheVariants.{Copy};
 ghost use Rattle.source_meaning.specs.Source.{Cell, node, is_path};
-ghost use Rattle.world.specs.declared.body.Expr.TheVariants as expr;
+ghost use Rattle.source_meaning.specs.Core as expr;
 ghost use Rattle.world.specs.declared.body.Statement.TheVariants as statement_kind;
 ghost use Rattle.mir_lower.specs.Contexts.{source_of};
 ghost use Rattle.mir_lower.specs.Does.{local_of};
@@ -15,20 +15,13 @@ ghost use Rattle.mir_lower.specs.Lowered.{IsPlaced, LowersInto, LowersPlace, Low
 ghost use Rattle.mir_lower.specs.Refusals.{RefusesAt};
 
 use crate::context::Context;
-use crate::form::{Form, form_of};
+use crate::form::{Form, form_at};
 use crate::graph::Graph;
 use crate::leave::leave_scope;
 use crate::literal::{form_not_built, lower_literal};
 use crate::locals::{assign, bind, fake_read, new_temp, place_named};
 use mir::{BinOp, MirLowerError, MirSpan, Operand, OperandKind, Place, Rvalue, UnOp};
 use world::{ExprId, List, Literal, PatId, Statement, Text};
-
-/// The form of an expression of the body.
-fn form_at<'a>(context: &Context<'a>, e: ExprId) -> Form<'a>
-    ensures { HasForm (node (source_of context.now) e.0) result }
-{
-    form_of(context.body.exprs.get(e.0 as u64))
-}
 
 /// A place as an operand.
 fn copied(place: Place, e: ExprId) -> Operand
@@ -307,6 +300,7 @@ fn lower_statement(
         Statement::Expr { expr, has_semi } => {
             lower_expr_statement(context, graph, e, expr, has_semi)
         }
+        Statement::Item => Err(form_not_built(context.alloc)),
     }
 }
 

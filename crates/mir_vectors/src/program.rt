@@ -117,7 +117,7 @@ fn words(rt: HostRuntime) -> Result<(), Fail> {
 
 /// A part of the sum's input and what stands there in its place, the exit code, the line of the status,
 /// and what is written.
-static EDITS: [(&str, &str, u8, &str, &str); 24] = [
+static EDITS: [(&str, &str, u8, &str, &str); 37] = [
     (
         r#""goals":[{"def":{"ConstId":0}}]"#,
         r#""goals":[]"#,
@@ -278,6 +278,98 @@ static EDITS: [(&str, &str, u8, &str, &str); 24] = [
         r#"[{"def":{"ConstId":0}},{"def":{"ConstId":1}},{"def":{"ConstId":2}}]"#,
         4,
         "mirconst: not a world: goals[1]",
+        "",
+    ),
+    // Inputs that are read, and whose goals are then refused or run under limits of their own.
+    (
+        r#","layouts":[[{"Uint":"Usize"},{"size":8,"align":8,"sized":true,"offsets":[],"variants":{"Single":0}}]]"#,
+        "",
+        1,
+        "",
+        "goal 0 error lower LayoutError(Unknown)\n  turns 0\n",
+    ),
+    (
+        r#""infer":{"#,
+        r#""infer":{"expr_adjustments":[[2,[{"kind":"NeverToAny","target":{"Uint":"Usize"}}]]],"#,
+        1,
+        "",
+        "goal 0 error lower NotSupported(\"form not built\")\n  turns 0\n",
+    ),
+    (
+        r#""infer":{"#,
+        r#""infer":{"expr_adjustments":[[2,[]]],"#,
+        0,
+        "",
+        "goal 0 value usize 0400000000000000\n  turns 1\n",
+    ),
+    (
+        r#"{"BinaryOp":{"lhs":0,"rhs":1,"op":{"ArithOp":"Add"}}}"#,
+        r#""Missing""#,
+        1,
+        "",
+        "goal 0 error lower NotSupported(\"form not built\")\n  turns 0\n",
+    ),
+    (
+        r#""krate":0,"ty""#,
+        r#""krate":0,"generics":[{"TypeParamId":0}],"ty""#,
+        1,
+        "",
+        "goal 0 error lower NotSupported(\"form not built\")\n  turns 0\n",
+    ),
+    (
+        r#"{"def":{"ConstId":0}}"#,
+        r#"{"def":{"ConstId":0},"args":[{"Ty":"Bool"}]}"#,
+        1,
+        "",
+        "goal 0 error lower NotSupported(\"form not built\")\n  turns 0\n",
+    ),
+    (
+        r#"{"def":{"ConstId":0}}"#,
+        r#"{"def":{"ConstId":0},"limits":{"blocks":1,"nesting":0,"bytes":0}}"#,
+        0,
+        "",
+        "goal 0 value usize 0400000000000000\n  turns 1\n",
+    ),
+    (
+        r#"{"def":{"ConstId":0}}"#,
+        r#"{"def":{"ConstId":0},"limits":{"blocks":0,"nesting":100,"bytes":1000}}"#,
+        1,
+        "",
+        "goal 0 error eval InFunction(ExecutionLimitExceeded, [])\n  turns 0\n",
+    ),
+    (
+        r#"{"def":{"ConstId":0}}"#,
+        r#"{"def":{"ConstId":0},"limits":{"blocks":9223372036854775808,"nesting":1000,"bytes":576460752303423488}}"#,
+        0,
+        "",
+        "goal 0 value usize 0400000000000000\n  turns 1\n",
+    ),
+    (
+        r#"{"def":{"ConstId":0}}"#,
+        r#"{"def":{"ConstId":0},"limits":{"blocks":9223372036854775809,"nesting":1000,"bytes":0}}"#,
+        4,
+        "mirconst: not a world: goals[0]",
+        "",
+    ),
+    (
+        r#"{"def":{"ConstId":0}}"#,
+        r#"{"def":{"ConstId":0},"limits":{"blocks":1,"nesting":1001,"bytes":0}}"#,
+        4,
+        "mirconst: not a world: goals[0]",
+        "",
+    ),
+    (
+        r#"{"def":{"ConstId":0}}"#,
+        r#"{"def":{"ConstId":0},"limits":{"blocks":1,"nesting":1,"bytes":576460752303423489}}"#,
+        4,
+        "mirconst: not a world: goals[0]",
+        "",
+    ),
+    (
+        r#"{"def":{"ConstId":0}}"#,
+        r#"{"def":{"FunctionId":0}}"#,
+        4,
+        "mirconst: not a world: goals[0]",
         "",
     ),
 ];

@@ -36,10 +36,11 @@ stands_for bytes tree world db goals utf8 json stands same passes fit =
 
 -- the report of the goals that bytes stand for
 pub reports : (bytes text : List ℕ) (world : HirDatabase) (goals : List Goal) (outcomes : List Evaluated) (all : Bool) → StandsFor bytes world goals →
-    ((after : Kept) × AreAnswers (nothing_kept world) goals outcomes after) → all ≡ list_all has_value outcomes → text ≡ report_text outcomes → IsReportOf bytes text all
+    ((after : Kept) × AreAnswers (nothing_kept world) goals outcomes after) → all ≡ list_all has_value outcomes → text ≡ report_text world outcomes → IsReportOf bytes text all
 reports bytes text world goals outcomes all input answers valued reported = record {
+  world = world;
   outcomes = outcomes;
-  are = record { world = world; goals = goals; input = input; after = answers.0; answers = answers.1 };
+  are = record { goals = goals; input = input; after = answers.0; answers = answers.1 };
   valued = sym valued;
   reported = reported;
 }

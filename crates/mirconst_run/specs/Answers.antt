@@ -1,9 +1,10 @@
 -- What the answers to the goals are.
-use Rattle.std.specs.Prelude.{◌≡◌, ◌≤◌, ℕ, Bool, true, false, List, [], ◌∷◌, Result, Ok, Err, Contains, IsOk, is_ok, is_none}
+use Rattle.std.specs.Prelude.{◌≡◌, ◌≤◌, ℕ, Bool, true, false, List, [], ◌∷◌, Result, Ok, Err, Option, Some, None, not, ◌||◌, Contains, IsOk, is_ok, is_none, unwrap_or}
 use Rattle.mir.specs.declared.errors.ConstEvalError.{ConstEvalError}
 use Rattle.mir.specs.declared.errors.ConstEvalError.TheVariants as constant
 use Rattle.mir.specs.declared.body.MirBody.{MirBody}
-use Rattle.mir_eval.specs.Limits.{default_limits}
+use Rattle.world.specs.Limits.{default_limits, is_within}
+use Rattle.world.specs.declared.limits.Limits.{Limits}
 use Rattle.source_meaning.specs.Valid.{HasDefinedCost}
 use Rattle.consteval.specs.Kept.{Kept, IsSound, source_of}
 use Rattle.consteval.specs.Valid.{IsValid}
@@ -11,10 +12,11 @@ use Rattle.consteval.specs.Answers.{GivesValue, GivesPanic, AnswersWithin, HasCa
 use Rattle.consteval.specs.declared.evaluated.Evaluated.{Evaluated}
 use Rattle.world.specs.declared.database.BodyRow.{BodyRow}
 use Rattle.world.specs.declared.database.HirDatabase.{HirDatabase}
-use Rattle.world.specs.declared.ids.DefWithBodyId.{DefWithBodyId}
-use Rattle.world.specs.declared.ty.Const.{Const}
-use Rattle.world.specs.declared.ty.GenericArgs.{GenericArgs}
-use Rattle.world.specs.Lookups.{const_row}
+use Rattle.types.specs.declared.ids.DefWithBodyId.{DefWithBodyId}
+use Rattle.types.specs.declared.ids.DefWithBodyId.TheVariants.{VariantId}
+use Rattle.types.specs.declared.ty.Const.{Const}
+use Rattle.types.specs.declared.ty.GenericArgs.{GenericArgs}
+use Rattle.world.specs.Lookups.{crate_of}
 use Rattle.world_json.specs.declared.goal.Goal.{Goal}
 
 -- an answer to a definition, and what was kept before and after it
@@ -41,12 +43,13 @@ is_want_of_memory (Err constant.NoMemory) = true
 is_want_of_memory (Err (constant.MirLowerError error)) = false
 is_want_of_memory (Err (constant.MirEvalError error)) = false
 
-abbrev pub no_args : GenericArgs
-no_args = record { 0 = [] }
+-- the limits of a goal: those that it asks for, or those of a run for which none were asked
+abbrev pub limits_of : Goal → Limits
+limits_of goal = unwrap_or goal.limits default_limits
 
--- an answer to a goal under the limits of a run for which none were asked, with enough memory
+-- an answer to a goal under its limits, with enough memory
 pub record IsGoalAnswer (before after : Kept) (goal : Goal) (answer : Evaluated) : Type 0 where
-  pub answers : IsAnswer before after goal.def no_args default_limits.blocks answer
+  pub answers : IsAnswer before after goal.def goal.args (limits_of goal).blocks answer
   pub in_memory : is_want_of_memory answer.result ≡ false
 
 -- answers to goals, one for each in order, where each evaluation begins with what the one before has kept
@@ -64,6 +67,16 @@ nothing_kept world = record { world = world; bodies = []; values = [] }
 abbrev pub has_value : Evaluated → Bool
 has_value answer = is_ok answer.result
 
--- whether a goal's definition is out of range
+-- a variant of an enum, whose value no goal asks for
+abbrev pub is_variant : DefWithBodyId → Bool
+is_variant (VariantId id) = true
+is_variant _ = false
+
+-- no limits, or limits that are at most the greatest ones
+abbrev pub are_within : Option Limits → Bool
+are_within None = true
+are_within (Some limits) = is_within limits
+
+-- whether a goal doesn't fit: it is a variant, it is out of range, or its limits are too great
 abbrev pub is_misfit : HirDatabase → Goal → Bool
-is_misfit world goal = is_none (const_row world goal.def)
+is_misfit world goal = is_variant goal.def || is_none (crate_of world goal.def) || not (are_within goal.limits)

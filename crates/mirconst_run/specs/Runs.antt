@@ -15,9 +15,8 @@ use Rattle.mirconst_run.specs.Input.{most_bytes, IsReadToEnd, StandsFor, IsNoJso
 use Rattle.mirconst_run.specs.Report.{report_text}
 use Rattle.mirconst_run.specs.Words.{is_command}
 
--- outcomes of the goals that bytes stand for
-pub record AreOutcomes (bytes : List ℕ) (outcomes : List Evaluated) : Type 0 where
-  pub world : HirDatabase
+-- outcomes of the goals that bytes stand for, in the world that they stand for
+pub record AreOutcomes (bytes : List ℕ) (world : HirDatabase) (outcomes : List Evaluated) : Type 0 where
   pub goals : List Goal
   pub input : StandsFor bytes world goals
   pub after : Kept
@@ -25,10 +24,11 @@ pub record AreOutcomes (bytes : List ℕ) (outcomes : List Evaluated) : Type 0 w
 
 -- a text is the report of outcomes of the goals that bytes stand for; `all` says whether each has a value
 pub record IsReportOf (bytes text : List ℕ) (all : Bool) : Type 0 where
+  pub world : HirDatabase
   pub outcomes : List Evaluated
-  pub are : AreOutcomes bytes outcomes
+  pub are : AreOutcomes bytes world outcomes
   pub valued : list_all has_value outcomes ≡ all
-  pub reported : text ≡ report_text outcomes
+  pub reported : text ≡ report_text world outcomes
 
 -- the report of the goals that bytes stand for was written after what was there before
 pub record IsReported (bytes : List ℕ) (all : Bool) (written written' : Option (List ℕ)) : Type 0 where

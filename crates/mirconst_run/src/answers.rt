@@ -1,15 +1,16 @@
 //! The answers to the goals, in their order.
 
-ghost use Rattle.std.specs.Prelude.{◌≡◌, false, IfOk, IfErr, OnOk};
+ghost use Rattle.std.specs.Prelude.{◌≡◌, true, false, None, IfOk, IfErr, OnOk, position};
 ghost use Rattle.std.specs.List.{list_all};
-ghost use Rattle.mirconst_run.specs.Answers.{AreAnswers, IsGoalAnswer, has_value, is_want_of_memory, nothing_kept, no_args};
+ghost use Rattle.mirconst_run.specs.Answers.{AreAnswers, IsGoalAnswer, are_within, has_value, is_misfit, is_want_of_memory, limits_of, nothing_kept};
+ghost use Rattle.world.specs.Limits.{IsWithin};
+ghost use Rattle.world.specs.declared.database.HirDatabase.{HirDatabase};
 ghost use Rattle.consteval.specs.Kept.{Kept};
 
 use consteval::{Evaluated, Evaluations};
 use mir::ConstEvalError;
-use mir_eval::Limits;
 use std::alloc::Global;
-use world::{Const, GenericArgs, List, NoMemory};
+use world::{Const, Limits, List, NoMemory};
 use world_check::CheckedWorld;
 use world_json::Goal;
 
@@ -25,17 +26,26 @@ fn is_want_of_memory(answer: &Result<Const, ConstEvalError>) -> bool
     }
 }
 
-/// The answer to a goal, under the limits of a run for which none were asked.
-fn answer(
-    evaluations: &mut Evaluations,
-    args: &GenericArgs,
-    goal: Goal,
-) -> Result<Evaluated, NoMemory>
-    requires { args.now ≡ no_args }
-    ensures { IfOk result (λ outcome. IsGoalAnswer evaluations.old evaluations.new goal outcome) }
+/// The limits of a goal: those that it asks for, or those of a run for which none were asked.
+#[tactic(auto, using(crate::proofs::Answering::within))]
+fn limits_of(goal: &Goal) -> Limits
+    requires { are_within goal.now.limits ≡ true }
+    ensures same { result ≡ limits_of goal.now }
+    ensures within { IsWithin result }
 {
-    let limits = Limits::default_limits();
-    let outcome = evaluations.eval_def(goal.def, args, &limits);
+    match goal.limits {
+        Some(limits) => limits,
+        None => Limits::default_limits(),
+    }
+}
+
+/// The answer to a goal.
+fn answer(evaluations: &mut Evaluations, goal: &Goal) -> Result<Evaluated, NoMemory>
+    requires { are_within goal.now.limits ≡ true }
+    ensures { IfOk result (λ outcome. IsGoalAnswer evaluations.old evaluations.new goal.now outcome) }
+{
+    let limits = limits_of(goal);
+    let outcome = evaluations.eval_def(goal.def, &goal.args, &limits);
     if is_want_of_memory(&outcome.result) {
         return Err(NoMemory);
     }
@@ -46,15 +56,14 @@ fn answer(
 fn answer_all(
     alloc: Global,
     evaluations: &mut Evaluations,
-    args: &GenericArgs,
     goals: &[Goal],
 ) -> Result<List<Evaluated>, NoMemory>
-    requires { args.now ≡ no_args }
+    requires { (world : HirDatabase) × (position (is_misfit world) goals.now ≡ None) }
     ensures { IfOk result (λ outcomes. AreAnswers evaluations.old goals.now outcomes evaluations.new) }
 {
     let mut outcomes = List::new(alloc);
     for goal in goals {
-        let outcome = answer(evaluations, args, *goal)?;
+        let outcome = answer(evaluations, goal)?;
         outcomes.push(outcome)?;
     }
     Ok(outcomes)
@@ -67,11 +76,11 @@ pub(crate) fn answers(
     world: &CheckedWorld,
     goals: &List<Goal>,
 ) -> Result<List<Evaluated>, NoMemory>
+    requires { position (is_misfit world.now) goals.now ≡ None }
     ensures { IfOk result (λ outcomes. (after : Kept) × AreAnswers (nothing_kept world.now) goals.now outcomes after) }
 {
-    let args = GenericArgs(List::new(alloc));
     let mut evaluations = Evaluations::new(alloc, world)?;
-    answer_all(alloc, &mut evaluations, &args, goals.as_slice())
+    answer_all(alloc, &mut evaluations, goals.as_slice())
 }
 
 /// Whether each outcome is a value.

@@ -3,7 +3,7 @@
 ghost use Rattle.std.specs.Prelude.{◌≡◌, IfOk, IfErr, OnOk, IsUtf8, position};
 ghost use Rattle.serde_json.specs.Read.{read};
 ghost use Rattle.serde_json.specs.View.{view};
-ghost use Rattle.mirconst_run.specs.Answers.{is_misfit};
+ghost use Rattle.mirconst_run.specs.Answers.{are_within, is_misfit, is_variant};
 ghost use Rattle.mirconst_run.specs.Input.{StandsFor, goal_path};
 ghost use Rattle.mirconst_run.specs.Refusals.{IsOfInput, IsOfTree, IsOfCheck, IsOfFault, IsOfGoal};
 ghost use Rattle.world_check.specs.Rows.{first_failure};
@@ -12,7 +12,7 @@ ghost use Rattle.world_json.specs.Input.{world_of};
 use crate::Status;
 use serde_json::Value;
 use std::alloc::Global;
-use world::{HirDatabase, List, NoMemory, Text};
+use world::{DefWithBodyId, HirDatabase, Limits, List, NoMemory, Text};
 use world_check::{CheckFault, CheckedWorld};
 use world_json::{Goal, NotAWorld, read_world};
 
@@ -69,21 +69,38 @@ fn refused(fault: CheckFault) -> Status
     }
 }
 
-/// Whether a goal's definition is out of range.
+fn is_variant(def: DefWithBodyId) -> bool
+    ensures { result ≡ is_variant def }
+{
+    matches!(def, DefWithBodyId::VariantId(_))
+}
+
+/// Whether there are no limits, or limits that are at most the greatest ones.
+fn are_within(limits: Option<Limits>) -> bool
+    ensures { result ≡ are_within limits }
+{
+    match limits {
+        Some(limits) => limits.within(),
+        None => true,
+    }
+}
+
+/// Whether a goal doesn't fit: it is a variant, it is out of range, or its limits are too great.
 fn is_misfit(world: &CheckedWorld, goal: &Goal) -> bool
     ensures { result ≡ is_misfit world.now goal.now }
 {
-    !world.has(goal.def)
+    is_variant(goal.def) || world.db().crate_of(goal.def).is_none() || !are_within(goal.limits)
 }
 
-/// The place of the first goal whose definition is out of range.
+/// The place of the first goal that doesn't fit.
 fn first_misfit(world: &CheckedWorld, goals: &[Goal]) -> Option<usize>
     ensures { result ≡ position (is_misfit world.now) goals.now }
 {
     goals.iter().position(|goal| is_misfit(world, goal))
 }
 
-/// The first goal whose definition is out of range.
+/// The first goal that doesn't fit: that is a variant, is out of range, or has limits that are too
+/// great. Ids in a goal's arguments are not looked up yet.
 pub fn goals_fit(world: &CheckedWorld, goals: &List<Goal>) -> Option<u64>
     ensures { result ≡ position (is_misfit world.now) goals.now }
 {

@@ -12,14 +12,16 @@ use world::{Bytes, HirDatabase, List, NoMemory};
 /// Adds the lines of an outcome.
 fn push_goal(
     alloc: Global,
+    db: &HirDatabase,
     out: &mut Vec<u8>,
     number: u64,
     outcome: &Evaluated,
 ) -> Result<(), NoMemory>
-    ensures { OnOk result (out.new.items ≡ out.old.items ++ goal_text number outcome.now.result outcome.now.output outcome.now.turns) }
+    ensures { OnOk result (out.new.items ≡ out.old.items ++ goal_text db.now number outcome.now.result outcome.now.output outcome.now.turns) }
 {
     let text = goal_text(
         alloc,
+        db,
         number,
         &outcome.result,
         &outcome.output,
@@ -31,23 +33,23 @@ fn push_goal(
 
 /// The lines of outcomes.
 #[tactic(auto, using(crate::proofs::Reporting::one_more, crate::proofs::Reporting::all_done))]
-fn report_of(alloc: Global, outcomes: &[Evaluated]) -> Result<Bytes, NoMemory>
-    ensures { IfOk result (λ text. text ≡ report_text outcomes.now) }
+fn report_of(alloc: Global, db: &HirDatabase, outcomes: &[Evaluated]) -> Result<Bytes, NoMemory>
+    ensures { IfOk result (λ text. text ≡ report_text db.now outcomes.now) }
 {
     let mut out = Vec::new(alloc);
     for i in 0..outcomes.len() {
-        push_goal(alloc, &mut out, i as u64, &outcomes[i])?;
+        push_goal(alloc, db, &mut out, i as u64, &outcomes[i])?;
     }
     Ok(Bytes::from_vec(out))
 }
 
-/// The report of the outcomes of goals, in their order. No name of the world is printed yet.
+/// The report of the outcomes of goals, in their order, with the names of the world.
 pub fn report(
     alloc: Global,
-    _db: &HirDatabase,
+    db: &HirDatabase,
     outcomes: &List<Evaluated>,
 ) -> Result<Bytes, NoMemory>
-    ensures { IfOk result (λ text. text ≡ report_text outcomes.now) }
+    ensures { IfOk result (λ text. text ≡ report_text db.now outcomes.now) }
 {
-    report_of(alloc, outcomes.as_slice())
+    report_of(alloc, db, outcomes.as_slice())
 }

@@ -2,12 +2,12 @@
 use Rattle.std.specs.Prelude.{ℕ, ◌-◌, ◌*◌, ◌^◌, Bool, true, false, not, ◌&&◌, if◌then◌else◌, ◌==◌, nat_lt, List, [], ◌∷◌, ◌++◌, length, Option, Some, None, ℤ, pos, negsuc, ◌+ℤ◌, ◌-ℤ◌, ◌*ℤ◌, neg_ℤ, int_lt, int_le, int_div, int_rem, bit_and, bit_or, bit_xor, codes}
 use Rattle.std.specs.Int.{int_shr}
 use Rattle.std.specs.Ordering.{int_eq}
-use Rattle.world.specs.declared.ty.Ty.{Ty, Bool as BoolTy, Int, Uint, Tuple'}
-use Rattle.world.specs.declared.body.ArithOp.{ArithOp}
-use Rattle.world.specs.declared.body.ArithOp.TheVariants as arith
-use Rattle.world.specs.declared.body.CmpOp.{CmpOp}
-use Rattle.world.specs.declared.body.CmpOp.TheVariants as compare
-use Rattle.world.specs.declared.body.Ordering.TheVariants.{Less, Greater}
+use Rattle.types.specs.declared.ty.Ty.{Ty, Bool as BoolTy, Int, Uint}
+use Rattle.types.specs.declared.operators.ArithOp.{ArithOp}
+use Rattle.types.specs.declared.operators.ArithOp.TheVariants as arith
+use Rattle.types.specs.declared.operators.CmpOp.{CmpOp}
+use Rattle.types.specs.declared.operators.CmpOp.TheVariants as compare
+use Rattle.types.specs.declared.operators.Ordering.TheVariants.{Less, Greater}
 use Rattle.numbers.specs.declared.operator.Kind.{Kind}
 use Rattle.numbers.specs.declared.operator.Kind.TheVariants.{Signed, Unsigned, Boolean}
 use Rattle.numbers.specs.declared.operator.Operator.{Operator}
@@ -25,7 +25,7 @@ unfoldable pub kind_of : Ty → Option Kind
 kind_of BoolTy = Some Boolean
 kind_of (Int _) = Some Signed
 kind_of (Uint _) = Some Unsigned
-kind_of (Tuple' _ _) = None
+kind_of _ = None
 
 -- the operator that an arithmetic operator of the source stands for
 unfoldable pub of_arith : ArithOp → Operator

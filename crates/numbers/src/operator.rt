@@ -3,7 +3,7 @@
 ghost use Rattle.std.specs.Prelude.{◌≡◌};
 ghost use Rattle.numbers.specs.Operators.{kind_of, of_arith, of_compare, panic_word};
 
-use world::{ArithOp, CmpOp, Ordering, Ty};
+use types::{ArithOp, CmpOp, Ordering, Ty};
 
 /// What the bytes of an operand are, by its type.
 #[derive(Clone, Copy, PartialEq, Eq, Debug)]
@@ -44,7 +44,7 @@ impl Kind {
             Ty::Bool => Some(Kind::Boolean),
             Ty::Int(_) => Some(Kind::Signed),
             Ty::Uint(_) => Some(Kind::Unsigned),
-            Ty::Tuple(_) => None,
+            _ => None,
         }
     }
 }

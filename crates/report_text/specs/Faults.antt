@@ -1,5 +1,5 @@
--- The texts of faults.
-use Rattle.std.specs.Prelude.{ℕ, List, [], ◌∷◌, ◌++◌, codes, decimal, map}
+-- The texts of faults: a variant's name, with its parts in parentheses.
+use Rattle.std.specs.Prelude.{ℕ, List, [], ◌∷◌, ◌++◌, codes, map}
 use Rattle.mir.specs.declared.errors.ConstEvalError.{ConstEvalError}
 use Rattle.mir.specs.declared.errors.ConstEvalError.TheVariants as constant
 use Rattle.mir.specs.declared.errors.LayoutError.{LayoutError}
@@ -9,27 +9,13 @@ use Rattle.mir.specs.declared.errors.MirEvalError.TheOpen as eval
 use Rattle.mir.specs.declared.errors.MirLowerError.{MirLowerError}
 use Rattle.mir.specs.declared.errors.MirLowerError.TheVariants as lower
 use Rattle.mir.specs.declared.errors.TrailEntry.{TrailEntry}
-use Rattle.mir.specs.declared.span.MirSpan.{MirSpan}
-use Rattle.mir.specs.declared.span.MirSpan.TheVariants.{ExprId, PatId, BindingId, Unknown}
-use Rattle.world.specs.declared.ids.DefWithBodyId.{DefWithBodyId}
-use Rattle.world.specs.declared.ids.DefWithBodyId.TheVariants.{ConstId}
+use Rattle.world.specs.declared.database.HirDatabase.{HirDatabase}
+use Rattle.report_text.specs.Ids.{crate_text, def_text, span_text}
 use Rattle.report_text.specs.Texts.{bracketed, named, quoted}
 use Rattle.report_text.specs.Types.{type_text}
 
 abbrev pub layout_error_text : LayoutError → List ℕ
 layout_error_text UnknownLayout = codes "Unknown"
-
-abbrev pub span_text : MirSpan → List ℕ
-span_text (ExprId id) = codes "expr#" ++ decimal id.0
-span_text (PatId id) = codes "pat#" ++ decimal id.0
-span_text (BindingId id) = codes "binding#" ++ decimal id.0
-span_text Unknown = codes "unknown"
-
-abbrev pub def_text : DefWithBodyId → List ℕ
-def_text (ConstId id) = codes "const#" ++ decimal id.0
-
-abbrev pub crate_text : ℕ → List ℕ
-crate_text krate = codes "crate#" ++ decimal krate
 
 -- a frame that a fault passed through
 abbrev pub entry_text : TrailEntry → List ℕ
@@ -49,22 +35,22 @@ lower_error_text lower.InaccessibleLocal = codes "InaccessibleLocal"
 lower_error_text lower.NoMemory = codes "NoMemory"
 
 -- an error's text, by the text of the error in it
-abbrev pub eval_layer_text : MirEvalError-F (List ℕ) → List ℕ
-eval_layer_text (eval.LayoutError error ty) = named (codes "LayoutError") (layout_error_text error ∷ type_text ty ∷ [])
-eval_layer_text (eval.TargetDataLayoutNotAvailable krate) = named (codes "TargetDataLayoutNotAvailable") (crate_text krate.0 ∷ [])
-eval_layer_text (eval.UndefinedBehavior text) = named (codes "UndefinedBehavior") (quoted text ∷ [])
-eval_layer_text (eval.Panic text) = named (codes "Panic") (quoted text ∷ [])
-eval_layer_text (eval.TypeIsUnsized ty text) = named (codes "TypeIsUnsized") (type_text ty ∷ quoted text ∷ [])
-eval_layer_text (eval.NotSupported text) = named (codes "NotSupported") (quoted text ∷ [])
-eval_layer_text (eval.InFunction inner trail) = named (codes "InFunction") (inner ∷ trail_text trail ∷ [])
-eval_layer_text eval.ExecutionLimitExceeded = codes "ExecutionLimitExceeded"
-eval_layer_text eval.NoMemory = codes "NoMemory"
+abbrev pub eval_layer_text : HirDatabase → MirEvalError-F (List ℕ) → List ℕ
+eval_layer_text world (eval.LayoutError error ty) = named (codes "LayoutError") (layout_error_text error ∷ type_text world ty ∷ [])
+eval_layer_text world (eval.TargetDataLayoutNotAvailable krate) = named (codes "TargetDataLayoutNotAvailable") (crate_text krate ∷ [])
+eval_layer_text world (eval.UndefinedBehavior text) = named (codes "UndefinedBehavior") (quoted text ∷ [])
+eval_layer_text world (eval.Panic text) = named (codes "Panic") (quoted text ∷ [])
+eval_layer_text world (eval.TypeIsUnsized ty text) = named (codes "TypeIsUnsized") (type_text world ty ∷ quoted text ∷ [])
+eval_layer_text world (eval.NotSupported text) = named (codes "NotSupported") (quoted text ∷ [])
+eval_layer_text world (eval.InFunction inner trail) = named (codes "InFunction") (inner ∷ trail_text trail ∷ [])
+eval_layer_text world eval.ExecutionLimitExceeded = codes "ExecutionLimitExceeded"
+eval_layer_text world eval.NoMemory = codes "NoMemory"
 
-unfoldable pub eval_error_text : MirEvalError → List ℕ
-eval_error_text = fold-MirEvalError (List ℕ) eval_layer_text
+unfoldable pub eval_error_text : HirDatabase → MirEvalError → List ℕ
+eval_error_text world = fold-MirEvalError (List ℕ) (eval_layer_text world)
 
 -- a fault, after the phase that it comes from
-abbrev pub fault_text : ConstEvalError → List ℕ
-fault_text (constant.MirLowerError error) = codes "lower " ++ lower_error_text error
-fault_text (constant.MirEvalError error) = codes "eval " ++ eval_error_text error
-fault_text constant.NoMemory = codes "eval NoMemory"
+abbrev pub fault_text : HirDatabase → ConstEvalError → List ℕ
+fault_text world (constant.MirLowerError error) = codes "lower " ++ lower_error_text error
+fault_text world (constant.MirEvalError error) = codes "eval " ++ eval_error_text world error
+fault_text world constant.NoMemory = codes "eval NoMemory"

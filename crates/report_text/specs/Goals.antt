@@ -1,19 +1,37 @@
 -- The lines of a goal.
 use Rattle.std.specs.Prelude.{ℕ, List, [], ◌∷◌, ◌++◌, codes, decimal, Result, Ok, Err}
 use Rattle.mir.specs.declared.errors.ConstEvalError.{ConstEvalError}
-use Rattle.world.specs.declared.ty.Const.{Const}
-use Rattle.world.specs.declared.ty.Const.TheVariants.{Value}
+use Rattle.types.specs.declared.ty.ComplexMemoryMap.{ComplexMemoryMap}
+use Rattle.types.specs.declared.ty.Const.{Const, Const-F, out-Const}
+use Rattle.types.specs.declared.ty.Const.TheOpen as one
+use Rattle.types.specs.declared.ty.GenericArg.{GenericArg}
+use Rattle.types.specs.declared.ty.GenericArgs.{GenericArgs}
+use Rattle.types.specs.declared.ty.MemoryMap.{MemoryMap}
+use Rattle.types.specs.declared.ty.TraitRef.{TraitRef}
+use Rattle.types.specs.declared.ty.Ty.{Ty}
+use Rattle.types.specs.declared.ty.UnevaluatedConst.{UnevaluatedConst}
+use Rattle.types.specs.declared.ty.ValueConst.{ValueConst}
+use Rattle.world.specs.declared.database.HirDatabase.{HirDatabase}
 use Rattle.report_text.specs.Faults.{fault_text}
+use Rattle.report_text.specs.Memory.{memory_lines}
 use Rattle.report_text.specs.Texts.{digits_or_dash}
-use Rattle.report_text.specs.Types.{type_text}
+use Rattle.report_text.specs.Types.{const_text, type_text}
 
--- a constant: its type and its bytes
-abbrev pub const_text : Const → List ℕ
-const_text (Value value) = type_text value.ty ++ (codes " " ++ digits_or_dash value.memory)
+-- a constant's variant
+abbrev ConstLayer : Type 0
+ConstLayer = Const-F Const GenericArg MemoryMap Ty ComplexMemoryMap GenericArgs TraitRef UnevaluatedConst ValueConst
 
-abbrev pub result_text : Result Const ConstEvalError → List ℕ
-result_text (Ok konst) = codes "value " ++ const_text konst
-result_text (Err error) = codes "error " ++ fault_text error
+-- a goal's answer, by its variant: of a value its type and its bytes; an answer that is no value is its text
+abbrev pub answer_layer_text : HirDatabase → Const → ConstLayer → List ℕ
+answer_layer_text world konst (one.Value value) = type_text world value.ty ++ (codes " " ++ digits_or_dash value.memory)
+answer_layer_text world konst _ = const_text world konst
+
+abbrev pub answer_text : HirDatabase → Const → List ℕ
+answer_text world konst = answer_layer_text world konst (out-Const konst)
+
+abbrev pub result_text : HirDatabase → Result Const ConstEvalError → List ℕ
+result_text world (Ok konst) = codes "value " ++ answer_text world konst
+result_text world (Err error) = codes "error " ++ fault_text world error
 
 -- the line of what was written to one of the outputs, where that is anything
 abbrev pub output_line : List ℕ → List ℕ → List ℕ
@@ -29,9 +47,19 @@ abbrev pub turns_line : ℕ → List ℕ
 turns_line turns = codes "  turns " ++ (decimal turns ++ codes "\n")
 
 -- the line with a goal's answer
-abbrev pub answer_line : ℕ → Result Const ConstEvalError → List ℕ
-answer_line number answer = codes "goal " ++ (decimal number ++ (codes " " ++ (result_text answer ++ codes "\n")))
+abbrev pub answer_line : HirDatabase → ℕ → Result Const ConstEvalError → List ℕ
+answer_line world number answer = codes "goal " ++ (decimal number ++ (codes " " ++ (result_text world answer ++ codes "\n")))
+
+-- the lines of the memory that an answer refers to, by its variant: only a value has any
+abbrev pub answer_layer_lines : HirDatabase → ConstLayer → List ℕ
+answer_layer_lines world (one.Value value) = memory_lines world value.memory_map
+answer_layer_lines world _ = []
+
+abbrev pub result_lines : HirDatabase → Result Const ConstEvalError → List ℕ
+result_lines world (Ok konst) = answer_layer_lines world (out-Const konst)
+result_lines world (Err _) = []
 
 -- the lines of a goal, counted from 0
-abbrev pub goal_text : ℕ → Result Const ConstEvalError → List ℕ × List ℕ → ℕ → List ℕ
-goal_text number answer output turns = answer_line number answer ++ (turns_line turns ++ output_lines output)
+abbrev pub goal_text : HirDatabase → ℕ → Result Const ConstEvalError → List ℕ × List ℕ → ℕ → List ℕ
+goal_text world number answer output turns =
+    answer_line world number answer ++ (turns_line turns ++ (output_lines output ++ result_lines world answer))

@@ -1,12 +1,28 @@
--- The texts of types.
-use Rattle.std.specs.Prelude.{ℕ, List, [], ◌∷◌, ◌++◌, codes}
-use Rattle.world.specs.declared.ty.IntTy.{IntTy}
-use Rattle.world.specs.declared.ty.IntTy.TheVariants.{I8, I16, I32, I64, I128, Isize}
-use Rattle.world.specs.declared.ty.Ty.{Ty, Ty-F, fold-Ty}
-use Rattle.world.specs.declared.ty.Ty.TheOpen as one
-use Rattle.world.specs.declared.ty.UintTy.{UintTy}
-use Rattle.world.specs.declared.ty.UintTy.TheVariants.{U8, U16, U32, U64, U128, Usize}
-use Rattle.report_text.specs.Texts.{listed}
+-- The texts of types, generic arguments and constants, with the names that a world gives.
+use Rattle.std.specs.Prelude.{ℕ, List, [], ◌∷◌, ◌++◌, codes, map, Option, Some, None}
+use Rattle.numbers.specs.declared.operator.Kind.{Kind}
+use Rattle.numbers.specs.declared.operator.Kind.TheVariants.{Signed, Unsigned, Boolean}
+use Rattle.types.specs.declared.scalars.FloatTy.{FloatTy}
+use Rattle.types.specs.declared.scalars.FloatTy.TheVariants.{F16, F32, F64, F128}
+use Rattle.types.specs.declared.scalars.IntTy.{IntTy}
+use Rattle.types.specs.declared.scalars.IntTy.TheVariants.{I8, I16, I32, I64, I128, Isize}
+use Rattle.types.specs.declared.scalars.Mutability.{Mutability}
+use Rattle.types.specs.declared.scalars.Mutability.TheVariants.{Not, Mut}
+use Rattle.types.specs.declared.scalars.UintTy.{UintTy}
+use Rattle.types.specs.declared.scalars.UintTy.TheVariants.{U8, U16, U32, U64, U128, Usize}
+use Rattle.types.specs.declared.ty.Const.{Const}
+use Rattle.types.specs.declared.ty.Const.TheFolds.{fold-Const, fold-GenericArg, fold-GenericArgs, fold-TraitRef, fold-Ty}
+use Rattle.types.specs.declared.ty.Const.TheOpen as one
+use Rattle.types.specs.declared.ty.Const.TheOpen.{Const-F, GenericArg-F, MemoryMap-F, Ty-F, ComplexMemoryMap-F, GenericArgs-F, TraitRef-F, UnevaluatedConst-F, ValueConst-F}
+use Rattle.types.specs.declared.ty.GenericArg.{GenericArg}
+use Rattle.types.specs.declared.ty.GenericArgs.{GenericArgs}
+use Rattle.types.specs.declared.ty.TraitRef.{TraitRef}
+use Rattle.types.specs.declared.ty.Ty.{Ty}
+use Rattle.world.specs.declared.database.HirDatabase.{HirDatabase}
+use Rattle.report_text.specs.Consts.{bytes_text}
+use Rattle.report_text.specs.Ids.{closure_text}
+use Rattle.report_text.specs.Names.{adt_name, alias_name, callable_name, const_param_name, general_const_name, trait_name, type_param_name}
+use Rattle.report_text.specs.Texts.{listed, summed, with_args}
 
 abbrev pub int_text : IntTy → List ℕ
 int_text I8 = codes "i8"
@@ -24,19 +40,138 @@ uint_text U64 = codes "u64"
 uint_text U128 = codes "u128"
 uint_text Usize = codes "usize"
 
+abbrev pub float_text : FloatTy → List ℕ
+float_text F16 = codes "f16"
+float_text F32 = codes "f32"
+float_text F64 = codes "f64"
+float_text F128 = codes "f128"
+
+-- what stands before the type that a reference points to
+abbrev pub reference_word : Mutability → List ℕ
+reference_word Not = codes "&"
+reference_word Mut = codes "&mut "
+
+-- what stands before the type that a raw pointer points to
+abbrev pub pointer_word : Mutability → List ℕ
+pointer_word Not = codes "*const "
+pointer_word Mut = codes "*mut "
+
 -- a tuple with these texts of its fields
 abbrev pub tuple_text : List (List ℕ) → List ℕ
 tuple_text [] = codes "()"
 tuple_text (field ∷ []) = codes "(" ++ (field ++ codes ",)")
 tuple_text (first ∷ second ∷ others) = codes "(" ++ (listed (first ∷ second ∷ others) ++ codes ")")
 
--- a type's text, by the texts of the types in it
-abbrev pub layer_text : Ty-F (List ℕ) → List ℕ
-layer_text one.Bool = codes "bool"
-layer_text (one.Int int) = int_text int
-layer_text (one.Uint uint) = uint_text uint
-layer_text (one.Tuple fields) = tuple_text fields
+-- an array with these texts of its element type and of its length
+abbrev pub array_text : List ℕ → List ℕ → List ℕ
+array_text element len = codes "[" ++ (element ++ (codes "; " ++ (len ++ codes "]")))
+
+abbrev pub slice_text : List ℕ → List ℕ
+slice_text element = codes "[" ++ (element ++ codes "]")
+
+-- a function pointer with these texts of its parameters and of its result
+abbrev pub pointer_to_function_text : List (List ℕ) → List ℕ → List ℕ
+pointer_to_function_text params ret = codes "fn(" ++ (listed params ++ (codes ") -> " ++ ret))
+
+-- several traits are joined by plus signs
+abbrev pub dynamic_text : List (List ℕ) → List ℕ
+dynamic_text bounds = codes "dyn " ++ summed bounds
+
+-- what is told of a type: how it is written, and what its bytes are
+pub record Told : Type 0 where
+  pub text : List ℕ
+  pub kind : Option Kind
+
+-- One layer of a type or of what stands in it, whose parts are told already: of a constant, a generic argument, a
+-- bound or a type its text, of generic arguments the texts, and of memory nothing.
+abbrev Over : (Type 0 → Type 0 → Type 0 → Type 0 → Type 0 → Type 0 → Type 0 → Type 0 → Type 0 → Type 0) → Type 0
+Over Layer = Layer (List ℕ) (List ℕ) (Unit {0}) Told (Unit {0}) (List (List ℕ)) (List ℕ) (List ℕ) (List ℕ)
+
+abbrev pub told_text : Told → List ℕ
+told_text told = told.text
+
+-- how a type is written; a closure has no arguments in its text
+abbrev pub ty_layer_text : HirDatabase → Over Ty-F → List ℕ
+ty_layer_text world one.Bool = codes "bool"
+ty_layer_text world one.Char = codes "char"
+ty_layer_text world (one.Int int) = int_text int
+ty_layer_text world (one.Uint uint) = uint_text uint
+ty_layer_text world (one.Float float) = float_text float
+ty_layer_text world one.Str = codes "str"
+ty_layer_text world one.Never = codes "!"
+ty_layer_text world (one.Tuple fields) = tuple_text (map told_text fields)
+ty_layer_text world (one.Array element len) = array_text element.text len
+ty_layer_text world (one.Slice element) = slice_text element.text
+ty_layer_text world (one.Ref to mutability) = reference_word mutability ++ to.text
+ty_layer_text world (one.RawPtr to mutability) = pointer_word mutability ++ to.text
+ty_layer_text world (one.Adt id args) = with_args (adt_name world id) args
+ty_layer_text world (one.FnDef id args) = with_args (callable_name world id) args
+ty_layer_text world (one.FnPtr params ret) = pointer_to_function_text (map told_text params) ret.text
+ty_layer_text world (one.Closure id args) = closure_text id
+ty_layer_text world (one.Dynamic bounds) = dynamic_text bounds
+ty_layer_text world (one.Alias id args) = with_args (alias_name world id) args
+ty_layer_text world (one.Ty::Param param) = type_param_name world param.id
+ty_layer_text world one.Ty::Error = codes "{error}"
+
+-- what the bytes of a type are
+abbrev pub ty_layer_kind : Over Ty-F → Option Kind
+ty_layer_kind one.Bool = Some Boolean
+ty_layer_kind (one.Int _) = Some Signed
+ty_layer_kind (one.Uint _) = Some Unsigned
+ty_layer_kind _ = None
+
+abbrev ty_layer : HirDatabase → Over Ty-F → Told
+ty_layer world ty = record { text = ty_layer_text world ty; kind = ty_layer_kind ty }
+
+-- a generic argument is its type or its constant
+abbrev arg_layer : HirDatabase → Over GenericArg-F → List ℕ
+arg_layer world (one.Ty ty) = ty.text
+arg_layer world (one.Konst konst) = konst
+
+abbrev args_layer : HirDatabase → Over GenericArgs-F → List (List ℕ)
+args_layer world args = args.0
+
+-- a trait is written as an item is
+abbrev bound_layer : HirDatabase → Over TraitRef-F → List ℕ
+bound_layer world bound = with_args (trait_name world bound.def) bound.args
+
+abbrev const_layer : HirDatabase → Over Const-F → List ℕ
+const_layer world (one.Value value) = value
+const_layer world (one.Const::Param param) = const_param_name world param.id
+const_layer world (one.Unevaluated named) = named
+const_layer world one.Const::Error = codes "{error}"
+
+abbrev value_layer : HirDatabase → Over ValueConst-F → List ℕ
+value_layer world value = bytes_text value.ty.kind value.memory
+
+-- a constant by its name has no arguments in its text
+abbrev unevaluated_layer : HirDatabase → Over UnevaluatedConst-F → List ℕ
+unevaluated_layer world named = general_const_name world named.def
+
+abbrev map_layer : HirDatabase → Over MemoryMap-F → Unit {0}
+map_layer world map = tt
+
+abbrev complex_layer : HirDatabase → Over ComplexMemoryMap-F → Unit {0}
+complex_layer world map = tt
+
+-- what is told of a type
+unfoldable pub ty_told : HirDatabase → Ty → Told
+ty_told world = fold-Ty _ _ _ _ _ _ _ _ _ (const_layer world) (arg_layer world) (map_layer world) (ty_layer world) (complex_layer world) (args_layer world) (bound_layer world) (unevaluated_layer world) (value_layer world)
 
 -- a type as it is written in Rust
-unfoldable pub type_text : Ty → List ℕ
-type_text = fold-Ty (List ℕ) layer_text
+abbrev pub type_text : HirDatabase → Ty → List ℕ
+type_text world ty = (ty_told world ty).text
+
+unfoldable pub const_text : HirDatabase → Const → List ℕ
+const_text world = fold-Const _ _ _ _ _ _ _ _ _ (const_layer world) (arg_layer world) (map_layer world) (ty_layer world) (complex_layer world) (args_layer world) (bound_layer world) (unevaluated_layer world) (value_layer world)
+
+unfoldable pub arg_text : HirDatabase → GenericArg → List ℕ
+arg_text world = fold-GenericArg _ _ _ _ _ _ _ _ _ (const_layer world) (arg_layer world) (map_layer world) (ty_layer world) (complex_layer world) (args_layer world) (bound_layer world) (unevaluated_layer world) (value_layer world)
+
+-- the texts of generic arguments
+unfoldable pub args_texts : HirDatabase → GenericArgs → List (List ℕ)
+args_texts world = fold-GenericArgs _ _ _ _ _ _ _ _ _ (const_layer world) (arg_layer world) (map_layer world) (ty_layer world) (complex_layer world) (args_layer world) (bound_layer world) (unevaluated_layer world) (value_layer world)
+
+-- the text of a trait with its arguments
+unfoldable pub bound_text : HirDatabase → TraitRef → List ℕ
+bound_text world = fold-TraitRef _ _ _ _ _ _ _ _ _ (const_layer world) (arg_layer world) (map_layer world) (ty_layer world) (complex_layer world) (args_layer world) (bound_layer world) (unevaluated_layer world) (value_layer world)

@@ -3,13 +3,15 @@
 ghost use Rattle.std.specs.Prelude.{◌≡◌, [], ◌∷◌, codes, map, IfOk};
 ghost use Rattle.report_text.specs.Texts.{named, quoted};
 ghost use Rattle.report_text.specs.Types.{type_text};
-ghost use Rattle.report_text.specs.Faults.{layout_error_text, span_text, def_text, crate_text, entry_text, trail_text, lower_error_text, eval_error_text, fault_text};
+ghost use Rattle.report_text.specs.Ids.{crate_text};
+ghost use Rattle.report_text.specs.Faults.{layout_error_text, entry_text, trail_text, lower_error_text, eval_error_text, fault_text};
 
-use crate::texts::{bracketed, enclosed, joined, named_one, named_two, numbered, quoted};
-use crate::types::type_text;
-use mir::{ConstEvalError, LayoutError, MirEvalError, MirLowerError, MirSpan, TrailEntry};
+use crate::ids::{crate_text, def_text, span_text};
+use crate::texts::{bracketed, enclosed, joined, named_one, named_two, quoted};
+use crate::ty::type_text;
+use mir::{ConstEvalError, LayoutError, MirEvalError, MirLowerError, TrailEntry};
 use std::alloc::Global;
-use world::{Bytes, Crate, DefWithBodyId, List, NoMemory, Text, Ty};
+use world::{Bytes, Crate, HirDatabase, List, NoMemory, Text, Ty};
 
 /// Why a type has no layout.
 fn layout_error_text(alloc: Global, error: LayoutError) -> Result<Bytes, NoMemory>
@@ -18,33 +20,6 @@ fn layout_error_text(alloc: Global, error: LayoutError) -> Result<Bytes, NoMemor
     match error {
         LayoutError::Unknown => Bytes::from_slice(alloc, b"Unknown"),
     }
-}
-
-/// A place in the source.
-fn span_text(alloc: Global, span: MirSpan) -> Result<Bytes, NoMemory>
-    ensures { IfOk result (λ text. text ≡ span_text span) }
-{
-    match span {
-        MirSpan::ExprId(id) => numbered(alloc, b"expr#", id.0 as u64),
-        MirSpan::PatId(id) => numbered(alloc, b"pat#", id.0 as u64),
-        MirSpan::BindingId(id) => numbered(alloc, b"binding#", id.0 as u64),
-        MirSpan::Unknown => Bytes::from_slice(alloc, b"unknown"),
-    }
-}
-
-/// A definition.
-fn def_text(alloc: Global, def: DefWithBodyId) -> Result<Bytes, NoMemory>
-    ensures { IfOk result (λ text. text ≡ def_text def) }
-{
-    let DefWithBodyId::ConstId(id) = def;
-    numbered(alloc, b"const#", id.0 as u64)
-}
-
-/// A crate.
-fn crate_text(alloc: Global, krate: Crate) -> Result<Bytes, NoMemory>
-    ensures { IfOk result (λ text. text ≡ crate_text krate.0) }
-{
-    numbered(alloc, b"crate#", krate.0 as u64)
 }
 
 /// A frame that a fault passed through.
@@ -103,26 +78,31 @@ fn lower_error_text(alloc: Global, error: &MirLowerError) -> Result<Bytes, NoMem
 }
 
 /// A type without a layout.
-fn no_layout_text(alloc: Global, error: LayoutError, ty: &Ty) -> Result<Bytes, NoMemory>
-    ensures { IfOk result (λ text. text ≡ named (codes "LayoutError") (layout_error_text error ∷ type_text ty.now ∷ [])) }
+fn no_layout_text(
+    alloc: Global,
+    db: &HirDatabase,
+    error: LayoutError,
+    ty: &Ty,
+) -> Result<Bytes, NoMemory>
+    ensures { IfOk result (λ text. text ≡ named (codes "LayoutError") (layout_error_text error ∷ type_text db.now ty.now ∷ [])) }
 {
     let error = layout_error_text(alloc, error)?;
-    let ty = type_text(alloc, ty)?;
+    let ty = type_text(alloc, db, ty)?;
     named_two(alloc, b"LayoutError", error, ty)
 }
 
 /// A type without a size.
-fn unsized_text(alloc: Global, ty: &Ty, what: &Text) -> Result<Bytes, NoMemory>
-    ensures { IfOk result (λ text. text ≡ named (codes "TypeIsUnsized") (type_text ty.now ∷ quoted what.now ∷ [])) }
+fn unsized_text(alloc: Global, db: &HirDatabase, ty: &Ty, what: &Text) -> Result<Bytes, NoMemory>
+    ensures { IfOk result (λ text. text ≡ named (codes "TypeIsUnsized") (type_text db.now ty.now ∷ quoted what.now ∷ [])) }
 {
-    let ty = type_text(alloc, ty)?;
+    let ty = type_text(alloc, db, ty)?;
     let what = quoted(alloc, what.as_str())?;
     named_two(alloc, b"TypeIsUnsized", ty, what)
 }
 
 /// A crate whose pointers are not known.
 fn no_target_text(alloc: Global, krate: Crate) -> Result<Bytes, NoMemory>
-    ensures { IfOk result (λ text. text ≡ named (codes "TargetDataLayoutNotAvailable") (crate_text krate.0 ∷ [])) }
+    ensures { IfOk result (λ text. text ≡ named (codes "TargetDataLayoutNotAvailable") (crate_text krate ∷ [])) }
 {
     let part = crate_text(alloc, krate)?;
     named_one(alloc, b"TargetDataLayoutNotAvailable", part)
@@ -142,18 +122,18 @@ fn in_function_text(
 
 /// How a run ended without a value.
 #[tactic(auto, unfolding(crate::specs::Faults::eval_error_text))]
-fn eval_error_text(alloc: Global, error: &MirEvalError) -> Result<Bytes, NoMemory>
-    ensures { IfOk result (λ text. text ≡ eval_error_text error.now) }
+fn eval_error_text(alloc: Global, db: &HirDatabase, error: &MirEvalError) -> Result<Bytes, NoMemory>
+    ensures { IfOk result (λ text. text ≡ eval_error_text db.now error.now) }
 {
     match error {
-        MirEvalError::LayoutError(error, ty) => no_layout_text(alloc, *error, ty),
+        MirEvalError::LayoutError(error, ty) => no_layout_text(alloc, db, *error, ty),
         MirEvalError::TargetDataLayoutNotAvailable(krate) => no_target_text(alloc, *krate),
         MirEvalError::UndefinedBehavior(text) => with_quoted(alloc, b"UndefinedBehavior", text),
         MirEvalError::Panic(text) => with_quoted(alloc, b"Panic", text),
-        MirEvalError::TypeIsUnsized(ty, text) => unsized_text(alloc, ty, text),
+        MirEvalError::TypeIsUnsized(ty, text) => unsized_text(alloc, db, ty, text),
         MirEvalError::NotSupported(text) => with_quoted(alloc, b"NotSupported", text),
         MirEvalError::InFunction(inner, trail) => {
-            let inner = eval_error_text(alloc, inner.as_ref())?;
+            let inner = eval_error_text(alloc, db, inner.as_ref())?;
             in_function_text(alloc, inner, trail)
         }
         MirEvalError::ExecutionLimitExceeded => {
@@ -164,8 +144,12 @@ fn eval_error_text(alloc: Global, error: &MirEvalError) -> Result<Bytes, NoMemor
 }
 
 /// Why a constant has no value.
-pub(crate) fn fault_text(alloc: Global, fault: &ConstEvalError) -> Result<Bytes, NoMemory>
-    ensures { IfOk result (λ text. text ≡ fault_text fault.now) }
+pub(crate) fn fault_text(
+    alloc: Global,
+    db: &HirDatabase,
+    fault: &ConstEvalError,
+) -> Result<Bytes, NoMemory>
+    ensures { IfOk result (λ text. text ≡ fault_text db.now fault.now) }
 {
     match fault {
         ConstEvalError::MirLowerError(error) => {
@@ -173,7 +157,7 @@ pub(crate) fn fault_text(alloc: Global, fault: &ConstEvalError) -> Result<Bytes,
             joined(alloc, b"lower ", text.as_slice())
         }
         ConstEvalError::MirEvalError(error) => {
-            let text = eval_error_text(alloc, error)?;
+            let text = eval_error_text(alloc, db, error)?;
             joined(alloc, b"eval ", text.as_slice())
         }
         ConstEvalError::NoMemory => Bytes::from_slice(alloc, b"eval NoMemory"),

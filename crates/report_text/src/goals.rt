@@ -1,37 +1,47 @@
 //! The lines of a goal.
 
 ghost use Rattle.std.specs.Prelude.{◌≡◌, codes, IfOk};
-ghost use Rattle.report_text.specs.Goals.{const_text, result_text, output_line, output_lines, turns_line, answer_line, goal_text};
+ghost use Rattle.report_text.specs.Goals.{answer_text, result_text, output_line, output_lines, turns_line, answer_line, result_lines, goal_text};
 
+use crate::consts::const_text;
 use crate::faults::fault_text;
+use crate::memory::memory_lines;
 use crate::texts::{digits_or_dash, enclosed, joined, numbered};
-use crate::types::type_text;
+use crate::ty::type_text;
 use mir::ConstEvalError;
 use mir_eval::MirOutput;
 use std::alloc::Global;
-use world::{Bytes, Const, NoMemory};
+use world::{Bytes, Const, HirDatabase, NoMemory};
 
-/// A constant: its type and its bytes.
-fn const_text(alloc: Global, konst: &Const) -> Result<Bytes, NoMemory>
-    ensures { IfOk result (λ text. text ≡ const_text konst.now) }
+/// A goal's answer: of a value its type and its bytes.
+fn answer_text(alloc: Global, db: &HirDatabase, konst: &Const) -> Result<Bytes, NoMemory>
+    ensures { IfOk result (λ text. text ≡ answer_text db.now konst.now) }
 {
-    let Const::Value(value) = konst;
-    let ty = type_text(alloc, &value.ty)?;
-    let digits = digits_or_dash(alloc, value.memory.as_slice())?;
-    enclosed(alloc, ty.as_slice(), b" ", digits.as_slice())
+    match konst {
+        Const::Value(value) => {
+            let ty = type_text(alloc, db, &value.ty)?;
+            let digits = digits_or_dash(alloc, value.memory.as_slice())?;
+            enclosed(alloc, ty.as_slice(), b" ", digits.as_slice())
+        }
+        Const::Param(_) | Const::Unevaluated(_) | Const::Error => const_text(alloc, db, konst),
+    }
 }
 
 /// A value or a fault.
-fn result_text(alloc: Global, answer: &Result<Const, ConstEvalError>) -> Result<Bytes, NoMemory>
-    ensures { IfOk result (λ text. text ≡ result_text answer.now) }
+fn result_text(
+    alloc: Global,
+    db: &HirDatabase,
+    answer: &Result<Const, ConstEvalError>,
+) -> Result<Bytes, NoMemory>
+    ensures { IfOk result (λ text. text ≡ result_text db.now answer.now) }
 {
     match answer {
         Ok(konst) => {
-            let text = const_text(alloc, konst)?;
+            let text = answer_text(alloc, db, konst)?;
             joined(alloc, b"value ", text.as_slice())
         }
         Err(fault) => {
-            let text = fault_text(alloc, fault)?;
+            let text = fault_text(alloc, db, fault)?;
             joined(alloc, b"error ", text.as_slice())
         }
     }
@@ -71,31 +81,51 @@ fn turns_line(alloc: Global, turns: u64) -> Result<Bytes, NoMemory>
 /// The line with a goal's answer.
 fn answer_line(
     alloc: Global,
+    db: &HirDatabase,
     number: u64,
     answer: &Result<Const, ConstEvalError>,
 ) -> Result<Bytes, NoMemory>
-    ensures { IfOk result (λ text. text ≡ answer_line number answer.now) }
+    ensures { IfOk result (λ text. text ≡ answer_line db.now number answer.now) }
 {
     let digits = number.to_string(alloc)?;
-    let text = result_text(alloc, answer)?;
+    let text = result_text(alloc, db, answer)?;
     let rest = enclosed(alloc, b" ", text.as_slice(), b"\n")?;
     enclosed(alloc, b"goal ", digits.as_str().as_bytes(), rest.as_slice())
 }
 
-/// The lines of a goal, which is counted from 0: its answer, how many blocks were entered, and what
-/// was written.
+/// The lines of the memory that an answer refers to.
+fn result_lines(
+    alloc: Global,
+    db: &HirDatabase,
+    answer: &Result<Const, ConstEvalError>,
+) -> Result<Bytes, NoMemory>
+    ensures { IfOk result (λ text. text ≡ result_lines db.now answer.now) }
+{
+    match answer {
+        Ok(Const::Value(value)) => memory_lines(alloc, db, &value.memory_map),
+        Ok(Const::Param(_) | Const::Unevaluated(_) | Const::Error) | Err(_) => Ok(Bytes::new(
+            alloc,
+        )),
+    }
+}
+
+/// The lines of a goal, which is counted from 0: its answer, how many blocks were entered, what was
+/// written, and the memory that the answer refers to.
 pub fn goal_text(
     alloc: Global,
+    db: &HirDatabase,
     number: u64,
     answer: &Result<Const, ConstEvalError>,
     output: &MirOutput,
     turns: u64,
 ) -> Result<Bytes, NoMemory>
-    ensures { IfOk result (λ text. text ≡ goal_text number answer.now output.now turns) }
+    ensures { IfOk result (λ text. text ≡ goal_text db.now number answer.now output.now turns) }
 {
-    let first = answer_line(alloc, number, answer)?;
+    let first = answer_line(alloc, db, number, answer)?;
     let second = turns_line(alloc, turns)?;
-    let others = output_lines(alloc, output)?;
+    let written = output_lines(alloc, output)?;
+    let memory = result_lines(alloc, db, answer)?;
+    let others = joined(alloc, written.as_slice(), memory.as_slice())?;
     enclosed(
         alloc,
         first.as_slice(),

@@ -2,7 +2,7 @@
 
 ghost use Rattle.std.specs.Prelude.{◌≡◌, ◌++◌, [], ◌∷◌, decimal, IfOk, OnOk};
 ghost use Rattle.std.specs.List.{flat_map};
-ghost use Rattle.report_text.specs.Texts.{after_comma, listed, bracketed, escaped, quoted, digits_or_dash, named};
+ghost use Rattle.report_text.specs.Texts.{after_comma, listed, after_plus, summed, with_args, bracketed, escaped, quoted, digits_or_dash, hex_text, named};
 
 use std::alloc::Global;
 use world::{Bytes, List, NoMemory};
@@ -62,6 +62,45 @@ pub(crate) fn listed(alloc: Global, texts: &[Bytes]) -> Result<Bytes, NoMemory>
     }
 }
 
+/// Texts, each after a plus sign.
+fn after_pluses(alloc: Global, texts: &[Bytes]) -> Result<Bytes, NoMemory>
+    ensures { IfOk result (λ whole. whole ≡ flat_map after_plus texts.now) }
+{
+    let mut out = Vec::new(alloc);
+    for text in texts {
+        let part = joined(alloc, b" + ", text.as_slice())?;
+        push_all(&mut out, part.as_slice())?;
+    }
+    Ok(Bytes::from_vec(out))
+}
+
+/// Texts with a plus sign between two.
+pub(crate) fn summed(alloc: Global, texts: &[Bytes]) -> Result<Bytes, NoMemory>
+    ensures { IfOk result (λ whole. whole ≡ summed texts.now) }
+{
+    match texts {
+        [] => Ok(Bytes::new(alloc)),
+        [first, others @ ..] => {
+            let rest = after_pluses(alloc, others)?;
+            joined(alloc, first.as_slice(), rest.as_slice())
+        }
+    }
+}
+
+/// A name with its arguments in angle brackets, where it has any.
+pub(crate) fn with_args(alloc: Global, name: &[u8], args: &[Bytes]) -> Result<Bytes, NoMemory>
+    ensures { IfOk result (λ whole. whole ≡ with_args name.now args.now) }
+{
+    match args {
+        [] => Bytes::from_slice(alloc, name),
+        [_, ..] => {
+            let inside = listed(alloc, args)?;
+            let enclosed = enclosed(alloc, b"<", inside.as_slice(), b">")?;
+            joined(alloc, name, enclosed.as_slice())
+        }
+    }
+}
+
 /// Texts in brackets.
 pub(crate) fn bracketed(alloc: Global, texts: &[Bytes]) -> Result<Bytes, NoMemory>
     ensures { IfOk result (λ whole. whole ≡ bracketed texts.now) }
@@ -117,6 +156,14 @@ pub(crate) fn digits_or_dash(alloc: Global, bytes: &[u8]) -> Result<Bytes, NoMem
             Bytes::from_slice(alloc, digits.as_str().as_bytes())
         }
     }
+}
+
+/// Bytes in hexadecimal digits, after `0x`.
+pub(crate) fn hex_text(alloc: Global, bytes: &[u8]) -> Result<Bytes, NoMemory>
+    ensures { IfOk result (λ text. text ≡ hex_text bytes.now) }
+{
+    let digits = hex::encode(alloc, bytes)?;
+    joined(alloc, b"0x", digits.as_str().as_bytes())
 }
 
 /// A name with its parts in parentheses.

@@ -2,13 +2,13 @@
 use Rattle.std.specs.Prelude.{All, flat_map, Contains}
 use Rattle.std.proofs.lemmas.List.Elements.{All-head, All-tail, Contains-append_left, Contains-append_right}
 use Rattle.std.proofs.Common.{◌≡◌, ℕ, zero, suc, ◌<◌, ◌≤◌, cond, List, [], ◌∷◌, ◌++◌, length, get_or, Option, Some, refl, sym, ap, ap₂, subst, arith}
-use Rattle.world.specs.declared.body.Expr.{Expr}
-use Rattle.world.specs.declared.body.Expr.TheVariants.{BinaryOp, UnaryOp, Block}
 use Rattle.world.specs.declared.body.Statement.{Statement}
-use Rattle.world.specs.declared.ids.ExprId.{ExprId}
-use Rattle.world_check.specs.Checked.{IsCheckedBody, optional, children_of}
+use Rattle.types.specs.declared.ids.ExprId.{ExprId}
+use Rattle.world_check.specs.Checked.{IsCheckedBody, optional}
+use Rattle.source_meaning.specs.Core.{CoreExpr, BinaryOp, UnaryOp, Block}
 use Rattle.source_meaning.specs.Source.{Source, Cell, Node, node, is_literal, is_path, marked, marked_as_operand, marked_by, marked_in}
 use Rattle.source_meaning.specs.Valid.{statement_parts, parts_of, Evaluates, itself, part}
+use Rattle.source_meaning.proofs.Core.{core_children, children_before}
 use Rattle.source_meaning.proofs.Fuel.{first_is_contained, part_is_below}
 
 -- what is evaluated where an expression is comes no later than it
@@ -47,7 +47,7 @@ tail_is_part source e statements tail is =
 as_operand_same : (source : Source) (below other : ℕ → List Cell) (e : ℕ) → below e ≡ other e → marked_as_operand source below e ≡ marked_as_operand source other e
 as_operand_same source below other e same = ap (λ cells. cond (is_literal (node source e)) [] (cond (is_path (node source e)) [] (Node e ∷ cells))) same
 
-marked_by_same : (source : Source) (below other : ℕ → List Cell) (form : Option Expr) → ((given : Expr) → form ≡ Some given → All (λ child. below child ≡ other child) (children_of given)) → marked_by source below form ≡ marked_by source other form
+marked_by_same : (source : Source) (below other : ℕ → List Cell) (form : Option CoreExpr) → ((given : CoreExpr) → form ≡ Some given → All (λ child. below child ≡ other child) (core_children given)) → marked_by source below form ≡ marked_by source other form
 marked_by_same source below other (Some (UnaryOp e op)) same =
     let given = same (UnaryOp e op) refl in
     as_operand_same source below other e.0 (All-head (λ child. below child ≡ other child) e.0 [] given)
@@ -63,16 +63,16 @@ marked_at_any_depth source checked zero other e below below' = absurd (omega ari
 marked_at_any_depth source checked (suc depth) zero e below below' = absurd (omega arith)
 marked_at_any_depth source checked (suc depth) (suc other) e below below' =
     marked_by_same source (marked_in depth source) (marked_in other source) (node source e) (λ given is k d less.
-    let earlier : get_or (children_of given) k d < e = checked.children e given is k d less in
-    marked_at_any_depth source checked depth other (get_or (children_of given) k d) (omega arith) (omega arith))
+    let earlier : get_or (core_children given) k d < e = children_before source checked e given is k d less in
+    marked_at_any_depth source checked depth other (get_or (core_children given) k d) (omega arith) (omega arith))
 
 marked_in_unrolls : (source : Source) → IsCheckedBody source.body source.infer → (depth e : ℕ) → e < depth → marked_in depth source e ≡ marked_by source (marked_in depth source) (node source e)
 unfolding marked_in
 marked_in_unrolls source checked zero e below = absurd (omega arith)
 marked_in_unrolls source checked (suc depth) e below =
     marked_by_same source (marked_in depth source) (marked_in (suc depth) source) (node source e) (λ given is k d less.
-    let earlier : get_or (children_of given) k d < e = checked.children e given is k d less in
-    marked_at_any_depth source checked depth (suc depth) (get_or (children_of given) k d) (omega arith) (omega arith))
+    let earlier : get_or (core_children given) k d < e = children_before source checked e given is k d less in
+    marked_at_any_depth source checked depth (suc depth) (get_or (core_children given) k d) (omega arith) (omega arith))
 
 -- the cells of an expression, by those of its operands
 pub marked_unrolls : (source : Source) → IsCheckedBody source.body source.infer → (e : ℕ) → e < length source.body.exprs → marked source e ≡ marked_by source (marked source) (node source e)

@@ -3,25 +3,25 @@ use Rattle.std.proofs.Common.{⊎_elim, sym, ◌≡◌, ℕ, zero, suc, ◌<◌,
 use Rattle.std.specs.Prelude.{flat_map, Contains}
 use Rattle.std.proofs.lemmas.Bool.{cases_lt}
 use Rattle.std.proofs.lemmas.List.Elements.{All-contains, Contains-append_left, Contains-append_right, Contains-append_cases}
-use Rattle.world.specs.declared.body.Expr.{Expr}
-use Rattle.world.specs.declared.body.Expr.TheVariants as expr
-use Rattle.world.specs.declared.body.Pat.{Pat}
-use Rattle.world.specs.declared.body.Pat.TheVariants.{Bind}
 use Rattle.world.specs.declared.body.Statement.{Statement}
 use Rattle.world.specs.declared.body.Statement.TheVariants as statement
-use Rattle.world.specs.declared.body.UnaryOp.{UnaryOp}
-use Rattle.world.specs.declared.body.UnaryOp.TheVariants as unary
-use Rattle.world.specs.declared.ids.ExprId.{ExprId}
+use Rattle.types.specs.declared.operators.UnaryOp.{UnaryOp}
+use Rattle.types.specs.declared.operators.UnaryOp.TheVariants as unary
+use Rattle.types.specs.declared.ids.BindingId.{BindingId}
+use Rattle.types.specs.declared.ids.ExprId.{ExprId}
 use Rattle.world.specs.declared.infer.ValueNs.{ValueNs}
 use Rattle.world.specs.declared.infer.ValueNs.TheVariants.{LocalBinding}
-use Rattle.world.specs.declared.ty.Ty.{Ty}
-use Rattle.world_check.specs.Checked.{IsCheckedBody, optional, statement_children, children_of}
+use Rattle.types.specs.declared.ty.Ty.{Ty}
+use Rattle.world_check.specs.Checked.{IsCheckedBody, optional, statement_children}
 use Rattle.numbers.specs.declared.operator.Operator.{Operator}
 use Rattle.numbers.specs.Operators.{Answer, Computes, Panics, Undefined}
+use Rattle.source_meaning.specs.Core as expr
+use Rattle.source_meaning.specs.Core.{CoreExpr}
 use Rattle.source_meaning.specs.Ends.{Cost, no_cost, End, Go, Panic, Stuck, More, IsOver, after, then_do}
 use Rattle.source_meaning.specs.Meaning.{Level, put, put_if_any, put_answer, literal_operand, literal_bytes, named_place, named_into, bind, no_fuel, place_of, operand_of, unary_into, eager_operator, binary_into, statement_of, statements_of, tail_into, block_into, into_of, level_above, level_at, meaning_of}
 use Rattle.source_meaning.specs.Source.{Source, Store, Path, Binding, Literally, node, node_type, named_by, pattern, root}
 use Rattle.source_meaning.specs.Valid.{statement_parts, operands_of, parts_of}
+use Rattle.source_meaning.proofs.Core.{core_children, children_before}
 
 -- what is over after a cost is over
 over_before : {A : Type 0} (cost : Cost) (end : End A) → IsOver (after cost end) → IsOver end
@@ -54,11 +54,11 @@ pub record Agrees (below above : Level) : Type 0 where
   pub into : (e : ℕ) (path : Path) (store : Store) → IsOver (below.into e path store) → above.into e path store ≡ below.into e path store
 
 module _ (source : Source) (below above : Level) (agrees : Agrees below above) where
-  place_agrees : (e : ℕ) (form : Option Expr) (store : Store) → IsOver (place_of source below e form store) → place_of source above e form store ≡ place_of source below e form store
+  place_agrees : (e : ℕ) (form : Option CoreExpr) (store : Store) → IsOver (place_of source below e form store) → place_of source above e form store ≡ place_of source below e form store
   place_agrees e (Some (expr.Path name)) store over = refl
   place_agrees e _ store over = then_do_agrees (below.into e _ store) (above.into e _ store) _ _ (agrees.into e _ store) (λ value later o. refl) over
 
-  operand_agrees : (e : ℕ) (form : Option Expr) (store : Store) → IsOver (operand_of source below e form store) → operand_of source above e form store ≡ operand_of source below e form store
+  operand_agrees : (e : ℕ) (form : Option CoreExpr) (store : Store) → IsOver (operand_of source below e form store) → operand_of source above e form store ≡ operand_of source below e form store
   operand_agrees e (Some (expr.Literal literal)) store over = refl
   operand_agrees e _ store over = then_do_agrees (below.place e store) (above.place e store) _ _ (agrees.place e store) (λ value later o. refl) over
 
@@ -92,7 +92,7 @@ module _ (source : Source) (below above : Level) (agrees : Agrees below above) w
       then_do_agrees (statements_of source below statements store) (statements_of source above statements store) _ _ (statements_agree statements store) (λ done later o.
       then_do_agrees (tail_into below tail path later) (tail_into above tail path later) _ _ (tail_agrees tail path later) (λ done' last o'. refl) o) over
 
-  into_agrees : (e : ℕ) (form : Option Expr) (path : Path) (store : Store) → IsOver (into_of source below e form path store) → into_of source above e form path store ≡ into_of source below e form path store
+  into_agrees : (e : ℕ) (form : Option CoreExpr) (path : Path) (store : Store) → IsOver (into_of source below e form path store) → into_of source above e form path store ≡ into_of source below e form path store
   into_agrees e (Some (expr.UnaryOp operand op)) path store over = unary_agrees op operand.0 path store over
   into_agrees e (Some (expr.BinaryOp lhs rhs (Some op))) path store over = binary_agrees (eager_operator op) lhs.0 rhs.0 path store over
   into_agrees e (Some (expr.Block statements tail)) path store over = block_agrees statements tail path store over
@@ -162,14 +162,14 @@ literal_operand_over source e store None = tt
 
 named_place_over : (named : Option ValueNs) (store : Store) → IsOver (named_place named store)
 named_place_over (Some (LocalBinding b)) store = tt
-named_place_over None store = tt
+named_place_over _ store = tt
 
 named_into_over : (named : Option ValueNs) (path : Path) (store : Store) → IsOver (named_into named path store)
 named_into_over (Some (LocalBinding b)) path store = put_over store path (store (Binding b.0))
-named_into_over None path store = tt
+named_into_over _ path store = tt
 
-bind_over : (pat : Option Pat) (path : Path) (store : Store) → IsOver (bind pat path store)
-bind_over (Some (Bind id)) path store = put_over store (record { cell = Binding id.0 }) (store path.cell)
+bind_over : (pat : Option BindingId) (path : Path) (store : Store) → IsOver (bind pat path store)
+bind_over (Some id) path store = put_over store (record { cell = Binding id.0 }) (store path.cell)
 bind_over None path store = tt
 
 -- an expression comes to an end at a level, in each way that it is evaluated
@@ -178,11 +178,11 @@ record EndsIn (level : Level) (e : ℕ) : Type 0 where
   operand : (store : Store) → IsOver (level.operand e store)
   into : (path : Path) (store : Store) → IsOver (level.into e path store)
 
-place_over : (source : Source) (below : Level) (e : ℕ) (form : Option Expr) (store : Store) → ((path : Path) (later : Store) → IsOver (below.into e path later)) → IsOver (place_of source below e form store)
+place_over : (source : Source) (below : Level) (e : ℕ) (form : Option CoreExpr) (store : Store) → ((path : Path) (later : Store) → IsOver (below.into e path later)) → IsOver (place_of source below e form store)
 place_over source below e (Some (expr.Path name)) store over = named_place_over (named_by source e) store
 place_over source below e _ store over = then_do_over (below.into e _ store) _ (over _ store) (λ value later. tt)
 
-operand_over : (source : Source) (below : Level) (e : ℕ) (form : Option Expr) (store : Store) → ((later : Store) → IsOver (below.place e later)) → IsOver (operand_of source below e form store)
+operand_over : (source : Source) (below : Level) (e : ℕ) (form : Option CoreExpr) (store : Store) → ((later : Store) → IsOver (below.place e later)) → IsOver (operand_of source below e form store)
 operand_over source below e (Some (expr.Literal literal)) store over = literal_operand_over source e store (literal_bytes source e literal)
 operand_over source below e _ store over = then_do_over (below.place e store) _ (over store) (λ value later. tt)
 
@@ -231,7 +231,7 @@ module _ (source : Source) (below : Level) where
   tail_over (Some e) path store ends = let tail_ends = ends e.0 (first_is_contained e.0 []) in tail_ends.into path store
   tail_over None path store ends = tt
 
-  into_over : (e : ℕ) (form : Option Expr) (path : Path) (store : Store) → ((child : ℕ) → Contains (parts_of form) child → EndsIn below child) → IsOver (into_of source below e form path store)
+  into_over : (e : ℕ) (form : Option CoreExpr) (path : Path) (store : Store) → ((child : ℕ) → Contains (parts_of form) child → EndsIn below child) → IsOver (into_of source below e form path store)
   into_over e (Some (expr.Literal literal)) path store ends = put_if_any_over store path (literal_bytes source e literal)
   into_over e (Some (expr.Path name)) path store ends = named_into_over (named_by source e) path store
   into_over e (Some (expr.UnaryOp operand unary.Deref)) path store ends = tt
@@ -251,6 +251,7 @@ statement_part_is_child (statement.Let pat (Some e) None) child within = within
 statement_part_is_child (statement.Let pat (Some e) (Some other)) child within = absurd (nothing_is_contained child within)
 statement_part_is_child (statement.Let pat None other) child within = absurd (nothing_is_contained child within)
 statement_part_is_child (statement.Expr e has_semi) child within = within
+statement_part_is_child statement.Item child within = within
 
 statements_part_is_child : (statements : List Statement) (child : ℕ) → Contains (flat_map statement_parts statements) child → Contains (flat_map statement_children statements) child
 statements_part_is_child [] child within = within
@@ -262,7 +263,7 @@ operand_is_child (Some op) lhs rhs child within = within
 operand_is_child None lhs rhs child within = absurd (nothing_is_contained child within)
 
 -- what an expression evaluates it holds
-part_is_child : (form : Expr) (child : ℕ) → Contains (parts_of (Some form)) child → Contains (children_of form) child
+part_is_child : (form : CoreExpr) (child : ℕ) → Contains (parts_of (Some form)) child → Contains (core_children form) child
 part_is_child (expr.Path name) child within = within
 part_is_child (expr.Literal literal) child within = within
 part_is_child (expr.UnaryOp operand unary.Neg) child within = within
@@ -273,8 +274,8 @@ part_is_child (expr.BinaryOp lhs rhs None) child within = absurd (nothing_is_con
 part_is_child (expr.Block statements tail) child within =
     ⊎_elim (λ here. Contains-append_left (flat_map statement_children statements) (optional tail) child (statements_part_is_child statements child here)) (λ there. Contains-append_right (flat_map statement_children statements) (optional tail) child there) (Contains-append_cases (flat_map statement_parts statements) (optional tail) child within)
 
-part_of_form_is_below : (source : Source) → IsCheckedBody source.body source.infer → (e child : ℕ) (form : Option Expr) → node source e ≡ form → Contains (parts_of form) child → child < e
-part_of_form_is_below source checked e child (Some form) is within = All-contains (λ other. other < e) (children_of form) child (checked.children e form is) (part_is_child form child within)
+part_of_form_is_below : (source : Source) → IsCheckedBody source.body source.infer → (e child : ℕ) (form : Option CoreExpr) → node source e ≡ form → Contains (parts_of form) child → child < e
+part_of_form_is_below source checked e child (Some form) is within = All-contains (λ other. other < e) (core_children form) child (children_before source checked e form is) (part_is_child form child within)
 part_of_form_is_below source checked e child None is within = absurd (nothing_is_contained child within)
 
 -- what is evaluated where an expression is has a lower number

@@ -1,3 +1,4 @@
+pub mod Core
 pub mod Depth
 pub mod Fuel
 mod Operators

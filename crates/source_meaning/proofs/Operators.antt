@@ -1,12 +1,12 @@
 -- What operators make of operands of plain types: bytes of the right number, or a panic.
 use Rattle.std.proofs.Common.{◌≡◌, ℕ, Bool, true, false, if◌then◌else◌, ◌==◌, ◌&&◌, List, length, Option, ℤ, pos, negsuc, refl, sym, ◌∙◌, subst, eq-eqb}
 use Rattle.std.proofs.lemmas.Bool.{false≢true}
-use Rattle.world.specs.declared.body.CmpOp.{CmpOp}
-use Rattle.world.specs.declared.body.CmpOp.TheVariants as compare
-use Rattle.world.specs.declared.body.Ordering.TheVariants.{Less, Greater}
-use Rattle.world.specs.declared.body.UnaryOp.{UnaryOp}
-use Rattle.world.specs.declared.body.UnaryOp.TheVariants as unary
-use Rattle.world.specs.declared.ty.Ty.{Ty, Bool as BoolTy, Int as IntTy, Uint as UintTy, Tuple'}
+use Rattle.types.specs.declared.operators.CmpOp.{CmpOp}
+use Rattle.types.specs.declared.operators.CmpOp.TheVariants as compare
+use Rattle.types.specs.declared.operators.Ordering.TheVariants.{Less, Greater}
+use Rattle.types.specs.declared.operators.UnaryOp.{UnaryOp}
+use Rattle.types.specs.declared.operators.UnaryOp.TheVariants as unary
+use Rattle.types.specs.declared.ty.Ty.{Ty, Bool as BoolTy, Int as IntTy, Uint as UintTy}
 use Rattle.numbers.specs.Bytes.{is_width}
 use Rattle.numbers.specs.declared.operator.Kind.{Kind}
 use Rattle.numbers.specs.declared.operator.Operator.{Operator}
@@ -39,26 +39,26 @@ abbrev pub IsLengthOf : Ty → ℕ → Type 0
 IsLengthOf BoolTy size = size ≡ 1
 IsLengthOf (IntTy ty) size = is_width size ≡ true
 IsLengthOf (UintTy ty) size = is_width size ≡ true
-IsLengthOf (Tuple' _ _) size = ⊥
+IsLengthOf _ size = ⊥
 
 -- a type has an operator, if it is no shift
 abbrev pub IsAllowed : Operator → Ty → Type 0
 IsAllowed op BoolTy = is_on_booleans op ≡ true
 IsAllowed op (IntTy ty) = Unit {0}
 IsAllowed op (UintTy ty) = Unit {0}
-IsAllowed op (Tuple' _ _) = ⊥
+IsAllowed op _ = ⊥
 
 pub allowed_on_integer : (op : Operator) (ty : Ty) → IsInteger ty → IsAllowed op ty
 allowed_on_integer op BoolTy integer = absurd integer
 allowed_on_integer op (IntTy ty) integer = tt
 allowed_on_integer op (UintTy ty) integer = tt
-allowed_on_integer op (Tuple' _ _) integer = absurd integer
+allowed_on_integer op _ integer = absurd integer
 
 pub allowed_on_scalar : (op : Operator) (ty : Ty) → is_on_booleans op ≡ true → IsScalar ty → IsAllowed op ty
 allowed_on_scalar op BoolTy on_booleans scalar = on_booleans
 allowed_on_scalar op (IntTy ty) on_booleans scalar = tt
 allowed_on_scalar op (UintTy ty) on_booleans scalar = tt
-allowed_on_scalar op (Tuple' _ _) on_booleans scalar = absurd scalar
+allowed_on_scalar op _ on_booleans scalar = absurd scalar
 
 -- a comparison is no shift, and `bool` has it
 pub comparison_is : (op : CmpOp) → (is_shift (of_compare op) ≡ false) × (is_comparison (of_compare op) ≡ true) × (is_on_booleans (of_compare op) ≡ true)
@@ -138,7 +138,7 @@ combined_is_defined op (IntTy ty) left right is allowed long same =
     where_true_is_defined (is_width (length left) && (length left == length right)) _ Undefined (both_hold _ _ long (eq-eqb _ _ same)) (on_integers_is_defined op true left right is)
 combined_is_defined op (UintTy ty) left right is allowed long same =
     where_true_is_defined (is_width (length left) && (length left == length right)) _ Undefined (both_hold _ _ long (eq-eqb _ _ same)) (on_integers_is_defined op false left right is)
-combined_is_defined op (Tuple' _ _) left right is allowed long same = absurd long
+combined_is_defined op _ left right is allowed long same = absurd long
 
 -- a shift of an integer by an integer
 shift_is_defined : (op : Operator) (ty by : Ty) (left right : List ℕ) → is_shift op ≡ true → IsInteger ty → IsInteger by → IsLengthOf ty (length left) → IsLengthOf by (length right) → IsDefined (shift op (sign_of (kind_of ty)) (sign_of (kind_of by)) left right)
@@ -152,11 +152,11 @@ shift_is_defined op (UintTy ty) (IntTy by) left right is integer integer' long l
 shift_is_defined op (UintTy ty) (UintTy by) left right is integer integer' long long' =
     where_true_is_defined (is_width (length left) && is_width (length right)) _ Undefined (both_hold _ _ long long') (shifted_by_is_defined op false left _ is)
 shift_is_defined op (IntTy ty) BoolTy left right is integer integer' long long' = absurd integer'
-shift_is_defined op (IntTy ty) (Tuple' _ _) left right is integer integer' long long' = absurd integer'
+shift_is_defined op (IntTy ty) _ left right is integer integer' long long' = absurd integer'
 shift_is_defined op (UintTy ty) BoolTy left right is integer integer' long long' = absurd integer'
-shift_is_defined op (UintTy ty) (Tuple' _ _) left right is integer integer' long long' = absurd integer'
+shift_is_defined op (UintTy ty) _ left right is integer integer' long long' = absurd integer'
 shift_is_defined op BoolTy by left right is integer integer' long long' = absurd integer
-shift_is_defined op (Tuple' _ _) by left right is integer integer' long long' = absurd integer
+shift_is_defined op _ by left right is integer integer' long long' = absurd integer
 
 -- the table, by what kinds the operands have
 of_kinds : (op : Operator) (left_kind right_kind left_kind' right_kind' : Option Kind) (left right : List ℕ) → left_kind ≡ left_kind' → right_kind ≡ right_kind' → IsDefined (computed op left_kind' right_kind' left right) → IsDefined (computed op left_kind right_kind left right)
@@ -205,11 +205,11 @@ unfolding computed_of_one kind_of negated inverted
 plain_unary_fits unary.Neg (IntTy ty) bytes plain long = where_true_fits (length bytes) (is_width (length bytes)) _ Undefined long (length-low_bytes _ _)
 plain_unary_fits unary.Neg (UintTy ty) bytes plain long = where_true_fits (length bytes) (is_width (length bytes)) _ Undefined long (length-low_bytes _ _)
 plain_unary_fits unary.Neg BoolTy bytes plain long = absurd plain
-plain_unary_fits unary.Neg (Tuple' _ _) bytes plain long = absurd plain
+plain_unary_fits unary.Neg _ bytes plain long = absurd plain
 plain_unary_fits unary.Not (IntTy ty) bytes plain long = where_true_fits (length bytes) (is_width (length bytes)) _ Undefined long (length-low_digits _ _)
 plain_unary_fits unary.Not (UintTy ty) bytes plain long = where_true_fits (length bytes) (is_width (length bytes)) _ Undefined long (length-low_digits _ _)
 plain_unary_fits unary.Not BoolTy bytes plain long = denied_fits bytes long
-plain_unary_fits unary.Not (Tuple' _ _) bytes plain long = absurd plain
+plain_unary_fits unary.Not _ bytes plain long = absurd plain
 plain_unary_fits unary.Deref ty bytes plain long = absurd plain
 
 pub unary_fits : (op : UnaryOp) (ty : Ty) (kind : Option Kind) (bytes : List ℕ) → IsPlainUnary op ty → kind ≡ kind_of ty → IsLengthOf ty (length bytes) → Fits (length bytes) (computed_of_one op kind bytes)

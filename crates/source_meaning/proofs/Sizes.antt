@@ -1,41 +1,37 @@
 -- A plain body of a checked world is never stuck: each value has the size of its type.
 use Rattle.std.specs.Prelude.{All, flat_map, Contains}
 use Rattle.std.proofs.Common.{◌≡◌, ◌≢◌, ℕ, zero, suc, Bool, true, false, cond, if◌then◌else◌, ◌==◌, List, [], ◌∷◌, length, Option, Some, None, unwrap_or, option_map, option_and_then, ℤ, pos, refl, sym, ap, ◌∙◌, subst, eqb-true, eq-eqb, is_eq}
-use Rattle.std.specs.BTreeMap.{is_at}
 use Rattle.std.proofs.lemmas.Bool.{false≢true}
 use Rattle.std.proofs.lemmas.List.{length-replicate}
 use Rattle.std.proofs.lemmas.List.Elements.{All-head, All-tail, Contains-append_left, Contains-append_right}
-use Rattle.std.proofs.lemmas.Map.Entries.{place_from_lookup}
-use Rattle.world.specs.contracts.ty.TyOrd.TheImpl as TyOrd
-use Rattle.world.specs.contracts.ty.TyOrd.TheImpl.Laws.{is as compared_is, unfolded}
-use Rattle.world.specs.declared.body.ArithOp.{ArithOp}
-use Rattle.world.specs.declared.body.ArithOp.TheVariants as arith
-use Rattle.world.specs.declared.body.BinaryOp.{BinaryOp}
-use Rattle.world.specs.declared.body.BinaryOp.TheVariants as binary
-use Rattle.world.specs.declared.body.CmpOp.{CmpOp}
-use Rattle.world.specs.declared.body.Expr.{Expr}
-use Rattle.world.specs.declared.body.Expr.TheVariants as expr
-use Rattle.world.specs.declared.body.Literal.{Literal}
-use Rattle.world.specs.declared.body.Literal.TheVariants as literal
+use Rattle.types.specs.declared.operators.ArithOp.{ArithOp}
+use Rattle.types.specs.declared.operators.ArithOp.TheVariants as arith
+use Rattle.types.specs.declared.operators.BinaryOp.{BinaryOp}
+use Rattle.types.specs.declared.operators.BinaryOp.TheVariants as binary
+use Rattle.types.specs.declared.operators.CmpOp.{CmpOp}
+use Rattle.world.specs.declared.literal.Literal.{Literal}
+use Rattle.world.specs.declared.literal.Literal.TheVariants as literal
 use Rattle.world.specs.declared.body.Statement.{Statement}
 use Rattle.world.specs.declared.body.Statement.TheVariants as statement
-use Rattle.world.specs.declared.body.UnaryOp.{UnaryOp}
-use Rattle.world.specs.declared.body.UnaryOp.TheVariants as unary
+use Rattle.types.specs.declared.operators.UnaryOp.{UnaryOp}
+use Rattle.types.specs.declared.operators.UnaryOp.TheVariants as unary
 use Rattle.world.specs.declared.database.HirDatabase.{HirDatabase}
-use Rattle.world.specs.declared.ids.ExprId.{ExprId}
+use Rattle.types.specs.declared.ids.ExprId.{ExprId}
 use Rattle.world.specs.declared.layout.Layout.{Layout}
-use Rattle.world.specs.declared.ty.IntTy.{IntTy}
-use Rattle.world.specs.declared.ty.IntTy.TheVariants as int
-use Rattle.world.specs.declared.ty.UintTy.{UintTy}
-use Rattle.world.specs.declared.ty.UintTy.TheVariants as uint
-use Rattle.world.specs.declared.ty.Ty as ty_rows
-use Rattle.world.specs.declared.ty.Ty.{Ty, Bool as BoolTy, Int as IntType, Uint as UintType, Tuple'}
+use Rattle.types.specs.declared.scalars.IntTy.{IntTy}
+use Rattle.types.specs.declared.scalars.IntTy.TheVariants as int
+use Rattle.types.specs.declared.scalars.UintTy.{UintTy}
+use Rattle.types.specs.declared.scalars.UintTy.TheVariants as uint
+use Rattle.types.specs.declared.ty.Ty.{Ty, Bool as BoolTy, Int as IntType, Uint as UintType}
 use Rattle.world.specs.Lookups.{layout_of}
+use Rattle.world.proofs.Rows.{layout_row}
 use Rattle.world_check.specs.Checked.{IsChecked, IsCheckedBody, IsCheckedLayout, optional, int_bytes, uint_bytes}
 use Rattle.numbers.specs.Bytes.{low_bytes, is_width}
 use Rattle.numbers.specs.declared.operator.Operator.{Operator}
 use Rattle.numbers.specs.Operators.{Answer, Computes, Panics, Undefined, computed, is_shift, is_comparison, is_on_booleans, of_arith, of_compare, kind_of}
 use Rattle.numbers.proofs.Digits.{length-low_bytes}
+use Rattle.source_meaning.specs.Core as expr
+use Rattle.source_meaning.specs.Core.{CoreExpr}
 use Rattle.source_meaning.specs.Ends.{Cost, no_cost, End, Go, Panic, Stuck, More, after, then_do}
 use Rattle.source_meaning.specs.Meaning.{Level, truth_byte, literal_bytes, put, put_if_any, put_answer, operand_kind, literal_operand, named_place, named_into, computed_of_one, unary_into, eager_operator, binary_into, bind, statement_of, statements_of, tail_into, no_fuel, place_of, operand_of, into_of, level_above, level_at, meaning_of}
 use Rattle.source_meaning.specs.Source.{Source, Store, Path, Cell, Result, Node, Binding, Operand, Literally, At, same_cell, zeroed, with_cell_bytes, node, node_type, node_layout, pattern, root, cell_type, cell_size, operand_bytes, operand_type}
@@ -116,23 +112,6 @@ put_answer_is_sound source store path Undefined sized fits = fits
 
 -- The layouts of integer types and of `bool`, in a checked world.
 
--- what compares as equal to an integer type is an integer type
-unfolded_is_integer : (ty other : Ty) → IsInteger ty → is_eq (unfolded ty other) ≡ true → IsInteger other
-unfolding ty_rows.out-Ty denote.Hole.Carrier.out
-unfolded_is_integer BoolTy other integer equal = absurd integer
-unfolded_is_integer (Tuple' _ _) other integer equal = absurd integer
-unfolded_is_integer (IntType ty) BoolTy integer equal = absurd (false≢true equal)
-unfolded_is_integer (IntType ty) (IntType other) integer equal = tt
-unfolded_is_integer (IntType ty) (UintType other) integer equal = tt
-unfolded_is_integer (IntType ty) (Tuple' _ _) integer equal = absurd (false≢true equal)
-unfolded_is_integer (UintType ty) BoolTy integer equal = absurd (false≢true equal)
-unfolded_is_integer (UintType ty) (IntType other) integer equal = tt
-unfolded_is_integer (UintType ty) (UintType other) integer equal = tt
-unfolded_is_integer (UintType ty) (Tuple' _ _) integer equal = absurd (false≢true equal)
-
-equal_is_integer : (ty other : Ty) → IsInteger ty → is_at (TyOrd.ghosts.cmp ty) other ≡ true → IsInteger other
-equal_is_integer ty other integer equal = unfolded_is_integer ty other integer (ap is_eq (sym (compared_is ty other)) ∙ equal)
-
 int_is_width : (ty : IntTy) → is_width (int_bytes ty) ≡ true
 int_is_width int.I8 = refl
 int_is_width int.I16 = refl
@@ -153,49 +132,35 @@ checked_is_width : (ty : Ty) (layout : Layout) → IsCheckedLayout ty layout →
 checked_is_width BoolTy layout checked integer = absurd integer
 checked_is_width (IntType ty) layout checked integer = ap is_width (checked.size) ∙ int_is_width ty
 checked_is_width (UintType ty) layout checked integer = ap is_width (checked.size) ∙ uint_is_width ty
-checked_is_width (Tuple' _ _) layout checked integer = absurd integer
+checked_is_width _ layout checked integer = absurd integer
 
 pub integer_is_width : (world : HirDatabase) (ty : Ty) (layout : Layout) → IsChecked world → IsInteger ty → layout_of world ty ≡ Some layout → is_width layout.size ≡ true
 integer_is_width world ty layout checked integer found =
-    let place = place_from_lookup (is_at (TyOrd.ghosts.cmp ty)) world.layouts layout found in
-    checked_is_width place.1 layout (checked.layouts place.0 (place.1, layout) place.2) (equal_is_integer ty place.1 integer place.3)
-
--- what compares as equal to `bool` is `bool`
-unfolded_is_bool : (other : Ty) → is_eq (unfolded BoolTy other) ≡ true → IsBool other
-unfolding ty_rows.out-Ty denote.Hole.Carrier.out
-unfolded_is_bool BoolTy equal = tt
-unfolded_is_bool (IntType ty) equal = absurd (false≢true equal)
-unfolded_is_bool (UintType ty) equal = absurd (false≢true equal)
-unfolded_is_bool (Tuple' _ _) equal = absurd (false≢true equal)
-
-checked_is_one : (ty : Ty) (layout : Layout) → IsCheckedLayout ty layout → IsBool ty → layout.size ≡ 1
-checked_is_one BoolTy layout checked is_bool = checked.size
-checked_is_one (IntType ty) layout checked is_bool = absurd is_bool
-checked_is_one (UintType ty) layout checked is_bool = absurd is_bool
-checked_is_one (Tuple' _ _) layout checked is_bool = absurd is_bool
+    let row = layout_row world ty layout found in
+    checked_is_width ty layout (checked.layouts row.0 (ty, layout) row.1) integer
 
 pub bool_is_one : (world : HirDatabase) (layout : Layout) → IsChecked world → layout_of world BoolTy ≡ Some layout → layout.size ≡ 1
 bool_is_one world layout checked found =
-    let place = place_from_lookup (is_at (TyOrd.ghosts.cmp BoolTy)) world.layouts layout found in
-    checked_is_one place.1 layout (checked.layouts place.0 (place.1, layout) place.2) (unfolded_is_bool place.1 (ap is_eq (sym (compared_is BoolTy place.1)) ∙ place.3))
+    let row = layout_row world BoolTy layout found in
+    (checked.layouts row.0 (BoolTy, layout) row.1).size
 
 scalar_has_length : (world : HirDatabase) (ty : Ty) (layout : Layout) → IsChecked world → IsScalar ty → layout_of world ty ≡ Some layout → IsLengthOf ty layout.size
 scalar_has_length world BoolTy layout checked scalar found = bool_is_one world layout checked found
 scalar_has_length world (IntType ty) layout checked scalar found = integer_is_width world (IntType ty) layout checked tt found
 scalar_has_length world (UintType ty) layout checked scalar found = integer_is_width world (UintType ty) layout checked tt found
-scalar_has_length world (Tuple' _ _) layout checked scalar found = absurd scalar
+scalar_has_length world _ layout checked scalar found = absurd scalar
 
 integer_is_scalar : (ty : Ty) → IsInteger ty → IsScalar ty
 integer_is_scalar BoolTy integer = absurd integer
 integer_is_scalar (IntType ty) integer = tt
 integer_is_scalar (UintType ty) integer = tt
-integer_is_scalar (Tuple' _ _) integer = absurd integer
+integer_is_scalar _ integer = absurd integer
 
 bool_is_scalar : (ty : Ty) → IsBool ty → IsScalar ty
 bool_is_scalar BoolTy is_bool = tt
 bool_is_scalar (IntType ty) is_bool = tt
 bool_is_scalar (UintType ty) is_bool = tt
-bool_is_scalar (Tuple' _ _) is_bool = absurd is_bool
+bool_is_scalar _ is_bool = absurd is_bool
 
 plain_unary_is_scalar : (op : UnaryOp) (ty : Ty) → IsPlainUnary op ty → IsScalar ty
 plain_unary_is_scalar unary.Neg ty plain = integer_is_scalar ty plain
@@ -206,7 +171,7 @@ bool_length_is_one : (ty : Ty) (size : ℕ) → IsBool ty → IsLengthOf ty size
 bool_length_is_one BoolTy size is_bool long = long
 bool_length_is_one (IntType ty) size is_bool long = absurd is_bool
 bool_length_is_one (UintType ty) size is_bool long = absurd is_bool
-bool_length_is_one (Tuple' _ _) size is_bool long = absurd is_bool
+bool_length_is_one _ size is_bool long = absurd is_bool
 
 -- an expression all of whose parts are plain, and have layouts
 pub record IsFine (source : Source) (e : ℕ) : Type 0 where
@@ -262,6 +227,7 @@ module _ (source : Source) (checked : IsChecked source.world) where
       (truth_byte test ∷ [], refl, sym (ap (size_at source) is ∙ bool_length_is_one ty (size_at source (Some ty)) plain (scalar_size e ty fine is (bool_is_scalar ty plain))))
   literal_has_size e (literal.Int number suffix) ty fine is plain = number_has_bytes e number fine
   literal_has_size e (literal.Uint number suffix) ty fine is plain = number_has_bytes e (pos number) fine
+  literal_has_size e _ ty fine is plain = absurd plain
 
   literal_operand_is_sound : (e : ℕ) (ty : Ty) (store : Store) (given : Option (List ℕ)) (bytes : List ℕ) → IsSized source store → node_type source e ≡ Some ty → given ≡ Some bytes → length bytes ≡ size_of source e → IsSound source (OperandFits e) (literal_operand source e store given)
   literal_operand_is_sound e ty store given bytes sized is is' fits =
@@ -354,14 +320,14 @@ module _ (source : Source) (checked : IsChecked source.world) where
       (put_is_sound source store (record { cell = Binding plain.binding.0 }) (store path.cell) sized (sized.holds_all path.cell ∙ ap (size_at source) (fits ∙ plain.initializer_has ∙ sym plain.binding_has)))
 
   -- what the node of a fine expression is
-  form_of : (e : ℕ) (form : Option Expr) → node source e ≡ form → (fine : IsFine source e) → HasPlainForm source e form (fine.plain e itself).ty
+  form_of : (e : ℕ) (form : Option CoreExpr) → node source e ≡ form → (fine : IsFine source e) → HasPlainForm source e form (fine.plain e itself).ty
   form_of e form is fine = subst (λ given. HasPlainForm source e given (fine.plain e itself).ty) is (fine.plain e itself).form
 
-  parts_are_fine : (e : ℕ) (form : Option Expr) → node source e ≡ form → IsFine source e → (child : ℕ) → Contains (parts_of form) child → IsFine source child
+  parts_are_fine : (e : ℕ) (form : Option CoreExpr) → node source e ≡ form → IsFine source e → (child : ℕ) → Contains (parts_of form) child → IsFine source child
   parts_are_fine e form is fine child within = part_is_fine e child (subst (λ given. Contains (parts_of given) child) (sym is) within) fine
 
   module _ (below : Level) (sound : IsSoundLevel below) where
-    place_is_sound : (e : ℕ) (form : Option Expr) (store : Store) → node source e ≡ form → IsFine source e → IsSized source store → IsSound source (PathFits e) (place_of source below e form store)
+    place_is_sound : (e : ℕ) (form : Option CoreExpr) (store : Store) → node source e ≡ form → IsFine source e → IsSized source store → IsSound source (PathFits e) (place_of source below e form store)
     place_is_sound e (Some (expr.Path name)) store is fine sized =
         let plain = fine.plain e itself in
         let form = form_of e _ is fine in
@@ -369,7 +335,7 @@ module _ (source : Source) (checked : IsChecked source.world) where
     place_is_sound e _ store is fine sized =
         then_do_is_sound source Nothing (PathFits e) (below.into e _ store) _ (sound.into e _ store fine sized refl) (λ done later sized' is'. (sized', refl))
 
-    operand_is_sound : (e : ℕ) (form : Option Expr) (store : Store) → node source e ≡ form → IsFine source e → IsSized source store → IsSound source (OperandFits e) (operand_of source below e form store)
+    operand_is_sound : (e : ℕ) (form : Option CoreExpr) (store : Store) → node source e ≡ form → IsFine source e → IsSized source store → IsSound source (OperandFits e) (operand_of source below e form store)
     operand_is_sound e (Some (expr.Literal given)) store is fine sized =
         let plain = fine.plain e itself in
         let bytes = literal_has_size e given plain.ty fine plain.has_type (form_of e _ is fine) in
@@ -410,6 +376,7 @@ module _ (source : Source) (checked : IsChecked source.world) where
     statement_is_sound (statement.Let pat None other) store plain parts sized = absurd plain
     statement_is_sound (statement.Expr e has_semi) store plain parts sized =
         then_do_is_sound source (PathFits e.0) Nothing (below.place e.0 store) _ (sound.place e.0 store (parts e.0 (first_is_contained e.0 [])) sized) (λ path later sized' fits. (sized', tt))
+    statement_is_sound statement.Item store plain parts sized = absurd plain
 
     statements_are_sound : (statements : List Statement) (store : Store) → All (IsPlainStatement source) statements → ((child : ℕ) → Contains (flat_map statement_parts statements) child → IsFine source child) → IsSized source store → IsSound source Nothing (statements_of source below statements store)
     unfolding statements_of
@@ -424,7 +391,7 @@ module _ (source : Source) (checked : IsChecked source.world) where
     tail_is_sound (Some e) ty path store plain fits parts sized = sound.into e.0 path store (parts e.0 (first_is_contained e.0 [])) sized (fits ∙ sym plain)
     tail_is_sound None ty path store plain fits parts sized = (sized, tt)
 
-    into_is_sound : (e : ℕ) (form : Option Expr) (path : Path) (store : Store) → node source e ≡ form → IsFine source e → IsSized source store → PathFits e path → IsSound source Nothing (into_of source below e form path store)
+    into_is_sound : (e : ℕ) (form : Option CoreExpr) (path : Path) (store : Store) → node source e ≡ form → IsFine source e → IsSized source store → PathFits e path → IsSound source Nothing (into_of source below e form path store)
     into_is_sound e (Some (expr.Literal given)) path store is fine sized fits =
         let plain = fine.plain e itself in
         let bytes = literal_has_size e given plain.ty fine plain.has_type (form_of e _ is fine) in

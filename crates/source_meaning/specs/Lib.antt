@@ -1,3 +1,4 @@
+pub mod Core
 pub mod Ends
 pub mod Laws
 pub mod Meaning

@@ -1,25 +1,24 @@
 -- What a typed body means: its value, or how else it ends, by evaluating its tree of expressions. It knows no
 -- blocks. Fuel bounds how deep the evaluation goes.
 use Rattle.std.specs.Prelude.{◌≡◌, ℕ, zero, suc, Bool, cond, if◌then◌else◌, ◌==◌, List, [], ◌∷◌, length, Option, Some, None, pos, option_and_then, option_map}
-use Rattle.world.specs.declared.body.BinaryOp.{BinaryOp}
-use Rattle.world.specs.declared.body.BinaryOp.TheVariants as binary
-use Rattle.world.specs.declared.body.Expr.{Expr}
-use Rattle.world.specs.declared.body.Expr.TheVariants as expr
-use Rattle.world.specs.declared.body.Literal.{Literal}
-use Rattle.world.specs.declared.body.Literal.TheVariants as literal
-use Rattle.world.specs.declared.body.Pat.{Pat}
-use Rattle.world.specs.declared.body.Pat.TheVariants.{Bind}
+use Rattle.types.specs.declared.operators.BinaryOp.{BinaryOp}
+use Rattle.types.specs.declared.operators.BinaryOp.TheVariants as binary
+use Rattle.world.specs.declared.literal.Literal.{Literal}
+use Rattle.world.specs.declared.literal.Literal.TheVariants as literal
+use Rattle.types.specs.declared.ids.BindingId.{BindingId}
 use Rattle.world.specs.declared.body.Statement.{Statement}
 use Rattle.world.specs.declared.body.Statement.TheVariants as statement
-use Rattle.world.specs.declared.body.UnaryOp.{UnaryOp}
-use Rattle.world.specs.declared.body.UnaryOp.TheVariants as unary
-use Rattle.world.specs.declared.ids.ExprId.{ExprId}
+use Rattle.types.specs.declared.operators.UnaryOp.{UnaryOp}
+use Rattle.types.specs.declared.operators.UnaryOp.TheVariants as unary
+use Rattle.types.specs.declared.ids.ExprId.{ExprId}
 use Rattle.world.specs.declared.infer.ValueNs.{ValueNs}
 use Rattle.world.specs.declared.infer.ValueNs.TheVariants.{LocalBinding}
 use Rattle.numbers.specs.Bytes.{low_bytes}
 use Rattle.numbers.specs.declared.operator.Kind.{Kind}
 use Rattle.numbers.specs.declared.operator.Operator.{Operator}
 use Rattle.numbers.specs.Operators.{Answer, Computes, Panics, Undefined, computed, negated, inverted, of_arith, of_compare, kind_of}
+use Rattle.source_meaning.specs.Core as expr
+use Rattle.source_meaning.specs.Core.{CoreExpr}
 use Rattle.source_meaning.specs.Ends.{no_cost, so_many_turns, End, Go, Panic, Stuck, More, after, then_do, IsOver}
 use Rattle.source_meaning.specs.Source.{Source, node, node_type, node_layout, named_by, pattern, root, Result, Node, Binding, Path, Store, zeroed, with_cell_bytes, Operand, Literally, At, operand_bytes, operand_type, marked, marked_as_place, marked_in_block, drops}
 
@@ -27,11 +26,13 @@ use Rattle.source_meaning.specs.Source.{Source, node, node_type, node_layout, na
 abbrev pub truth_byte : Bool → ℕ
 truth_byte test = cond test 1 0
 
--- a literal's bytes: one for a truth value, and as many low bytes of a number as its type has
+-- a literal's bytes, for the kinds that have a meaning: one for a truth value, and as many low bytes of a whole number
+-- as its type has
 unfoldable pub literal_bytes : Source → ℕ → Literal → Option (List ℕ)
 literal_bytes source e (literal.Bool test) = Some (truth_byte test ∷ [])
 literal_bytes source e (literal.Int number suffix) = option_map (λ layout. low_bytes layout.size number) (node_layout source e)
 literal_bytes source e (literal.Uint number suffix) = option_map (λ layout. low_bytes layout.size (pos number)) (node_layout source e)
+literal_bytes source e _ = None
 
 -- bytes are written where a path leads, if they are as many as lie there
 unfoldable pub put : Store → Path → List ℕ → End (Unit {0})
@@ -68,11 +69,11 @@ no_fuel = record {
 -- the place that a path names: the cell of a binding
 abbrev pub named_place : Option ValueNs → Store → End Path
 named_place (Some (LocalBinding b)) store = Go (record { cell = Binding b.0 }) store no_cost
-named_place None store = Stuck
+named_place _ store = Stuck
 
 -- a path is the place that it names; an expression that is no place goes into a cell of its own, which is then its
 -- place
-abbrev pub place_of : Source → Level → ℕ → Option Expr → Store → End Path
+abbrev pub place_of : Source → Level → ℕ → Option CoreExpr → Store → End Path
 place_of source below e (Some (expr.Path name)) store = named_place (named_by source e) store
 place_of source below e _ store =
     then_do (below.into e (record { cell = Node e }) store) (λ _ later. Go (record { cell = Node e }) later no_cost)
@@ -85,14 +86,14 @@ literal_operand source e store (Some bytes) = elim (node_type source e) [
 ]
 literal_operand source e store None = Stuck
 
-abbrev pub operand_of : Source → Level → ℕ → Option Expr → Store → End Operand
+abbrev pub operand_of : Source → Level → ℕ → Option CoreExpr → Store → End Operand
 operand_of source below e (Some (expr.Literal l)) store = literal_operand source e store (literal_bytes source e l)
 operand_of source below e _ store = then_do (below.place e store) (λ path later. Go (At path) later no_cost)
 
 -- the bytes of what a path names
 abbrev pub named_into : Option ValueNs → Path → Store → End (Unit {0})
 named_into (Some (LocalBinding b)) path store = put store path (store (Binding b.0))
-named_into None path store = Stuck
+named_into _ path store = Stuck
 
 -- what an operator on one operand makes of it
 unfoldable pub computed_of_one : UnaryOp → Option Kind → List ℕ → Answer
@@ -123,8 +124,8 @@ binary_into source below (Some op) lhs rhs path store =
 binary_into source below None lhs rhs path store = Stuck
 
 -- a name is bound: the bytes of a place go into the binding's cell
-abbrev pub bind : Option Pat → Path → Store → End (Unit {0})
-bind (Some (Bind id)) path store = put store (record { cell = Binding id.0 }) (store path.cell)
+abbrev pub bind : Option BindingId → Path → Store → End (Unit {0})
+bind (Some id) path store = put store (record { cell = Binding id.0 }) (store path.cell)
 bind None path store = Stuck
 
 -- a `let` with an initializer: its place, and then the name is bound. An expression statement: its place, and then
@@ -155,7 +156,7 @@ block_into source below statements tail path store =
     Go tt last (so_many_turns (drops source (marked_in_block source statements tail)))))
 
 -- an expression evaluated into a path: the forms that have a meaning so far
-abbrev pub into_of : Source → Level → ℕ → Option Expr → Path → Store → End (Unit {0})
+abbrev pub into_of : Source → Level → ℕ → Option CoreExpr → Path → Store → End (Unit {0})
 into_of source below e (Some (expr.Literal l)) path store = put_if_any store path (literal_bytes source e l)
 into_of source below e (Some (expr.Path name)) path store = named_into (named_by source e) path store
 into_of source below e (Some (expr.UnaryOp operand op)) path store = unary_into source below op operand.0 path store

@@ -1,22 +1,21 @@
 -- A typed body in its world, its nodes, and the cells that hold their values.
-use Rattle.std.specs.Prelude.{◌==◌, ℕ, zero, suc, Bool, true, false, cond, List, [], ◌∷◌, ◌++◌, length, filter, not, flat_map, replicate, Option, Some, None, slice_get, unwrap_or, option_map, option_and_then}
+use Rattle.std.specs.Prelude.{◌==◌, ℕ, zero, suc, Bool, true, false, cond, List, [], ◌∷◌, ◌++◌, length, filter, not, flat_map, replicate, Option, Some, None, slice_get, unwrap_or, option_map, option_and_then, if◌then◌else◌}
 use Rattle.std.specs.BTreeMap.{is_at}
 use Rattle.std.specs.Map.{lookup}
-use Rattle.world.specs.contracts.ids.ExprIdOrd.TheImpl as ExprIdOrd
+use Rattle.types.specs.contracts.ids.ExprIdOrd.TheImpl as ExprIdOrd
 use Rattle.world.specs.declared.body.Body.{Body}
-use Rattle.world.specs.declared.body.Expr.{Expr}
-use Rattle.world.specs.declared.body.Expr.TheVariants as expr
-use Rattle.world.specs.declared.body.Pat.{Pat}
-use Rattle.world.specs.declared.body.Pat.TheVariants.{Bind}
 use Rattle.world.specs.declared.body.Statement.{Statement}
 use Rattle.world.specs.declared.body.Statement.TheVariants as statement
 use Rattle.world.specs.declared.database.HirDatabase.{HirDatabase}
-use Rattle.world.specs.declared.ids.ExprId.{ExprId}
+use Rattle.types.specs.declared.ids.ExprId.{ExprId}
 use Rattle.world.specs.declared.infer.InferenceResult.{InferenceResult}
 use Rattle.world.specs.declared.infer.ValueNs.{ValueNs}
 use Rattle.world.specs.declared.layout.Layout.{Layout}
-use Rattle.world.specs.declared.ty.Ty.{Ty}
+use Rattle.types.specs.declared.ty.Ty.{Ty}
+use Rattle.types.specs.declared.ids.BindingId.{BindingId}
 use Rattle.world.specs.Lookups.{layout_of, type_of, expr_of, is_copy}
+use Rattle.source_meaning.specs.Core as expr
+use Rattle.source_meaning.specs.Core.{CoreExpr, core_of, is_reworked, is_reworked_pattern, name_of}
 
 -- a typed body in its world
 pub record Source : Type 0 where
@@ -24,9 +23,9 @@ pub record Source : Type 0 where
   pub body : Body
   pub infer : InferenceResult
 
--- an expression of the source, and its type
-abbrev pub node : Source → ℕ → Option Expr
-node source e = expr_of source.body e
+-- an expression of the source, where it has a meaning as it stands, and its type
+unfoldable pub node : Source → ℕ → Option CoreExpr
+node source e = if is_reworked source.infer (record { 0 = e }) then None else option_and_then core_of (expr_of source.body e)
 
 abbrev pub node_type : Source → ℕ → Option Ty
 node_type source e = type_of source.infer e
@@ -39,9 +38,9 @@ node_layout source e = option_and_then (layout_of source.world) (node_type sourc
 abbrev pub binding_type : Source → ℕ → Option Ty
 binding_type source b = slice_get source.infer.binding_types b
 
--- a pattern of the source, and its type
-abbrev pub pattern : Source → ℕ → Option Pat
-pattern source p = slice_get source.body.pats p
+-- the binding that a pattern of the source binds, where it is a name that binds by value, and its type
+unfoldable pub pattern : Source → ℕ → Option BindingId
+pattern source p = if is_reworked_pattern source.infer (record { 0 = p }) then None else option_and_then name_of (slice_get source.body.pats p)
 
 abbrev pub pattern_type : Source → ℕ → Option Ty
 pattern_type source p = slice_get source.infer.pat_types p
@@ -110,12 +109,12 @@ operand_type source (Literally ty bytes) = Some ty
 operand_type source (At path) = cell_type source path.cell
 
 -- whether an expression is a literal
-abbrev pub is_literal : Option Expr → Bool
+abbrev pub is_literal : Option CoreExpr → Bool
 is_literal (Some (expr.Literal literal)) = true
 is_literal _ = false
 
 -- whether an expression is a path, which names a place as it stands
-abbrev pub is_path : Option Expr → Bool
+abbrev pub is_path : Option CoreExpr → Bool
 is_path (Some (expr.Path name)) = true
 is_path _ = false
 
@@ -129,7 +128,7 @@ marked_as_place source below e = cond (is_path (node source e)) [] (Node e ∷ b
 abbrev pub marked_as_operand : Source → (ℕ → List Cell) → ℕ → List Cell
 marked_as_operand source below e = cond (is_literal (node source e)) [] (marked_as_place source below e)
 
-abbrev pub marked_by : Source → (ℕ → List Cell) → Option Expr → List Cell
+abbrev pub marked_by : Source → (ℕ → List Cell) → Option CoreExpr → List Cell
 marked_by source below (Some (expr.UnaryOp e op)) = marked_as_operand source below e.0
 marked_by source below (Some (expr.BinaryOp lhs rhs op)) = marked_as_operand source below lhs.0 ++ marked_as_operand source below rhs.0
 marked_by source below _ = []
@@ -143,15 +142,14 @@ abbrev pub marked : Source → ℕ → List Cell
 marked source e = marked_in (length source.body.exprs) source e
 
 -- the cell that a pattern binds
-abbrev pub bound_by : Option Pat → List Cell
-bound_by (Some (Bind id)) = Binding id.0 ∷ []
+abbrev pub bound_by : Option BindingId → List Cell
+bound_by (Some id) = Binding id.0 ∷ []
 bound_by None = []
 
 -- the cells that come into use in a block's own scope: by its `let` statements, and by its tail
 abbrev pub marked_by_statement : Source → Statement → List Cell
 marked_by_statement source (statement.Let pat (Some e) else_branch) = marked_as_place source (marked source) e.0 ++ bound_by (pattern source pat.0)
-marked_by_statement source (statement.Let pat None else_branch) = []
-marked_by_statement source (statement.Expr e has_semi) = []
+marked_by_statement source _ = []
 
 abbrev pub marked_by_tail : Source → Option ExprId → List Cell
 marked_by_tail source (Some e) = marked source e.0

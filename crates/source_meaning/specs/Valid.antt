@@ -1,41 +1,40 @@
 -- Which sources the theorem speaks of.
 use Rattle.std.specs.Prelude.{◌≡◌, ℕ, true, List, [], ◌∷◌, ◌++◌, flat_map, Contains, All, Option, Some, None, option_and_then}
-use Rattle.world.specs.declared.body.ArithOp.{ArithOp}
-use Rattle.world.specs.declared.body.ArithOp.TheVariants as arith
-use Rattle.world.specs.declared.body.BinaryOp.{BinaryOp}
-use Rattle.world.specs.declared.body.BinaryOp.TheVariants as binary
-use Rattle.world.specs.declared.body.Expr.{Expr}
-use Rattle.world.specs.declared.body.Expr.TheVariants as expr
-use Rattle.world.specs.declared.body.Literal.{Literal}
-use Rattle.world.specs.declared.body.Literal.TheVariants as literal
-use Rattle.world.specs.declared.body.Pat.TheVariants.{Bind}
+use Rattle.types.specs.declared.operators.ArithOp.{ArithOp}
+use Rattle.types.specs.declared.operators.ArithOp.TheVariants as arith
+use Rattle.types.specs.declared.operators.BinaryOp.{BinaryOp}
+use Rattle.types.specs.declared.operators.BinaryOp.TheVariants as binary
+use Rattle.world.specs.declared.literal.Literal.{Literal}
+use Rattle.world.specs.declared.literal.Literal.TheVariants as literal
 use Rattle.world.specs.declared.body.Statement.{Statement}
 use Rattle.world.specs.declared.body.Statement.TheVariants as statement
-use Rattle.world.specs.declared.body.UnaryOp.{UnaryOp}
-use Rattle.world.specs.declared.body.UnaryOp.TheVariants as unary
-use Rattle.world.specs.declared.ids.BindingId.{BindingId}
-use Rattle.world.specs.declared.ids.ExprId.{ExprId}
+use Rattle.types.specs.declared.operators.UnaryOp.{UnaryOp}
+use Rattle.types.specs.declared.operators.UnaryOp.TheVariants as unary
+use Rattle.types.specs.declared.ids.BindingId.{BindingId}
+use Rattle.types.specs.declared.ids.ExprId.{ExprId}
 use Rattle.world.specs.declared.infer.ValueNs.TheVariants.{LocalBinding}
 use Rattle.world.specs.declared.layout.Layout.{Layout}
-use Rattle.world.specs.declared.ty.Ty.{Ty, Bool as BoolTy, Int as IntTy, Uint as UintTy, Tuple'}
+use Rattle.types.specs.declared.ty.Ty.{Ty, Bool as BoolTy, Int as IntTy, Uint as UintTy}
 use Rattle.world.specs.Lookups.{layout_of}
 use Rattle.world_check.specs.Checked.{optional}
 use Rattle.numbers.specs.declared.operator.Operator.{Operator}
+use Rattle.source_meaning.specs.Core as expr
+use Rattle.source_meaning.specs.Core.{CoreExpr}
 use Rattle.source_meaning.specs.Meaning.{eager_operator}
 use Rattle.source_meaning.specs.Source.{Source, node, node_type, binding_type, pattern, pattern_type, named_by, root}
 
 -- the expressions that a statement evaluates
 abbrev pub statement_parts : Statement → List ℕ
 statement_parts (statement.Let pat (Some e) None) = e.0 ∷ []
-statement_parts (statement.Let pat _ _) = []
 statement_parts (statement.Expr e has_semi) = e.0 ∷ []
+statement_parts _ = []
 
 abbrev pub operands_of : Option Operator → ℕ → ℕ → List ℕ
 operands_of (Some op) lhs rhs = lhs ∷ rhs ∷ []
 operands_of None lhs rhs = []
 
 -- the expressions that an expression evaluates, in the order of evaluation
-abbrev pub parts_of : Option Expr → List ℕ
+abbrev pub parts_of : Option CoreExpr → List ℕ
 parts_of (Some (expr.UnaryOp e unary.Neg)) = e.0 ∷ []
 parts_of (Some (expr.UnaryOp e unary.Not)) = e.0 ∷ []
 parts_of (Some (expr.BinaryOp lhs rhs (Some op))) = operands_of (eager_operator op) lhs.0 rhs.0
@@ -48,17 +47,16 @@ pub data Evaluates (source : Source) : ℕ → ℕ → Type 0 where
   part : {e child f : ℕ} → Contains (parts_of (node source e)) child → Evaluates source child f → Evaluates source e f
 
 abbrev pub IsInteger : Ty → Type 0
-IsInteger BoolTy = ⊥
 IsInteger (IntTy ty) = Unit {0}
 IsInteger (UintTy ty) = Unit {0}
-IsInteger (Tuple' _ _) = ⊥
+IsInteger _ = ⊥
 
 -- an integer or `bool`
 abbrev pub IsScalar : Ty → Type 0
 IsScalar BoolTy = Unit {0}
 IsScalar (IntTy ty) = Unit {0}
 IsScalar (UintTy ty) = Unit {0}
-IsScalar (Tuple' _ _) = ⊥
+IsScalar _ = ⊥
 
 abbrev pub IsBool : Ty → Type 0
 IsBool BoolTy = Unit {0}
@@ -69,6 +67,7 @@ abbrev pub IsPlainLiteral : Literal → Ty → Type 0
 IsPlainLiteral (literal.Bool test) ty = IsBool ty
 IsPlainLiteral (literal.Int number suffix) ty = IsInteger ty
 IsPlainLiteral (literal.Uint number suffix) ty = IsInteger ty
+IsPlainLiteral _ ty = ⊥
 
 -- `-` is on an integer, `!` on an integer or `bool`
 abbrev pub IsPlainUnary : UnaryOp → Ty → Type 0
@@ -118,7 +117,7 @@ IsPlainBinary source (binary.Assignment op) lhs rhs ty = ⊥
 pub record IsPlainLet (source : Source) (pat e : ℕ) : Type 0 where
   pub binding : BindingId
   pub ty : Ty
-  pub binds : pattern source pat ≡ Some (Bind binding)
+  pub binds : pattern source pat ≡ Some binding
   pub pattern_has : pattern_type source pat ≡ Some ty
   pub binding_has : binding_type source binding.0 ≡ Some ty
   pub initializer_has : node_type source e ≡ Some ty
@@ -126,8 +125,8 @@ pub record IsPlainLet (source : Source) (pat e : ℕ) : Type 0 where
 -- a `let` with an initializer and without `else`, or an expression statement
 abbrev pub IsPlainStatement : Source → Statement → Type 0
 IsPlainStatement source (statement.Let pat (Some e) None) = IsPlainLet source pat.0 e.0
-IsPlainStatement source (statement.Let pat _ _) = ⊥
 IsPlainStatement source (statement.Expr e has_semi) = Unit {0}
+IsPlainStatement source _ = ⊥
 
 -- the tail of a block, where it has one, has the block's type
 abbrev pub IsPlainTail : Source → Option ExprId → Ty → Type 0
@@ -135,7 +134,7 @@ IsPlainTail source (Some e) ty = node_type source e.0 ≡ Some ty
 IsPlainTail source None ty = Unit {0}
 
 -- a form that has a meaning, at types that fit it
-abbrev pub HasPlainForm : Source → ℕ → Option Expr → Ty → Type 0
+abbrev pub HasPlainForm : Source → ℕ → Option CoreExpr → Ty → Type 0
 HasPlainForm source e (Some (expr.Literal l)) ty = IsPlainLiteral l ty
 HasPlainForm source e (Some (expr.Path name)) ty = (binding : BindingId) × (named_by source e ≡ Some (LocalBinding binding)) × (binding_type source binding.0 ≡ Some ty)
 HasPlainForm source e (Some (expr.UnaryOp operand op)) ty = IsPlainUnary op ty × (node_type source operand.0 ≡ Some ty)

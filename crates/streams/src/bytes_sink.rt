@@ -3,7 +3,7 @@ ghost use Rattle.streams.specs.Faults.{HasCause, one_more};
 
 use crate::{Failed, Sink};
 use std::alloc::Global;
-use world::{List, NoMemory};
+use types::{List, NoMemory};
 
 /// A sink into memory, with a bound on its bytes, whose calls with chosen numbers fail.
 #[derive(Debug, Drop)]

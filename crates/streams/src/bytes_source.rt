@@ -2,7 +2,7 @@ ghost use Rattle.std.specs.Prelude.{◌≡◌, ◌≤◌, ◌<◌, ◌↔◌, []
 ghost use Rattle.streams.specs.Faults.{HasCause, one_more};
 
 use crate::{Failed, Source};
-use world::{Bytes, List};
+use types::{Bytes, List};
 
 /// A source over bytes in memory, whose calls with chosen numbers fail.
 #[derive(Debug, Drop)]

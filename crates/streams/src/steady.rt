@@ -1,7 +1,7 @@
 ghost use Rattle.std.specs.Prelude.{◌≡◌, ◌≤◌, ◌<◌, ◌++◌, [], Some, None, Ok, length, take, drop, min, option_map, IfOk, IfSome, OnErr};
 
 use crate::{Failed, Sink, Source};
-use world::Bytes;
+use types::Bytes;
 
 /// A source over bytes in memory, which never fails.
 #[derive(Debug, Drop)]

@@ -4,10 +4,10 @@ use super::*;
 use std::io;
 use std::io::{Read, Write};
 use std::test::Fail;
-use world::{Bytes, List};
+use types::{Bytes, List};
 
 /// The bytes as `Bytes`.
-fn bytes_of(alloc: std::alloc::Global, from: &[u8]) -> Result<Bytes, world::NoMemory> {
+fn bytes_of(alloc: std::alloc::Global, from: &[u8]) -> Result<Bytes, types::NoMemory> {
     let mut bytes = Bytes::new(alloc);
     for b in from {
         bytes.push(*b)?;

@@ -1,6 +1,8 @@
 //! Bodies: trees of expressions and patterns, whose nodes name one another by id.
+ghost use Rattle.std.specs.Prelude.{◌≡◌};
+ghost use Rattle.world.specs.Empty.{empty_body};
 
-use crate::{BindingId, ExprId, IntTy, List, NoMemory, PatId, Text, TryClone, UintTy};
+use crate::{BindingId, Expr, ExprId, List, NoMemory, Pat, PatId, Text, TryClone};
 use std::alloc::Global;
 
 /// The body of an item. A child's id is below its parent's of the same kind.
@@ -9,6 +11,11 @@ pub struct Body {
     pub exprs: List<Expr>,
     pub pats: List<Pat>,
     pub bindings: List<Binding>,
+    /// The names of the labels.
+    pub labels: List<Text>,
+    /// The patterns of the parameters, `self` left out.
+    pub params: List<PatId>,
+    pub self_param: Option<BindingId>,
     pub body_expr: ExprId,
 }
 
@@ -17,6 +24,8 @@ pub struct Body {
 pub struct Binding {
     pub name: Text,
     pub mode: BindingAnnotation,
+    /// The closure that it is in.
+    pub owner: Option<ExprId>,
 }
 
 /// How a binding is written.
@@ -24,6 +33,8 @@ pub struct Binding {
 pub enum BindingAnnotation {
     Unannotated,
     Mutable,
+    Ref,
+    RefMut,
 }
 
 /// A statement of a block.
@@ -38,93 +49,24 @@ pub enum Statement {
         expr: ExprId,
         has_semi: bool,
     },
+    Item,
 }
 
-/// An expression.
-#[derive(PartialEq, Eq, PartialOrd, Ord, Hash, Debug, Drop)]
-pub enum Expr {
-    Path(Text),
-    Block {
-        statements: List<Statement>,
-        tail: Option<ExprId>,
-    },
-    UnaryOp {
-        expr: ExprId,
-        op: UnaryOp,
-    },
-    BinaryOp {
-        lhs: ExprId,
-        rhs: ExprId,
-        op: Option<BinaryOp>,
-    },
-    Literal(Literal),
-}
-
-/// A literal, with the type that its suffix names.
-#[derive(Clone, Copy, PartialEq, Eq, PartialOrd, Ord, Hash, Debug)]
-pub enum Literal {
-    Bool(bool),
-    Int(i128, Option<IntTy>),
-    Uint(u128, Option<UintTy>),
-}
-
-/// An operator on one operand.
-#[derive(Clone, Copy, PartialEq, Eq, PartialOrd, Ord, Hash, Debug)]
-pub enum UnaryOp {
-    Deref,
-    Not,
-    Neg,
-}
-
-/// `&&` and `||`.
-#[derive(Clone, Copy, PartialEq, Eq, PartialOrd, Ord, Hash, Debug)]
-pub enum LogicOp {
-    And,
-    Or,
-}
-
-/// An operator of arithmetic, shifts or bits.
-#[derive(Clone, Copy, PartialEq, Eq, PartialOrd, Ord, Hash, Debug)]
-pub enum ArithOp {
-    Add,
-    Mul,
-    Sub,
-    Div,
-    Rem,
-    Shl,
-    Shr,
-    BitXor,
-    BitOr,
-    BitAnd,
-}
-
-/// Which of two values an order operator asks to be the greater one.
-#[derive(Clone, Copy, PartialEq, Eq, PartialOrd, Ord, Hash, Debug)]
-pub enum Ordering {
-    Less,
-    Greater,
-}
-
-/// A comparison.
-#[derive(Clone, Copy, PartialEq, Eq, PartialOrd, Ord, Hash, Debug)]
-pub enum CmpOp {
-    Eq { negated: bool },
-    Ord { ordering: Ordering, strict: bool },
-}
-
-/// An operator on two operands.
-#[derive(Clone, Copy, PartialEq, Eq, PartialOrd, Ord, Hash, Debug)]
-pub enum BinaryOp {
-    LogicOp(LogicOp),
-    ArithOp(ArithOp),
-    CmpOp(CmpOp),
-    Assignment { op: Option<ArithOp> },
-}
-
-/// A pattern.
-#[derive(Clone, Copy, PartialEq, Eq, PartialOrd, Ord, Hash, Debug)]
-pub enum Pat {
-    Bind { id: BindingId },
+impl Body {
+    /// A body of no nodes, with the id that its root is to have. It takes no memory.
+    pub fn new(alloc: Global, root: ExprId) -> Body
+        ensures { result ≡ empty_body root }
+    {
+        Body {
+            exprs: List::new(alloc),
+            pats: List::new(alloc),
+            bindings: List::new(alloc),
+            labels: List::new(alloc),
+            params: List::new(alloc),
+            self_param: None,
+            body_expr: root,
+        }
+    }
 }
 
 impl TryClone for Body {
@@ -133,6 +75,9 @@ impl TryClone for Body {
             exprs: self.exprs.try_clone(alloc)?,
             pats: self.pats.try_clone(alloc)?,
             bindings: self.bindings.try_clone(alloc)?,
+            labels: self.labels.try_clone(alloc)?,
+            params: self.params.try_clone(alloc)?,
+            self_param: self.self_param,
             body_expr: self.body_expr,
         })
     }
@@ -143,40 +88,19 @@ impl TryClone for Binding {
         Ok(Binding {
             name: self.name.try_clone(alloc)?,
             mode: self.mode,
+            owner: self.owner,
         })
     }
 }
 
-impl TryClone for Expr {
-    fn try_clone(&self, alloc: Global) -> Result<Expr, NoMemory> {
-        match self {
-            Expr::Path(name) => Ok(Expr::Path(name.try_clone(alloc)?)),
-            Expr::Block { statements, tail } => Ok(Expr::Block {
-                statements: statements.try_clone(alloc)?,
-                tail: *tail,
-            }),
-            Expr::UnaryOp { expr, op } => Ok(Expr::UnaryOp {
-                expr: *expr,
-                op: *op,
-            }),
-            Expr::BinaryOp { lhs, rhs, op } => Ok(Expr::BinaryOp {
-                lhs: *lhs,
-                rhs: *rhs,
-                op: *op,
-            }),
-            Expr::Literal(literal) => Ok(Expr::Literal(*literal)),
-        }
+impl TryClone for BindingAnnotation {
+    fn try_clone(&self, _alloc: Global) -> Result<BindingAnnotation, NoMemory> {
+        Ok(*self)
     }
 }
 
 impl TryClone for Statement {
     fn try_clone(&self, _alloc: Global) -> Result<Statement, NoMemory> {
-        Ok(*self)
-    }
-}
-
-impl TryClone for Pat {
-    fn try_clone(&self, _alloc: Global) -> Result<Pat, NoMemory> {
         Ok(*self)
     }
 }

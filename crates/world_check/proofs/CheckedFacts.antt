@@ -5,10 +5,10 @@ use Rattle.std.proofs.lemmas.Nat.{pow_pos}
 use Rattle.std.specs.List.{list_any, list_all, slice_get, All}
 use Rattle.std.specs.Option.{IfSome}
 use Rattle.world.specs.declared.database.BodyRow.{BodyRow}
-use Rattle.world.specs.declared.database.ConstRow.{ConstRow}
+use Rattle.world.specs.declared.items.ConstRow.{ConstRow}
 use Rattle.world.specs.declared.database.HirDatabase.{HirDatabase}
 use Rattle.world.specs.declared.layout.Layout.{Layout}
-use Rattle.world.specs.declared.ty.Ty.{Ty}
+use Rattle.types.specs.declared.ty.Ty.{Ty}
 use Rattle.world_check.specs.Checked.{IsAlignment, IsChecked, IsCheckedBody, IsCheckedConst, IsCheckedLayout, children_of, fixed_size}
 use Rattle.world_check.specs.Rows.{first_failure, first_failure_among, row_failure}
 use Rattle.world_check.specs.Sites.{Site, first_failing, each, alignments, body_range_sites, body_tree_sites, bodies_range_sites, const_sites, consts_range_sites, expr_list_sites, expr_tree_sites, exprs_range_sites, held_exprs, is_fixed_size, is_none_or_in_range, key_sites, layout_row_sites, layout_sites, pat_list_sites, pats_range_sites, range_sites, rest_range_sites, tree_sites}

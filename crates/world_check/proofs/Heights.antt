@@ -4,7 +4,7 @@ use Rattle.std.proofs.lemmas.Grind.{common_steps}
 use Rattle.std.specs.List.{list_any, list_all, slice_get}
 use Rattle.std.proofs.lemmas.Bool.Decides.{nat_tests}
 use Rattle.world.specs.declared.body.Body.{Body}
-use Rattle.world.specs.declared.body.Expr.{Expr}
+use Rattle.world.specs.declared.expr.Expr.{Expr}
 use Rattle.world_check.specs.Checked.{children_of}
 use Rattle.world_check.specs.Heights.{height_over, AreHeights}
 use Rattle.world_check.specs.Sites.{children_at, children_of_some, expr_tree_sites, first_failing, has_one_parent, has_path}

@@ -1,21 +1,21 @@
 -- The facts that hold of a checked world.
 use Rattle.std.specs.Prelude.{◌≡◌, ℕ, ◌*◌, ◌^◌, ◌<◌, ◌≤◌, List, [], ◌∷◌, ◌++◌, length, Option, Some, None, slice_get, All, IfSome, flat_map}
 use Rattle.world.specs.declared.body.Body.{Body}
-use Rattle.world.specs.declared.body.Expr.{Expr}
-use Rattle.world.specs.declared.body.Expr.TheVariants as expr
+use Rattle.world.specs.declared.expr.Expr.{Expr}
+use Rattle.world.specs.declared.expr.Expr.TheVariants as expr
 use Rattle.world.specs.declared.body.Statement.{Statement}
 use Rattle.world.specs.declared.body.Statement.TheVariants as statement
 use Rattle.world.specs.declared.database.BodyRow.{BodyRow}
-use Rattle.world.specs.declared.database.ConstRow.{ConstRow}
+use Rattle.world.specs.declared.items.ConstRow.{ConstRow}
 use Rattle.world.specs.declared.database.HirDatabase.{HirDatabase}
-use Rattle.world.specs.declared.ids.ExprId.{ExprId}
+use Rattle.types.specs.declared.ids.ExprId.{ExprId}
 use Rattle.world.specs.declared.infer.InferenceResult.{InferenceResult}
 use Rattle.world.specs.declared.layout.Layout.{Layout}
-use Rattle.world.specs.declared.ty.IntTy.{IntTy}
-use Rattle.world.specs.declared.ty.IntTy.TheVariants as int
-use Rattle.world.specs.declared.ty.UintTy.{UintTy}
-use Rattle.world.specs.declared.ty.UintTy.TheVariants as uint
-use Rattle.world.specs.declared.ty.Ty.{Ty, Bool, Int, Uint, Tuple'}
+use Rattle.types.specs.declared.scalars.IntTy.{IntTy}
+use Rattle.types.specs.declared.scalars.IntTy.TheVariants as int
+use Rattle.types.specs.declared.scalars.UintTy.{UintTy}
+use Rattle.types.specs.declared.scalars.UintTy.TheVariants as uint
+use Rattle.types.specs.declared.ty.Ty.{Ty, Bool, Int, Uint}
 use Rattle.world.specs.Lookups.{expr_of}
 
 -- an optional expression's number
@@ -27,14 +27,14 @@ optional None = []
 abbrev pub statement_children : Statement → List ℕ
 statement_children (statement.Let pat initializer else_branch) = optional initializer ++ optional else_branch
 statement_children (statement.Expr e has_semi) = e.0 ∷ []
+statement_children statement.Item = []
 
--- the expressions that an expression holds, in the order of its fields
+-- The expressions that an expression holds, in the order of its fields. Forms that are not evaluated yet hold none.
 abbrev pub children_of : Expr → List ℕ
-children_of (expr.Path name) = []
-children_of (expr.Block statements tail) = flat_map statement_children statements ++ optional tail
+children_of (expr.Block statements tail label) = flat_map statement_children statements ++ optional tail
 children_of (expr.UnaryOp e op) = e.0 ∷ []
 children_of (expr.BinaryOp lhs rhs op) = lhs.0 ∷ rhs.0 ∷ []
-children_of (expr.Literal literal) = []
+children_of _ = []
 
 -- a typed body whose nodes are in order: each has a type, and an expression comes after those that it holds
 pub record IsCheckedBody (body : Body) (infer : InferenceResult) : Type 0 where
@@ -66,7 +66,7 @@ abbrev pub fixed_size : Ty → Option ℕ
 fixed_size Bool = Some 1
 fixed_size (Int ty) = Some (int_bytes ty)
 fixed_size (Uint ty) = Some (uint_bytes ty)
-fixed_size (Tuple' _ _) = None
+fixed_size _ = None
 
 -- an alignment: a power of two up to 8192
 abbrev pub IsAlignment : ℕ → Type 0

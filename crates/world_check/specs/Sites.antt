@@ -2,24 +2,24 @@
 use Rattle.std.specs.Prelude.{ℕ, zero, suc, ◌+◌, ◌^◌, ◌%◌, ◌==◌, ◌&&◌, ◌||◌, if◌then◌else◌, nat_lt, nat_le, Bool, true, not, List, [], ◌∷◌, ◌++◌, length, take, flat_map, count_by, Option, Some, None}
 use Rattle.std.specs.List.{list_any, list_all, slice_get}
 use Rattle.world.specs.declared.body.Body.{Body}
-use Rattle.world.specs.declared.body.Expr.{Expr}
-use Rattle.world.specs.declared.body.Expr.TheVariants as expr
-use Rattle.world.specs.declared.body.Pat.{Pat}
-use Rattle.world.specs.declared.body.Pat.TheVariants.{Bind}
+use Rattle.world.specs.declared.expr.Expr.{Expr}
+use Rattle.world.specs.declared.expr.Expr.TheVariants as expr
+use Rattle.world.specs.declared.pat.Pat.{Pat}
+use Rattle.world.specs.declared.pat.Pat.TheVariants.{Bind}
 use Rattle.world.specs.declared.body.Statement.{Statement}
 use Rattle.world.specs.declared.body.Statement.TheVariants as statement
 use Rattle.world.specs.declared.database.BodyRow.{BodyRow}
-use Rattle.world.specs.declared.database.ConstRow.{ConstRow}
+use Rattle.world.specs.declared.items.ConstRow.{ConstRow}
 use Rattle.world.specs.declared.database.HirDatabase.{HirDatabase}
-use Rattle.world.specs.declared.ids.ExprId.{ExprId}
-use Rattle.world.specs.declared.ids.PatId.{PatId}
+use Rattle.types.specs.declared.ids.ExprId.{ExprId}
+use Rattle.types.specs.declared.ids.PatId.{PatId}
 use Rattle.world.specs.declared.infer.BindingMode.{BindingMode}
 use Rattle.world.specs.declared.infer.InferenceResult.{InferenceResult}
 use Rattle.world.specs.declared.infer.ValueNs.{ValueNs}
 use Rattle.world.specs.declared.infer.ValueNs.TheVariants.{LocalBinding}
 use Rattle.world.specs.declared.layout.Layout.{Layout}
-use Rattle.world.specs.declared.ty.Ty.{Ty}
-use Rattle.world.specs.Lookups.{ty_eq}
+use Rattle.types.specs.declared.ty.Ty.{Ty}
+use Rattle.types.specs.Orders.{ty_eq}
 use Rattle.world_check.specs.Checked.{children_of, fixed_size}
 use Rattle.world_check.specs.declared.place.NodeKind.TheVariants.{Exprs, Pats, Bindings}
 use Rattle.world_check.specs.declared.place.Place.{Place}
@@ -71,15 +71,12 @@ const_sites world i row =
 -- the patterns that a statement holds
 abbrev pub statement_patterns : Statement → List ℕ
 statement_patterns (statement.Let pat initializer else_branch) = pat.0 ∷ []
-statement_patterns (statement.Expr e has_semi) = []
+statement_patterns _ = []
 
 -- the patterns that an expression holds
 abbrev pub patterns_of : Expr → List ℕ
-patterns_of (expr.Path name) = []
-patterns_of (expr.Block statements tail) = flat_map statement_patterns statements
-patterns_of (expr.UnaryOp e op) = []
-patterns_of (expr.BinaryOp lhs rhs op) = []
-patterns_of (expr.Literal literal) = []
+patterns_of (expr.Block statements tail label) = flat_map statement_patterns statements
+patterns_of _ = []
 
 abbrev pub expr_range_sites : Body → ℕ → ℕ → Expr → List Site
 expr_range_sites body b i node =
@@ -88,15 +85,17 @@ expr_range_sites body b i node =
     ∷ []
 
 -- the binding that a pattern is
-abbrev pub binding_of : Pat → ℕ
-binding_of (Bind id) = id.0
+abbrev pub binding_of : Pat → Option ℕ
+binding_of (Bind id subpat) = Some id.0
+binding_of _ = None
 
 abbrev pub pat_range_sites : Body → ℕ → ℕ → Pat → List Site
-pat_range_sites body b i pat = site (Node b Pats i) (is_in_range body.bindings (binding_of pat)) ∷ []
+pat_range_sites body b i pat = site (Node b Pats i) (is_none_or_in_range body.bindings (binding_of pat)) ∷ []
 
--- what a path names is a node of the body
+-- a binding that a path names is one of the body
 abbrev pub is_value_in_range : Body → ValueNs → Bool
 is_value_in_range body (LocalBinding id) = is_in_range body.bindings id.0
+is_value_in_range body _ = true
 
 -- an expression, and what it names, are nodes of the body
 abbrev pub is_resolution_in_range : Body → ExprId × ValueNs → Bool

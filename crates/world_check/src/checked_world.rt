@@ -11,12 +11,11 @@ pub struct CheckedWorld {
 
 impl Model for CheckedWorld {
     ghost use Rattle.world.specs.declared.database.HirDatabase.{HirDatabase};
-    ghost use Rattle.std.specs.Coded.{codes};
-    ghost use Rattle.world.specs.contracts.ty.Ty as ty;
+    ghost use Rattle.world.specs.contracts.database.HirDatabase as database;
 
     ghost Value = { HirDatabase };
 
-    ghost coded = { Prim.hlevel (codes, ty.the_row.coded) };
+    ghost coded = { database.the_row.coded };
 
     ghost use Rattle.world_check.specs.Rows.{IsAccepted};
 
@@ -27,7 +26,7 @@ impl Model for CheckedWorld {
 
 impl CheckedWorld {
     ghost use Rattle.std.specs.Prelude.{◌≡◌, ◌↔◌, IsTrue, IsSome, IfOk, IfErr, OnOk};
-    ghost use Rattle.world.specs.Lookups.{const_row};
+    ghost use Rattle.world.specs.Lookups.{crate_of};
     ghost use Rattle.world_check.specs.Checked.{IsChecked};
     ghost use Rattle.world_check.specs.Rows.{first_failure, IsRefusal};
 
@@ -55,9 +54,8 @@ impl CheckedWorld {
 
     /// Whether an id is in range.
     pub fn has(&self, def: DefWithBodyId) -> bool
-        ensures { IsTrue result ↔ IsSome (const_row self.now def) }
+        ensures { IsTrue result ↔ IsSome (crate_of self.now def) }
     {
-        let DefWithBodyId::ConstId(id) = def;
-        self.db.consts.get(id.0 as u64).is_some()
+        self.db.crate_of(def).is_some()
     }
 }

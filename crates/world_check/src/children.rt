@@ -33,6 +33,7 @@ fn push_statement(out: &mut Vec<u64>, statement: &Statement) -> Result<(), NoMem
             out.push(expr.0 as u64)?;
             Ok(())
         }
+        Statement::Item => Ok(()),
     }
 }
 
@@ -51,8 +52,11 @@ pub(crate) fn push_children(out: &mut Vec<u64>, node: &Expr) -> Result<(), NoMem
     ensures { OnOk result (out.new.items ≡ out.old.items ++ children_of node.now) }
 {
     match node {
-        Expr::Path(_) | Expr::Literal(_) => {}
-        Expr::Block { statements, tail } => {
+        Expr::Block {
+            statements,
+            tail,
+            label: _,
+        } => {
             push_statements(out, statements.as_slice())?;
             push_optional(out, *tail)?;
         }
@@ -61,6 +65,7 @@ pub(crate) fn push_children(out: &mut Vec<u64>, node: &Expr) -> Result<(), NoMem
             out.push(lhs.0 as u64)?;
             out.push(rhs.0 as u64)?;
         }
+        _ => {}
     }
     Ok(())
 }

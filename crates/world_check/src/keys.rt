@@ -1,7 +1,7 @@
 //! The keys of tables are distinct.
 ghost use Rattle.std.specs.Prelude.{◌≡◌, ◌<◌, ◌≤◌, length, take};
 ghost use Rattle.std.specs.List.{list_any};
-ghost use Rattle.world.specs.Lookups.{ty_eq};
+ghost use Rattle.types.specs.Orders.{ty_eq};
 ghost use Rattle.world_check.specs.Sites.{each, first_failing, is_first_with_key, key_sites};
 
 use crate::{Place, TableName};

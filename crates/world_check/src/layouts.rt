@@ -43,7 +43,7 @@ fn fixed_size(ty: &Ty) -> Option<u64>
         Ty::Bool => Some(1),
         Ty::Int(int) => Some(int_bytes(*int)),
         Ty::Uint(uint) => Some(uint_bytes(*uint)),
-        Ty::Tuple(_) => None,
+        _ => None,
     }
 }
 

@@ -1,7 +1,7 @@
 //! Ids are in range, and lists are short enough to be named by them.
 ghost use Rattle.std.specs.Prelude.{◌≡◌, ◌^◌, nat_lt, IfOk};
 ghost use Rattle.std.specs.List.{list_all};
-ghost use Rattle.world_check.specs.Sites.{first_failing, each, is_resolution_in_range, is_mode_in_range, const_sites, expr_range_sites, exprs_range_sites, pat_range_sites, pats_range_sites, infer_range_sites, rest_range_sites, body_range_sites, consts_range_sites, bodies_range_sites, range_sites};
+ghost use Rattle.world_check.specs.Sites.{first_failing, each, is_value_in_range, is_resolution_in_range, is_mode_in_range, const_sites, expr_range_sites, exprs_range_sites, pat_range_sites, pats_range_sites, infer_range_sites, rest_range_sites, body_range_sites, consts_range_sites, bodies_range_sites, range_sites};
 
 use crate::children::{push_children, push_patterns};
 use crate::keys::first_repeated_key;
@@ -106,11 +106,11 @@ fn wrong_exprs(alloc: Global, b: u64, body: &Body) -> Result<Option<Place>, NoMe
 fn wrong_pat(body: &Body, b: u64, i: u64, pat: &Pat) -> Option<Place>
     ensures { result ≡ first_failing (pat_range_sites body.now b i pat.now) }
 {
-    let Pat::Bind { id } = pat;
-    if (id.0 as u64) < body.bindings.len() {
-        None
-    } else {
-        Some(Place::Node(b, NodeKind::Pats, i))
+    match pat {
+        Pat::Bind { id, subpat: _ } if (id.0 as u64) >= body.bindings.len() => {
+            Some(Place::Node(b, NodeKind::Pats, i))
+        }
+        _ => None,
     }
 }
 
@@ -137,12 +137,21 @@ fn wrong_pats(b: u64, body: &Body) -> Option<Place>
     }
 }
 
+/// Whether a binding that a path names is one of the body.
+fn is_value_in_range(body: &Body, value: ValueNs) -> bool
+    ensures { result ≡ is_value_in_range body.now value }
+{
+    match value {
+        ValueNs::LocalBinding(binding) => (binding.0 as u64) < body.bindings.len(),
+        _ => true,
+    }
+}
+
 /// Whether an expression, and what it names, are nodes of the body.
 fn is_resolution_in_range(body: &Body, expr: ExprId, value: ValueNs) -> bool
     ensures { result ≡ is_resolution_in_range body.now (expr, value) }
 {
-    let ValueNs::LocalBinding(binding) = value;
-    (expr.0 as u64) < body.exprs.len() && (binding.0 as u64) < body.bindings.len()
+    (expr.0 as u64) < body.exprs.len() && is_value_in_range(body, value)
 }
 
 /// Whether every name that was resolved is a node of the body.

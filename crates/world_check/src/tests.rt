@@ -5,7 +5,7 @@ use std::alloc::Global;
 use std::test::Fail;
 use world::{
     ArithOp, BinaryOp, Body, BodyRow, ConstId, ConstRow, Crate, CrateRow, DefWithBodyId, Expr,
-    ExprId, HirDatabase, InferenceResult, Layout, List, Literal, Map, NoMemory, Table, Text, Ty,
+    ExprId, FunctionId, HirDatabase, InferenceResult, Layout, List, Literal, NoMemory, Text, Ty,
     UintTy, UnaryOp, Variants,
 };
 
@@ -63,22 +63,10 @@ fn body(
     root: u32,
     type_count: usize,
 ) -> Result<BodyRow, NoMemory> {
-    let infer = InferenceResult {
-        expr_types: types(alloc, type_count)?,
-        pat_types: List::new(alloc),
-        binding_types: List::new(alloc),
-        value_res: Map::new(alloc),
-        binding_modes: Map::new(alloc),
-        copy_types: List::new(alloc),
-        erroneous: false,
-        mismatches: List::new(alloc),
-    };
-    let body = Body {
-        exprs,
-        pats: List::new(alloc),
-        bindings: List::new(alloc),
-        body_expr: ExprId(root),
-    };
+    let mut infer = InferenceResult::new(alloc);
+    infer.expr_types = types(alloc, type_count)?;
+    let mut body = Body::new(alloc, ExprId(root));
+    body.exprs = exprs;
     Ok(BodyRow { body, infer })
 }
 
@@ -95,30 +83,25 @@ fn layout(alloc: Global, change: Change) -> Layout {
 
 /// The world of one body.
 fn world_of(alloc: Global, row: BodyRow, change: Change) -> Result<HirDatabase, NoMemory> {
-    let mut crates = List::new(alloc);
-    crates.push(CrateRow {
+    let mut db = HirDatabase::new(alloc);
+    db.crates.push(CrateRow {
         pointer_bytes: Some(8),
     })?;
-    let mut consts = List::new(alloc);
-    consts.push(ConstRow {
+    db.consts.push(ConstRow {
         name: Some(Text::from_str(alloc, "GOAL")?),
         krate: Crate(if change == Change::NoCrate { 1 } else { 0 }),
+        generics: List::new(alloc),
         ty: Ty::Uint(UintTy::Usize),
         body: Some(if change == Change::NoBody { 5 } else { 0 }),
     })?;
-    let mut bodies = List::new(alloc);
-    bodies.push(row)?;
-    let mut layouts = Table::new(alloc);
-    layouts.push(Ty::Uint(UintTy::Usize), layout(alloc, change))?;
+    db.bodies.push(row)?;
+    db.layouts
+        .push((Ty::Uint(UintTy::Usize), layout(alloc, change)))?;
     if change == Change::TwoLayouts {
-        layouts.push(Ty::Uint(UintTy::Usize), layout(alloc, change))?;
+        db.layouts
+            .push((Ty::Uint(UintTy::Usize), layout(alloc, change)))?;
     }
-    Ok(HirDatabase {
-        crates,
-        consts,
-        bodies,
-        layouts,
-    })
+    Ok(db)
 }
 
 /// The constant with one thing wrong.
@@ -153,6 +136,7 @@ fn good_worlds_pass(rt: HostRuntime) -> Result<(), Fail> {
     assert_eq!(rt; world.db(), &goal(alloc, Change::Nothing)?);
     assert!(rt; world.has(DefWithBodyId::ConstId(ConstId(0))));
     assert!(rt; !world.has(DefWithBodyId::ConstId(ConstId(1))));
+    assert!(rt; !world.has(DefWithBodyId::FunctionId(FunctionId(0))));
     Ok(())
 }
 

@@ -1,13 +1,27 @@
 -- Readers of goals.
-use Rattle.std.specs.Prelude.{[], ◌∷◌, codes}
+use Rattle.std.specs.Prelude.{[], ◌∷◌, None, codes}
 use Rattle.serde_json.specs.Data.{Data}
-use Rattle.world_json.specs.declared.goal.Goal.{Goal}
+use Rattle.world.specs.declared.limits.Limits.{Limits}
 use Rattle.world_json.specs.Fit.{Fit, ◌>>=◌}
-use Rattle.world_json.specs.Ids.{def_of}
-use Rattle.world_json.specs.Keys.{members_of, required, with_no_other}
+use Rattle.world_json.specs.Ids.{def_with_body_id_of}
+use Rattle.world_json.specs.Keys.{members_of, optional, required, with_no_other}
+use Rattle.world_json.specs.Parts.{option_of}
+use Rattle.world_json.specs.Scalars.{u32_of, u64_of}
+use Rattle.world_json.specs.Types.{generic_args_of}
+use Rattle.world_json.specs.declared.goal.Goal.{Goal}
+
+unfoldable pub limits_of : Data → Fit Limits
+limits_of d = do
+  ms ← members_of d
+  blocks ← required (codes "blocks") u64_of d
+  nesting ← required (codes "nesting") u32_of d
+  bytes ← required (codes "bytes") u64_of d
+  with_no_other (codes "blocks" ∷ codes "nesting" ∷ codes "bytes" ∷ []) ms (record { blocks = blocks; nesting = nesting; bytes = bytes })
 
 unfoldable pub goal_of : Data → Fit Goal
 goal_of d = do
   ms ← members_of d
-  def ← required (codes "def") def_of d
-  with_no_other (codes "def" ∷ []) ms (record { def = def })
+  def ← required (codes "def") def_with_body_id_of d
+  args ← optional (record { 0 = [] }) (codes "args") generic_args_of d
+  limits ← optional None (codes "limits") (option_of limits_of) d
+  with_no_other (codes "def" ∷ codes "args" ∷ codes "limits" ∷ []) ms (record { def = def; args = args; limits = limits })

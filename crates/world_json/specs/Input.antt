@@ -12,7 +12,7 @@ use Rattle.world_json.specs.Goals.{goal_of}
 use Rattle.world_json.specs.Keys.{members_of, required, optional, with_no_other}
 use Rattle.world_json.specs.Parts.{list_of}
 use Rattle.world_json.specs.Scalars.{u64_of}
-use Rattle.world_json.specs.Tables.{database_of}
+use Rattle.world_json.specs.Tables.{hir_database_of}
 
 -- the one version of the form
 abbrev pub the_version : ℕ → Fit Version
@@ -25,7 +25,7 @@ unfoldable pub input_of : Data → Fit Input
 input_of d = do
   ms ← members_of d
   version ← required (codes "version") version_of d
-  db ← required (codes "world") database_of d
+  db ← required (codes "world") hir_database_of d
   goals ← optional [] (codes "goals") (list_of goal_of) d
   with_no_other (codes "version" ∷ codes "world" ∷ codes "goals" ∷ []) ms (record { db = db; goals = goals })
 

@@ -1,4 +1,4 @@
--- Readers of arrays, pairs and options, made from readers of their parts.
+-- Readers of arrays, pairs, triples and options, made from readers of their parts.
 use Rattle.std.specs.Prelude.{ℕ, ◌+◌, List, [], ◌∷◌, Option, Some, None, Ok}
 use Rattle.serde_json.specs.Data.{Data, null, boolean, number, string, array, object, Items, no_items, item}
 use Rattle.world_json.specs.Fit.{Fit, misfit, found, ◌>>=◌, below, item_step}
@@ -51,3 +51,28 @@ pair_of reads_first reads_second d = do
   x ← below (item_step 0) (reads_first both.0)
   y ← below (item_step 1) (reads_second both.1)
   Ok (x, y)
+
+-- exactly three items
+abbrev pub three_items : Items → Option (Data × Data × Data)
+three_items no_items = None
+three_items (item d no_items) = None
+three_items (item d (item e no_items)) = None
+three_items (item d (item e (item f no_items))) = Some (d, e, f)
+three_items (item d (item e (item f (item g ds)))) = None
+
+abbrev pub three_of : Data → Fit (Data × Data × Data)
+three_of null = misfit
+three_of (boolean b) = misfit
+three_of (number n) = misfit
+three_of (string s) = misfit
+three_of (array ds) = found (three_items ds)
+three_of (object ms) = misfit
+
+-- an array of three values
+unfoldable pub triple_of : {A B C : Type 0} → (Data → Fit A) → (Data → Fit B) → (Data → Fit C) → Data → Fit (A × B × C)
+triple_of reads_first reads_second reads_third d = do
+  all ← three_of d
+  x ← below (item_step 0) (reads_first all.0)
+  y ← below (item_step 1) (reads_second all.1)
+  z ← below (item_step 2) (reads_third all.2)
+  Ok (x, y, z)

@@ -1,45 +1,115 @@
--- Readers of types.
-use Rattle.std.specs.Prelude.{ℕ, ◌+◌, List, [], ◌∷◌, codes, Some, None, Option, Ok}
-use Rattle.serde_json.specs.Data.{Data, null, boolean, number, string, array, object, Items, no_items, item, no_members, member}
-use Rattle.world.specs.declared.ty.IntTy.{IntTy}
-use Rattle.world.specs.declared.ty.IntTy.TheVariants.{I8, I16, I32, I64, I128, Isize}
-use Rattle.world.specs.declared.ty.UintTy.{UintTy}
-use Rattle.world.specs.declared.ty.UintTy.TheVariants.{U8, U16, U32, U64, U128, Usize}
-use Rattle.world.specs.declared.ty.Ty.{Ty}
-use Rattle.world.specs.declared.ty.Ty.TheVariants as types
-use Rattle.world_json.specs.Fit.{Fit, misfit, found, ◌>>=◌, below, item_step}
-use Rattle.world_json.specs.Variants.{Named, enum_of, first_of, unit, payload}
+-- Readers of types, generic arguments and constants, which hold one another.
+use Rattle.std.specs.Prelude.{ℕ, zero, suc, [], ◌∷◌, Option, Ok, codes}
+use Rattle.std.specs.Ordering.{nat_cmp}
+use Rattle.serde_json.specs.Data.{Data, depth}
+use Rattle.types.specs.declared.ty.ComplexMemoryMap.{ComplexMemoryMap}
+use Rattle.types.specs.declared.ty.Const.TheVariants as the_const
+use Rattle.types.specs.declared.ty.Const.{Const}
+use Rattle.types.specs.declared.ty.GenericArg.TheVariants as the_generic_arg
+use Rattle.types.specs.declared.ty.GenericArg.{GenericArg}
+use Rattle.types.specs.declared.ty.GenericArgs.{GenericArgs}
+use Rattle.types.specs.declared.ty.MemoryMap.TheVariants as the_memory_map
+use Rattle.types.specs.declared.ty.MemoryMap.{MemoryMap}
+use Rattle.types.specs.declared.ty.TraitRef.{TraitRef}
+use Rattle.types.specs.declared.ty.Ty.TheVariants as the_ty
+use Rattle.types.specs.declared.ty.Ty.{Ty}
+use Rattle.types.specs.declared.ty.UnevaluatedConst.{UnevaluatedConst}
+use Rattle.types.specs.declared.ty.ValueConst.{ValueConst}
+use Rattle.world_json.specs.Fit.{Fit, misfit, ◌>>=◌}
+use Rattle.world_json.specs.Hex.{bytes_of}
+use Rattle.world_json.specs.Ids.{adt_id_of, alias_id_of, callable_def_id_of, general_const_id_of, interned_closure_id_of, trait_id_of}
+use Rattle.world_json.specs.Keys.{members_of, required, optional, with_no_other}
+use Rattle.world_json.specs.Kinds.{float_ty_of, int_ty_of, mutability_of, param_const_of, param_ty_of, uint_ty_of}
+use Rattle.world_json.specs.Maps.{map_of}
+use Rattle.world_json.specs.Parts.{list_of, pair_of}
+use Rattle.world_json.specs.Scalars.{u64_of}
+use Rattle.world_json.specs.Variants.{Named, enum_of, first_of, payload, unit}
 
-unfoldable pub int_ty_of : Data → Fit IntTy
-int_ty_of = enum_of (unit (codes "I8") I8 ∷ unit (codes "I16") I16 ∷ unit (codes "I32") I32 ∷ unit (codes "I64") I64 ∷ unit (codes "I128") I128 ∷ unit (codes "Isize") Isize ∷ [])
+-- the types that hold nothing
+unfoldable pub bare_ty_of : Named → Fit (Option Ty)
+bare_ty_of = first_of (unit (codes "Bool") the_ty.Bool ∷ unit (codes "Char") the_ty.Char ∷ unit (codes "Str") the_ty.Str ∷ unit (codes "Never") the_ty.Never ∷ unit (codes "Error") the_ty.Error ∷ [])
 
-unfoldable pub uint_ty_of : Data → Fit UintTy
-uint_ty_of = enum_of (unit (codes "U8") U8 ∷ unit (codes "U16") U16 ∷ unit (codes "U32") U32 ∷ unit (codes "U64") U64 ∷ unit (codes "U128") U128 ∷ unit (codes "Usize") Usize ∷ [])
+-- the types of numbers, and parameters
+unfoldable pub plain_ty_of : Named → Fit (Option Ty)
+plain_ty_of = first_of (payload (codes "Int") int_ty_of the_ty.Int ∷ payload (codes "Uint") uint_ty_of the_ty.Uint ∷ payload (codes "Float") float_ty_of the_ty.Float ∷ payload (codes "Param") param_ty_of the_ty.Param ∷ [])
 
--- the variants of a type, by a reader of the lists of types inside
-unfoldable pub ty_rows : (Data → Fit (List Ty)) → List (Named → Fit (Option Ty))
-ty_rows tys = unit (codes "Bool") types.Bool ∷ payload (codes "Int") int_ty_of types.Int ∷ payload (codes "Uint") uint_ty_of types.Uint ∷ payload (codes "Tuple") tys types.Tuple ∷ []
+-- The readers below take readers of the types and constants that stand inside.
+module _ (ty : Data → Fit Ty) (konst : Data → Fit Const) where
+  unfoldable pub generic_arg_by : Data → Fit GenericArg
+  generic_arg_by = enum_of (payload (codes "Ty") ty the_generic_arg.Ty ∷ payload (codes "Konst") konst the_generic_arg.Konst ∷ [])
 
--- A type holds types: the only payload that there is is read before its variant is looked up.
-unfoldable mutual
-  pub ty_of : Data → Fit Ty
-  ty_of null = misfit
-  ty_of (boolean b) = misfit
-  ty_of (number n) = misfit
-  ty_of (string s) = first_of (ty_rows (λ _. misfit)) (s, None) >>= found
-  ty_of (array ds) = misfit
-  ty_of (object no_members) = misfit
-  ty_of (object (member key e no_members)) = first_of (ty_rows (λ _. tys_of e)) (key, Some e) >>= found
-  ty_of (object (member key e (member other f ms))) = misfit
+  unfoldable pub generic_args_by : Data → Fit GenericArgs
+  generic_args_by d = list_of generic_arg_by d >>= λ args. Ok (record { 0 = args })
 
-  pub tys_of : Data → Fit (List Ty)
-  tys_of null = misfit
-  tys_of (boolean b) = misfit
-  tys_of (number n) = misfit
-  tys_of (string s) = misfit
-  tys_of (array ds) = tys_from 0 ds
-  tys_of (object ms) = misfit
+  unfoldable pub trait_ref_by : Data → Fit TraitRef
+  trait_ref_by d = do
+    ms ← members_of d
+    def ← required (codes "def") trait_id_of d
+    args ← optional (record { 0 = [] }) (codes "args") generic_args_by d
+    with_no_other (codes "def" ∷ codes "args" ∷ []) ms (record { def = def; args = args })
 
-  pub tys_from : ℕ → Items → Fit (List Ty)
-  tys_from i no_items = Ok []
-  tys_from i (item d ds) = below (item_step i) (ty_of d) >>= λ x. tys_from (i + 1) ds >>= λ xs. Ok (x ∷ xs)
+  -- the types that hold one other type
+  unfoldable pub pointing_ty_of : Named → Fit (Option Ty)
+  pointing_ty_of = first_of (payload (codes "Array") (pair_of ty konst) (λ both. the_ty.Array both.0 both.1) ∷ payload (codes "Slice") ty the_ty.Slice ∷ payload (codes "Ref") (pair_of ty mutability_of) (λ both. the_ty.Ref both.0 both.1) ∷ payload (codes "RawPtr") (pair_of ty mutability_of) (λ both. the_ty.RawPtr both.0 both.1) ∷ [])
+
+  -- the types that are items with arguments
+  unfoldable pub item_ty_of : Named → Fit (Option Ty)
+  item_ty_of = first_of (payload (codes "Adt") (pair_of adt_id_of generic_args_by) (λ both. the_ty.Adt both.0 both.1) ∷ payload (codes "FnDef") (pair_of callable_def_id_of generic_args_by) (λ both. the_ty.FnDef both.0 both.1) ∷ payload (codes "Closure") (pair_of interned_closure_id_of generic_args_by) (λ both. the_ty.Closure both.0 both.1) ∷ payload (codes "Alias") (pair_of alias_id_of generic_args_by) (λ both. the_ty.Alias both.0 both.1) ∷ [])
+
+  -- the types that hold lists
+  unfoldable pub listing_ty_of : Named → Fit (Option Ty)
+  listing_ty_of = first_of (payload (codes "Tuple") (list_of ty) the_ty.Tuple ∷ payload (codes "FnPtr") (pair_of (list_of ty) ty) (λ both. the_ty.FnPtr both.0 both.1) ∷ payload (codes "Dynamic") (list_of trait_ref_by) the_ty.Dynamic ∷ [])
+
+  unfoldable pub ty_by : Data → Fit Ty
+  ty_by = enum_of (bare_ty_of ∷ plain_ty_of ∷ pointing_ty_of ∷ item_ty_of ∷ listing_ty_of ∷ [])
+
+  unfoldable pub complex_memory_map_by : Data → Fit ComplexMemoryMap
+  complex_memory_map_by d = do
+    ms ← members_of d
+    memory ← optional [] (codes "memory") (map_of nat_cmp (pair_of u64_of bytes_of)) d
+    vtable ← optional [] (codes "vtable") (list_of ty) d
+    with_no_other (codes "memory" ∷ codes "vtable" ∷ []) ms (record { memory = memory; vtable = vtable })
+
+  unfoldable pub memory_map_by : Data → Fit MemoryMap
+  memory_map_by = enum_of (unit (codes "Empty") the_memory_map.Empty ∷ payload (codes "Simple") bytes_of the_memory_map.Simple ∷ payload (codes "Complex") complex_memory_map_by the_memory_map.Complex ∷ [])
+
+  unfoldable pub value_const_by : Data → Fit ValueConst
+  value_const_by d = do
+    ms ← members_of d
+    its_ty ← required (codes "ty") ty d
+    memory ← required (codes "memory") bytes_of d
+    memory_map ← required (codes "memory_map") memory_map_by d
+    with_no_other (codes "ty" ∷ codes "memory" ∷ codes "memory_map" ∷ []) ms (record { ty = its_ty; memory = memory; memory_map = memory_map })
+
+  unfoldable pub unevaluated_const_by : Data → Fit UnevaluatedConst
+  unevaluated_const_by d = do
+    ms ← members_of d
+    def ← required (codes "def") general_const_id_of d
+    args ← optional (record { 0 = [] }) (codes "args") generic_args_by d
+    with_no_other (codes "def" ∷ codes "args" ∷ []) ms (record { def = def; args = args })
+
+  unfoldable pub const_by : Data → Fit Const
+  const_by = enum_of (payload (codes "Value") value_const_by the_const.Value ∷ payload (codes "Param") param_const_of the_const.Param ∷ payload (codes "Unevaluated") unevaluated_const_by the_const.Unevaluated ∷ unit (codes "Error") the_const.Error ∷ [])
+
+-- a reader of types, and one of constants
+pub record Readers : Type 0 where
+  pub ty : Data → Fit Ty
+  pub konst : Data → Fit Const
+
+-- readers of what nests less than so many levels deep
+unfoldable pub readers_below : ℕ → Readers
+readers_below zero = record { ty = λ _. misfit; konst = λ _. misfit }
+readers_below (suc n) = let inner = readers_below n in record { ty = ty_by inner.ty inner.konst; konst = const_by inner.ty inner.konst }
+
+-- a type, whose parts nest less deep than it does
+unfoldable pub ty_of : Data → Fit Ty
+ty_of d = (readers_below (suc (depth d))).ty d
+
+unfoldable pub const_of : Data → Fit Const
+const_of d = (readers_below (suc (depth d))).konst d
+
+abbrev pub generic_args_of : Data → Fit GenericArgs
+generic_args_of = generic_args_by ty_of const_of
+
+abbrev pub trait_ref_of : Data → Fit TraitRef
+trait_ref_of = trait_ref_by ty_of const_of

@@ -30,9 +30,13 @@ abbrev pub payload_of : {A : Type 0} → List ℕ → (Data → Fit A) → Optio
 payload_of name reads None = Ok None
 payload_of name reads (Some d) = below (key_step name) (reads d >>= λ x. Ok (Some x))
 
+-- what stands as the payload, where the variant has this name
+abbrev pub payload_part : List ℕ → Named → Option Data
+payload_part name v = if bytes_eq v.0 name then v.1 else None
+
 -- the payload of the variant of this name
 abbrev pub payload_at : {A : Type 0} → List ℕ → (Data → Fit A) → Named → Fit (Option A)
-payload_at name reads v = if bytes_eq v.0 name then payload_of name reads v.1 else Ok None
+payload_at name reads v = payload_of name reads (payload_part name v)
 
 -- A row of an enum: its value, where it is the variant of this name.
 abbrev pub unit : {A : Type 0} → List ℕ → A → Named → Fit (Option A)

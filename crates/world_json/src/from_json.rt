@@ -8,7 +8,7 @@ ghost use Rattle.world_json.specs.Fit.{Fit, Gives, IsBelow, IsInside, IsHere, Is
 use crate::NotAWorld;
 use serde_json::Value;
 use std::alloc::{AllocError, Global};
-use world::Text;
+use types::Text;
 
 /// A type that is read from a tree.
 pub(crate) trait FromJson: Sized {
@@ -84,6 +84,20 @@ pub(crate) fn inside_item<T: Drop>(
     match read {
         Ok(x) => Ok(x),
         Err(fault) => Err(below_item(alloc, place, fault)),
+    }
+}
+
+/// What reading a value gave, seen from the object that has it at this key.
+pub(crate) fn inside_key<T: Drop>(
+    alloc: Global,
+    name: &str,
+    read: Result<T, NotAWorld>,
+) -> Result<T, NotAWorld>
+    ensures { IsInside (key_step name.now) read result }
+{
+    match read {
+        Ok(x) => Ok(x),
+        Err(fault) => Err(below_key(alloc, name, fault)),
     }
 }
 

@@ -1,18 +1,42 @@
-//! What is to be evaluated.
+//! Goals.
 
-ghost use Rattle.world_json.specs.Goals.{goal_of};
+ghost use Rattle.world_json.specs.Goals.{limits_of, goal_of};
 
 use crate::NotAWorld;
 use crate::from_json::FromJson;
-use crate::keys::{members_of, required, with_no_other};
+use crate::keys::{members_of, optional, required, with_no_other};
 use serde_json::Value;
 use std::alloc::Global;
-use world::DefWithBodyId;
+use types::{DefWithBodyId, GenericArgs};
+use world::Limits;
 
 /// What is to be evaluated.
-#[derive(Clone, Copy, PartialEq, Eq, Debug)]
+#[derive(PartialEq, Eq, Debug, Drop)]
 pub struct Goal {
     pub def: DefWithBodyId,
+    /// The generic arguments, the parent's first.
+    pub args: GenericArgs,
+    /// How much the run may take, where the goal says it.
+    pub limits: Option<Limits>,
+}
+
+impl FromJson for Limits {
+    ghost reads = { limits_of };
+
+    #[tactic(auto, unfolding(crate::specs::Goals::limits_of))]
+    fn from_json(alloc: Global, tree: &Value) -> Result<Limits, NotAWorld> {
+        let members = members_of(alloc, tree)?;
+        let blocks = required(alloc, tree, "blocks")?;
+        let nesting = required(alloc, tree, "nesting")?;
+        let bytes = required(alloc, tree, "bytes")?;
+        let value = Limits {
+            blocks,
+            nesting,
+            bytes,
+        };
+        let names = ["blocks", "nesting", "bytes"];
+        with_no_other(alloc, members, &names, value)
+    }
 }
 
 impl FromJson for Goal {
@@ -22,8 +46,10 @@ impl FromJson for Goal {
     fn from_json(alloc: Global, tree: &Value) -> Result<Goal, NotAWorld> {
         let members = members_of(alloc, tree)?;
         let def = required(alloc, tree, "def")?;
-        let value = Goal { def };
-        let names = ["def"];
+        let args = optional(alloc, tree, "args")?;
+        let limits = optional(alloc, tree, "limits")?;
+        let value = Goal { def, args, limits };
+        let names = ["def", "args", "limits"];
         with_no_other(alloc, members, &names, value)
     }
 }

@@ -6,7 +6,7 @@ ghost use Rattle.std.specs.BTreeMap.{keys};
 ghost use Rattle.std.specs.Str.{bytes_eq};
 ghost use Rattle.serde_json.specs.Find.{get};
 ghost use Rattle.serde_json.specs.View.{view, members_view};
-ghost use Rattle.world_json.specs.Fit.{Gives, GivesBy};
+ghost use Rattle.world_json.specs.Fit.{Gives, GivesBy, below, found, key_step};
 ghost use Rattle.world_json.specs.Keys.{members_of, required, optional, unknown_key, no_key, with_no_other};
 
 use crate::NotAWorld;
@@ -34,6 +34,23 @@ pub(crate) fn required<T: FromJson>(alloc: Global, tree: &Value, name: &str) -> 
             Err(fault) => Err(below_key(alloc, name, fault)),
         },
         None => Err(below_key(alloc, name, here(alloc))),
+    }
+}
+
+/// What stands at a key that has to be there.
+pub(crate) fn part_at<'a>(
+    alloc: Global,
+    tree: &'a Value,
+    name: &str,
+) -> Result<&'a Value, NotAWorld>
+    ensures { GivesBy (λ part. view part.now) result (below (key_step name.now) (found (get name.now (view tree.now)))) }
+{
+    match tree.get(name) {
+        Some(part) => Ok(part),
+        None => {
+            let fault = here(alloc);
+            Err(below_key(alloc, name, fault))
+        }
     }
 }
 

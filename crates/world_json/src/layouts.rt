@@ -1,6 +1,6 @@
 //! Layouts.
 
-ghost use Rattle.world_json.specs.Layouts.{layout_of, multi_layout_of, niche_of, tag_encoding_of, variants_of};
+ghost use Rattle.world_json.specs.Layouts.{tag_encoding_of, tag_encoding_niche_of, multi_layout_of, variants_of, layout_of};
 
 use crate::NotAWorld;
 use crate::from_json::{Fields, FromJson, here};
@@ -10,45 +10,50 @@ use serde_json::Value;
 use std::alloc::Global;
 use world::{Layout, MultiLayout, TagEncoding, Variants};
 
-impl FromJson for Layout {
-    ghost reads = { layout_of };
+impl FromJson for TagEncoding {
+    ghost reads = { tag_encoding_of };
 
-    #[tactic(auto, unfolding(crate::specs::Layouts::layout_of))]
-    fn from_json(alloc: Global, tree: &Value) -> Result<Layout, NotAWorld> {
-        let members = members_of(alloc, tree)?;
-        let size = required(alloc, tree, "size")?;
-        let align = required(alloc, tree, "align")?;
-        let sized = optional(alloc, tree, "sized")?;
-        let offsets = optional(alloc, tree, "offsets")?;
-        let variants = required(alloc, tree, "variants")?;
-        let value = Layout {
-            size,
-            align,
-            sized,
-            offsets,
-            variants,
-        };
-        let names = ["size", "align", "sized", "offsets", "variants"];
-        with_no_other(alloc, members, &names, value)
+    #[tactic(auto, unfolding(crate::specs::Layouts::tag_encoding_of))]
+    fn from_json(alloc: Global, tree: &Value) -> Result<TagEncoding, NotAWorld> {
+        let variant = variant_of(alloc, tree)?;
+        if variant.is("Direct") {
+            return Ok(TagEncoding::Direct);
+        }
+        if let Some(value) = variant.fields::<TagEncodingNicheFields>(alloc, "Niche")? {
+            return Ok(value);
+        }
+        Err(here(alloc))
     }
 }
 
-impl FromJson for Variants {
-    ghost reads = { variants_of };
+/// The fields of `TagEncoding::Niche`.
+pub(crate) struct TagEncodingNicheFields;
 
-    #[tactic(auto, unfolding(crate::specs::Layouts::variants_of))]
-    fn from_json(alloc: Global, tree: &Value) -> Result<Variants, NotAWorld> {
-        let variant = variant_of(alloc, tree)?;
-        if variant.is("Empty") {
-            return Ok(Variants::Empty);
-        }
-        if let Some(index) = variant.payload(alloc, "Single")? {
-            return Ok(Variants::Single(index));
-        }
-        if let Some(tagged) = variant.payload(alloc, "Multiple")? {
-            return Ok(Variants::Multiple(tagged));
-        }
-        Err(here(alloc))
+impl Fields for TagEncodingNicheFields {
+    type Whole = TagEncoding;
+
+    ghost reads = { tag_encoding_niche_of };
+
+    #[tactic(auto, unfolding(crate::specs::Layouts::tag_encoding_niche_of))]
+    fn read(alloc: Global, tree: &Value) -> Result<TagEncoding, NotAWorld> {
+        let members = members_of(alloc, tree)?;
+        let untagged_variant = required(alloc, tree, "untagged_variant")?;
+        let niche_first = required(alloc, tree, "niche_first")?;
+        let niche_last = required(alloc, tree, "niche_last")?;
+        let niche_start = required(alloc, tree, "niche_start")?;
+        let value = TagEncoding::Niche {
+            untagged_variant,
+            niche_first,
+            niche_last,
+            niche_start,
+        };
+        let names = [
+            "untagged_variant",
+            "niche_first",
+            "niche_last",
+            "niche_start",
+        ];
+        with_no_other(alloc, members, &names, value)
     }
 }
 
@@ -81,49 +86,44 @@ impl FromJson for MultiLayout {
     }
 }
 
-impl FromJson for TagEncoding {
-    ghost reads = { tag_encoding_of };
+impl FromJson for Variants {
+    ghost reads = { variants_of };
 
-    #[tactic(auto, unfolding(crate::specs::Layouts::tag_encoding_of))]
-    fn from_json(alloc: Global, tree: &Value) -> Result<TagEncoding, NotAWorld> {
+    #[tactic(auto, unfolding(crate::specs::Layouts::variants_of))]
+    fn from_json(alloc: Global, tree: &Value) -> Result<Variants, NotAWorld> {
         let variant = variant_of(alloc, tree)?;
-        if variant.is("Direct") {
-            return Ok(TagEncoding::Direct);
+        if variant.is("Empty") {
+            return Ok(Variants::Empty);
         }
-        if let Some(value) = variant.fields::<NicheFields>(alloc, "Niche")? {
-            return Ok(value);
+        if let Some(part) = variant.payload(alloc, "Single")? {
+            return Ok(Variants::Single(part));
+        }
+        if let Some(part) = variant.payload(alloc, "Multiple")? {
+            return Ok(Variants::Multiple(part));
         }
         Err(here(alloc))
     }
 }
 
-/// The fields of `TagEncoding::Niche`.
-pub(crate) struct NicheFields;
+impl FromJson for Layout {
+    ghost reads = { layout_of };
 
-impl Fields for NicheFields {
-    type Whole = TagEncoding;
-
-    ghost reads = { niche_of };
-
-    #[tactic(auto, unfolding(crate::specs::Layouts::niche_of))]
-    fn read(alloc: Global, tree: &Value) -> Result<TagEncoding, NotAWorld> {
+    #[tactic(auto, unfolding(crate::specs::Layouts::layout_of))]
+    fn from_json(alloc: Global, tree: &Value) -> Result<Layout, NotAWorld> {
         let members = members_of(alloc, tree)?;
-        let untagged_variant = required(alloc, tree, "untagged_variant")?;
-        let niche_first = required(alloc, tree, "niche_first")?;
-        let niche_last = required(alloc, tree, "niche_last")?;
-        let niche_start = required(alloc, tree, "niche_start")?;
-        let value = TagEncoding::Niche {
-            untagged_variant,
-            niche_first,
-            niche_last,
-            niche_start,
+        let size = required(alloc, tree, "size")?;
+        let align = required(alloc, tree, "align")?;
+        let sized = optional(alloc, tree, "sized")?;
+        let offsets = optional(alloc, tree, "offsets")?;
+        let variants = required(alloc, tree, "variants")?;
+        let value = Layout {
+            size,
+            align,
+            sized,
+            offsets,
+            variants,
         };
-        let names = [
-            "untagged_variant",
-            "niche_first",
-            "niche_last",
-            "niche_start",
-        ];
+        let names = ["size", "align", "sized", "offsets", "variants"];
         with_no_other(alloc, members, &names, value)
     }
 }

@@ -11,7 +11,7 @@ use crate::from_json::{FromJson, MayBeAbsent, here, inside_item};
 use serde_json::Value;
 use std::alloc::Global;
 use std::cmp::Ordering;
-use world::Map;
+use types::Map;
 
 /// Whether a key stands above the one before it.
 fn rises<K: Ord + Copy>(last: Option<K>, key: K) -> bool

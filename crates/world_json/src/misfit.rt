@@ -4,7 +4,7 @@ ghost use Rattle.std.specs.Prelude.{◌≡◌, [], Some};
 ghost use Rattle.world_json.specs.declared.misfit.NotAWorld.TheVariants.{NoMemory as no_memory};
 
 use std::alloc::{AllocError, Global};
-use world::{NoMemory, Text};
+use types::{NoMemory, Text};
 
 /// Why a tree is no world.
 #[derive(PartialEq, Eq, Debug, Drop)]

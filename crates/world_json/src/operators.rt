@@ -1,6 +1,6 @@
-//! Literals and operators.
+//! Operators.
 
-ghost use Rattle.world_json.specs.Operators.{literal_of, unary_op_of, logic_op_of, arith_op_of, ordering_of, eq_of, ord_of, cmp_op_of, assignment_of, binary_op_of};
+ghost use Rattle.world_json.specs.Operators.{unary_op_of, logic_op_of, arith_op_of, ordering_of, cmp_op_of, cmp_op_eq_of, cmp_op_ord_of, binary_op_of, binary_op_assignment_of};
 
 use crate::NotAWorld;
 use crate::from_json::{Fields, FromJson, here};
@@ -8,26 +8,7 @@ use crate::keys::{members_of, optional, required, with_no_other};
 use crate::variants::variant_of;
 use serde_json::Value;
 use std::alloc::Global;
-use world::{ArithOp, BinaryOp, CmpOp, Literal, LogicOp, Ordering, UnaryOp};
-
-impl FromJson for Literal {
-    ghost reads = { literal_of };
-
-    #[tactic(auto, unfolding(crate::specs::Operators::literal_of))]
-    fn from_json(alloc: Global, tree: &Value) -> Result<Literal, NotAWorld> {
-        let variant = variant_of(alloc, tree)?;
-        if let Some(truth) = variant.payload(alloc, "Bool")? {
-            return Ok(Literal::Bool(truth));
-        }
-        if let Some((number, suffix)) = variant.payload(alloc, "Int")? {
-            return Ok(Literal::Int(number, suffix));
-        }
-        if let Some((number, suffix)) = variant.payload(alloc, "Uint")? {
-            return Ok(Literal::Uint(number, suffix));
-        }
-        Err(here(alloc))
-    }
-}
+use types::{ArithOp, BinaryOp, CmpOp, LogicOp, Ordering, UnaryOp};
 
 impl FromJson for UnaryOp {
     ghost reads = { unary_op_of };
@@ -126,10 +107,10 @@ impl FromJson for CmpOp {
     #[tactic(auto, unfolding(crate::specs::Operators::cmp_op_of))]
     fn from_json(alloc: Global, tree: &Value) -> Result<CmpOp, NotAWorld> {
         let variant = variant_of(alloc, tree)?;
-        if let Some(value) = variant.fields::<EqFields>(alloc, "Eq")? {
+        if let Some(value) = variant.fields::<CmpOpEqFields>(alloc, "Eq")? {
             return Ok(value);
         }
-        if let Some(value) = variant.fields::<OrdFields>(alloc, "Ord")? {
+        if let Some(value) = variant.fields::<CmpOpOrdFields>(alloc, "Ord")? {
             return Ok(value);
         }
         Err(here(alloc))
@@ -137,14 +118,14 @@ impl FromJson for CmpOp {
 }
 
 /// The fields of `CmpOp::Eq`.
-pub(crate) struct EqFields;
+pub(crate) struct CmpOpEqFields;
 
-impl Fields for EqFields {
+impl Fields for CmpOpEqFields {
     type Whole = CmpOp;
 
-    ghost reads = { eq_of };
+    ghost reads = { cmp_op_eq_of };
 
-    #[tactic(auto, unfolding(crate::specs::Operators::eq_of))]
+    #[tactic(auto, unfolding(crate::specs::Operators::cmp_op_eq_of))]
     fn read(alloc: Global, tree: &Value) -> Result<CmpOp, NotAWorld> {
         let members = members_of(alloc, tree)?;
         let negated = optional(alloc, tree, "negated")?;
@@ -155,14 +136,14 @@ impl Fields for EqFields {
 }
 
 /// The fields of `CmpOp::Ord`.
-pub(crate) struct OrdFields;
+pub(crate) struct CmpOpOrdFields;
 
-impl Fields for OrdFields {
+impl Fields for CmpOpOrdFields {
     type Whole = CmpOp;
 
-    ghost reads = { ord_of };
+    ghost reads = { cmp_op_ord_of };
 
-    #[tactic(auto, unfolding(crate::specs::Operators::ord_of))]
+    #[tactic(auto, unfolding(crate::specs::Operators::cmp_op_ord_of))]
     fn read(alloc: Global, tree: &Value) -> Result<CmpOp, NotAWorld> {
         let members = members_of(alloc, tree)?;
         let ordering = required(alloc, tree, "ordering")?;
@@ -179,16 +160,16 @@ impl FromJson for BinaryOp {
     #[tactic(auto, unfolding(crate::specs::Operators::binary_op_of))]
     fn from_json(alloc: Global, tree: &Value) -> Result<BinaryOp, NotAWorld> {
         let variant = variant_of(alloc, tree)?;
-        if let Some(op) = variant.payload(alloc, "LogicOp")? {
-            return Ok(BinaryOp::LogicOp(op));
+        if let Some(part) = variant.payload(alloc, "LogicOp")? {
+            return Ok(BinaryOp::LogicOp(part));
         }
-        if let Some(op) = variant.payload(alloc, "ArithOp")? {
-            return Ok(BinaryOp::ArithOp(op));
+        if let Some(part) = variant.payload(alloc, "ArithOp")? {
+            return Ok(BinaryOp::ArithOp(part));
         }
-        if let Some(op) = variant.payload(alloc, "CmpOp")? {
-            return Ok(BinaryOp::CmpOp(op));
+        if let Some(part) = variant.payload(alloc, "CmpOp")? {
+            return Ok(BinaryOp::CmpOp(part));
         }
-        if let Some(value) = variant.fields::<AssignmentFields>(alloc, "Assignment")? {
+        if let Some(value) = variant.fields::<BinaryOpAssignmentFields>(alloc, "Assignment")? {
             return Ok(value);
         }
         Err(here(alloc))
@@ -196,14 +177,14 @@ impl FromJson for BinaryOp {
 }
 
 /// The fields of `BinaryOp::Assignment`.
-pub(crate) struct AssignmentFields;
+pub(crate) struct BinaryOpAssignmentFields;
 
-impl Fields for AssignmentFields {
+impl Fields for BinaryOpAssignmentFields {
     type Whole = BinaryOp;
 
-    ghost reads = { assignment_of };
+    ghost reads = { binary_op_assignment_of };
 
-    #[tactic(auto, unfolding(crate::specs::Operators::assignment_of))]
+    #[tactic(auto, unfolding(crate::specs::Operators::binary_op_assignment_of))]
     fn read(alloc: Global, tree: &Value) -> Result<BinaryOp, NotAWorld> {
         let members = members_of(alloc, tree)?;
         let op = optional(alloc, tree, "op")?;

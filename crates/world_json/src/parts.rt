@@ -1,15 +1,16 @@
-//! Lists, tables, pairs and options.
+//! Lists, pairs, triples and options.
 
 ghost use Rattle.std.specs.Prelude.{[], None};
+ghost use Rattle.serde_json.specs.Find.{as_array};
 ghost use Rattle.serde_json.specs.View.{view, items_view};
 ghost use Rattle.world_json.specs.Fit.{Gives, GivesBy, below, found, item_step};
-ghost use Rattle.world_json.specs.Parts.{items_from, list_of, option_of, pair_of, two_items, two_of};
+ghost use Rattle.world_json.specs.Parts.{items_from, list_of, option_of, pair_of, three_items, three_of, triple_of, two_items, two_of};
 
 use crate::NotAWorld;
 use crate::from_json::{FromJson, MayBeAbsent, below_item, here};
 use serde_json::Value;
 use std::alloc::Global;
-use world::{List, Table, TryClone};
+use types::List;
 
 /// The items of an array.
 fn items_of<T: FromJson + Drop>(alloc: Global, items: &[Value]) -> Result<List<T>, NotAWorld>
@@ -56,40 +57,6 @@ impl<T> MayBeAbsent for List<T> {
     }
 }
 
-/// The rows that are the items of an array.
-fn rows_of<K: FromJson + Ord + TryClone + Drop, V: FromJson + Drop>(
-    alloc: Global,
-    items: &[Value],
-) -> Result<Table<K, V>, NotAWorld>
-    ensures { Gives result (items_from (pair_of K.reads V.reads) 0 (items_view items.now)) }
-{
-    let mut table = Table::new(alloc);
-    for (place, item) in items.iter().enumerate() {
-        let (key, value) = item_at::<(K, V)>(alloc, item, place)?;
-        table.push(key, value)?;
-    }
-    Ok(table)
-}
-
-impl<K: FromJson + Ord + TryClone + Drop, V: FromJson + Drop> FromJson for Table<K, V> {
-    ghost reads = { list_of (pair_of K.reads V.reads) };
-
-    fn from_json(alloc: Global, tree: &Value) -> Result<Table<K, V>, NotAWorld> {
-        match tree.as_array() {
-            Some(items) => rows_of(alloc, items.as_slice()),
-            None => Err(here(alloc)),
-        }
-    }
-}
-
-impl<K: Ord, V> MayBeAbsent for Table<K, V> {
-    ghost left_out = { [] };
-
-    fn absent(alloc: Global) -> Table<K, V> {
-        Table::new(alloc)
-    }
-}
-
 impl<T: FromJson + Drop> FromJson for Option<T> {
     ghost reads = { option_of T.reads };
 
@@ -111,8 +78,18 @@ impl<T> MayBeAbsent for Option<T> {
     }
 }
 
+/// The items of an array.
+pub(crate) fn items_at(alloc: Global, tree: &Value) -> Result<&[Value], NotAWorld>
+    ensures { GivesBy (λ items. items_view items.now) result (found (as_array (view tree.now))) }
+{
+    match tree.as_array() {
+        Some(items) => Ok(items.as_slice()),
+        None => Err(here(alloc)),
+    }
+}
+
 /// The two items of an array of two.
-fn two<'a>(alloc: Global, tree: &'a Value) -> Result<(&'a Value, &'a Value), NotAWorld>
+pub(crate) fn two<'a>(alloc: Global, tree: &'a Value) -> Result<(&'a Value, &'a Value), NotAWorld>
     ensures { GivesBy (λ both. (view both.0.now, view both.1.now)) result (two_of (view tree.now)) }
 {
     match tree.as_array() {
@@ -122,7 +99,7 @@ fn two<'a>(alloc: Global, tree: &'a Value) -> Result<(&'a Value, &'a Value), Not
 }
 
 /// The items, where there are two.
-#[tactic(auto, using(crate::proofs::Items::two_some, crate::proofs::Items::two_none))]
+#[tactic(auto, using(crate::proofs::Arrays::two_some, crate::proofs::Arrays::two_none))]
 fn both(alloc: Global, items: &[Value]) -> Result<(&Value, &Value), NotAWorld>
     ensures { GivesBy (λ both. (view both.0.now, view both.1.now)) result (found (two_items (items_view items.now))) }
 {
@@ -142,5 +119,40 @@ impl<A: FromJson + Drop, B: FromJson + Drop> FromJson for (A, B) {
         let x = item_at(alloc, first, 0)?;
         let y = item_at(alloc, second, 1)?;
         Ok((x, y))
+    }
+}
+
+/// The three items of an array of three.
+fn three<'a>(alloc: Global, tree: &'a Value) -> Result<(&'a Value, &'a Value, &'a Value), NotAWorld>
+    ensures { GivesBy (λ all. (view all.0.now, view all.1.now, view all.2.now)) result (three_of (view tree.now)) }
+{
+    match tree.as_array() {
+        Some(items) => all_three(alloc, items.as_slice()),
+        None => Err(here(alloc)),
+    }
+}
+
+/// The items, where there are three.
+#[tactic(auto, using(crate::proofs::Arrays::three_some, crate::proofs::Arrays::three_none))]
+fn all_three(alloc: Global, items: &[Value]) -> Result<(&Value, &Value, &Value), NotAWorld>
+    ensures { GivesBy (λ all. (view all.0.now, view all.1.now, view all.2.now)) result (found (three_items (items_view items.now))) }
+{
+    if items.len() == 3 {
+        Ok((&items[0], &items[1], &items[2]))
+    } else {
+        Err(here(alloc))
+    }
+}
+
+impl<A: FromJson + Drop, B: FromJson + Drop, C: FromJson + Drop> FromJson for (A, B, C) {
+    ghost reads = { triple_of A.reads B.reads C.reads };
+
+    #[tactic(auto, unfolding(crate::specs::Parts::triple_of))]
+    fn from_json(alloc: Global, tree: &Value) -> Result<(A, B, C), NotAWorld> {
+        let (first, second, third) = three(alloc, tree)?;
+        let x = item_at(alloc, first, 0)?;
+        let y = item_at(alloc, second, 1)?;
+        let z = item_at(alloc, third, 2)?;
+        Ok((x, y, z))
     }
 }

@@ -6,7 +6,7 @@ use crate::NotAWorld;
 use crate::from_json::{FromJson, MayBeAbsent, here};
 use serde_json::Value;
 use std::alloc::Global;
-use world::Text;
+use types::Text;
 
 impl FromJson for u32 {
     ghost use Rattle.world_json.specs.Scalars.{u32_of};

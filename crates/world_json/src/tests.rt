@@ -31,7 +31,7 @@ fn the_sample_is_read(rt: HostRuntime) -> Result<(), Fail> {
 }
 
 /// Inputs with one misfit each, and its path.
-const MISFITS: [(&str, &str); 24] = [
+static MISFITS: [(&str, &str); 43] = [
     ("[]", ""),
     ("{}", "version"),
     (r#"{"version":2,"world":{}}"#, "version"),
@@ -43,7 +43,7 @@ const MISFITS: [(&str, &str); 24] = [
     (r#"{"version":1,"world":{"b":0,"a":0}}"#, "world.a"),
     (r#"{"version":1,"world":{"a":0},"goals":7}"#, "world.a"),
     (
-        r#"{"version":1,"world":{"consts":[{"krate":0,"ty":"Char"}]}}"#,
+        r#"{"version":1,"world":{"consts":[{"krate":0,"ty":"Chars"}]}}"#,
         "world.consts[0].ty",
     ),
     (
@@ -98,6 +98,82 @@ const MISFITS: [(&str, &str); 24] = [
         r#"{"version":1,"world":{"bodies":[{"body":{"exprs":[{"Block":{"tail":-1}}],"body_expr":0},"infer":{}}]}}"#,
         "world.bodies[0].body.exprs[0].Block.tail",
     ),
+    (
+        r#"{"version":1,"world":{"consts":[{"krate":0,"ty":{"Ref":[{"Tuple":["Str",7]},"Not"]}}]}}"#,
+        "world.consts[0].ty.Ref[0].Tuple[1]",
+    ),
+    (
+        r#"{"version":1,"world":{"consts":[{"krate":0,"ty":{"RawPtr":["Never","Mutable"]}}]}}"#,
+        "world.consts[0].ty.RawPtr[1]",
+    ),
+    (
+        r#"{"version":1,"world":{"consts":[{"krate":0,"ty":{"Slice":["Bool"]}}]}}"#,
+        "world.consts[0].ty.Slice",
+    ),
+    (
+        r#"{"version":1,"world":{"consts":[{"krate":0,"ty":{"FnPtr":[["Char",{"Float":"F8"}],"Never"]}}]}}"#,
+        "world.consts[0].ty.FnPtr[0][1].Float",
+    ),
+    (
+        r#"{"version":1,"world":{"consts":[{"krate":0,"ty":{"Adt":[{"StructId":0},[{"Ty":"Bool"},{"Konst":"Errors"}]]}}]}}"#,
+        "world.consts[0].ty.Adt[1][1].Konst",
+    ),
+    (
+        r#"{"version":1,"world":{"consts":[{"krate":0,"ty":{"Dynamic":[{"def":-1}]}}]}}"#,
+        "world.consts[0].ty.Dynamic[0].def",
+    ),
+    (
+        r#"{"version":1,"world":{"consts":[{"krate":0,"ty":{"Param":{"id":0,"index":0,"name":"T"}}}]}}"#,
+        "world.consts[0].ty.Param.name",
+    ),
+    (
+        r#"{"version":1,"world":{"consts":[{"krate":0,"ty":{"Array":["Bool",{"Value":{"ty":"Bool","memory":"0","memory_map":"Empty"}}]}}]}}"#,
+        "world.consts[0].ty.Array[1].Value.memory",
+    ),
+    (
+        r#"{"version":1,"world":{"consts":[{"krate":0,"ty":{"Array":["Bool",{"Value":{"ty":"Bool","memory":"0A","memory_map":"Empty"}}]}}]}}"#,
+        "world.consts[0].ty.Array[1].Value.memory",
+    ),
+    (
+        r#"{"version":1,"world":{"consts":[{"krate":0,"ty":{"Array":["Bool",{"Value":{"ty":"Bool","memory":"0a","memory_map":{"Simple":"zz"}}}]}}]}}"#,
+        "world.consts[0].ty.Array[1].Value.memory_map.Simple",
+    ),
+    (
+        r#"{"version":1,"world":{"consts":[{"krate":0,"ty":{"Array":["Bool",{"Value":{"ty":"Bool","memory":"","memory_map":{"Complex":{"memory":[[8,"00"],[8,"01"]]}}}}]}}]}}"#,
+        "world.consts[0].ty.Array[1].Value.memory_map.Complex.memory[1]",
+    ),
+    (
+        r#"{"version":1,"world":{"consts":[{"krate":0,"ty":{"Array":["Bool",{"Value":{"ty":"Bool","memory":"","memory_map":{"Complex":{"vtable":["Bool","Boolean"]}}}}]}}]}}"#,
+        "world.consts[0].ty.Array[1].Value.memory_map.Complex.vtable[1]",
+    ),
+    (
+        r#"{"version":1,"world":{"consts":[{"krate":0,"ty":{"Array":["Bool",{"Unevaluated":{"def":{"FunctionId":0}}}]}}]}}"#,
+        "world.consts[0].ty.Array[1].Unevaluated.def",
+    ),
+    (
+        r#"{"version":1,"world":{"bodies":[{"body":{"body_expr":0},"infer":{"field_res":[[0,{"Left":{"parent":{"StructId":0},"local_id":1}}],[1,{"Middle":0}]]}}]}}"#,
+        "world.bodies[0].infer.field_res[1][1]",
+    ),
+    (
+        r#"{"version":1,"world":{"normals":[[0,[],"Bool"],[0,[]]]}}"#,
+        "world.normals[1]",
+    ),
+    (
+        r#"{"version":1,"world":{"impls":[{"function":0,"target":"0"}]}}"#,
+        "world.impls[0].target",
+    ),
+    (
+        r#"{"version":1,"world":{},"goals":[{"def":{"StaticId":0},"args":[{"Ty":"Bool"},{"Ty":null}]}]}"#,
+        "goals[0].args[1].Ty",
+    ),
+    (
+        r#"{"version":1,"world":{},"goals":[{"def":{"StaticId":0},"limits":{"blocks":1,"nesting":1}}]}"#,
+        "goals[0].limits.bytes",
+    ),
+    (
+        r#"{"version":1,"world":{},"goals":[{"def":{"StaticId":0},"limits":{"blocks":1,"nesting":4294967296,"bytes":0}}]}"#,
+        "goals[0].limits.nesting",
+    ),
 ];
 
 /// The path of what doesn't fit in a text, if anything.
@@ -111,7 +187,7 @@ fn path_in(alloc: Global, text: &str) -> Result<Option<Text>, Fail> {
 
 #[test]
 fn misfits_have_their_paths(rt: HostRuntime) -> Result<(), Fail> {
-    for (text, path) in MISFITS {
+    for &(text, path) in &MISFITS {
         let found = path_in(rt.alloc(), text)?.ok_or("a misfit")?;
         assert_eq!(rt; found.as_str(), path);
     }

@@ -4,7 +4,7 @@ ghost use Rattle.std.specs.Prelude.{◌≡◌, option_map};
 ghost use Rattle.serde_json.specs.Data.{Data};
 ghost use Rattle.serde_json.specs.View.{view, members_view};
 ghost use Rattle.world_json.specs.Fit.{Fit, Gives, GivesBy, found};
-ghost use Rattle.world_json.specs.Variants.{variant_of, only_member, is_unit, payload_at};
+ghost use Rattle.world_json.specs.Variants.{variant_of, only_member, is_unit, payload_part, payload_at};
 
 use crate::NotAWorld;
 use crate::from_json::{Fields, FromJson, below_key, here};
@@ -57,6 +57,17 @@ impl<'a> Variant<'a> {
         self.name == name && self.payload.is_none()
     }
 
+    /// What stands as the payload, where the variant has this name.
+    pub(crate) fn part(&self, name: &str) -> Option<&'a Value>
+        ensures { option_map (λ part. view part.now) result ≡ payload_part name.now (self.now.name.now, option_map (λ part. view part.now) self.now.payload) }
+    {
+        if self.name == name {
+            self.payload
+        } else {
+            None
+        }
+    }
+
     /// The payload of the variant of this name.
     pub(crate) fn payload<T: FromJson>(
         &self,
@@ -65,10 +76,7 @@ impl<'a> Variant<'a> {
     ) -> Result<Option<T>, NotAWorld>
         ensures { Gives result (payload_at name.now T.reads (self.now.name.now, option_map (λ part. view part.now) self.now.payload)) }
     {
-        if self.name != name {
-            return Ok(None);
-        }
-        match self.payload {
+        match self.part(name) {
             None => Ok(None),
             Some(part) => match T::from_json(alloc, part) {
                 Ok(x) => Ok(Some(x)),
@@ -85,10 +93,7 @@ impl<'a> Variant<'a> {
     ) -> Result<Option<F::Whole>, NotAWorld>
         ensures { Gives result (payload_at name.now F.reads (self.now.name.now, option_map (λ part. view part.now) self.now.payload)) }
     {
-        if self.name != name {
-            return Ok(None);
-        }
-        match self.payload {
+        match self.part(name) {
             None => Ok(None),
             Some(part) => match F::read(alloc, part) {
                 Ok(x) => Ok(Some(x)),

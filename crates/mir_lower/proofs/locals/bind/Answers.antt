@@ -12,11 +12,11 @@ pub returns-in_default-binding_local-clause-refused :
     goal.returns-in_default-binding_local-clause-refused
 returns-in_default-binding_local-clause-refused c =
     let source = source_of c.args.context.now in
-    (c.binding_bound-binding.result, sym c.in-Some.ensures ∙ ap Some c.binding_bound-binding.ensures, lacks-binding source (shape c.args.graph.now) _ c.binding_local.result c.requires.sound c.binding_local.ensures c.in_default-binding_local.is)
+    (c.in-Some.binding, sym c.in-Some.ensures, lacks-binding source (shape c.args.graph.now) _ c.binding_local.result c.requires.sound c.binding_local.ensures c.in_default-binding_local.is)
 
 pub returns-clause-lowered : goal.returns-clause-lowered
 returns-clause-lowered c =
     let source = source_of c.args.context.now in
     on_ok_weaker c.assign.result
-    (λ added cell found. binds-name source (shape c.args.graph.now) (shape c.storage_live.new.graph) (shape c.assign.new.graph) c.args.pat _ (record { local = c.in-Some-binding_local.local }) c.args.from _ (PatId c.args.pat) (sym c.in-Some.ensures ∙ ap Some c.binding_bound-binding.ensures) c.in_ok-storage_live.ensures.given refl added cell found)
+    (λ added cell found. binds-name source (shape c.args.graph.now) (shape c.storage_live.new.graph) (shape c.assign.new.graph) c.args.pat _ (record { local = c.in-Some-binding_local.local }) c.args.from _ (PatId c.args.pat) (sym c.in-Some.ensures) c.in_ok-storage_live.ensures.given refl added cell found)
     c.assign.ensures.added

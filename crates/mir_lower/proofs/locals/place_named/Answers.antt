@@ -10,4 +10,4 @@ pub returns-in-None-binding_local-clause-refused : goal.returns-in-None-binding_
 returns-in-None-binding_local-clause-refused c =
     let source = source_of c.args.context.now in
     subst (LacksLocal source c.args.e.0) (sym c.requires.path)
-    (c.binding_named.result, sym c.in-Some.ensures ∙ ap Some c.binding_named.ensures, lacks-binding source (shape c.args.graph.now) _ c.binding_local.result c.requires.sound c.binding_local.ensures c.in-None-binding_local.is)
+    (c.in-Some-binding_named.binding, sym c.in-Some.ensures ∙ ap Some c.in-Some-binding_named.ensures.some, lacks-binding source (shape c.args.graph.now) _ c.binding_local.result c.requires.sound c.binding_local.ensures c.in-None-binding_local.is)

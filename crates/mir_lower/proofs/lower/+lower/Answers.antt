@@ -12,13 +12,13 @@ use Rattle.mir_lower.specs.Growth.{Grows, IsReady}
 use Rattle.mir_lower.specs.Leaving.{Idles}
 use Rattle.mir_lower.specs.Lowered.{LowersOperand, LowersPlace, LowersStatements}
 use Rattle.mir.specs.declared.operand.OperandKind.{OperandKind}
-use Rattle.world.specs.declared.body.Expr.TheVariants.{Block}
+use Rattle.source_meaning.specs.Core.{Block}
 use Rattle.world.specs.declared.body.Statement.{Statement}
 use Rattle.mir_lower.specs.Refusals.{RefusesAt}
 use Rattle.mir_lower.proofs.Blocks.{idles-read, lowers-none, lowers-more, lowers-let, lowers-expr-statement, lowers-block}
 use Rattle.mir_lower.proofs.Operands.{lowers-literal-operand, lowers-place-operand, lowers-temp}
 use Rattle.mir_lower.proofs.Operations.{unary-part, left-part, right-part, lowers-unary, lowers-binary}
-use Rattle.mir_lower.proofs.Refused.{refuses-here, refuses-no-memory, refuses-part, refuses-unbuilt-form, refuses-statement, without-initializer, with-else, refuses-pattern, refused-exit, no-literal, part-below, ready-part, ready-in, part-of-statement}
+use Rattle.mir_lower.proofs.Refused.{refuses-here, refuses-no-memory, refuses-part, refuses-unbuilt-form, refuses-statement, without-initializer, with-else, item-is-unbuilt, refuses-pattern, refused-exit, no-literal, part-below, ready-part, ready-in, part-of-statement}
 use Rattle.mir_lower.proofs.Growing.{grows-trans, with_scope-grows}
 use Rattle.mir_lower.proofs.Steps.{local_of-grows}
 use Rattle.mir_lower.proofs.Sound.{with_scope-sound, with_scope-open}
@@ -162,6 +162,11 @@ pub lower_statement-returns-in-None-initializer-clause-refused : goal.lower_stat
 lower_statement-returns-in-None-initializer-clause-refused t c =
     let source = source_of c.args.context.now in
     refuses-statement source c.args.e.0 c.form_not_built.result c.args.statement c.requires.stands (without-initializer source c.args.statement c.in-Let.pat c.in-Let.initializer c.in-Let.else_branch c.in-Let.is c.in-None-initializer.is) c.form_not_built.ensures
+
+pub lower_statement-returns-in-Item-clause-refused : goal.lower_statement-returns-in-Item-clause-refused
+lower_statement-returns-in-Item-clause-refused t c =
+    let source = source_of c.args.context.now in
+    refuses-statement source c.args.e.0 c.form_not_built-in-Item.result c.args.statement c.requires.stands (item-is-unbuilt source c.args.statement c.in-Item.is) c.form_not_built-in-Item.ensures
 
 pub lower_statement-returns-in-Some-clause-refused : goal.lower_statement-returns-in-Some-clause-refused
 lower_statement-returns-in-Some-clause-refused t c =

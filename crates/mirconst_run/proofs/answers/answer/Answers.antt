@@ -5,8 +5,8 @@ use Rattle.mirconst_run.proofs.answers.answer.Goals as goal
 pub returns : goal.returns
 returns c =
     let told = c.eval_def-outcome.ensures in
-    goal_answer c.args.evaluations.now c.eval_def-outcome.new.self c.args.goal c.args.args.now c.default_limits-limits.result c.eval_def-outcome.result
-    c.requires c.default_limits-limits.ensures
+    goal_answer c.args.evaluations.now c.eval_def-outcome.new.self c.args.goal.now c.limits_of-limits.result c.eval_def-outcome.result
+    c.limits_of-limits.ensures.same
     (record {
       printed = told.printed;
       value = told.value;

@@ -1,6 +1,6 @@
 use Rattle.std.proofs.Common.{◌≡◌, drop}
 use Rattle.std.specs.List.{list_any}
-use Rattle.world.specs.Lookups.{ty_eq}
+use Rattle.types.specs.Orders.{ty_eq}
 use Rattle.world_check.proofs.keys.has_key.Given as goal
 
 abbrev pub invariant-loop-i : goal.invariant-loop-i

@@ -4,7 +4,7 @@ use Rattle.world_json.specs.Fit.{item_step}
 use Rattle.world_json.specs.Maps.{entry_after}
 use Rattle.world_json.specs.Parts.{pair_of}
 use Rattle.world_json.proofs.Entries.{goes_on, ends, is_done}
-use Rattle.world_json.proofs.TypeLayers.{inside_gives}
+use Rattle.world_json.proofs.Faults.{inside_gives}
 use Rattle.world_json.proofs.maps.entries.Goals as goal
 
 pub returns-in_err-key : goal.returns-in_err-key

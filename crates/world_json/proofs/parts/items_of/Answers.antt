@@ -1,7 +1,7 @@
 use Rattle.std.proofs.lemmas.Result.{err_from_is_err_and}
 use Rattle.serde_json.specs.View.{items_view}
 use Rattle.world_json.specs.Parts.{items_from}
-use Rattle.world_json.proofs.Items.{goes_on, ends, is_done}
+use Rattle.world_json.proofs.Arrays.{goes_on, ends, is_done}
 use Rattle.world_json.proofs.parts.items_of.Goals as goal
 
 pub returns-in_err-x : goal.returns-in_err-x

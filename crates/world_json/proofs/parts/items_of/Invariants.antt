@@ -1,7 +1,7 @@
 use Rattle.std.proofs.Common.{◌≡◌}
 use Rattle.serde_json.specs.View.{items_view}
 use Rattle.world_json.specs.Parts.{items_from}
-use Rattle.world_json.proofs.Items.{with_front, rest_from}
+use Rattle.world_json.proofs.Arrays.{with_front, rest_from}
 use Rattle.world_json.proofs.parts.items_of.Given as goal
 
 abbrev pub invariant-loop-place : goal.invariant-loop-place

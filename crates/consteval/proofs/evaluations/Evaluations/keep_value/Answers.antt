@@ -2,8 +2,8 @@
 use Rattle.std.proofs.Common.{List, sym, subst}
 use Rattle.std.proofs.lemmas.Result.{on_ok_weaker}
 use Rattle.std.specs.Prelude.{Contains}
-use Rattle.world.specs.declared.ids.DefWithBodyId.{DefWithBodyId}
-use Rattle.world.specs.declared.ty.Const.{Const}
+use Rattle.types.specs.declared.ids.DefWithBodyId.{DefWithBodyId}
+use Rattle.types.specs.declared.ty.Const.{Const}
 use Rattle.consteval.specs.Kept.{Kept, IsValueOf}
 use Rattle.consteval.proofs.Keeping.{kept_or_not, kept-value-sound, kept-value-found}
 use Rattle.consteval.proofs.evaluations.Evaluations.keep_value.Goals as goal

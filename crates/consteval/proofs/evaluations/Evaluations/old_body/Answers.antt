@@ -1,7 +1,7 @@
 -- What is found is kept, shared or not.
 use Rattle.std.proofs.Common.{rules, List, Global, subst}
 use Rattle.std.specs.declared.rc.Rc.{Rc}
-use Rattle.world.specs.declared.ids.DefWithBodyId.{DefWithBodyId}
+use Rattle.types.specs.declared.ids.DefWithBodyId.{DefWithBodyId}
 use Rattle.mir.specs.declared.body.MirBody.{MirBody}
 use Rattle.std.specs.Prelude.{Contains}
 use Rattle.consteval.specs.Kept.{Kept}

@@ -1,0 +1,19 @@
+-- The texts of a constant's bytes.
+use Rattle.std.specs.Prelude.{ℕ, Bool, true, false, List, length, Option, Some, None, if◌then◌else◌}
+use Rattle.std.specs.Fmt.{signed_decimal}
+use Rattle.numbers.specs.Bytes.{is_width, number_of}
+use Rattle.numbers.specs.declared.operator.Kind.{Kind}
+use Rattle.numbers.specs.declared.operator.Kind.TheVariants.{Signed, Unsigned, Boolean}
+use Rattle.report_text.specs.Texts.{hex_text}
+
+-- The number that bytes of an integer type are, in decimal digits: their value with the lowest byte first, and where
+-- the type is signed, in two's complement. Any other count of bytes than an integer type has is written as bytes.
+abbrev pub number_text : Bool → List ℕ → List ℕ
+number_text signed bytes = if is_width (length bytes) then signed_decimal (number_of signed bytes) else hex_text bytes
+
+-- the bytes of a value of a type: a number at an integer type
+abbrev pub bytes_text : Option Kind → List ℕ → List ℕ
+bytes_text (Some Signed) bytes = number_text true bytes
+bytes_text (Some Unsigned) bytes = number_text false bytes
+bytes_text (Some Boolean) bytes = hex_text bytes
+bytes_text None bytes = hex_text bytes

@@ -1,0 +1,42 @@
+-- The texts of what names an item of the world, or a node of a body: a word and the place in its table.
+use Rattle.std.specs.Prelude.{ℕ, List, ◌++◌, codes, decimal}
+use Rattle.mir.specs.declared.ids.LocalId.{LocalId}
+use Rattle.mir.specs.declared.span.MirSpan.{MirSpan}
+use Rattle.mir.specs.declared.span.MirSpan.TheVariants.{ExprId, PatId, BindingId, Unknown}
+use Rattle.types.specs.declared.ids.Crate.{Crate}
+use Rattle.types.specs.declared.ids.DefWithBodyId.{DefWithBodyId}
+use Rattle.types.specs.declared.ids.DefWithBodyId.TheVariants.{FunctionId, StaticId, ConstId, VariantId}
+use Rattle.types.specs.declared.ids.GenericParamId.{GenericParamId}
+use Rattle.types.specs.declared.ids.GenericParamId.TheVariants.{TypeParamId, ConstParamId}
+use Rattle.types.specs.declared.ids.InternedClosureId.{InternedClosureId}
+use Rattle.types.specs.declared.ids.TraitId.{TraitId}
+
+-- what can have a body
+abbrev pub def_text : DefWithBodyId → List ℕ
+def_text (FunctionId id) = codes "fn#" ++ decimal id.0
+def_text (StaticId id) = codes "static#" ++ decimal id.0
+def_text (ConstId id) = codes "const#" ++ decimal id.0
+def_text (VariantId id) = codes "variant#" ++ decimal id.0
+
+abbrev pub generic_param_text : GenericParamId → List ℕ
+generic_param_text (TypeParamId id) = codes "typaram#" ++ decimal id.0
+generic_param_text (ConstParamId id) = codes "constparam#" ++ decimal id.0
+
+abbrev pub trait_text : TraitId → List ℕ
+trait_text id = codes "trait#" ++ decimal id.0
+
+abbrev pub crate_text : Crate → List ℕ
+crate_text krate = codes "crate#" ++ decimal krate.0
+
+abbrev pub closure_text : InternedClosureId → List ℕ
+closure_text id = codes "closure#" ++ decimal id.0
+
+abbrev pub local_text : LocalId → List ℕ
+local_text id = codes "local#" ++ decimal id.0
+
+-- a place in the source
+abbrev pub span_text : MirSpan → List ℕ
+span_text (ExprId id) = codes "expr#" ++ decimal id.0
+span_text (PatId id) = codes "pat#" ++ decimal id.0
+span_text (BindingId id) = codes "binding#" ++ decimal id.0
+span_text Unknown = codes "unknown"

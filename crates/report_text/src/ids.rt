@@ -1,0 +1,71 @@
+//! The texts of what names an item of the world, or a node of a body.
+
+ghost use Rattle.std.specs.Prelude.{◌≡◌, IfOk};
+ghost use Rattle.report_text.specs.Ids.{def_text, generic_param_text, trait_text, crate_text, closure_text, local_text, span_text};
+
+use crate::texts::numbered;
+use mir::{LocalId, MirSpan};
+use std::alloc::Global;
+use world::{Bytes, Crate, DefWithBodyId, GenericParamId, InternedClosureId, NoMemory, TraitId};
+
+/// What can have a body.
+pub(crate) fn def_text(alloc: Global, def: DefWithBodyId) -> Result<Bytes, NoMemory>
+    ensures { IfOk result (λ text. text ≡ def_text def) }
+{
+    match def {
+        DefWithBodyId::FunctionId(id) => numbered(alloc, b"fn#", id.0 as u64),
+        DefWithBodyId::StaticId(id) => numbered(alloc, b"static#", id.0 as u64),
+        DefWithBodyId::ConstId(id) => numbered(alloc, b"const#", id.0 as u64),
+        DefWithBodyId::VariantId(id) => numbered(alloc, b"variant#", id.0 as u64),
+    }
+}
+
+/// A generic parameter.
+pub(crate) fn generic_param_text(alloc: Global, id: GenericParamId) -> Result<Bytes, NoMemory>
+    ensures { IfOk result (λ text. text ≡ generic_param_text id) }
+{
+    match id {
+        GenericParamId::TypeParamId(id) => numbered(alloc, b"typaram#", id.0 as u64),
+        GenericParamId::ConstParamId(id) => numbered(alloc, b"constparam#", id.0 as u64),
+    }
+}
+
+/// A trait.
+pub(crate) fn trait_text(alloc: Global, id: TraitId) -> Result<Bytes, NoMemory>
+    ensures { IfOk result (λ text. text ≡ trait_text id) }
+{
+    numbered(alloc, b"trait#", id.0 as u64)
+}
+
+/// A crate.
+pub(crate) fn crate_text(alloc: Global, krate: Crate) -> Result<Bytes, NoMemory>
+    ensures { IfOk result (λ text. text ≡ crate_text krate) }
+{
+    numbered(alloc, b"crate#", krate.0 as u64)
+}
+
+/// A closure.
+pub(crate) fn closure_text(alloc: Global, id: InternedClosureId) -> Result<Bytes, NoMemory>
+    ensures { IfOk result (λ text. text ≡ closure_text id) }
+{
+    numbered(alloc, b"closure#", id.0 as u64)
+}
+
+/// A local of a lowered body.
+pub(crate) fn local_text(alloc: Global, id: LocalId) -> Result<Bytes, NoMemory>
+    ensures { IfOk result (λ text. text ≡ local_text id) }
+{
+    numbered(alloc, b"local#", id.0 as u64)
+}
+
+/// A place in the source.
+pub(crate) fn span_text(alloc: Global, span: MirSpan) -> Result<Bytes, NoMemory>
+    ensures { IfOk result (λ text. text ≡ span_text span) }
+{
+    match span {
+        MirSpan::ExprId(id) => numbered(alloc, b"expr#", id.0 as u64),
+        MirSpan::PatId(id) => numbered(alloc, b"pat#", id.0 as u64),
+        MirSpan::BindingId(id) => numbered(alloc, b"binding#", id.0 as u64),
+        MirSpan::Unknown => Bytes::from_slice(alloc, b"unknown"),
+    }
+}

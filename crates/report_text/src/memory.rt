@@ -1,0 +1,95 @@
+//! The lines of the memory that a value refers to.
+
+ghost use Rattle.std.specs.Prelude.{◌≡◌, slice_get, IfOk};
+ghost use Rattle.std.specs.List.{flat_map};
+ghost use Rattle.report_text.specs.Memory.{entry_line, optional_entry_line, table_line, table_lines, memory_lines};
+
+use crate::texts::{digits_or_dash, enclosed, joined, push_all};
+use crate::ty::type_text;
+use std::alloc::Global;
+use world::{Bytes, HirDatabase, List, Map, MemoryMap, NoMemory, Ty};
+
+/// The table id of a value's first type.
+const FIRST_TABLE_ID: u64 = 1000;
+
+/// The line of bytes at an address.
+fn entry_line(alloc: Global, address: u64, bytes: &[u8]) -> Result<Bytes, NoMemory>
+    ensures { IfOk result (λ text. text ≡ entry_line (address, bytes.now)) }
+{
+    let place = address.to_string(alloc)?;
+    let digits = digits_or_dash(alloc, bytes)?;
+    let rest = enclosed(alloc, b" ", digits.as_slice(), b"\n")?;
+    enclosed(alloc, b"  at ", place.as_str().as_bytes(), rest.as_slice())
+}
+
+/// The line of the entry at a place of a map, where there is one.
+fn entry_line_at(alloc: Global, entries: &Map<u64, Bytes>, i: u64) -> Result<Bytes, NoMemory>
+    ensures { IfOk result (λ text. text ≡ optional_entry_line (slice_get entries.now i)) }
+{
+    match entries.at(i) {
+        Some((address, bytes)) => entry_line(alloc, *address, bytes.as_slice()),
+        None => Ok(Bytes::new(alloc)),
+    }
+}
+
+/// The lines of a map of bytes by address.
+fn entry_lines(alloc: Global, entries: &Map<u64, Bytes>) -> Result<Bytes, NoMemory>
+    ensures { IfOk result (λ text. text ≡ flat_map entry_line entries.now) }
+{
+    let mut out = Vec::new(alloc);
+    let count = entries.len();
+    for i in 0..count {
+        let line = entry_line_at(alloc, entries, i)?;
+        push_all(&mut out, line.as_slice())?;
+    }
+    Ok(Bytes::from_vec(out))
+}
+
+/// The line of the type that a table id stands for.
+fn table_line(alloc: Global, db: &HirDatabase, id: u64, ty: &Ty) -> Result<Bytes, NoMemory>
+    ensures { IfOk result (λ text. text ≡ table_line db.now id ty.now) }
+{
+    let digits = id.to_string(alloc)?;
+    let text = type_text(alloc, db, ty)?;
+    let rest = enclosed(alloc, b" ", text.as_slice(), b"\n")?;
+    enclosed(
+        alloc,
+        b"  table ",
+        digits.as_str().as_bytes(),
+        rest.as_slice(),
+    )
+}
+
+/// The lines of the types that table ids stand for.
+fn table_lines(alloc: Global, db: &HirDatabase, tys: &List<Ty>) -> Result<Bytes, NoMemory>
+    ensures { IfOk result (λ text. text ≡ table_lines db.now 1000 tys.now) }
+{
+    let mut out = Vec::new(alloc);
+    let mut id = FIRST_TABLE_ID;
+    let items = tys.as_slice();
+    for ty in items {
+        let line = table_line(alloc, db, id, ty)?;
+        push_all(&mut out, line.as_slice())?;
+        id += 1;
+    }
+    Ok(Bytes::from_vec(out))
+}
+
+/// The lines of a memory map.
+pub(crate) fn memory_lines(
+    alloc: Global,
+    db: &HirDatabase,
+    map: &MemoryMap,
+) -> Result<Bytes, NoMemory>
+    ensures { IfOk result (λ text. text ≡ memory_lines db.now map.now) }
+{
+    match map {
+        MemoryMap::Empty => Ok(Bytes::new(alloc)),
+        MemoryMap::Simple(bytes) => entry_line(alloc, 0, bytes.as_slice()),
+        MemoryMap::Complex(complex) => {
+            let entries = entry_lines(alloc, &complex.memory)?;
+            let tables = table_lines(alloc, db, &complex.vtable)?;
+            joined(alloc, entries.as_slice(), tables.as_slice())
+        }
+    }
+}
