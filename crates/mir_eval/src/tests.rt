@@ -1,7 +1,7 @@
 use crate::{Evaluator, Limits, Turned};
 use mir::{
-    BasicBlock, BasicBlockId, BinOp, Local, LocalId, MirBody, MirEvalError, MirSpan, Operand,
-    OperandKind, Place, Rvalue, Statement, StatementKind, Terminator, TerminatorKind, UnOp,
+    BasicBlock, BasicBlockId, BinOp, Local, LocalId, MirBody, MirSpan, Operand, OperandKind, Place,
+    Rvalue, Statement, StatementKind, Terminator, TerminatorKind,
 };
 use std::alloc::Global;
 use std::rc::Rc;
@@ -93,43 +93,12 @@ fn body_of(alloc: Global, statements: List<Statement>) -> Result<MirBody, NoMemo
     })
 }
 
-/// The value that a run gave.
-fn value_of(outcome: Result<Const, MirEvalError>) -> Result<ValueConst, Fail> {
-    match outcome? {
-        Const::Value(value) => Ok(value),
-        _ => Err(Fail::from("no value")),
-    }
-}
-
-/// The value that these statements leave in the return slot.
-fn value_after(alloc: Global, statements: List<Statement>) -> Result<ValueConst, Fail> {
-    let db = world_of_one(alloc)?;
-    let limits = Limits::default_limits();
-    let mut evaluator = Evaluator::new(alloc, &db, OWNER, false, &limits)?;
-    let body = Rc::new(alloc, body_of(alloc, statements)?)?;
-    evaluator.begin(body)?;
-    evaluator.run();
-    let (result, _) = evaluator.finish();
-    value_of(result)
-}
-
 /// What puts 2 + 2 into the return slot.
 fn sum_statements(alloc: Global) -> Result<List<Statement>, NoMemory> {
     let sum = Rvalue::CheckedBinaryOp(BinOp::Add, number(alloc, 2)?, number(alloc, 2)?);
     let mut statements = List::new(alloc);
     statements.push(statement(StatementKind::Assign(SLOT, sum)))?;
     Ok(statements)
-}
-
-#[test]
-fn two_and_two_are_four(rt: HostRuntime) -> Result<(), Fail> {
-    let alloc = rt.alloc();
-    let value = value_after(alloc, sum_statements(alloc)?)?;
-    assert_eq!(rt;
-        value.memory.as_slice(),
-        [4, 0, 0, 0, 0, 0, 0, 0].as_slice()
-    );
-    Ok(())
 }
 
 /// How a run of 2 + 2 went: how it ended, whether it is over, its turns, and how many bytes
@@ -154,34 +123,5 @@ fn a_run_of_one_block_takes_one_turn(rt: HostRuntime) -> Result<(), Fail> {
     assert!(rt; over);
     assert_eq!(rt; turns, 1);
     assert_eq!(rt; written, 0);
-    Ok(())
-}
-
-#[test]
-fn not_turns_every_bit(rt: HostRuntime) -> Result<(), Fail> {
-    let alloc = rt.alloc();
-    let turned = Rvalue::UnaryOp(UnOp::Not, number(alloc, 5)?);
-    let mut statements = List::new(alloc);
-    statements.push(statement(StatementKind::Assign(SLOT, turned)))?;
-    let value = value_after(alloc, statements)?;
-    assert_eq!(rt;
-        value.memory.as_slice(),
-        [250, 255, 255, 255, 255, 255, 255, 255].as_slice()
-    );
-    Ok(())
-}
-
-#[test]
-fn a_fake_read_changes_nothing(rt: HostRuntime) -> Result<(), Fail> {
-    let alloc = rt.alloc();
-    let nine = Rvalue::Use(number(alloc, 9)?);
-    let mut statements = List::new(alloc);
-    statements.push(statement(StatementKind::Assign(SLOT, nine)))?;
-    statements.push(statement(StatementKind::FakeRead(SLOT)))?;
-    let value = value_after(alloc, statements)?;
-    assert_eq!(rt;
-        value.memory.as_slice(),
-        [9, 0, 0, 0, 0, 0, 0, 0].as_slice()
-    );
     Ok(())
 }

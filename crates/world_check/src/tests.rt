@@ -1,6 +1,6 @@
 //! The constant `const GOAL: usize = 2 + 2`, as it is and with one thing wrong in it.
 
-use crate::{CheckFault, CheckRow, CheckedWorld, check};
+use crate::{CheckFault, CheckRow, CheckedWorld, InvalidWorld, check};
 use std::alloc::Global;
 use std::test::Fail;
 use world::{
@@ -81,25 +81,39 @@ fn layout(alloc: Global, change: Change) -> Layout {
     }
 }
 
-/// The world of one body.
-fn world_of(alloc: Global, row: BodyRow, change: Change) -> Result<HirDatabase, NoMemory> {
-    let mut db = HirDatabase::new(alloc);
-    db.crates.push(CrateRow {
-        pointer_bytes: Some(8),
-    })?;
-    db.consts.push(ConstRow {
+/// The constant's row.
+fn const_row(alloc: Global, change: Change) -> Result<ConstRow, NoMemory> {
+    Ok(ConstRow {
         name: Some(Text::from_str(alloc, "GOAL")?),
         krate: Crate(if change == Change::NoCrate { 1 } else { 0 }),
         generics: List::new(alloc),
         ty: Ty::Uint(UintTy::Usize),
         body: Some(if change == Change::NoBody { 5 } else { 0 }),
-    })?;
-    db.bodies.push(row)?;
+    })
+}
+
+/// Puts the crate and the constant into a world.
+fn add_items(db: &mut HirDatabase, alloc: Global, change: Change) -> Result<(), NoMemory> {
+    db.consts.push(const_row(alloc, change)?)?;
+    db.crates.push(CrateRow {
+        pointer_bytes: Some(8),
+    })
+}
+
+/// Puts the layout of `usize` into a world, once more.
+fn add_layout(db: &mut HirDatabase, alloc: Global, change: Change) -> Result<(), NoMemory> {
     db.layouts
-        .push((Ty::Uint(UintTy::Usize), layout(alloc, change)))?;
+        .push((Ty::Uint(UintTy::Usize), layout(alloc, change)))
+}
+
+/// The world of one body.
+fn world_of(alloc: Global, row: BodyRow, change: Change) -> Result<HirDatabase, NoMemory> {
+    let mut db = HirDatabase::new(alloc);
+    db.bodies.push(row)?;
+    add_items(&mut db, alloc, change)?;
+    add_layout(&mut db, alloc, change)?;
     if change == Change::TwoLayouts {
-        db.layouts
-            .push((Ty::Uint(UintTy::Usize), layout(alloc, change)))?;
+        add_layout(&mut db, alloc, change)?;
     }
     Ok(db)
 }
@@ -126,14 +140,46 @@ fn chain(alloc: Global, count: u32) -> Result<HirDatabase, NoMemory> {
     world_of(alloc, row, Change::Nothing)
 }
 
+/// What the check says of a world: nothing, or a row and a place in it.
+fn verdict(alloc: Global, db: &HirDatabase) -> Result<Option<InvalidWorld>, Fail> {
+    match check(alloc, db) {
+        Ok(()) => Ok(None),
+        Err(CheckFault::InvalidWorld(invalid)) => Ok(Some(invalid)),
+        Err(_) => Err(Fail::from("no memory")),
+    }
+}
+
+/// What the check says of the constant with one thing wrong.
+fn verdict_of(alloc: Global, change: Change) -> Result<Option<InvalidWorld>, Fail> {
+    let db = goal(alloc, change)?;
+    verdict(alloc, &db)
+}
+
+/// What the check says of a chain.
+fn verdict_of_chain(alloc: Global, count: u32) -> Result<Option<InvalidWorld>, Fail> {
+    let db = chain(alloc, count)?;
+    verdict(alloc, &db)
+}
+
 #[test]
 fn good_worlds_pass(rt: HostRuntime) -> Result<(), Fail> {
-    let alloc = rt.alloc();
-    assert_eq!(rt; check(alloc, &goal(alloc, Change::Nothing)?), Ok(()));
-    assert_eq!(rt; check(alloc, &chain(alloc, 400)?), Ok(()));
-    let world = CheckedWorld::new(alloc, goal(alloc, Change::Nothing)?);
-    let world = world.ok().ok_or("refused")?;
-    assert_eq!(rt; world.db(), &goal(alloc, Change::Nothing)?);
+    let whole = verdict_of(rt.alloc(), Change::Nothing)?;
+    assert!(rt; whole.is_none());
+    let deep = verdict_of_chain(rt.alloc(), 400)?;
+    assert!(rt; deep.is_none());
+    Ok(())
+}
+
+/// The checked world of the constant.
+fn checked(alloc: Global) -> Result<CheckedWorld, Fail> {
+    let db = goal(alloc, Change::Nothing)?;
+    let world = CheckedWorld::new(alloc, db).ok();
+    Ok(world.ok_or("refused")?)
+}
+
+#[test]
+fn a_checked_world_has_its_items(rt: HostRuntime) -> Result<(), Fail> {
+    let world = checked(rt.alloc())?;
     assert!(rt; world.has(DefWithBodyId::ConstId(ConstId(0))));
     assert!(rt; !world.has(DefWithBodyId::ConstId(ConstId(1))));
     assert!(rt; !world.has(DefWithBodyId::FunctionId(FunctionId(0))));
@@ -141,8 +187,15 @@ fn good_worlds_pass(rt: HostRuntime) -> Result<(), Fail> {
 }
 
 #[test]
+fn a_checked_world_is_the_world(rt: HostRuntime) -> Result<(), Fail> {
+    let world = checked(rt.alloc())?;
+    let db = goal(rt.alloc(), Change::Nothing)?;
+    assert!(rt; world.db() == &db);
+    Ok(())
+}
+
+#[test]
 fn refusals_name_row_and_place(rt: HostRuntime) -> Result<(), Fail> {
-    let alloc = rt.alloc();
     for (change, row, place) in [
         (Change::NoCrate, CheckRow::C1, "consts[0]"),
         (Change::NoBody, CheckRow::C1, "consts[0]"),
@@ -154,20 +207,17 @@ fn refusals_name_row_and_place(rt: HostRuntime) -> Result<(), Fail> {
         (Change::OddAlignment, CheckRow::C5, "layouts[0]"),
         (Change::OddSize, CheckRow::C5, "layouts[0]"),
     ] {
-        match check(alloc, &goal(alloc, change)?) {
-            Err(CheckFault::InvalidWorld(invalid)) => {
-                assert_eq!(rt; invalid.row, row, "at {change:?}");
-                assert_eq!(rt; invalid.place.as_str(), place, "at {change:?}");
-            }
-            _ => assert!(rt; false, "at {change:?}"),
-        }
+        let invalid = verdict_of(rt.alloc(), change)?.ok_or("passed")?;
+        assert_eq!(rt; invalid.row, row, "at {change:?}");
+        assert_eq!(rt; invalid.place.as_str(), place, "at {change:?}");
     }
-    match check(alloc, &chain(alloc, 401)?) {
-        Err(CheckFault::InvalidWorld(invalid)) => {
-            assert_eq!(rt; invalid.row, CheckRow::C2);
-            assert_eq!(rt; invalid.place.as_str(), "bodies[0].exprs[401]");
-        }
-        _ => assert!(rt; false, "too deep"),
-    }
+    Ok(())
+}
+
+#[test]
+fn an_expression_too_deep_is_named(rt: HostRuntime) -> Result<(), Fail> {
+    let invalid = verdict_of_chain(rt.alloc(), 401)?.ok_or("passed")?;
+    assert_eq!(rt; invalid.row, CheckRow::C2);
+    assert_eq!(rt; invalid.place.as_str(), "bodies[0].exprs[401]");
     Ok(())
 }
