@@ -19,6 +19,7 @@ from dataclasses import dataclass
 from pathlib import Path
 from typing import Optional
 
+from faults import show
 from input_types import Input
 
 ROOT = Path(__file__).resolve().parent.parent
@@ -36,7 +37,6 @@ EXTRA = "~"
 
 THREADS = 3
 SECONDS = 60
-FAULTS_SHOWN = 100
 
 
 @dataclass(frozen=True)
@@ -125,7 +125,7 @@ def cases_of_depth():
 
 
 def cases_of_goals():
-    """Goals after the check. The world is the sample's, with an enum. Ids in arguments are not looked up yet."""
+    """Goals after the check. The world is the sample's, with an enum. Ids in arguments are looked up too."""
     sample = json.loads(SAMPLE.read_text(encoding="utf-8"))
     sample["world"]["enums"] = [{"name": "E", "variants": [0]}]
     sample["world"]["variants"] = [{"name": "A", "krate": 0, "parent": 0, "index": 0, "shape": "Unit"}]
@@ -135,6 +135,8 @@ def cases_of_goals():
     fitting += [{**goal, "limits": limits} for limits in (None, most, dict.fromkeys(most, 0))]
     other = [{"def": {"ConstId": 1}}, *({"def": {name: 0}} for name in ("StaticId", "FunctionId", "VariantId"))]
     other += [{**goal, "limits": {**most, name: limit + 1}} for name, limit in most.items()]
+    other.append({**goal, "args": [{"Ty": {"Adt": [{"EnumId": 1}, []]}}]})
+    other.append({**goal, "args": [{"Ty": "Bool"}, {"Konst": {"Unevaluated": {"def": {"ConstId": 1}}}}]})
     for row in fitting:
         yield Case(f"goal {row}", text_of({**sample, "goals": [row]}), (VALUES, ERRORS))
     for row in other:
@@ -219,10 +221,7 @@ def main():
     root = Input(json.loads(SCHEMA.read_text(encoding="utf-8"))).root
     answers = list(answers_of(program, root))
     faults = [f"{name}: {answer}" for name, answer in answers if answer]
-    for fault in faults[:FAULTS_SHOWN]:
-        print(f"paths: {fault}")
-    if len(faults) > FAULTS_SHOWN:
-        print(f"paths: {len(faults) - FAULTS_SHOWN} more")
+    show("paths", faults)
     print(f"{len(answers) - len(faults)} passed, {len(faults)} failed")
     return 1 if faults else 0
 

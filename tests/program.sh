@@ -113,6 +113,11 @@ change '[{"def":{"ConstId":0}}]' '[]'
 on "$work/input"
 check 'no goals' 0 '' "$work/nothing"
 
+printf 'goal 0 error eval NotSupported("targets with different pointer size from host")\n  turns 0\n' > "$work/report"
+change '"pointer_bytes":8' '"pointer_bytes":4'
+on "$work/input"
+check 'a goal without a value' 1 '' "$work/report"
+
 if [ -e /dev/full ]; then
     "$program" < "$sample" 2> "$work/err" > /dev/full
     code=$?

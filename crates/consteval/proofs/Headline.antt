@@ -7,7 +7,7 @@ use Rattle.types.specs.declared.ids.DefWithBodyId.{DefWithBodyId}
 use Rattle.types.specs.declared.ty.Const.{Const}
 use Rattle.types.specs.declared.ty.GenericArgs.{GenericArgs}
 use Rattle.world.specs.Lookups.{body_place, body_row}
-use Rattle.world_check.specs.Checked.{IsChecked, IsCheckedBody}
+use Rattle.world.specs.Checked.{IsChecked, IsCheckedBody}
 use Rattle.mir.specs.declared.body.MirBody.{MirBody}
 use Rattle.mir.specs.declared.errors.ConstEvalError.{ConstEvalError}
 use Rattle.mir.specs.declared.errors.ConstEvalError.TheVariants as constant

@@ -23,7 +23,7 @@ use Rattle.types.specs.declared.ids.DefWithBodyId.{DefWithBodyId}
 use Rattle.types.specs.declared.ty.GenericArgs.{GenericArgs}
 use Rattle.types.specs.declared.ty.Ty.{Ty}
 use Rattle.world.specs.Lookups.{const_row, layout_of}
-use Rattle.world_check.specs.Checked.{IsChecked}
+use Rattle.world.specs.Checked.{IsChecked}
 use Rattle.numbers.specs.Bytes.{is_width}
 use Rattle.mir.specs.declared.body.MirBody.{MirBody}
 use Rattle.mir.specs.declared.errors.ConstEvalError.{ConstEvalError}

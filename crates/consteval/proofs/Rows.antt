@@ -7,7 +7,7 @@ use Rattle.world.specs.declared.database.HirDatabase.{HirDatabase}
 use Rattle.types.specs.declared.ids.DefWithBodyId.{DefWithBodyId}
 use Rattle.world.specs.declared.infer.InferenceResult.{InferenceResult}
 use Rattle.world.specs.Lookups.{body_row}
-use Rattle.world_check.specs.Checked.{IsChecked, IsCheckedBody}
+use Rattle.world.specs.Checked.{IsChecked, IsCheckedBody}
 use Rattle.consteval.proofs.Headline.{checked-body}
 
 -- the row that a body and what inference found of it stand in

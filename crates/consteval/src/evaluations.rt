@@ -60,7 +60,7 @@ impl<'w> Evaluations<'w> {
     ghost use Rattle.mir.specs.declared.errors.MirLowerError.TheVariants as refusal;
     ghost use Rattle.world.specs.Limits.{IsWithin};
     ghost use Rattle.source_meaning.specs.Valid.{HasDefinedCost};
-    ghost use Rattle.world_check.specs.Checked.{IsChecked};
+    ghost use Rattle.world.specs.Checked.{IsChecked};
     ghost use Rattle.consteval.specs.Kept.{IsKept, IsLowered, IsSound, IsValueOf, Stays, source_of};
     ghost use Rattle.consteval.specs.Valid.{IsValid};
     ghost use Rattle.consteval.specs.Answers.{GivesValue, GivesPanic, AnswersWithin, HasCause, RefusesBody, panic_of};

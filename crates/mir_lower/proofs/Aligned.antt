@@ -3,7 +3,7 @@ use Rattle.std.proofs.Common.{ℕ, ◌<◌, sym, subst}
 use Rattle.std.proofs.Math.Pow.{pow_pos}
 use Rattle.world.specs.declared.database.HirDatabase.{HirDatabase}
 use Rattle.world.proofs.Rows.{layout_row}
-use Rattle.world_check.specs.Checked.{IsChecked}
+use Rattle.world.specs.Checked.{IsChecked}
 use Rattle.mir_lower.proofs.Placing.{AreAligned}
 
 pub are-aligned : (world : HirDatabase) → IsChecked world → AreAligned world

@@ -5,7 +5,7 @@ use Rattle.mir.specs.declared.body.Local.{Local}
 use Rattle.mir.specs.declared.body.Terminator.{Terminator}
 use Rattle.mir.specs.declared.statement.Statement.{Statement}
 use Rattle.types.specs.declared.ty.Ty.{Ty}
-use Rattle.world_check.specs.Checked.{IsCheckedBody}
+use Rattle.world.specs.Checked.{IsCheckedBody}
 use Rattle.source_meaning.specs.Source.{Source, Cell, Result, Node, Binding, cell_type, node_type, binding_type, root}
 use Rattle.source_meaning.specs.Valid.{Evaluates}
 use Rattle.mir_lower.specs.Graph.{Shape, temp_of, local_of_type}

@@ -2,7 +2,7 @@
 
 ghost use Rattle.std.specs.Prelude.{◌≡◌, false, [], IfOk, IfErr, OnOk};
 ghost use Rattle.source_meaning.specs.Source.{Source};
-ghost use Rattle.world_check.specs.Checked.{IsChecked, IsCheckedBody};
+ghost use Rattle.world.specs.Checked.{IsChecked, IsCheckedBody};
 ghost use Rattle.source_meaning.specs.Source.{root};
 ghost use Rattle.mir_lower.specs.Contexts.{source_of};
 ghost use Rattle.mir_lower.specs.Refusals.{Refuses, RefusesAt};

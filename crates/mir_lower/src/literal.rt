@@ -7,7 +7,7 @@ ghost use Rattle.source_meaning.specs.Meaning.{truth_byte};
 ghost use Rattle.source_meaning.specs.Source.{node, node_type};
 ghost use Rattle.source_meaning.specs.Core as expr;
 ghost use Rattle.mir.specs.declared.errors.MirLowerError.TheVariants as refusal;
-ghost use Rattle.world_check.specs.Checked.{IsCheckedBody};
+ghost use Rattle.world.specs.Checked.{IsCheckedBody};
 ghost use Rattle.mir.specs.declared.operand.OperandKind.TheVariants.{Constant};
 ghost use Rattle.mir.specs.Run.{constant_bytes};
 ghost use Rattle.types.specs.declared.ty.Const.{Const};

@@ -1,13 +1,12 @@
 -- The numbers that bytes are, by the words that reading them puts together.
-use Rattle.std.proofs.Common.{◌≡◌, ◌≢◌, inl, inr, ℕ, suc, ◌+◌, ◌-◌, ◌*◌, ◌^◌, ◌<◌, true, false, ltb, List, [], ◌∷◌, length, get_or, take, drop, ℤ, negsuc, refl, sym, ◌∙◌, ap, arith, length-take}
+use Rattle.std.proofs.Common.{◌≡◌, inl, inr, ℕ, suc, ◌+◌, ◌-◌, ◌*◌, ◌^◌, ◌<◌, true, false, ltb, List, [], ◌∷◌, length, get_or, take, drop, ℤ, negsuc, refl, sym, ◌∙◌, ap, arith, length-take}
 use Rattle.std.specs.Int.{w16, w32, w64, cast_signed, from_le_bytes, Width}
 use mir.Val.{bits, hbits}
-use Rattle.std.proofs.lemmas.Bool.Decides.{nat_tests}
 use Rattle.std.proofs.lemmas.List.{take-append-drop, drop_all}
 use Rattle.std.proofs.Math.Seq.{drop-cons}
 use Rattle.std.proofs.lemmas.Bool.{cases_lt}
 use borrow.Author.Tests.{lt-ltb, le-ltb}
-use Rattle.numbers.specs.Bytes.{value_of, signed_reading, number_of, is_width}
+use Rattle.numbers.specs.Bytes.{value_of, signed_reading, number_of}
 use Rattle.numbers.proofs.Digits.{value_of-append}
 
 value_of-cons : (byte : ℕ) (bytes : List ℕ) → value_of (byte ∷ bytes) ≡ byte + 256 * value_of bytes
@@ -66,7 +65,3 @@ signed_number w size n z t bytes same e f g h k =
 
 pub word1_is : (bytes : List ℕ) → length bytes ≡ 1 → get_or bytes 0 0 ≡ value_of bytes
 word1_is bytes h = omega (arith, value_of-drop bytes 0 (omega arith), value_of-dropped bytes 1 h)
-
--- the width that no arm took
-pub last_width : (size : ℕ) → is_width size ≡ true → size ≢ 1 → size ≢ 2 → size ≢ 4 → size ≢ 8 → size ≡ 16
-last_width size h a b c d = grind (arith, nat_tests)

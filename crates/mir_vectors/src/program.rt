@@ -310,8 +310,8 @@ static EDITS: [(&str, &str, u8, &str, &str); 37] = [
         "goal 0 error lower NotSupported(\"form not built\")\n  turns 0\n",
     ),
     (
-        r#""krate":0,"ty""#,
-        r#""krate":0,"generics":[{"TypeParamId":0}],"ty""#,
+        r#""consts":[{"name":"GOAL","krate":0,"ty""#,
+        r#""type_params":["T"],"consts":[{"name":"GOAL","krate":0,"generics":[{"TypeParamId":0}],"ty""#,
         1,
         "",
         "goal 0 error lower NotSupported(\"form not built\")\n  turns 0\n",

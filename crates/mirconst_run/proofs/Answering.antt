@@ -9,9 +9,9 @@ use Rattle.consteval.specs.declared.evaluated.Evaluated.{Evaluated}
 use Rattle.world_json.specs.declared.goal.Goal.{Goal}
 use Rattle.mirconst_run.specs.Answers.{AreAnswers, IsAnswer, IsGoalAnswer, are_within, is_misfit, is_variant, is_want_of_memory, limits_of, nothing_kept}
 use Rattle.world.specs.Limits.{IsWithin, is_within}
-use Rattle.world.specs.Lookups.{crate_of}
 use Rattle.world.specs.declared.limits.Limits.{Limits}
-use Rattle.std.specs.Prelude.{Bool, true, false, Some, None, is_none, not, ◌&&◌, ◌||◌, ◌^◌, nat_le, position}
+use Rattle.world_names.specs.Known.{are_args_known, is_def_known}
+use Rattle.std.specs.Prelude.{Bool, true, false, Some, None, not, ◌&&◌, ◌||◌, ◌^◌, nat_le, position}
 use Rattle.world.specs.declared.database.HirDatabase.{HirDatabase}
 
 -- answers to goals, and then the answer to one more
@@ -63,11 +63,12 @@ within limits is =
     }
 
 -- where no goal is a misfit, each has limits that are at most the greatest ones
-fits : (variant unknown within : Bool) → (variant || unknown || not within) ≡ false → within ≡ true
-fits false false true is = refl
-fits false false false is = cc
-fits false true within is = cc
-fits true unknown within is = cc
+fits : (variant unknown foreign within : Bool) → (variant || unknown || foreign || not within) ≡ false → within ≡ true
+fits false false false true is = refl
+fits false false false false is = cc
+fits false false true within is = cc
+fits false true foreign within is = cc
+fits true unknown foreign within is = cc
 
 none_from : {X : Type 0} (test : X → Bool) (k : ℕ) (xs : List X) (i : ℕ) (d : X) → position_from test k xs ≡ None → i < length xs → test (get_or xs i d) ≡ false
 none_from test k [] i d none within = absurd (omega (arith, within))
@@ -88,4 +89,4 @@ none_at test xs i d none within = none_from test 0 xs i d (sym (position_from-ze
 pub limits_fit : (world : HirDatabase) (goals : List Goal) (i : ℕ) (d : Goal) → position (is_misfit world) goals ≡ None → i < length goals → are_within (get_or goals i d).limits ≡ true
 limits_fit world goals i d none within =
     let goal = get_or goals i d in
-    fits (is_variant goal.def) (is_none (crate_of world goal.def)) (are_within goal.limits) (none_at (is_misfit world) goals i d none within)
+    fits (is_variant goal.def) (not (is_def_known world goal.def)) (not (are_args_known world goal.args)) (are_within goal.limits) (none_at (is_misfit world) goals i d none within)

@@ -1,18 +1,16 @@
 -- With which status a part of a run refuses, from what its callees say.
-use Rattle.std.proofs.Common.{◌≡◌, ℕ, ◌≤◌, List, Option, None, Some, Ok, inl, inr, subst, sym, arith}
+use Rattle.std.proofs.Common.{◌≡◌, ℕ, ◌≤◌, List, Option, None, Some, Ok, inl, inr, subst, arith}
 use Rattle.std.specs.Prelude.{IsUtf8, position}
 use Rattle.serde_json.specs.Data.{Data}
 use Rattle.serde_json.specs.Read.{read}
 use Rattle.streams.specs.Faults.{HasCause}
 use Rattle.world.specs.declared.database.HirDatabase.{HirDatabase}
-use Rattle.world_check.specs.Rows.{first_failure, IsRefusal}
-use Rattle.world_check.specs.declared.fault.CheckFault.{CheckFault}
-use Rattle.world_check.specs.declared.fault.CheckFault.TheVariants as check
+use Rattle.world_check.specs.Rows.{first_failure}
 use Rattle.world_json.specs.declared.goal.Goal.{Goal}
 use Rattle.world_json.specs.Input.{world_of}
 use Rattle.mirconst_run.specs.Answers.{is_misfit}
 use Rattle.mirconst_run.specs.Input.{IsNoJson}
-use Rattle.mirconst_run.specs.Refusals.{IsOfRead, IsOfReading, IsOfInput, IsOfTree, IsOfCheck, IsOfFault, IsOfGoal}
+use Rattle.mirconst_run.specs.Refusals.{IsOfRead, IsOfReading, IsOfInput, IsOfTree, IsOfCheck, IsOfGoal}
 use Rattle.mirconst_run.specs.declared.status.Status.{Status}
 use Rattle.mirconst_run.specs.declared.status.Status.TheVariants.{Values, Errors, BadWords, NotJson, NotAWorld, BadWorld, TooLong, ReadFault, WriteFault, NoMemory}
 
@@ -41,11 +39,6 @@ no_json bytes none tree is =
     let nothing : read bytes ≡ None = none is.utf8 in
     let something : read bytes ≡ Some tree = is.json in
     absurd cc
-
--- the status of a fault of the check
-pub fault_refused : (world : HirDatabase) (fault : CheckFault) (status : Status) → IsRefusal world fault → IsOfFault fault status → IsOfCheck world status
-fault_refused world (check.InvalidWorld invalid) status fails is = subst (λ (said : Status). IsOfCheck world said) (sym is) fails
-fault_refused world check.NoMemory status fails is = subst (λ (said : Status). IsOfCheck world said) (sym is) tt
 
 -- bytes are the JSON of a tree that stands for no world
 pub tree_refused : (bytes : List ℕ) (tree : Data) (status : Status) → IsUtf8 bytes → read bytes ≡ Some tree → IsOfTree tree status → IsOfInput bytes status

@@ -1,5 +1,5 @@
 -- What the answers to the goals are.
-use Rattle.std.specs.Prelude.{◌≡◌, ◌≤◌, ℕ, Bool, true, false, List, [], ◌∷◌, Result, Ok, Err, Option, Some, None, not, ◌||◌, Contains, IsOk, is_ok, is_none, unwrap_or}
+use Rattle.std.specs.Prelude.{◌≡◌, ◌≤◌, ℕ, Bool, true, false, List, [], ◌∷◌, Result, Ok, Err, Option, Some, None, not, ◌||◌, Contains, IsOk, is_ok, unwrap_or}
 use Rattle.mir.specs.declared.errors.ConstEvalError.{ConstEvalError}
 use Rattle.mir.specs.declared.errors.ConstEvalError.TheVariants as constant
 use Rattle.mir.specs.declared.body.MirBody.{MirBody}
@@ -16,8 +16,8 @@ use Rattle.types.specs.declared.ids.DefWithBodyId.{DefWithBodyId}
 use Rattle.types.specs.declared.ids.DefWithBodyId.TheVariants.{VariantId}
 use Rattle.types.specs.declared.ty.Const.{Const}
 use Rattle.types.specs.declared.ty.GenericArgs.{GenericArgs}
-use Rattle.world.specs.Lookups.{crate_of}
 use Rattle.world_json.specs.declared.goal.Goal.{Goal}
+use Rattle.world_names.specs.Known.{are_args_known, is_def_known}
 
 -- an answer to a definition, and what was kept before and after it
 pub record IsAnswer (before after : Kept) (def : DefWithBodyId) (args : GenericArgs) (blocks : ℕ) (answer : Evaluated) : Type 0 where
@@ -77,6 +77,7 @@ abbrev pub are_within : Option Limits → Bool
 are_within None = true
 are_within (Some limits) = is_within limits
 
--- whether a goal doesn't fit: it is a variant, it is out of range, or its limits are too great
+-- whether a goal doesn't fit: it is a variant, it or an id in its arguments is out of range, or its limits are too great
 abbrev pub is_misfit : HirDatabase → Goal → Bool
-is_misfit world goal = is_variant goal.def || is_none (crate_of world goal.def) || not (are_within goal.limits)
+is_misfit world goal =
+    is_variant goal.def || not (is_def_known world goal.def) || not (are_args_known world goal.args) || not (are_within goal.limits)

@@ -85,11 +85,15 @@ fn are_within(limits: Option<Limits>) -> bool
     }
 }
 
-/// Whether a goal doesn't fit: it is a variant, it is out of range, or its limits are too great.
+/// Whether a goal doesn't fit: it is a variant, it or an id in its arguments is out of range, or its
+/// limits are too great.
 fn is_misfit(world: &CheckedWorld, goal: &Goal) -> bool
     ensures { result ≡ is_misfit world.now goal.now }
 {
-    is_variant(goal.def) || world.db().crate_of(goal.def).is_none() || !are_within(goal.limits)
+    is_variant(goal.def)
+        || !world.has(goal.def)
+        || !world.has_args(&goal.args)
+        || !are_within(goal.limits)
 }
 
 /// The place of the first goal that doesn't fit.
@@ -99,8 +103,8 @@ fn first_misfit(world: &CheckedWorld, goals: &[Goal]) -> Option<usize>
     goals.iter().position(|goal| is_misfit(world, goal))
 }
 
-/// The first goal that doesn't fit: that is a variant, is out of range, or has limits that are too
-/// great. Ids in a goal's arguments are not looked up yet.
+/// The first goal that doesn't fit: that is a variant, is out of range or has an id out of range in
+/// its arguments, or has limits that are too great.
 pub fn goals_fit(world: &CheckedWorld, goals: &List<Goal>) -> Option<u64>
     ensures { result ≡ position (is_misfit world.now) goals.now }
 {

@@ -1,26 +1,9 @@
--- The lines of entries and of table ids, one after another.
+-- The lines of table ids, one after another.
 use Rattle.std.proofs.Common.{◌≡◌, ℕ, ◌+◌, ◌<◌, List, [], ◌∷◌, ◌++◌, length, get_or, take, length-take, sym, ◌∙◌, ap, append_assoc, arith}
-use Rattle.std.specs.Prelude.{Option, slice_get}
-use Rattle.std.specs.List.{flat_map}
-use Rattle.std.proofs.lemmas.Grind.{flat_map-append}
 use Rattle.std.proofs.lemmas.List.{append-nil, take_more}
-use Rattle.std.proofs.lemmas.Option.{slice_get-get_or}
 use Rattle.types.specs.declared.ty.Ty.{Ty}
 use Rattle.world.specs.declared.database.HirDatabase.{HirDatabase}
-use Rattle.report_text.specs.Memory.{entry_line, optional_entry_line, table_line, table_lines}
-
-lines-append : (entries : List (ℕ × List ℕ)) (entry : ℕ × List ℕ) →
-    flat_map entry_line (entries ++ entry ∷ []) ≡ flat_map entry_line entries ++ entry_line entry
-lines-append entries entry =
-    flat_map-append entry_line entries (entry ∷ []) ∙ ap (λ (line : List ℕ). flat_map entry_line entries ++ line) (append-nil (entry_line entry))
-
--- the lines of one more entry
-pub entries_more : (entries : List (ℕ × List ℕ)) (i : ℕ) → i < length entries →
-    flat_map entry_line (take (i + 1) entries) ≡ flat_map entry_line (take i entries) ++ optional_entry_line (slice_get entries i)
-entries_more entries i within =
-    let entry = get_or entries i (0, []) in
-    ap (flat_map entry_line) (take_more entries i (0, []) within) ∙ lines-append (take i entries) entry
-    ∙ ap (λ (found : Option (ℕ × List ℕ)). flat_map entry_line (take i entries) ++ optional_entry_line found) (sym (slice_get-get_or entries i (0, []) within))
+use Rattle.report_text.specs.Memory.{table_line, table_lines}
 
 tables-append : (world : HirDatabase) (id : ℕ) (tys : List Ty) (ty : Ty) →
     table_lines world id (tys ++ ty ∷ []) ≡ table_lines world id tys ++ table_line world (id + length tys) ty

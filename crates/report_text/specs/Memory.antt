@@ -1,5 +1,5 @@
 -- The lines of the memory that a value refers to.
-use Rattle.std.specs.Prelude.{ℕ, ◌+◌, List, [], ◌∷◌, ◌++◌, codes, decimal, Option, Some, None}
+use Rattle.std.specs.Prelude.{ℕ, ◌+◌, List, [], ◌∷◌, ◌++◌, codes, decimal}
 use Rattle.std.specs.List.{flat_map}
 use Rattle.types.specs.declared.ty.ComplexMemoryMap.{ComplexMemoryMap}
 use Rattle.types.specs.declared.ty.Const.{Const}
@@ -18,11 +18,6 @@ use Rattle.report_text.specs.Types.{type_text}
 -- the line of bytes at an address, which is in decimal digits
 abbrev pub entry_line : ℕ × List ℕ → List ℕ
 entry_line entry = codes "  at " ++ (decimal entry.0 ++ (codes " " ++ (digits_or_dash entry.1 ++ codes "\n")))
-
--- the line of an entry, where there is one
-abbrev pub optional_entry_line : Option (ℕ × List ℕ) → List ℕ
-optional_entry_line (Some entry) = entry_line entry
-optional_entry_line None = []
 
 -- the line of the type that a table id stands for
 abbrev pub table_line : HirDatabase → ℕ → Ty → List ℕ

@@ -1,8 +1,8 @@
 //! The lines of the memory that a value refers to.
 
-ghost use Rattle.std.specs.Prelude.{◌≡◌, slice_get, IfOk};
+ghost use Rattle.std.specs.Prelude.{◌≡◌, IfOk};
 ghost use Rattle.std.specs.List.{flat_map};
-ghost use Rattle.report_text.specs.Memory.{entry_line, optional_entry_line, table_line, table_lines, memory_lines};
+ghost use Rattle.report_text.specs.Memory.{entry_line, table_line, table_lines, memory_lines};
 
 use crate::texts::{digits_or_dash, enclosed, joined, push_all};
 use crate::ty::type_text;
@@ -22,24 +22,13 @@ fn entry_line(alloc: Global, address: u64, bytes: &[u8]) -> Result<Bytes, NoMemo
     enclosed(alloc, b"  at ", place.as_str().as_bytes(), rest.as_slice())
 }
 
-/// The line of the entry at a place of a map, where there is one.
-fn entry_line_at(alloc: Global, entries: &Map<u64, Bytes>, i: u64) -> Result<Bytes, NoMemory>
-    ensures { IfOk result (λ text. text ≡ optional_entry_line (slice_get entries.now i)) }
-{
-    match entries.at(i) {
-        Some((address, bytes)) => entry_line(alloc, *address, bytes.as_slice()),
-        None => Ok(Bytes::new(alloc)),
-    }
-}
-
 /// The lines of a map of bytes by address.
 fn entry_lines(alloc: Global, entries: &Map<u64, Bytes>) -> Result<Bytes, NoMemory>
     ensures { IfOk result (λ text. text ≡ flat_map entry_line entries.now) }
 {
     let mut out = Vec::new(alloc);
-    let count = entries.len();
-    for i in 0..count {
-        let line = entry_line_at(alloc, entries, i)?;
+    for (address, bytes) in entries.iter() {
+        let line = entry_line(alloc, *address, bytes.as_slice())?;
         push_all(&mut out, line.as_slice())?;
     }
     Ok(Bytes::from_vec(out))

@@ -7,7 +7,8 @@ use Rattle.types.specs.declared.ids.ExprId.{ExprId}
 use Rattle.world.specs.declared.expr.Expr.TheVariants as whole
 use Rattle.world.specs.declared.expr.Expr.{Expr}
 use Rattle.world.specs.Lookups.{expr_of}
-use Rattle.world_check.specs.Checked.{IsCheckedBody, optional, children_of, statement_children}
+use Rattle.world.specs.Checked.{IsCheckedBody}
+use Rattle.world.specs.Nodes.{optional, children_of, statement_children}
 use Rattle.source_meaning.specs.Core.{CoreExpr, Literal, Path, UnaryOp, BinaryOp, Block, core_of, is_reworked}
 use Rattle.source_meaning.specs.Source.{Source, node}
 

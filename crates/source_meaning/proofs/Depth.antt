@@ -4,7 +4,8 @@ use Rattle.std.proofs.lemmas.List.Elements.{All-head, All-tail, Contains-append_
 use Rattle.std.proofs.Common.{◌≡◌, ℕ, zero, suc, ◌<◌, ◌≤◌, cond, List, [], ◌∷◌, ◌++◌, length, get_or, Option, Some, refl, sym, ap, ap₂, subst, arith}
 use Rattle.world.specs.declared.body.Statement.{Statement}
 use Rattle.types.specs.declared.ids.ExprId.{ExprId}
-use Rattle.world_check.specs.Checked.{IsCheckedBody, optional}
+use Rattle.world.specs.Checked.{IsCheckedBody}
+use Rattle.world.specs.Nodes.{optional}
 use Rattle.source_meaning.specs.Core.{CoreExpr, BinaryOp, UnaryOp, Block}
 use Rattle.source_meaning.specs.Source.{Source, Cell, Node, node, is_literal, is_path, marked, marked_as_operand, marked_by, marked_in}
 use Rattle.source_meaning.specs.Valid.{statement_parts, parts_of, Evaluates, itself, part}

@@ -12,7 +12,8 @@ use Rattle.types.specs.declared.ids.ExprId.{ExprId}
 use Rattle.world.specs.declared.infer.ValueNs.{ValueNs}
 use Rattle.world.specs.declared.infer.ValueNs.TheVariants.{LocalBinding}
 use Rattle.types.specs.declared.ty.Ty.{Ty}
-use Rattle.world_check.specs.Checked.{IsCheckedBody, optional, statement_children}
+use Rattle.world.specs.Checked.{IsCheckedBody}
+use Rattle.world.specs.Nodes.{optional, statement_children}
 use Rattle.numbers.specs.declared.operator.Operator.{Operator}
 use Rattle.numbers.specs.Operators.{Answer, Computes, Panics, Undefined}
 use Rattle.source_meaning.specs.Core as expr

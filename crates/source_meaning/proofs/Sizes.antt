@@ -25,7 +25,8 @@ use Rattle.types.specs.declared.scalars.UintTy.TheVariants as uint
 use Rattle.types.specs.declared.ty.Ty.{Ty, Bool as BoolTy, Int as IntType, Uint as UintType}
 use Rattle.world.specs.Lookups.{layout_of}
 use Rattle.world.proofs.Rows.{layout_row}
-use Rattle.world_check.specs.Checked.{IsChecked, IsCheckedBody, IsCheckedLayout, optional, int_bytes, uint_bytes}
+use Rattle.world.specs.Checked.{IsChecked, IsCheckedBody, IsCheckedLayout, int_bytes, uint_bytes}
+use Rattle.world.specs.Nodes.{optional}
 use Rattle.numbers.specs.Bytes.{low_bytes, is_width}
 use Rattle.numbers.specs.declared.operator.Operator.{Operator}
 use Rattle.numbers.specs.Operators.{Answer, Computes, Panics, Undefined, computed, is_shift, is_comparison, is_on_booleans, of_arith, of_compare, kind_of}

@@ -1,6 +1,6 @@
 -- The laws of the meaning.
 use Rattle.std.specs.Prelude.{◌≡◌, ◌≢◌, ℕ, ◌≤◌}
-use Rattle.world_check.specs.Checked.{IsChecked, IsCheckedBody}
+use Rattle.world.specs.Checked.{IsChecked, IsCheckedBody}
 use Rattle.source_meaning.specs.Ends.{Stuck, IsOver}
 use Rattle.source_meaning.specs.Meaning.{meaning_of}
 use Rattle.source_meaning.specs.Source.{Source}

@@ -1,17 +1,21 @@
 -- What an index finds, and that it stays an index as rows are added at the end.
-use Rattle.std.proofs.Common.{◌≡◌, ℕ, ◌<◌, Bool, true, false, cond, List, [], ◌∷◌, ◌++◌, length, Option, None, Some, slice_get, refl, sym, ◌∙◌, ap, arith, length-append}
-use Rattle.std.proofs.Math.Seq.{get_or-append_seam}
-use Rattle.std.proofs.lemmas.List.{get_or_append_left}
-use Rattle.std.proofs.lemmas.Option.{slice_get_within, slice_get-get_or, get_or_from_slice_get}
+use Rattle.std.proofs.Common.{◌≡◌, ℕ, ◌+◌, ◌≤◌, Bool, true, false, cond, List, [], ◌∷◌, ◌++◌, length, get_or, Option, None, Some, slice_get, refl, sym, ◌∙◌, ap, arith, length-append}
+use Rattle.std.proofs.Math.Dec.{ltb, eqb}
+use Rattle.std.proofs.Math.Path.{fun_ext}
+use Rattle.std.proofs.lemmas.Bool.{ltb-true, ltb-false}
+use Rattle.std.proofs.lemmas.Bool.Decides.{nat_tests}
+use Rattle.std.proofs.lemmas.List.Folds.{find_at, position_or_len_push}
+use Rattle.std.proofs.lemmas.List.Sums.{passes_at_first, prefix_len-le-length}
+use Rattle.std.proofs.lemmas.Option.{slice_get_past}
 use Rattle.std.specs.BTreeMap.{is_at}
 use Rattle.std.specs.Cmp.{IsTotalOrder}
-use Rattle.std.specs.List.{find}
+use Rattle.std.specs.List.{find, position, position_or_len}
 use Rattle.std.specs.Map.{lookup}
 use Rattle.std.specs.Option.{option_or, is_some}
 use Rattle.std.specs.Ordering.{is_eq, ordering_reverse}
 use Rattle.std.specs.declared.cmp.Ordering.{Ordering}
 use Rattle.std.specs.declared.cmp.Ordering.TheVariants.{Less, Equal, Greater}
-use Rattle.types.specs.Places.{row_at, IsAtPlace, IsIndex}
+use Rattle.types.specs.Places.{row_at, place_at, IsIndex}
 
 reversed_tie : (o : Ordering) → is_eq (ordering_reverse o) ≡ is_eq o
 reversed_tie Less = refl
@@ -27,51 +31,49 @@ by_bool : {P : Type 0} (b : Bool) → (b ≡ true → P) → (b ≡ false → P)
 by_bool true f g = f refl
 by_bool false f g = g refl
 
-or_else_cond : {V : Type 0} (b : Bool) (v : V) (o p : Option V) → cond b (Some v) (option_or o p) ≡ option_or (cond b (Some v) o) p
-or_else_cond true v o p = refl
-or_else_cond false v o p = refl
+module _ {R : Type 0} (test : R → Bool) (rows : List R) where
+  place_first : (n i : ℕ) (b : Bool) → Some i ≡ cond b (Some n) None → i ≡ n
+  place_first n i true h = cc
+  place_first n i false h = cc
 
-find-append : {R : Type 0} (test : R → Bool) (rows more : List R) → find test (rows ++ more) ≡ option_or (find test rows) (find test more)
-find-append test [] more = refl
-find-append test (row ∷ rows) more =
-    ap (λ o. cond (test row) (Some row) o) (find-append test rows more) ∙ or_else_cond (test row) row (find test rows) (find test more)
+  place_none : (n m : ℕ) → None ≡ cond (ltb n m) (Some n) None → m ≤ n
+  place_none n m h = by_bool (ltb n m) (λ t. let some : None ≡ Some n = h ∙ ap (λ b. cond b (Some n) None) t in cc) (ltb-false n m)
 
-get_before : {X : Type 0} (rows more : List X) (i : ℕ) (x : X) → slice_get rows i ≡ Some x → slice_get (rows ++ more) i ≡ Some x
-get_before rows more i x h =
-    let w : i < length rows = slice_get_within rows i x h in
-    slice_get-get_or (rows ++ more) i x (omega (arith, length-append rows more)) ∙ ap Some (get_or_append_left rows more x i w ∙ get_or_from_slice_get rows i x x h)
+  -- at the place of the first row that passes stands what `find` finds
+  pub position_finds : (i : ℕ) → Some i ≡ position test rows → slice_get rows i ≡ find test rows
+  position_finds i h = ap (slice_get rows) (place_first (position_or_len test rows) i _ h) ∙ sym (find_at test rows)
 
-get_seam : {X : Type 0} (rows : List X) (x : X) → slice_get (rows ++ x ∷ []) (length rows) ≡ Some x
-get_seam rows x =
-    slice_get-get_or (rows ++ x ∷ []) (length rows) x (omega (arith, length-append rows (x ∷ []))) ∙ ap Some (get_or-append_seam rows x [] x)
+  -- no place, no row
+  pub no_position : None ≡ position test rows → None ≡ find test rows
+  no_position h = sym (find_at test rows ∙ slice_get_past rows (position_or_len test rows) (place_none _ _ h))
 
-at_place : {R : Type 0} (rows : List R) (o : Option R) (p : Option ℕ) (i : ℕ) → IsAtPlace rows o p → Some i ≡ p → slice_get rows i ≡ o
-at_place rows None None i h e = cc
-at_place rows None (Some j) i h e = absurd h
-at_place rows (Some row) None i h e = absurd h
-at_place rows (Some row) (Some j) i h e = cc
+place_after : (n m : ℕ) (b : Bool) → n ≤ m
+    → cond (ltb (cond (eqb n m) (m + cond b 0 1) n) (m + 1)) (Some (cond (eqb n m) (m + cond b 0 1) n)) None ≡ option_or (cond (ltb n m) (Some n) None) (cond b (Some m) None)
+place_after n m true h = grind (arith, nat_tests)
+place_after n m false h = grind (arith, nat_tests)
 
-at_no_place : {R : Type 0} (rows : List R) (o : Option R) (p : Option ℕ) → IsAtPlace rows o p → None ≡ p → None ≡ o
-at_no_place rows None None h e = refl
-at_no_place rows None (Some j) h e = absurd h
-at_no_place rows (Some row) None h e = absurd h
-at_no_place rows (Some row) (Some j) h e = cc
+-- one more row is found at the end, where no row before it is
+pub position_push : {R : Type 0} (test : R → Bool) (rows : List R) (row : R) → position test (rows ++ row ∷ []) ≡ option_or (position test rows) (cond (test row) (Some (length rows)) None)
+position_push test rows row =
+    rw (position_or_len_push test rows row, length-append rows (row ∷ []))
+    (place_after (position_or_len test rows) (length rows) (test row) (prefix_len-le-length _ rows))
 
 module _ {K R : Type 0} {cmp : K → K → Ordering} (key : R → K) (compare : K → Ordering) (respects : (x y : K) → compare x ≡ Equal → compare y ≡ cmp x y) where
-  row_at_tie : (x : K) → compare x ≡ Equal → (rows : List R) → row_at key compare rows ≡ row_at key (cmp x) rows
-  row_at_tie x h [] = refl
-  row_at_tie x h (row ∷ rows) = rw (respects x (key row) h, row_at_tie x h rows) refl
-
   lookup_at_tie : {X : Type 0} (x : K) → compare x ≡ Equal → (es : List (K × X)) → lookup (is_at compare) es ≡ lookup (is_at (cmp x)) es
-  lookup_at_tie x h [] = refl
-  lookup_at_tie x h (e ∷ es) = rw (respects x e.0 h, lookup_at_tie x h es) refl
+  lookup_at_tie x h es = ap (λ (c : K → Ordering). lookup (is_at c) es) (fun_ext (λ y. respects x y h))
 
-  -- some row has a key that ties, or no row is found
-  by_row : (P : Type 0) (rows : List R) → ((x : K) → compare x ≡ Equal → P) → (row_at key compare rows ≡ None → P) → P
+  place_at_tie : (x : K) → compare x ≡ Equal → (rows : List R) → place_at key (cmp x) rows ≡ place_at key compare rows
+  place_at_tie x h rows = ap (λ (c : K → Ordering). place_at key c rows) (sym (fun_ext (λ y. respects x y h)))
+
+  -- some row has a key that ties, or no place is found
+  by_row : (P : Type 0) (rows : List R) → ((x : K) → compare x ≡ Equal → P) → (place_at key compare rows ≡ None → P) → P
   by_row P [] tied none = none refl
   by_row P (row ∷ rows) tied none =
-      by_bool (is_at compare (key row)) (λ t. tied (key row) (tie_is_equal _ t))
-      (λ f. by_row P rows tied (λ e. none (ap (λ b. cond b (Some row) (row_at key compare rows)) f ∙ e)))
+      let test = λ (r : R). is_at compare (key r) in
+      let all = row ∷ rows in
+      let n = position_or_len test all in
+      by_bool (ltb n (length all)) (λ t. tied (key (get_or all n row)) (tie_is_equal _ (passes_at_first test all row (ltb-true _ _ t))))
+      (λ f. none (ap (λ b. cond b (Some n) None) f))
 
   by_entry : {X : Type 0} (P : Type 0) (es : List (K × X)) → ((x : K) → compare x ≡ Equal → P) → (lookup (is_at compare) es ≡ None → P) → P
   by_entry P [] tied none = none refl
@@ -80,37 +82,40 @@ module _ {K R : Type 0} {cmp : K → K → Ordering} (key : R → K) (compare : 
       (λ f. by_entry P es tied (λ n. none (ap (λ b. cond b (Some e.1) (lookup (is_at compare) es)) f ∙ n)))
 
   -- an index answers every query that compares as a key does where it ties
-  found_by : (rows : List R) (places : List (K × ℕ)) → IsIndex cmp key rows places → IsAtPlace rows (row_at key compare rows) (lookup (is_at compare) places)
-  found_by rows places index =
-      let at_key : (x : K) → compare x ≡ Equal → IsAtPlace rows (row_at key compare rows) (lookup (is_at compare) places) =
-      λ x h. rw (row_at_tie x h rows, lookup_at_tie x h places) (index x) in
-      by_row _ rows at_key (λ no_row. by_entry _ places at_key (λ no_entry. rw (no_row, no_entry) tt))
+  pub place_found : (rows : List R) (places : List (K × ℕ)) → IsIndex cmp key rows places → lookup (is_at compare) places ≡ place_at key compare rows
+  place_found rows places index =
+      let at_key : (x : K) → compare x ≡ Equal → lookup (is_at compare) places ≡ place_at key compare rows =
+      λ x h. lookup_at_tie x h places ∙ index x ∙ place_at_tie x h rows in
+      by_row _ rows at_key (λ no_row. by_entry _ places at_key (λ no_entry. no_entry ∙ sym no_row))
 
-  pub found_at : (rows : List R) (places : List (K × ℕ)) (i : ℕ) → IsIndex cmp key rows places → Some i ≡ lookup (is_at compare) places → slice_get rows i ≡ row_at key compare rows
-  found_at rows places i index e = at_place rows _ _ i (found_by rows places index) e
+-- the row at the place of a key is the row of the key
+pub found_at : {K R : Type 0} (key : R → K) (compare : K → Ordering) (rows : List R) (i : ℕ) → Some i ≡ place_at key compare rows → slice_get rows i ≡ row_at key compare rows
+found_at key compare rows i h = position_finds (λ row. is_at compare (key row)) rows i h
 
-  pub found_nowhere : (rows : List R) (places : List (K × ℕ)) → IsIndex cmp key rows places → None ≡ lookup (is_at compare) places → None ≡ row_at key compare rows
-  found_nowhere rows places index e = at_no_place rows _ _ (found_by rows places index) e
+pub found_nowhere : {K R : Type 0} (key : R → K) (compare : K → Ordering) (rows : List R) → None ≡ place_at key compare rows → None ≡ row_at key compare rows
+found_nowhere key compare rows h = no_position (λ row. is_at compare (key row)) rows h
 
 module _ {K R : Type 0} {cmp : K → K → Ordering} (total : IsTotalOrder cmp) (key : R → K) where
   tie_symm : (j k : K) → is_at (cmp j) k ≡ is_at (cmp k) j
   tie_symm j k = ap is_eq (total.antisymm j k) ∙ reversed_tie (cmp k j)
 
-  module _ (rows : List R) (row : R) where
-    stays : (o : Option R) (p : Option ℕ) (b : Bool) → IsAtPlace rows o p → (b ≡ true → is_some p ≡ true) → IsAtPlace (rows ++ row ∷ []) (option_or o (cond b (Some row) None)) p
-    stays None None false h f = tt
-    stays None None true h f = let e : false ≡ true = f refl in cc
-    stays None (Some i) b h f = absurd h
-    stays (Some w) None b h f = absurd h
-    stays (Some w) (Some i) b h f = get_before rows _ i w h
+  stays : (p : Option ℕ) (n : ℕ) (b : Bool) → (b ≡ true → is_some p ≡ true) → p ≡ option_or p (cond b (Some n) None)
+  stays None n false f = refl
+  stays None n true f = let e : false ≡ true = f refl in cc
+  stays (Some i) n b f = refl
 
-    grows : (o : Option R) (p : Option ℕ) (b : Bool) → IsAtPlace rows o p → (b ≡ true → is_some p ≡ false) → IsAtPlace (rows ++ row ∷ []) (option_or o (cond b (Some row) None)) (cond b (Some (length rows)) p)
-    grows None None false h f = tt
-    grows None None true h f = get_seam rows row
-    grows None (Some i) b h f = absurd h
-    grows (Some w) None b h f = absurd h
-    grows (Some w) (Some i) false h f = get_before rows _ i w h
-    grows (Some w) (Some i) true h f = let e : true ≡ false = f refl in cc
+  grows : (p : Option ℕ) (n : ℕ) (b : Bool) → (b ≡ true → is_some p ≡ false) → cond b (Some n) p ≡ option_or p (cond b (Some n) None)
+  grows None n false f = refl
+  grows None n true f = refl
+  grows (Some i) n false f = refl
+  grows (Some i) n true f = let e : true ≡ false = f refl in cc
+
+  module _ (rows : List R) (row : R) where
+    -- where a key is found once the row is added at the end
+    place_pushed : (places : List (K × ℕ)) → IsIndex cmp key rows places → (j : K)
+        → option_or (lookup (is_at (cmp j)) places) (cond (is_at (cmp j) (key row)) (Some (length rows)) None) ≡ place_at key (cmp j) (rows ++ row ∷ [])
+    place_pushed places index j =
+        ap (λ (p : Option ℕ). option_or p (cond (is_at (cmp j) (key row)) (Some (length rows)) None)) (index j) ∙ sym (position_push (λ r. is_at (cmp j) (key r)) rows row)
 
     -- what look-ups of the row's key say holds at each key that ties
     at_ties : (places : List (K × ℕ)) (b : Bool) (j : K) → is_some (lookup (is_at (cmp (key row))) places) ≡ b → is_at (cmp j) (key row) ≡ true → is_some (lookup (is_at (cmp j)) places) ≡ b
@@ -120,14 +125,13 @@ module _ {K R : Type 0} {cmp : K → K → Ordering} (total : IsTotalOrder cmp) 
     pub index_stays : (places : List (K × ℕ)) (copy : K) → IsIndex cmp key rows places → copy ≡ key row → is_some (lookup (is_at (cmp copy)) places) ≡ true → IsIndex cmp key (rows ++ row ∷ []) places
     index_stays places copy index same h j =
         let there = ap (λ c. is_some (lookup (is_at (cmp c)) places)) (sym same) ∙ h in
-        rw (find-append (λ r. is_at (cmp j) (key r)) rows (row ∷ []))
-        (stays (row_at key (cmp j) rows) (lookup (is_at (cmp j)) places) (is_at (cmp j) (key row)) (index j) (at_ties places true j there))
+        stays (lookup (is_at (cmp j)) places) (length rows) (is_at (cmp j) (key row)) (at_ties places true j there) ∙ place_pushed places index j
 
     index_grows : (places more : List (K × ℕ)) → IsIndex cmp key rows places → is_some (lookup (is_at (cmp (key row))) places) ≡ false
         → ((j : K) → lookup (is_at (cmp j)) more ≡ cond (is_at (cmp (key row)) j) (Some (length rows)) (lookup (is_at (cmp j)) places)) → IsIndex cmp key (rows ++ row ∷ []) more
     index_grows places more index h added j =
-        rw (find-append (λ r. is_at (cmp j) (key r)) rows (row ∷ []), added j, tie_symm (key row) j)
-        (grows (row_at key (cmp j) rows) (lookup (is_at (cmp j)) places) (is_at (cmp j) (key row)) (index j) (at_ties places false j h))
+        added j ∙ ap (λ b. cond b (Some (length rows)) (lookup (is_at (cmp j)) places)) (tie_symm (key row) j)
+        ∙ grows (lookup (is_at (cmp j)) places) (length rows) (is_at (cmp j) (key row)) (at_ties places false j h) ∙ place_pushed places index j
 
     -- a row with a new key, whose place is added at a copy of the key
     pub index_adds : (places more : List (K × ℕ)) (copy : K) (place : ℕ) → IsIndex cmp key rows places → copy ≡ key row → is_some (lookup (is_at (cmp copy)) places) ≡ false → place ≡ length rows

@@ -15,10 +15,6 @@ mod operators;
 mod row;
 mod scalars;
 mod table;
-#[cfg(test)]
-mod table_tests;
-#[cfg(test)]
-mod tests;
 mod text;
 mod ty;
 

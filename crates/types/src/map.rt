@@ -5,6 +5,7 @@ ghost use Rattle.std.specs.Cmp.Lexicographic.{pointwise, slice_cmp, slice_partia
 ghost use Rattle.std.specs.Hash as fed;
 ghost use Rattle.std.specs.Hash.{on_Alike, and-Alike, items_Alike};
 ghost use Rattle.std.specs.Map.{lookup};
+ghost use Rattle.std.specs.Map.Iter.{ShowsInOrder, deref_pair};
 ghost use Rattle.std.specs.Option.{option_copied, option_map};
 ghost use Rattle.std.specs.Ordering.{ordering_then, partial_ordering_then};
 
@@ -12,6 +13,7 @@ use crate::{NoMemory, TryClone};
 use std::alloc::Global;
 use std::cmp::Ordering;
 use std::collections::BTreeMap;
+use std::collections::btree_map::Iter;
 use std::hash::{Hash, Hasher};
 use std::marker::Model;
 
@@ -61,6 +63,14 @@ impl<K: Ord, V> Map<K, V> {
         ensures { option_map (λ entry. (entry.0.now, entry.1.now)) result ≡ slice_get self.now i }
     {
         self.entries.iter().nth(i as usize)
+    }
+
+    /// The entries by rising keys.
+    pub fn iter(&self) -> Iter<'_, K, V>
+        ensures rest { result ≡ self.now }
+        ensures runs { ShowsInOrder (deref_pair {K = K} {X = V}) }
+    {
+        self.entries.iter()
     }
 }
 

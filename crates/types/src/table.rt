@@ -4,7 +4,7 @@ ghost use Rattle.std.specs.Cmp.Lexicographic.{pointwise, slice_cmp, slice_partia
 ghost use Rattle.std.specs.Hash as fed;
 ghost use Rattle.std.specs.Hash.{items_Alike};
 ghost use Rattle.std.specs.Option.{option_copied};
-ghost use Rattle.types.specs.Places.{row_at};
+ghost use Rattle.types.specs.Places.{place_at, row_at};
 
 use crate::{NoMemory, Row, TryClone};
 use std::alloc::Global;
@@ -73,10 +73,17 @@ impl<K: Ord, R: Row<K>> Table<K, R> {
     pub fn get<Q: Comparable<K>>(&self, key: Q) -> Option<&R>
         ensures { option_copied result ≡ row_at R.key (Q.compare key) self.now }
     {
-        match self.places.get(key) {
-            Some(place) => self.at(*place),
+        match self.place_of(key) {
+            Some(place) => self.at(place),
             None => None,
         }
+    }
+
+    /// The place of the first row with a key.
+    pub fn place_of<Q: Comparable<K>>(&self, key: Q) -> Option<u64>
+        ensures { result ≡ place_at R.key (Q.compare key) self.now }
+    {
+        self.places.get(key).copied()
     }
 }
 

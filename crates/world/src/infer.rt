@@ -31,9 +31,9 @@ pub struct InferenceResult {
     pub field_res: Map<ExprId, Either<FieldId, TupleFieldId>>,
     pub method_res: Map<ExprId, MethodRes>,
     pub binding_modes: Map<PatId, BindingMode>,
-    /// The casts that are coercions.
+    /// The operands of casts that are coercions.
     pub coercion_casts: List<ExprId>,
-    /// The expressions that never end in a value.
+    /// The calls that do not return.
     pub diverging: List<ExprId>,
     /// The types of this body that are `Copy`.
     pub copy_types: List<Ty>,

@@ -15,8 +15,6 @@ mod limits;
 mod literal;
 mod lookups;
 mod pat;
-#[cfg(test)]
-mod tests;
 
 pub use adjust::Adjust;
 pub use adjust::Adjustment;

@@ -1,53 +1,39 @@
--- What the sites of the check say of a world where all pass.
-use Rattle.std.proofs.Common.{◌≡◌, ℕ, suc, zero, ◌+◌, ◌*◌, ◌^◌, ◌%◌, ◌/◌, ◌<◌, ◌≤◌, Bool, true, false, cond, ◌&&◌, ◌||◌, eqb, ltb, Option, Some, None, List, [], ◌∷◌, ◌++◌, length, refl, sym, ◌∙◌, ap, arith, lit≤}
+-- A world that passes the check is a checked world.
+use Rattle.std.proofs.Common.{◌≡◌, ℕ, zero, suc, ◌&&◌, ◌||◌, ◌*◌, ◌/◌, ◌%◌, ◌^◌, ◌<◌, ◌≤◌, Bool, true, false, Option, Some, None, List, [], ◌∷◌, length, refl, sym, ◌∙◌, ap, arith, eqb, ltb, lit≤, rules}
 use Rattle.std.proofs.lemmas.Bool.Decides.{nat_tests}
 use Rattle.std.proofs.lemmas.Nat.{pow_pos}
-use Rattle.std.specs.List.{list_any, list_all, slice_get, All}
+use Rattle.std.specs.List.{list_all, list_any, slice_get, All}
 use Rattle.std.specs.Option.{IfSome}
-use Rattle.world.specs.declared.database.BodyRow.{BodyRow}
-use Rattle.world.specs.declared.items.ConstRow.{ConstRow}
-use Rattle.world.specs.declared.database.HirDatabase.{HirDatabase}
-use Rattle.world.specs.declared.layout.Layout.{Layout}
+use Rattle.types.specs.declared.scalars.IntTy.{IntTy}
+use Rattle.types.specs.declared.scalars.UintTy.{UintTy}
+use Rattle.types.specs.declared.ty.Const.TheFolds.{the_lemmas}
 use Rattle.types.specs.declared.ty.Ty.{Ty}
-use Rattle.world_check.specs.Checked.{IsAlignment, IsChecked, IsCheckedBody, IsCheckedConst, IsCheckedLayout, children_of, fixed_size}
-use Rattle.world_check.specs.Rows.{first_failure, first_failure_among, row_failure}
-use Rattle.world_check.specs.Sites.{Site, first_failing, each, alignments, body_range_sites, body_tree_sites, bodies_range_sites, const_sites, consts_range_sites, expr_list_sites, expr_tree_sites, exprs_range_sites, held_exprs, is_fixed_size, is_none_or_in_range, key_sites, layout_row_sites, layout_sites, pat_list_sites, pats_range_sites, range_sites, rest_range_sites, tree_sites}
+use Rattle.types.specs.declared.ty.Ty as type
+use Rattle.world.specs.Checked.{IsAlignment, IsChecked, IsCheckedBody, IsCheckedConst, IsCheckedLayout, fixed_size, int_bytes, uint_bytes}
+use Rattle.world.specs.Nodes.{children_of}
+use Rattle.world.specs.declared.database.BodyRow.{BodyRow}
+use Rattle.world.specs.declared.database.HirDatabase.{HirDatabase}
+use Rattle.world.specs.declared.items.ConstRow.{ConstRow}
+use Rattle.world.specs.declared.layout.Layout.{Layout}
+use Rattle.body_ids.specs.Inferred.{has_type_each, is_inferred_right}
+use Rattle.body_ids.specs.Parts.{are_roots_known, unless, wrong_name, wrong_node, wrong_part}
+use Rattle.body_ids.specs.declared.part.BodyPart.{BodyPart}
+use Rattle.body_ids.specs.declared.part.BodyPart.TheVariants as part
+use Rattle.world.specs.Failing.{first_failing}
+use Rattle.body_trees.specs.Tree.{is_expr_in_order}
+use Rattle.item_rows.specs.Names.{is_body_known, is_const_named}
+use Rattle.layout_rows.specs.Layouts.{are_parts_right, is_layout_right, is_size_right}
+use Rattle.layout_rows.specs.Sizes.{alignments, is_alignment, is_fixed_size, is_multiple_of, known_size}
+use Rattle.world_names.specs.Known.{is_nameable, is_ty_closed}
+use Rattle.world_check.specs.Rows.{Holds, failing_place, first_failure, first_failure_among, row_failure}
+use Rattle.world_check.specs.Tables.{first_found, wrong_adts, wrong_bodies, wrong_body_ids, wrong_items, wrong_names, wrong_row, wrong_table, wrong_tree}
 use Rattle.world_check.specs.declared.fault.CheckRow.{CheckRow}
 use Rattle.world_check.specs.declared.fault.CheckRow.TheVariants.{C1, C2, C3, C4, C5, C6, C7}
 use Rattle.world_check.specs.declared.place.Place.{Place}
-
--- the two parts of a conjunction
-both : (a b : Bool) → (a && b) ≡ true → (a ≡ true) × (b ≡ true)
-both true b e = (refl, e)
-both false b e = cc
-
--- a first site that passes, and the rest
-pass : (c : Bool) (p : Place) (rest : Option Place) → cond c rest (Some p) ≡ None → (c ≡ true) × (rest ≡ None)
-pass true p rest e = (refl, e)
-pass false p rest e = cc
-
-pass_both : (c : Bool) (p : Place) (r s : Option Place) (rest : Option Place) → (r ≡ None → (s ≡ None) × (rest ≡ None)) → cond c r (Some p) ≡ None → (cond c s (Some p) ≡ None) × (rest ≡ None)
-pass_both true p r s rest h e = h e
-pass_both false p r s rest h e = cc
-
-pub split : (a b : List Site) → first_failing (a ++ b) ≡ None → (first_failing a ≡ None) × (first_failing b ≡ None)
-split [] b e = (refl, e)
-split (s ∷ a) b e = pass_both s.passes s.place (first_failing (a ++ b)) (first_failing a) (first_failing b) (split a b) e
-
-each_at : {X : Type 0} (f : ℕ → X → List Site) (i k : ℕ) (xs : List X) (x : X) → first_failing (each f i xs) ≡ None → slice_get xs k ≡ Some x → first_failing (f (i + k) x) ≡ None
-each_at f i k [] x e at = cc
-each_at f i zero (y ∷ xs) x e at =
-    let here : y ≡ x = cc in
-    let start : i + zero ≡ i = omega arith in
-    ap (λ j. first_failing (f j x)) start ∙ ap (λ z. first_failing (f i z)) (sym here) ∙ (split (f i y) (each f (i + 1) xs) e).0
-each_at f i (suc k) (y ∷ xs) x e at =
-    let step : i + suc k ≡ (i + 1) + k = omega arith in
-    ap (λ j. first_failing (f j x)) step ∙ each_at f (i + 1) k xs x (split (f i y) (each f (i + 1) xs) e).1 at
-
-pub each_passes : {X : Type 0} (f : ℕ → X → List Site) (k : ℕ) (xs : List X) (x : X) → first_failing (each f 0 xs) ≡ None → slice_get xs k ≡ Some x → first_failing (f k x) ≡ None
-each_passes f k xs x e at =
-    let start : k ≡ 0 + k = omega arith in
-    ap (λ j. first_failing (f j x)) start ∙ each_at f 0 k xs x e at
+use Rattle.world_check.specs.declared.place.Place.TheVariants.{Row, Table}
+use Rattle.world_check.specs.declared.place.TableName.{TableName}
+use Rattle.world_check.specs.declared.place.TableName.TheVariants.{Bodies, Consts, Layouts}
+use Rattle.world_check.proofs.Passing.{all_at, all_pass, both, found_none_at, neither, not_mapped, passes_at, within_table}
 
 is_below : (c i : ℕ) → ltb c i ≡ true → c < i
 is_below c i e = grind (arith, nat_tests)
@@ -55,21 +41,21 @@ is_below c i e = grind (arith, nat_tests)
 is_same : (m n : ℕ) → eqb m n ≡ true → m ≡ n
 is_same m n e = grind (arith, nat_tests)
 
-All-list_all : (i : ℕ) (xs : List ℕ) → list_all (λ x. ltb x i) xs ≡ true → All (λ x. x < i) xs
-All-list_all i [] e k d h = absurd (omega arith)
-All-list_all i (x ∷ xs) e zero d h = is_below x i (both (ltb x i) (list_all (λ y. ltb y i) xs) e).0
-All-list_all i (x ∷ xs) e (suc k) d h =
-    All-list_all i xs (both (ltb x i) (list_all (λ y. ltb y i) xs) e).1 k d (omega arith)
+all_below : (i : ℕ) (xs : List ℕ) → list_all (λ x. ltb x i) xs ≡ true → All (λ x. x < i) xs
+all_below i [] e k d h = absurd (omega arith)
+all_below i (x ∷ xs) e zero d h = is_below x i (both (ltb x i) (list_all (λ y. ltb y i) xs) e).0
+all_below i (x ∷ xs) e (suc k) d h = all_below i xs (both (ltb x i) (list_all (λ y. ltb y i) xs) e).1 k d (omega arith)
 
-optional_in_range : {X : Type 0} (xs : List X) (o : Option ℕ) → is_none_or_in_range xs o ≡ true → IfSome o (λ i. i < length xs)
-optional_in_range xs None e = tt
-optional_in_range xs (Some i) e = is_below i (length xs) e
+body_in_range : (world : HirDatabase) (body : Option ℕ) → is_body_known world body ≡ true → IfSome body (λ place. place < length world.bodies)
+body_in_range world None e = tt
+body_in_range world (Some place) e = is_below place (length world.bodies) e
 
-checked_const : (world : HirDatabase) (i : ℕ) (row : ConstRow) → first_failing (const_sites world i row) ≡ None → IsCheckedConst world row
-checked_const world i row e =
-    let a = pass (ltb row.krate.0 (length world.crates)) _ _ e in
-    let b = pass (is_none_or_in_range world.bodies row.body) _ _ a.1 in
-    record { krate = is_below row.krate.0 (length world.crates) a.0; body = optional_in_range world.bodies row.body b.0 }
+checked_const : (world : HirDatabase) (row : ConstRow) → is_const_named world row ≡ true → IsCheckedConst world row
+checked_const world row e =
+    let last = both _ (is_body_known world row.body) e in
+    let second = both _ _ last.0 in
+    let first = both (ltb row.krate.0 (length world.crates)) _ second.0 in
+    record { krate = is_below row.krate.0 (length world.crates) first.0; body = body_in_range world row.body last.1 }
 
 is_power : (k : ℕ) → k ≤ 13 → (align : ℕ) (rest : Bool) → (eqb (2 ^ k) align || rest) ≡ true → (rest ≡ true → IsAlignment align) → IsAlignment align
 is_power k h align rest e later = by_first (eqb (2 ^ k) align) (λ same. (k, h, sym (is_same (2 ^ k) align same))) e later
@@ -102,63 +88,131 @@ multiple size align h e = (size / align, grind arith)
 positive : (align : ℕ) → IsAlignment align → 0 < align
 positive align (k, h, e) = let below = pow_pos k in omega arith
 
-fixed : (o : Option ℕ) (size : ℕ) → is_fixed_size o size ≡ true → IfSome o (λ fixed. size ≡ fixed)
-fixed None size e = tt
-fixed (Some n) size e = is_same size n e
+bool_size : (world : HirDatabase) → known_size world type.Bool ≡ Some 1
+bool_size world = search (the_lemmas, rules)
 
-checked_layout : (i : ℕ) (row : Ty × Layout) → first_failing (layout_row_sites i row) ≡ None → IsCheckedLayout row.0 row.1
-checked_layout i row e =
-    let a = pass (list_any (λ power. eqb power row.1.align) alignments) _ _ e in
-    let b = pass (eqb (row.1.size % row.1.align) 0) _ _ a.1 in
-    let c = pass (is_fixed_size (fixed_size row.0) row.1.size) _ _ b.1 in
-    let align = alignment row.1.align a.0 in
-    record { align = align; multiple = multiple row.1.size row.1.align (positive row.1.align align) (is_same _ 0 b.0); size = fixed (fixed_size row.0) row.1.size c.0 }
+int_size : (world : HirDatabase) (int : IntTy) → known_size world (type.Int int) ≡ Some (int_bytes int)
+int_size world int = search (the_lemmas, rules)
 
-checked_body : (b : ℕ) (row : BodyRow) → first_failing (body_range_sites b row) ≡ None → first_failing (body_tree_sites b row) ≡ None → IsCheckedBody row.body row.infer
-checked_body b row ranges trees =
-    let rest = (split (pats_range_sites b row.body) (rest_range_sites b row) (split (exprs_range_sites b row.body) (pats_range_sites b row.body ++ rest_range_sites b row) ranges).1).1 in
-    let bindings = pass _ _ _ rest in
-    let root = pass (ltb row.body.body_expr.0 (length row.body.exprs)) _ _ bindings.1 in
-    let exprs = pass (eqb (length row.infer.expr_types) (length row.body.exprs)) _ _ root.1 in
-    let pats = pass (eqb (length row.infer.pat_types) (length row.body.pats)) _ _ exprs.1 in
-    let names = pass (eqb (length row.infer.binding_types) (length row.body.bindings)) _ _ pats.1 in
-    let nodes = (split (expr_list_sites b row.body) (pat_list_sites b row.body) trees).0 in
+uint_size : (world : HirDatabase) (uint : UintTy) → known_size world (type.Uint uint) ≡ Some (uint_bytes uint)
+uint_size world uint = search (the_lemmas, rules)
+
+sized : (o : Option ℕ) (known size : ℕ) → o ≡ Some known → is_fixed_size o size ≡ true → size ≡ known
+sized o known size told e = is_same size known (ap (λ p. is_fixed_size p size) (sym told) ∙ e)
+
+-- the size that every world gives a type is the one that its layout has
+fixed : (world : HirDatabase) (ty : Ty) (size : ℕ) → is_fixed_size (known_size world ty) size ≡ true → IfSome (fixed_size ty) (λ known. size ≡ known)
+fixed world type.Bool size e = sized (known_size world type.Bool) 1 size (bool_size world) e
+fixed world (type.Int int) size e = sized (known_size world (type.Int int)) (int_bytes int) size (int_size world int) e
+fixed world (type.Uint uint) size e = sized (known_size world (type.Uint uint)) (uint_bytes uint) size (uint_size world uint) e
+fixed world _ size e = tt
+
+checked_layout : (world : HirDatabase) (i : ℕ) (row : Ty × Layout) → is_layout_right world i row ≡ true → IsCheckedLayout row.0 row.1
+checked_layout world i row e =
+    let right = both (is_ty_closed row.0 && is_size_right world row.0 row.1) (are_parts_right world i row.0 row.1) e in
+    let sized = both (is_ty_closed row.0) (is_size_right world row.0 row.1) right.0 in
+    let known = both (is_alignment row.1.align && is_multiple_of row.1.size row.1.align) (is_fixed_size (known_size world row.0) row.1.size) sized.1 in
+    let placed = both (is_alignment row.1.align) (is_multiple_of row.1.size row.1.align) known.0 in
+    let align = alignment row.1.align placed.0 in
+    record { align = align; multiple = multiple row.1.size row.1.align (positive row.1.align align) (is_same _ 0 placed.1); size = fixed world row.0 row.1.size known.1 }
+
+no_part : (passes : Bool) (found : BodyPart) → unless passes found ≡ None → passes ≡ true
+no_part true found e = refl
+no_part false found e = cc
+
+checked_body : (world : HirDatabase) (b : ℕ) (row : BodyRow) → wrong_body_ids world b row ≡ None → wrong_tree b row ≡ None → IsCheckedBody row.body row.infer
+checked_body world b row ranges trees =
+    let body = row.body in
+    let whole = not_mapped _ (wrong_part world body row.infer) ranges in
+    let names = (neither (wrong_node body) _ whole).1 in
+    let rest = no_part _ part.Rest (neither (wrong_name body) _ names).1 in
+    let parts = both (are_roots_known body) (is_inferred_right world body row.infer) rest in
+    let root = (both _ (ltb body.body_expr.0 (length body.exprs)) parts.0).1 in
+    let inferred = both _ _ parts.1 in
+    let valued = both _ _ inferred.0 in
+    let reworked = both _ _ valued.0 in
+    let typed = both (has_type_each body row.infer) _ reworked.0 in
+    let bindings = both _ (eqb (length row.infer.binding_types) (length body.bindings)) typed.0 in
+    let exprs = both (eqb (length row.infer.expr_types) (length body.exprs)) (eqb (length row.infer.pat_types) (length body.pats)) bindings.0 in
+    let nodes = (neither _ _ (not_mapped _ _ trees)).0 in
+    let ordered = not_mapped _ (first_failing (is_expr_in_order body) 0 body.exprs) nodes in
     record {
-      root = is_below row.body.body_expr.0 (length row.body.exprs) root.0;
+      root = is_below body.body_expr.0 (length body.exprs) root;
       expr_types = is_same _ _ exprs.0;
-      pat_types = is_same _ _ pats.0;
-      binding_types = is_same _ _ names.0;
+      pat_types = is_same _ _ exprs.1;
+      binding_types = is_same _ _ bindings.1;
       children = λ e node at.
-          All-list_all e (children_of node) (pass (list_all (λ child. ltb child e) (children_of node)) _ _ (each_passes (expr_tree_sites row.body (held_exprs row.body) b) e row.body.exprs node nodes at)).0;
+          let whole = passes_at (is_expr_in_order body) e body.exprs node ordered at in
+          let held = both _ _ whole in
+          let inside = both _ _ held.0 in
+          let below = both (list_all (λ child. ltb child e) (children_of node)) _ inside.0 in
+          all_below e (children_of node) below.0;
     }
 
 row_passes : (row : CheckRow) (found : Option Place) (later : Option (CheckRow × List ℕ)) → row_failure row found later ≡ None → (found ≡ None) × (later ≡ None)
 row_passes row None later e = (refl, e)
 row_passes row (Some p) later e = cc
 
-rows_pass : (first second fifth : Option Place) → first ≡ None → second ≡ None → fifth ≡ None → row_failure C1 first (row_failure C2 second (row_failure C5 fifth None)) ≡ None
-rows_pass None None None e f g = refl
-rows_pass None None (Some p) e f g = cc
-rows_pass None (Some p) fifth e f g = cc
-rows_pass (Some p) second fifth e f g = cc
+by_row : (world : HirDatabase) → failing_place C1 world ≡ None → failing_place C2 world ≡ None → failing_place C3 world ≡ None → failing_place C4 world ≡ None → failing_place C5 world ≡ None → failing_place C6 world ≡ None → failing_place C7 world ≡ None → (row : CheckRow) → failing_place row world ≡ None
+by_row world e1 e2 e3 e4 e5 e6 e7 C1 = e1
+by_row world e1 e2 e3 e4 e5 e6 e7 C2 = e2
+by_row world e1 e2 e3 e4 e5 e6 e7 C3 = e3
+by_row world e1 e2 e3 e4 e5 e6 e7 C4 = e4
+by_row world e1 e2 e3 e4 e5 e6 e7 C5 = e5
+by_row world e1 e2 e3 e4 e5 e6 e7 C6 = e6
+by_row world e1 e2 e3 e4 e5 e6 e7 C7 = e7
 
--- a world whose rows all pass has no failure
-pub first_failure-none : (world : HirDatabase) → first_failing (range_sites world) ≡ None → first_failing (tree_sites world) ≡ None → first_failing (layout_sites world) ≡ None → first_failure world ≡ None
-first_failure-none world e f g = rows_pass (first_failing (range_sites world)) (first_failing (tree_sites world)) (first_failing (layout_sites world)) e f g
+-- what each row of the check finds in a world with no failure: nothing
+pub Holds-from_passes : (world : HirDatabase) → first_failure world ≡ None → Holds world
+unfolding first_failure
+Holds-from_passes world e =
+    let first = row_passes C1 (failing_place C1 world) (first_failure_among (C2 ∷ C3 ∷ C4 ∷ C5 ∷ C6 ∷ C7 ∷ []) world) e in
+    let second = row_passes C2 (failing_place C2 world) (first_failure_among (C3 ∷ C4 ∷ C5 ∷ C6 ∷ C7 ∷ []) world) first.1 in
+    let third = row_passes C3 (failing_place C3 world) (first_failure_among (C4 ∷ C5 ∷ C6 ∷ C7 ∷ []) world) second.1 in
+    let fourth = row_passes C4 (failing_place C4 world) (first_failure_among (C5 ∷ C6 ∷ C7 ∷ []) world) third.1 in
+    let fifth = row_passes C5 (failing_place C5 world) (first_failure_among (C6 ∷ C7 ∷ []) world) fourth.1 in
+    let sixth = row_passes C6 (failing_place C6 world) (first_failure_among (C7 ∷ []) world) fifth.1 in
+    let seventh = row_passes C7 (failing_place C7 world) None sixth.1 in
+    record { at = by_row world first.0 second.0 third.0 fourth.0 fifth.0 sixth.0 seventh.0 }
+
+-- each row of a table in which nothing is found passes its test
+named_rows : {X : Type 0} (table : TableName) (test : X → Bool) (rows : List X) → wrong_table table test rows ≡ None → (i : ℕ) (row : X) → slice_get rows i ≡ Some row → test row ≡ true
+named_rows table test rows e i row at =
+    let inside = within_table (is_nameable (length rows)) (wrong_row table test rows) (Table table) e in
+    all_at test i rows row (all_pass test rows (not_mapped (Row table) _ inside.1)) at
+
+consts_named : (world : HirDatabase) → wrong_items world ≡ None → wrong_table Consts (is_const_named world) world.consts ≡ None
+consts_named world e = (neither _ _ (neither _ _ (neither _ _ e).1).1).0
+
+bodies_found : (world : HirDatabase) → wrong_bodies world ≡ None → first_found (wrong_body_ids world) 0 world.bodies ≡ None
+bodies_found world e = (within_table (is_nameable (length world.bodies)) _ (Table Bodies) (neither _ _ e).1).1
 
 -- a world with no failure is a checked world
 pub IsChecked-from_passes : (world : HirDatabase) → first_failure world ≡ None → IsChecked world
+unfolding failing_place
 IsChecked-from_passes world e =
-    let first = row_passes C1 (first_failing (range_sites world)) (first_failure_among (C2 ∷ C3 ∷ C4 ∷ C5 ∷ C6 ∷ C7 ∷ []) world) e in
-    let second = row_passes C2 (first_failing (tree_sites world)) (first_failure_among (C3 ∷ C4 ∷ C5 ∷ C6 ∷ C7 ∷ []) world) first.1 in
-    let fifth = row_passes C5 (first_failing (layout_sites world)) (first_failure_among (C6 ∷ C7 ∷ []) world) second.1 in
-    let parts = split (consts_range_sites world) (bodies_range_sites world ++ each (key_sites world.layouts) 0 world.layouts) first.0 in
-    let crates = pass _ _ _ parts.0 in
-    let consts = pass _ _ _ crates.1 in
-    let tables = split (bodies_range_sites world) (each (key_sites world.layouts) 0 world.layouts) parts.1 in
-    let bodies = pass _ _ _ tables.0 in
+    let holds = Holds-from_passes world e in
+    let tables = neither (wrong_items world) _ (holds.at C1) in
+    let after_adts = neither (wrong_adts world) _ tables.1 in
+    let after_names = neither (wrong_names world) _ after_adts.1 in
+    let bodies = neither (wrong_bodies world) _ after_names.1 in
     record {
-      consts = λ i row at. checked_const world i row (each_passes (const_sites world) i world.consts row consts.1 at);
-      bodies = λ i row at. checked_body i row (each_passes body_range_sites i world.bodies row bodies.1 at) (each_passes body_tree_sites i world.bodies row second.0 at);
-      layouts = λ i row at. checked_layout i row (each_passes layout_row_sites i world.layouts row fifth.0 at);
+      consts = λ i row at. checked_const world row (named_rows Consts (is_const_named world) world.consts (consts_named world tables.0) i row at);
+      bodies = λ i row at. checked_body world i row (found_none_at (wrong_body_ids world) i world.bodies row (bodies_found world bodies.0) at) (found_none_at wrong_tree i world.bodies row (holds.at C2) at);
+      layouts = λ i row at. checked_layout world i row (passes_at (is_layout_right world) i world.layouts row (not_mapped (Row Layouts) _ (holds.at C5)) at);
     }
+
+-- a world in which no row finds anything has no failure
+pub no_failure : (world : HirDatabase) → None ≡ failing_place C1 world → None ≡ failing_place C2 world → None ≡ failing_place C3 world → None ≡ failing_place C4 world → None ≡ failing_place C5 world → None ≡ failing_place C6 world → None ≡ failing_place C7 world → first_failure world ≡ None
+unfolding first_failure
+no_failure world e1 e2 e3 e4 e5 e6 e7 =
+    passed C1 (failing_place C1 world) (first_failure_among (C2 ∷ C3 ∷ C4 ∷ C5 ∷ C6 ∷ C7 ∷ []) world) e1
+    ∙ passed C2 (failing_place C2 world) (first_failure_among (C3 ∷ C4 ∷ C5 ∷ C6 ∷ C7 ∷ []) world) e2
+    ∙ passed C3 (failing_place C3 world) (first_failure_among (C4 ∷ C5 ∷ C6 ∷ C7 ∷ []) world) e3
+    ∙ passed C4 (failing_place C4 world) (first_failure_among (C5 ∷ C6 ∷ C7 ∷ []) world) e4
+    ∙ passed C5 (failing_place C5 world) (first_failure_among (C6 ∷ C7 ∷ []) world) e5
+    ∙ passed C6 (failing_place C6 world) (first_failure_among (C7 ∷ []) world) e6
+    ∙ passed C7 (failing_place C7 world) None e7
+  where
+    passed : (row : CheckRow) (found : Option Place) (later : Option (CheckRow × List ℕ)) → None ≡ found → row_failure row found later ≡ later
+    passed row found later e = ap (λ o. row_failure row o later) (sym e)

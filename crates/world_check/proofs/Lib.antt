@@ -1,3 +1,4 @@
 pub mod CheckedFacts
-pub mod Heights
+pub mod Passing
+pub mod Sorts
 pub mod Walks

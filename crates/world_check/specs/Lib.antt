@@ -1,6 +1,4 @@
-pub mod Checked
-pub mod Parents
 pub mod Places
-pub mod Sites
-pub mod Heights
+pub mod Tables
+pub mod Valid
 pub mod Rows

@@ -1,24 +1,24 @@
 -- The rows of the check, and what a refusal names.
 use Rattle.std.specs.Prelude.{◌≡◌, ℕ, List, [], ◌∷◌, Option, None, Some}
+use Rattle.world.specs.Checked.{IsChecked}
 use Rattle.world.specs.declared.database.HirDatabase.{HirDatabase}
-use Rattle.world_check.specs.Checked.{IsChecked}
 use Rattle.world_check.specs.Places.{place_text}
-use Rattle.world_check.specs.Sites.{Site, first_failing, range_sites, tree_sites, layout_sites}
+use Rattle.world_check.specs.Tables.{no_label, no_tree, not_agreeing, not_closed, out_of_range, wrong_layout, wrong_tag}
 use Rattle.world_check.specs.declared.fault.CheckFault.{CheckFault}
 use Rattle.world_check.specs.declared.fault.CheckFault.TheVariants.{InvalidWorld, NoMemory}
 use Rattle.world_check.specs.declared.fault.CheckRow.{CheckRow}
 use Rattle.world_check.specs.declared.fault.CheckRow.TheVariants.{C1, C2, C3, C4, C5, C6, C7}
 use Rattle.world_check.specs.declared.place.Place.{Place}
 
--- the sites of a row of the table, in the order of their places
-abbrev pub sites : CheckRow → HirDatabase → List Site
-sites C1 world = range_sites world
-sites C2 world = tree_sites world
-sites C3 world = []
-sites C4 world = []
-sites C5 world = layout_sites world
-sites C6 world = []
-sites C7 world = []
+-- the first place where a row of the check fails
+unfoldable pub failing_place : CheckRow → HirDatabase → Option Place
+failing_place C1 world = out_of_range world
+failing_place C2 world = no_tree world
+failing_place C3 world = no_label world
+failing_place C4 world = not_closed world
+failing_place C5 world = wrong_layout world
+failing_place C6 world = wrong_tag world
+failing_place C7 world = not_agreeing world
 
 abbrev pub all_rows : List CheckRow
 all_rows = C1 ∷ C2 ∷ C3 ∷ C4 ∷ C5 ∷ C6 ∷ C7 ∷ []
@@ -30,12 +30,15 @@ row_failure row None later = later
 
 abbrev pub first_failure_among : List CheckRow → HirDatabase → Option (CheckRow × List ℕ)
 first_failure_among [] world = None
-first_failure_among (row ∷ rows) world =
-    row_failure row (first_failing (sites row world)) (first_failure_among rows world)
+first_failure_among (row ∷ rows) world = row_failure row (failing_place row world) (first_failure_among rows world)
 
 -- the first row that fails, and the text of the first place where it does
-abbrev pub first_failure : HirDatabase → Option (CheckRow × List ℕ)
+unfoldable pub first_failure : HirDatabase → Option (CheckRow × List ℕ)
 first_failure world = first_failure_among all_rows world
+
+-- each row of the check holds at every place
+pub record Holds (world : HirDatabase) : Type 0 where
+  pub at : (row : CheckRow) → failing_place row world ≡ None
 
 -- a refusal names the first failure; memory may run out in any world
 abbrev pub IsRefusal : HirDatabase → CheckFault → Type 0

@@ -1,7 +1,9 @@
+use crate::valid::is_valid;
 use crate::{CheckFault, check};
 use std::alloc::Global;
 use std::marker::Model;
-use world::{DefWithBodyId, HirDatabase};
+use world::{DefWithBodyId, GenericArgs, HirDatabase};
+use world_names::{are_args_known, is_def_known};
 
 /// A world that the check has passed, which contracts see as the database.
 #[derive(Debug, Drop)]
@@ -25,12 +27,13 @@ impl Model for CheckedWorld {
 }
 
 impl CheckedWorld {
-    ghost use Rattle.std.specs.Prelude.{◌≡◌, ◌↔◌, IsTrue, IsSome, IfOk, IfErr, OnOk};
-    ghost use Rattle.world.specs.Lookups.{crate_of};
-    ghost use Rattle.world_check.specs.Checked.{IsChecked};
-    ghost use Rattle.world_check.specs.Rows.{first_failure, IsRefusal};
+    ghost use Rattle.std.specs.Prelude.{◌≡◌, IfOk, IfErr, OnOk};
+    ghost use Rattle.world.specs.Checked.{IsChecked};
+    ghost use Rattle.world_check.specs.Rows.{first_failure, Holds, IsRefusal};
+    ghost use Rattle.world_check.specs.Valid.{is_valid};
+    ghost use Rattle.world_names.specs.Known.{are_args_known, is_def_known};
 
-    /// Checks a world. On a refusal it hands the database back.
+    /// Checks a world, as `check` does. Where that errs, it hands the database back with the fault.
     pub fn new(alloc: Global, db: HirDatabase) -> Result<CheckedWorld, (HirDatabase, CheckFault)>
         ensures same { IfOk result (λ checked. checked ≡ db) }
         ensures passes { OnOk result (first_failure db ≡ None) }
@@ -48,14 +51,30 @@ impl CheckedWorld {
         ensures same { result.now ≡ self.now }
         ensures checked { IsChecked result.now }
         ensures passes { first_failure result.now ≡ None }
+        ensures holds { Holds result.now }
     {
         &self.db
     }
 
-    /// Whether an id is in range.
+    /// Whether the world has a row of what can have a body.
     pub fn has(&self, def: DefWithBodyId) -> bool
-        ensures { IsTrue result ↔ IsSome (crate_of self.now def) }
+        ensures { result ≡ is_def_known self.now def }
     {
-        self.db.crate_of(def).is_some()
+        is_def_known(&self.db, def)
+    }
+
+    /// Whether all ids in generic arguments are in range.
+    pub fn has_args(&self, args: &GenericArgs) -> bool
+        ensures { result ≡ are_args_known self.now args.now }
+    {
+        are_args_known(&self.db, args)
+    }
+
+    /// Whether arguments fit a constant, a static, or a function without parameters: there is one of
+    /// its sort for each generic parameter, and none holds a parameter or an error.
+    pub fn is_valid(&self, def: DefWithBodyId, args: &GenericArgs) -> bool
+        ensures { result ≡ is_valid self.now def args.now }
+    {
+        is_valid(&self.db, def, args)
     }
 }

@@ -5,19 +5,21 @@ use world::{NoMemory, Text};
 /// A row of the check's table. A refusal names the first that fails.
 #[derive(Clone, Copy, PartialEq, Eq, PartialOrd, Ord, Hash, Debug)]
 pub enum CheckRow {
-    /// Ids are in range, lists are short enough to be named by ids, keys of tables are distinct.
+    /// Ids are in range, each node has one type, lists are short enough to be named by ids, keys of
+    /// tables are distinct, and literals of type `char` are characters.
     C1,
-    /// Bodies are trees of at most 400 levels, whose children have lower ids than their parents.
+    /// Bodies are trees: nodes stand after those that they hold and are held once at most, and no path
+    /// of more than 400 steps leads down.
     C2,
-    /// Jumps name enclosing labels.
+    /// Jumps name labels around them.
     C3,
-    /// Normal types hold no alias and no parameter.
+    /// Normal types, and the arguments of `impls` and `const_impls`, hold no alias and no parameter.
     C4,
     /// Layouts are as every target has them.
     C5,
     /// Tags fit their enums.
     C6,
-    /// Signatures, variants and closures fit what they belong to.
+    /// Signatures, variants, closures and the `..` of patterns agree with what they belong to.
     C7,
 }
 
@@ -25,7 +27,8 @@ pub enum CheckRow {
 #[derive(PartialEq, Eq, PartialOrd, Ord, Hash, Debug, Drop)]
 pub struct InvalidWorld {
     pub row: CheckRow,
-    /// A table and an index, as `layouts[3]`, or a node of a body, as `bodies[0].exprs[2]`.
+    /// A row, as `layouts[3]`; a node of a body, as `bodies[0].exprs[2]`; a list that is too long, as
+    /// `consts` or `bodies[0].exprs`; or a function beside the tables, as `drop_fn`.
     pub place: Text,
 }
 

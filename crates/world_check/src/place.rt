@@ -1,6 +1,6 @@
 //! The places of a world that a refusal can name.
 ghost use Rattle.std.specs.Prelude.{◌≡◌, IfOk, string_bytes};
-ghost use Rattle.world_check.specs.Places.{indexed, kind_text, nodes_text, place_text, table_text};
+ghost use Rattle.world_check.specs.Places.{function_text, indexed, kind_text, nodes_text, place_text, table_text};
 
 use std::alloc::Global;
 use world::{NoMemory, Text};
@@ -9,17 +9,43 @@ use world::{NoMemory, Text};
 #[derive(Clone, Copy, PartialEq, Eq, PartialOrd, Ord, Hash, Debug)]
 pub enum TableName {
     Crates,
+    Functions,
     Consts,
+    Statics,
+    Structs,
+    Unions,
+    Enums,
+    Variants,
+    Traits,
+    Aliases,
+    TypeParams,
+    ConstParams,
+    Closures,
     Bodies,
     Layouts,
+    Normals,
+    Impls,
+    ConstImpls,
 }
 
-/// A list of a body's nodes.
+/// A function that stands beside the tables.
+#[derive(Clone, Copy, PartialEq, Eq, PartialOrd, Ord, Hash, Debug)]
+pub enum NamedFunction {
+    Drop,
+    Deref,
+    DerefMut,
+    Call,
+    CallMut,
+    CallOnce,
+}
+
+/// A list of a body's nodes, or of its labels.
 #[derive(Clone, Copy, PartialEq, Eq, PartialOrd, Ord, Hash, Debug)]
 pub enum NodeKind {
     Exprs,
     Pats,
     Bindings,
+    Labels,
 }
 
 /// A place of the world.
@@ -33,6 +59,8 @@ pub enum Place {
     Nodes(u64, NodeKind),
     /// A node of a body, as `bodies[0].exprs[2]`.
     Node(u64, NodeKind, u64),
+    /// A function beside the tables, as `drop_fn`.
+    Function(NamedFunction),
 }
 
 /// The name of a table.
@@ -41,9 +69,37 @@ fn table_text(table: TableName) -> &'static str
 {
     match table {
         TableName::Crates => "crates",
+        TableName::Functions => "functions",
         TableName::Consts => "consts",
+        TableName::Statics => "statics",
+        TableName::Structs => "structs",
+        TableName::Unions => "unions",
+        TableName::Enums => "enums",
+        TableName::Variants => "variants",
+        TableName::Traits => "traits",
+        TableName::Aliases => "aliases",
+        TableName::TypeParams => "type_params",
+        TableName::ConstParams => "const_params",
+        TableName::Closures => "closures",
         TableName::Bodies => "bodies",
         TableName::Layouts => "layouts",
+        TableName::Normals => "normals",
+        TableName::Impls => "impls",
+        TableName::ConstImpls => "const_impls",
+    }
+}
+
+/// The name of a function that stands beside the tables.
+fn function_text(function: NamedFunction) -> &'static str
+    ensures { result.now ≡ function_text function }
+{
+    match function {
+        NamedFunction::Drop => "drop_fn",
+        NamedFunction::Deref => "deref_fn",
+        NamedFunction::DerefMut => "deref_mut_fn",
+        NamedFunction::Call => "call_fn",
+        NamedFunction::CallMut => "call_mut_fn",
+        NamedFunction::CallOnce => "call_once_fn",
     }
 }
 
@@ -55,6 +111,7 @@ fn kind_text(kind: NodeKind) -> &'static str
         NodeKind::Exprs => "exprs",
         NodeKind::Pats => "pats",
         NodeKind::Bindings => "bindings",
+        NodeKind::Labels => "labels",
     }
 }
 
@@ -87,6 +144,7 @@ pub(crate) fn place_text(alloc: Global, place: Place) -> Result<Text, NoMemory>
             let list = nodes_text(alloc, body, kind)?;
             indexed(alloc, list.as_str(), i)?
         }
+        Place::Function(function) => String::from_str(alloc, function_text(function))?,
     };
     Text::from_str(alloc, text.as_str())
 }

@@ -1,12 +1,12 @@
 //! The check, row by row of its table.
 ghost use Rattle.std.specs.Prelude.{◌≡◌, OnOk, IfErr};
-ghost use Rattle.world_check.specs.Checked.{IsChecked};
+ghost use Rattle.world.specs.Checked.{IsChecked};
 ghost use Rattle.world_check.specs.Rows.{first_failure, IsRefusal, IsRefusalAt};
 
-use crate::layouts::first_wrong_layout;
+use crate::agreement::{not_agreeing, not_closed, wrong_layout, wrong_tag};
 use crate::place::place_text;
-use crate::ranges::first_out_of_range;
-use crate::trees::first_no_tree;
+use crate::ranges::out_of_range;
+use crate::trees::{no_label, no_tree};
 use crate::{CheckFault, CheckRow, InvalidWorld, Place};
 use std::alloc::Global;
 use world::HirDatabase;
@@ -23,19 +23,32 @@ fn refusal(alloc: Global, row: CheckRow, place: Place) -> CheckFault
 
 /// Checks a world, and names the first row of the table that fails and the first place where it
 /// does. Where it wants for memory it says only that.
+#[tactic(auto, unfolding(crate::specs::Rows::first_failure, crate::specs::Rows::failing_place))]
 pub fn check(alloc: Global, db: &HirDatabase) -> Result<(), CheckFault>
     ensures ok { OnOk result (IsChecked db.now) }
     ensures passes { OnOk result (first_failure db.now ≡ None) }
     ensures refused { IfErr result (IsRefusal db.now) }
 {
-    if let Some(place) = first_out_of_range(alloc, db)? {
+    if let Some(place) = out_of_range(alloc, db)? {
         return Err(refusal(alloc, CheckRow::C1, place));
     }
-    if let Some(place) = first_no_tree(alloc, db)? {
+    if let Some(place) = no_tree(alloc, db)? {
         return Err(refusal(alloc, CheckRow::C2, place));
     }
-    if let Some(place) = first_wrong_layout(db.layouts.as_slice()) {
+    if let Some(place) = no_label(alloc, db)? {
+        return Err(refusal(alloc, CheckRow::C3, place));
+    }
+    if let Some(place) = not_closed(db) {
+        return Err(refusal(alloc, CheckRow::C4, place));
+    }
+    if let Some(place) = wrong_layout(alloc, db)? {
         return Err(refusal(alloc, CheckRow::C5, place));
+    }
+    if let Some(place) = wrong_tag(db) {
+        return Err(refusal(alloc, CheckRow::C6, place));
+    }
+    if let Some(place) = not_agreeing(alloc, db)? {
+        return Err(refusal(alloc, CheckRow::C7, place));
     }
     Ok(())
 }

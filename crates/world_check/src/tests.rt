@@ -1,25 +1,23 @@
-//! The constant `const GOAL: usize = 2 + 2`, as it is and with one thing wrong in it.
+//! The constant `const GOAL: usize = 2 + 2`, as it is and with one thing wrong in it, and small
+//! worlds that fail the other rows.
 
-use crate::{CheckFault, CheckRow, CheckedWorld, InvalidWorld, check};
+use crate::{CheckFault, CheckRow, CheckedWorld, InvalidWorld, check, check_body};
 use std::alloc::Global;
 use std::test::Fail;
 use world::{
-    ArithOp, BinaryOp, Body, BodyRow, ConstId, ConstRow, Crate, CrateRow, DefWithBodyId, Expr,
-    ExprId, FunctionId, HirDatabase, InferenceResult, Layout, List, Literal, NoMemory, Text, Ty,
-    UintTy, UnaryOp, Variants,
+    AdtId, AliasId, ArithOp, BinaryOp, Body, BodyRow, ConstId, ConstRow, Crate, CrateRow,
+    DefWithBodyId, EnumId, EnumRow, Expr, ExprId, FieldsShape, FunctionId, GenericArgs,
+    HirDatabase, InferenceResult, LabelId, Layout, List, Literal, NoMemory, Text, Ty, UintTy,
+    UnaryOp, VariantRow, Variants,
 };
 
 /// What is wrong in a world.
 #[derive(Clone, Copy, PartialEq, Eq, Debug)]
 enum Change {
     Nothing,
-    NoCrate,
-    NoBody,
     NoOperand,
     NoType,
-    TwoLayouts,
     OwnOperand,
-    SharedOperand,
     OddAlignment,
     OddSize,
 }
@@ -34,14 +32,9 @@ fn sum(alloc: Global, change: Change) -> Result<List<Expr>, NoMemory> {
         Change::OwnOperand => 2,
         _ => 0,
     };
-    let rhs = if change == Change::SharedOperand {
-        0
-    } else {
-        1
-    };
     exprs.push(Expr::BinaryOp {
         lhs: ExprId(lhs),
-        rhs: ExprId(rhs),
+        rhs: ExprId(1),
         op: Some(BinaryOp::ArithOp(ArithOp::Add)),
     })?;
     Ok(exprs)
@@ -82,25 +75,25 @@ fn layout(alloc: Global, change: Change) -> Layout {
 }
 
 /// The constant's row.
-fn const_row(alloc: Global, change: Change) -> Result<ConstRow, NoMemory> {
+fn const_row(alloc: Global) -> Result<ConstRow, NoMemory> {
     Ok(ConstRow {
         name: Some(Text::from_str(alloc, "GOAL")?),
-        krate: Crate(if change == Change::NoCrate { 1 } else { 0 }),
+        krate: Crate(0),
         generics: List::new(alloc),
         ty: Ty::Uint(UintTy::Usize),
-        body: Some(if change == Change::NoBody { 5 } else { 0 }),
+        body: Some(0),
     })
 }
 
 /// Puts the crate and the constant into a world.
-fn add_items(db: &mut HirDatabase, alloc: Global, change: Change) -> Result<(), NoMemory> {
-    db.consts.push(const_row(alloc, change)?)?;
+fn add_items(db: &mut HirDatabase, alloc: Global) -> Result<(), NoMemory> {
+    db.consts.push(const_row(alloc)?)?;
     db.crates.push(CrateRow {
         pointer_bytes: Some(8),
     })
 }
 
-/// Puts the layout of `usize` into a world, once more.
+/// Puts the layout of `usize` into a world.
 fn add_layout(db: &mut HirDatabase, alloc: Global, change: Change) -> Result<(), NoMemory> {
     db.layouts
         .push((Ty::Uint(UintTy::Usize), layout(alloc, change)))
@@ -110,11 +103,8 @@ fn add_layout(db: &mut HirDatabase, alloc: Global, change: Change) -> Result<(),
 fn world_of(alloc: Global, row: BodyRow, change: Change) -> Result<HirDatabase, NoMemory> {
     let mut db = HirDatabase::new(alloc);
     db.bodies.push(row)?;
-    add_items(&mut db, alloc, change)?;
+    add_items(&mut db, alloc)?;
     add_layout(&mut db, alloc, change)?;
-    if change == Change::TwoLayouts {
-        add_layout(&mut db, alloc, change)?;
-    }
     Ok(db)
 }
 
@@ -187,30 +177,18 @@ fn a_checked_world_has_its_items(rt: HostRuntime) -> Result<(), Fail> {
 }
 
 #[test]
-fn a_checked_world_is_the_world(rt: HostRuntime) -> Result<(), Fail> {
-    let world = checked(rt.alloc())?;
-    let db = goal(rt.alloc(), Change::Nothing)?;
-    assert!(rt; world.db() == &db);
+fn a_missing_operand_is_named(rt: HostRuntime) -> Result<(), Fail> {
+    let invalid = verdict_of(rt.alloc(), Change::NoOperand)?.ok_or("passed")?;
+    assert_eq!(rt; invalid.row, CheckRow::C1);
+    assert_eq!(rt; invalid.place.as_str(), "bodies[0].exprs[2]");
     Ok(())
 }
 
 #[test]
-fn refusals_name_row_and_place(rt: HostRuntime) -> Result<(), Fail> {
-    for (change, row, place) in [
-        (Change::NoCrate, CheckRow::C1, "consts[0]"),
-        (Change::NoBody, CheckRow::C1, "consts[0]"),
-        (Change::NoOperand, CheckRow::C1, "bodies[0].exprs[2]"),
-        (Change::NoType, CheckRow::C1, "bodies[0]"),
-        (Change::TwoLayouts, CheckRow::C1, "layouts[1]"),
-        (Change::OwnOperand, CheckRow::C2, "bodies[0].exprs[2]"),
-        (Change::SharedOperand, CheckRow::C2, "bodies[0].exprs[0]"),
-        (Change::OddAlignment, CheckRow::C5, "layouts[0]"),
-        (Change::OddSize, CheckRow::C5, "layouts[0]"),
-    ] {
-        let invalid = verdict_of(rt.alloc(), change)?.ok_or("passed")?;
-        assert_eq!(rt; invalid.row, row, "at {change:?}");
-        assert_eq!(rt; invalid.place.as_str(), place, "at {change:?}");
-    }
+fn an_odd_alignment_is_named(rt: HostRuntime) -> Result<(), Fail> {
+    let invalid = verdict_of(rt.alloc(), Change::OddAlignment)?.ok_or("passed")?;
+    assert_eq!(rt; invalid.row, CheckRow::C5);
+    assert_eq!(rt; invalid.place.as_str(), "layouts[0]");
     Ok(())
 }
 
@@ -219,5 +197,142 @@ fn an_expression_too_deep_is_named(rt: HostRuntime) -> Result<(), Fail> {
     let invalid = verdict_of_chain(rt.alloc(), 401)?.ok_or("passed")?;
     assert_eq!(rt; invalid.row, CheckRow::C2);
     assert_eq!(rt; invalid.place.as_str(), "bodies[0].exprs[401]");
+    Ok(())
+}
+
+/// No generic arguments.
+fn no_args(alloc: Global) -> GenericArgs {
+    GenericArgs(List::new(alloc))
+}
+
+/// Whether the body of the constant with one thing wrong passes by itself.
+fn is_body_right(alloc: Global, change: Change) -> Result<bool, Fail> {
+    let db = goal(alloc, change)?;
+    let row = db.bodies.get(0).ok_or("no body")?;
+    Ok(check_body(alloc, &db, &row.body, &row.infer)?)
+}
+
+#[test]
+fn bodies_pass_by_themselves(rt: HostRuntime) -> Result<(), Fail> {
+    for (change, passes) in [
+        (Change::Nothing, true),
+        (Change::OddSize, true),
+        (Change::NoType, false),
+        (Change::OwnOperand, false),
+    ] {
+        let found = is_body_right(rt.alloc(), change)?;
+        assert_eq!(rt; found, passes, "at {change:?}");
+    }
+    Ok(())
+}
+
+/// A `break` out of a loop that is not there.
+fn loose_break(alloc: Global) -> Result<BodyRow, NoMemory> {
+    let mut exprs = List::new(alloc);
+    exprs.push(Expr::Break {
+        expr: None,
+        label: Some(LabelId(0)),
+    })?;
+    let mut row = body(alloc, exprs, 0, 1)?;
+    row.body.labels.push(Text::from_str(alloc, "'out")?)?;
+    Ok(row)
+}
+
+#[test]
+fn a_loose_jump_is_named(rt: HostRuntime) -> Result<(), Fail> {
+    let row = loose_break(rt.alloc())?;
+    let db = world_of(rt.alloc(), row, Change::Nothing)?;
+    let invalid = verdict(rt.alloc(), &db)?.ok_or("passed")?;
+    assert_eq!(rt; invalid.row, CheckRow::C3);
+    assert_eq!(rt; invalid.place.as_str(), "bodies[0].exprs[0]");
+    Ok(())
+}
+
+/// An alias that stands for itself.
+fn own_alias(alloc: Global) -> Result<HirDatabase, NoMemory> {
+    let mut db = HirDatabase::new(alloc);
+    db.aliases.push(Text::from_str(alloc, "Item")?)?;
+    let stands_for = Ty::Alias(AliasId(0), no_args(alloc));
+    db.normals.push((AliasId(0), no_args(alloc), stands_for))?;
+    Ok(db)
+}
+
+#[test]
+fn an_alias_for_an_alias_is_named(rt: HostRuntime) -> Result<(), Fail> {
+    let db = own_alias(rt.alloc())?;
+    let invalid = verdict(rt.alloc(), &db)?.ok_or("passed")?;
+    assert_eq!(rt; invalid.row, CheckRow::C4);
+    assert_eq!(rt; invalid.place.as_str(), "normals[0]");
+    Ok(())
+}
+
+/// An enum of no variants.
+fn empty_enum(alloc: Global) -> Result<HirDatabase, NoMemory> {
+    let mut db = HirDatabase::new(alloc);
+    db.enums.push(EnumRow {
+        name: Text::from_str(alloc, "Never")?,
+        repr_signed: None,
+        variants: List::new(alloc),
+    })?;
+    Ok(db)
+}
+
+/// A layout of no bytes that shows the first variant.
+fn layout_of_one(alloc: Global) -> Layout {
+    Layout {
+        size: 0,
+        align: 1,
+        sized: true,
+        offsets: List::new(alloc),
+        variants: Variants::Single(0),
+    }
+}
+
+#[test]
+fn a_tag_of_no_variant_is_named(rt: HostRuntime) -> Result<(), Fail> {
+    let alloc = rt.alloc();
+    let mut db = empty_enum(alloc)?;
+    let ty = Ty::Adt(AdtId::EnumId(EnumId(0)), no_args(alloc));
+    db.layouts.push((ty, layout_of_one(alloc)))?;
+    let invalid = verdict(alloc, &db)?.ok_or("passed")?;
+    assert_eq!(rt; invalid.row, CheckRow::C6);
+    assert_eq!(rt; invalid.place.as_str(), "layouts[0]");
+    Ok(())
+}
+
+/// A variant of the first enum.
+fn variant(alloc: Global) -> Result<VariantRow, NoMemory> {
+    Ok(VariantRow {
+        name: Text::from_str(alloc, "First")?,
+        krate: Crate(0),
+        parent: EnumId(0),
+        index: 0,
+        fields: List::new(alloc),
+        shape: FieldsShape::Unit,
+        body: None,
+    })
+}
+
+#[test]
+fn a_variant_that_its_enum_lacks_is_named(rt: HostRuntime) -> Result<(), Fail> {
+    let alloc = rt.alloc();
+    let mut db = empty_enum(alloc)?;
+    db.crates.push(CrateRow {
+        pointer_bytes: Some(8),
+    })?;
+    db.variants.push(variant(alloc)?)?;
+    let invalid = verdict(alloc, &db)?.ok_or("passed")?;
+    assert_eq!(rt; invalid.row, CheckRow::C7);
+    assert_eq!(rt; invalid.place.as_str(), "variants[0]");
+    Ok(())
+}
+
+#[test]
+fn a_function_beside_the_tables_is_named(rt: HostRuntime) -> Result<(), Fail> {
+    let mut db = HirDatabase::new(rt.alloc());
+    db.drop_fn = Some(FunctionId(0));
+    let invalid = verdict(rt.alloc(), &db)?.ok_or("passed")?;
+    assert_eq!(rt; invalid.row, CheckRow::C1);
+    assert_eq!(rt; invalid.place.as_str(), "drop_fn");
     Ok(())
 }

@@ -1,223 +1,39 @@
-//! Bodies are trees.
-ghost use Rattle.std.specs.Prelude.{◌≡◌, ◌+◌, ◌<◌, ◌≤◌, ◌==◌, ◌&&◌, ◌||◌, ℕ, flat_map, length, nat_lt, slice_get, slice_index, IfOk};
-ghost use Rattle.std.specs.List.{list_all};
-ghost use Rattle.world_check.specs.Checked.{children_of};
-ghost use Rattle.world_check.specs.Parents.{AreCounts};
-ghost use Rattle.world_check.specs.Heights.{AreHeights, height_over};
-ghost use Rattle.world_check.specs.Sites.{each, first_failing, body_tree_sites, expr_list_sites, expr_tree_sites, has_one_parent, held_exprs, held_pats, pat_list_sites, pat_tree_sites, patterns_of, tree_sites};
+//! Bodies are trees, jumps stand inside what they name, and the `..` of patterns among their parts.
+ghost use Rattle.std.specs.Prelude.{◌≡◌, IfOk};
+ghost use Rattle.std.specs.Option.{option_map};
+ghost use Rattle.world_check.specs.Tables.{first_found, no_label, no_tree, node_place, wrong_dots, wrong_jump, wrong_tree};
 
-use crate::children::{push_children, push_patterns};
-use crate::parents::{has_one_parent, parent_counts};
-use crate::ranges::are_below;
 use crate::{NodeKind, Place};
+use body_trees::{BodyNode, loose_jump, wrong_ellipsis, wrong_node};
 use std::alloc::Global;
-use world::{Body, BodyRow, Expr, HirDatabase, NoMemory, Pat};
+use world::{BodyRow, HirDatabase, NoMemory};
 
-/// The most levels that may stand below a node.
-const MAX_HEIGHT: u64 = 400;
-
-/// Every expression that expressions hold, as often as it is held.
-fn held_exprs(alloc: Global, nodes: &[Expr]) -> Result<Vec<u64>, NoMemory>
-    ensures { IfOk result (λ held. held.items ≡ flat_map children_of nodes.now) }
+/// The place of a node of the body in a row.
+fn node_place(b: u64, node: BodyNode) -> Place
+    ensures { result ≡ node_place b node }
 {
-    let mut held = Vec::new(alloc);
-    for (i, node) in nodes.iter().enumerate() {
-        push_children(&mut held, node)?;
+    match node {
+        BodyNode::Expr(i) => Place::Node(b, NodeKind::Exprs, i),
+        BodyNode::Pat(i) => Place::Node(b, NodeKind::Pats, i),
     }
-    Ok(held)
-}
-
-/// Every pattern that expressions hold, as often as it is held.
-fn held_pats(alloc: Global, nodes: &[Expr]) -> Result<Vec<u64>, NoMemory>
-    ensures { IfOk result (λ held. held.items ≡ flat_map patterns_of nodes.now) }
-{
-    let mut held = Vec::new(alloc);
-    for (i, node) in nodes.iter().enumerate() {
-        push_patterns(&mut held, node)?;
-    }
-    Ok(held)
-}
-
-/// The levels below a node that holds these children.
-fn height_over(heights: &[u64], children: &[u64]) -> u64
-    requires { (k : ℕ) → slice_index heights.now k ≤ 400 }
-    ensures value { result ≡ height_over heights.now children.now }
-    ensures bound { result ≤ 401 }
-{
-    let mut most = 0;
-    for (i, child) in children.iter().enumerate() {
-        let below = heights.get(*child as usize).copied().unwrap_or(0);
-        most = most.max(below + 1);
-    }
-    most
-}
-
-/// The expressions that an expression holds.
-fn children_of(alloc: Global, node: &Expr) -> Result<Vec<u64>, NoMemory>
-    ensures { IfOk result (λ children. children.items ≡ children_of node.now) }
-{
-    let mut children = Vec::new(alloc);
-    push_children(&mut children, node)?;
-    Ok(children)
-}
-
-/// Whether children have lower ids than their parent, which is the root or has one parent at most.
-fn is_in_order(body: &Body, counts: &[u64], i: u64, children: &[u64]) -> bool
-    requires in_range { i < length counts.now }
-    requires counted { AreCounts (held_exprs body.now) counts.now }
-    ensures { result ≡ (list_all (λ child. nat_lt child i) children.now && (i == body.now.body_expr.0 || has_one_parent (held_exprs body.now) i)) }
-{
-    are_below(children, i) && (i == body.body_expr.0 as u64 || has_one_parent(counts, i))
-}
-
-/// The place of an expression that holds one of no lower id, that has two parents, or that stands
-/// above more than 400 levels. Where there is none, its height is added.
-fn wrong_expr(
-    alloc: Global,
-    body: &Body,
-    counts: &[u64],
-    heights: &mut Vec<u64>,
-    b: u64,
-    i: u64,
-    node: &Expr,
-) -> Result<Option<Place>, NoMemory>
-    requires in_range { i < length counts.now }
-    requires counted { AreCounts (held_exprs body.now) counts.now }
-    requires node_at { slice_get body.now.exprs i ≡ Some node.now }
-    requires heights_below { AreHeights body.now i heights.old.items }
-    ensures first { IfOk result (λ found. found ≡ first_failing (expr_tree_sites body.now (held_exprs body.now) b i node.now)) }
-    ensures heights { IfOk result (λ found. found ≡ None → AreHeights body.now (i + 1) heights.new.items) }
-{
-    let place = Place::Node(b, NodeKind::Exprs, i);
-    let children = children_of(alloc, node)?;
-    let kids = children.as_slice();
-    if !is_in_order(body, counts, i, kids) {
-        return Ok(Some(place));
-    }
-    let below = heights.as_slice();
-    let height = height_over(below, kids);
-    if height > MAX_HEIGHT {
-        return Ok(Some(place));
-    }
-    heights.push(height)?;
-    Ok(None)
-}
-
-/// The first expression that is not in order.
-fn first_wrong_expr(
-    alloc: Global,
-    body: &Body,
-    counts: &[u64],
-    b: u64,
-    nodes: &[Expr],
-) -> Result<Option<Place>, NoMemory>
-    requires all { nodes.now ≡ body.now.exprs }
-    requires len { length counts.now ≡ length nodes.now }
-    requires counted { AreCounts (held_exprs body.now) counts.now }
-    ensures { IfOk result (λ found. found ≡ first_failing (each (expr_tree_sites body.now (held_exprs body.now) b) 0 nodes.now)) }
-{
-    let mut heights = Vec::new(alloc);
-    for (i, node) in nodes.iter().enumerate() {
-        if let Some(place) = wrong_expr(alloc, body, counts, &mut heights, b, i as u64, node)? {
-            return Ok(Some(place));
-        }
-    }
-    Ok(None)
-}
-
-/// The place of a pattern that is held at more than one place.
-fn wrong_pat(body: &Body, counts: &[u64], b: u64, i: u64, pat: &Pat) -> Option<Place>
-    requires in_range { i < length counts.now }
-    requires counted { AreCounts (held_pats body.now) counts.now }
-    ensures { result ≡ first_failing (pat_tree_sites (held_pats body.now) b i pat.now) }
-{
-    let _ = body;
-    let _ = pat;
-    if has_one_parent(counts, i) {
-        None
-    } else {
-        Some(Place::Node(b, NodeKind::Pats, i))
-    }
-}
-
-/// The first pattern that is held at more than one place.
-fn first_wrong_pat(body: &Body, counts: &[u64], b: u64, nodes: &[Pat]) -> Option<Place>
-    requires len { length counts.now ≡ length nodes.now }
-    requires counted { AreCounts (held_pats body.now) counts.now }
-    ensures { result ≡ first_failing (each (pat_tree_sites (held_pats body.now) b) 0 nodes.now) }
-{
-    for (i, node) in nodes.iter().enumerate() {
-        if let Some(place) = wrong_pat(body, counts, b, i as u64, node) {
-            return Some(place);
-        }
-    }
-    None
-}
-
-/// How often each expression of a body is held.
-fn expr_counts(alloc: Global, body: &Body) -> Result<Vec<u64>, NoMemory>
-    ensures len { IfOk result (λ counts. length counts.items ≡ length body.now.exprs) }
-    ensures counts { IfOk result (λ counts. AreCounts (held_exprs body.now) counts.items) }
-{
-    let exprs = body.exprs.as_slice();
-    let held = held_exprs(alloc, exprs)?;
-    let children = held.as_slice();
-    let counts = parent_counts(alloc, exprs.len(), children)?;
-    Ok(counts)
-}
-
-/// How often each pattern of a body is held.
-fn pat_counts(alloc: Global, body: &Body) -> Result<Vec<u64>, NoMemory>
-    ensures len { IfOk result (λ counts. length counts.items ≡ length body.now.pats) }
-    ensures counts { IfOk result (λ counts. AreCounts (held_pats body.now) counts.items) }
-{
-    let exprs = body.exprs.as_slice();
-    let held = held_pats(alloc, exprs)?;
-    let children = held.as_slice();
-    let pats = body.pats.as_slice();
-    let counts = parent_counts(alloc, pats.len(), children)?;
-    Ok(counts)
-}
-
-/// The first expression of a body that is not in order.
-fn wrong_exprs(alloc: Global, b: u64, body: &Body) -> Result<Option<Place>, NoMemory>
-    ensures { IfOk result (λ found. found ≡ first_failing (expr_list_sites b body.now)) }
-{
-    let parents = expr_counts(alloc, body)?;
-    let counts = parents.as_slice();
-    let exprs = body.exprs.as_slice();
-    let found = first_wrong_expr(alloc, body, counts, b, exprs)?;
-    Ok(found)
-}
-
-/// The first pattern of a body that is held at more than one place.
-fn wrong_pats(alloc: Global, b: u64, body: &Body) -> Result<Option<Place>, NoMemory>
-    ensures { IfOk result (λ found. found ≡ first_failing (pat_list_sites b body.now)) }
-{
-    let parents = pat_counts(alloc, body)?;
-    let counts = parents.as_slice();
-    let pats = body.pats.as_slice();
-    let found = first_wrong_pat(body, counts, b, pats);
-    Ok(found)
 }
 
 /// The first node of a body that is not in order.
-fn wrong_body(alloc: Global, b: u64, row: &BodyRow) -> Result<Option<Place>, NoMemory>
-    ensures { IfOk result (λ found. found ≡ first_failing (body_tree_sites b row.now)) }
+fn wrong_tree(alloc: Global, b: u64, row: &BodyRow) -> Result<Option<Place>, NoMemory>
+    ensures { IfOk result (λ found. found ≡ wrong_tree b row.now) }
 {
-    if let Some(place) = wrong_exprs(alloc, b, &row.body)? {
-        return Ok(Some(place));
+    match wrong_node(alloc, &row.body)? {
+        Some(node) => Ok(Some(node_place(b, node))),
+        None => Ok(None),
     }
-    let found = wrong_pats(alloc, b, &row.body)?;
-    Ok(found)
 }
 
-/// The first body that is not a tree.
-fn first_wrong_body(alloc: Global, rows: &[BodyRow]) -> Result<Option<Place>, NoMemory>
-    ensures { IfOk result (λ found. found ≡ first_failing (each body_tree_sites 0 rows.now)) }
+/// The first node of bodies that is not in order.
+fn first_no_tree(alloc: Global, rows: &[BodyRow]) -> Result<Option<Place>, NoMemory>
+    ensures { IfOk result (λ found. found ≡ first_found wrong_tree 0 rows.now) }
 {
     for (i, row) in rows.iter().enumerate() {
-        if let Some(place) = wrong_body(alloc, i as u64, row)? {
+        if let Some(place) = wrong_tree(alloc, i as u64, row)? {
             return Ok(Some(place));
         }
     }
@@ -225,8 +41,59 @@ fn first_wrong_body(alloc: Global, rows: &[BodyRow]) -> Result<Option<Place>, No
 }
 
 /// The first node of the world's bodies that is not in order.
-pub(crate) fn first_no_tree(alloc: Global, db: &HirDatabase) -> Result<Option<Place>, NoMemory>
-    ensures { IfOk result (λ found. found ≡ first_failing (tree_sites db.now)) }
+pub(crate) fn no_tree(alloc: Global, db: &HirDatabase) -> Result<Option<Place>, NoMemory>
+    ensures { IfOk result (λ found. found ≡ no_tree db.now) }
 {
-    first_wrong_body(alloc, db.bodies.as_slice())
+    first_no_tree(alloc, db.bodies.as_slice())
+}
+
+/// The first jump of a body that stands outside what it names.
+fn wrong_jump(alloc: Global, b: u64, row: &BodyRow) -> Result<Option<Place>, NoMemory>
+    ensures { IfOk result (λ found. found ≡ wrong_jump b row.now) }
+{
+    match loose_jump(alloc, &row.body)? {
+        Some(i) => Ok(Some(Place::Node(b, NodeKind::Exprs, i))),
+        None => Ok(None),
+    }
+}
+
+/// The first jump of bodies that stands outside what it names.
+fn first_wrong_jump(alloc: Global, rows: &[BodyRow]) -> Result<Option<Place>, NoMemory>
+    ensures { IfOk result (λ found. found ≡ first_found wrong_jump 0 rows.now) }
+{
+    for (i, row) in rows.iter().enumerate() {
+        if let Some(place) = wrong_jump(alloc, i as u64, row)? {
+            return Ok(Some(place));
+        }
+    }
+    Ok(None)
+}
+
+/// The first jump of the world's bodies that stands outside what it names.
+pub(crate) fn no_label(alloc: Global, db: &HirDatabase) -> Result<Option<Place>, NoMemory>
+    ensures { IfOk result (λ found. found ≡ no_label db.now) }
+{
+    first_wrong_jump(alloc, db.bodies.as_slice())
+}
+
+/// The first pattern of a body whose `..` stands past its parts.
+fn wrong_dots(b: u64, row: &BodyRow) -> Option<Place>
+    ensures { result ≡ wrong_dots b row.now }
+{
+    match wrong_ellipsis(&row.body) {
+        Some(i) => Some(Place::Node(b, NodeKind::Pats, i)),
+        None => None,
+    }
+}
+
+/// The first pattern of bodies whose `..` stands past its parts.
+pub(crate) fn first_wrong_dots(rows: &[BodyRow]) -> Option<Place>
+    ensures { result ≡ first_found wrong_dots 0 rows.now }
+{
+    for (i, row) in rows.iter().enumerate() {
+        if let Some(place) = wrong_dots(i as u64, row) {
+            return Some(place);
+        }
+    }
+    None
 }

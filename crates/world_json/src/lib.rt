@@ -34,6 +34,3 @@ mod variants;
 pub use goal::Goal;
 pub use input::read_world;
 pub use misfit::NotAWorld;
-
-#[cfg(test)]
-mod tests;

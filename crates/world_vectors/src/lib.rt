@@ -1,4 +1,5 @@
-//! A world with every variant of every type: what is read of it, against the same made by hand.
+//! A world with every variant of every type: what is read of it, against the same made by hand; and inputs
+//! that stand for no world.
 #![tactic(auto)]
 
 #[cfg(test)]
@@ -19,6 +20,8 @@ mod items;
 mod layouts;
 #[cfg(test)]
 mod lists;
+#[cfg(test)]
+mod misfits;
 #[cfg(test)]
 mod operators;
 #[cfg(test)]

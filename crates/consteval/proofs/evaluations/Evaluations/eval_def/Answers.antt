@@ -1,6 +1,6 @@
 -- What an answer says of its source.
 use Rattle.std.proofs.Common.{subst}
-use Rattle.world_check.specs.Checked.{IsChecked}
+use Rattle.world.specs.Checked.{IsChecked}
 use Rattle.consteval.proofs.Causes.{cause-stays}
 use Rattle.consteval.proofs.Headline.{answer-value, answer-panic, answer-completes}
 use Rattle.consteval.proofs.evaluations.Evaluations.eval_def.Goals as goal

@@ -1,0 +1,14 @@
+//! Whether the ids of a typed body are in range.
+#![tactic(auto)]
+
+mod entries;
+mod findings;
+mod inferred;
+mod nodes;
+mod part;
+mod parts;
+#[cfg(test)]
+mod tests;
+
+pub use part::BodyPart;
+pub use parts::wrong_part;

@@ -1,0 +1,5 @@
+pub mod Climbs
+pub mod Enclosures
+pub mod Levels
+pub mod Lookups
+pub mod Reaches

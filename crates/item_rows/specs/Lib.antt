@@ -1,0 +1,4 @@
+pub mod Names
+pub mod Closed
+pub mod Agree
+pub mod Marks

@@ -1,0 +1,110 @@
+-- Sizes and alignments that every target has.
+use Rattle.std.specs.Prelude.{ℕ, ◌%◌, ◌*◌, ◌==◌, nat_le, Bool, true, false, not, if◌then◌else◌, List, [], ◌∷◌, length, take, Option, Some, None}
+use Rattle.std.specs.List.{list_any}
+use Rattle.std.specs.Option.{option_map}
+use Rattle.types.specs.Orders.{ty_cmp}
+use Rattle.types.specs.Places.{row_at}
+use Rattle.types.specs.declared.ids.AdtId.TheVariants as adt
+use Rattle.types.specs.declared.ty.ComplexMemoryMap.{ComplexMemoryMap}
+use Rattle.types.specs.declared.ty.Const.{Const, Const-F, out-Const}
+use Rattle.types.specs.declared.ty.Const.TheOpen as one
+use Rattle.types.specs.declared.ty.GenericArg.{GenericArg}
+use Rattle.types.specs.declared.ty.GenericArgs.{GenericArgs}
+use Rattle.types.specs.declared.ty.MemoryMap.{MemoryMap}
+use Rattle.types.specs.declared.ty.TraitRef.{TraitRef}
+use Rattle.types.specs.declared.ty.Ty.{Ty, Ty-F, out-Ty}
+use Rattle.types.specs.declared.ty.UnevaluatedConst.{UnevaluatedConst}
+use Rattle.types.specs.declared.ty.ValueConst.{ValueConst}
+use Rattle.numbers.specs.Bytes.{value_of}
+use Rattle.world.specs.Checked.{int_bytes, uint_bytes}
+use Rattle.world.specs.Lookups.{layout_of}
+use Rattle.world.specs.declared.database.HirDatabase.{HirDatabase}
+use Rattle.world.specs.declared.layout.Layout.{Layout}
+
+-- the variant of a type, and that of a constant
+abbrev pub TyLayer : Type 0
+TyLayer = Ty-F Const GenericArg MemoryMap Ty ComplexMemoryMap GenericArgs TraitRef UnevaluatedConst ValueConst
+
+abbrev pub ConstLayer : Type 0
+ConstLayer = Const-F Const GenericArg MemoryMap Ty ComplexMemoryMap GenericArgs TraitRef UnevaluatedConst ValueConst
+
+-- the powers of two up to 8192
+abbrev pub alignments : List ℕ
+alignments = 1 ∷ 2 ∷ 4 ∷ 8 ∷ 16 ∷ 32 ∷ 64 ∷ 128 ∷ 256 ∷ 512 ∷ 1024 ∷ 2048 ∷ 4096 ∷ 8192 ∷ []
+
+abbrev pub is_alignment : ℕ → Bool
+is_alignment align = list_any (λ power. power == align) alignments
+
+abbrev pub is_multiple_of : ℕ → ℕ → Bool
+is_multiple_of size align = size % align == 0
+
+-- a layout that is there, of values whose size the type alone doesn't tell
+abbrev pub is_unsized : Option Layout → Bool
+is_unsized None = false
+is_unsized (Some layout) = not layout.sized
+
+-- a pointer to a type carries a length or a table beside the address
+abbrev pub is_wide : HirDatabase → Ty → Bool
+is_wide world ty = wide (out-Ty ty)
+  where
+    wide : TyLayer → Bool
+    wide one.Str = true
+    wide (one.Slice element) = true
+    wide (one.Dynamic bounds) = true
+    wide (one.Adt (adt.StructId id) args) = is_unsized (layout_of world ty)
+    wide _ = false
+
+abbrev pub pointer_size : Bool → ℕ
+pointer_size true = 16
+pointer_size false = 8
+
+-- the size that a type has in every world, where it has one
+abbrev pub known_size : HirDatabase → Ty → Option ℕ
+known_size world ty = known (out-Ty ty)
+  where
+    known : TyLayer → Option ℕ
+    known one.Bool = Some 1
+    known one.Char = Some 4
+    known (one.Int int) = Some (int_bytes int)
+    known (one.Uint uint) = Some (uint_bytes uint)
+    known one.Never = Some 0
+    known (one.FnDef id args) = Some 0
+    known (one.Ref to mutability) = Some (pointer_size (is_wide world to))
+    known (one.RawPtr to mutability) = Some (pointer_size (is_wide world to))
+    known (one.FnPtr params ret) = Some 8
+    known _ = None
+
+-- a size that isn't told, or the one that is
+abbrev pub is_fixed_size : Option ℕ → ℕ → Bool
+is_fixed_size None size = true
+is_fixed_size (Some fixed) size = size == fixed
+
+-- the layout of a type in one of the first i rows
+abbrev pub layout_above : HirDatabase → ℕ → Ty → Option Layout
+layout_above world i ty = option_map (λ row. row.1) (row_at {R = Ty × Layout} (λ row. row.0) (ty_cmp ty) (take i world.layouts))
+
+-- the number that bytes are, the lowest first, where there are at most 16
+abbrev pub number_of_bytes : List ℕ → Option ℕ
+number_of_bytes bytes = if nat_le (length bytes) 16 then Some (value_of bytes) else None
+
+-- the number that a constant's bytes are, where it is a value
+abbrev pub number_of : Const → Option ℕ
+number_of konst = number (out-Const konst)
+  where
+    number : ConstLayer → Option ℕ
+    number (one.Value value) = number_of_bytes value.memory
+    number _ = None
+
+-- so many elements of this layout, which there has to be; any size where the number is not told
+abbrev pub is_product : Option ℕ → Option Layout → ℕ → Bool
+is_product (Some len) (Some element) size = size == len * element.size
+is_product None (Some element) size = true
+is_product len None size = false
+
+-- An array's size is its length times its element's, which has a layout further up. A length that is still to be evaluated tells no size.
+abbrev pub is_array_size : HirDatabase → ℕ → Ty → ℕ → Bool
+is_array_size world i ty size = array (out-Ty ty)
+  where
+    array : TyLayer → Bool
+    array (one.Array element len) = is_product (number_of len) (layout_above world i element) size
+    array _ = true

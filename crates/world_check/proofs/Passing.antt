@@ -1,0 +1,86 @@
+-- What holds at each row of a table in which a test finds nothing.
+use Rattle.std.proofs.Common.{◌≡◌, ℕ, suc, zero, ◌&&◌, ◌+◌, Bool, true, false, cond, Option, Some, None, List, [], ◌∷◌, refl, sym, ◌∙◌, ap, arith, not}
+use Rattle.std.proofs.lemmas.Iterator.Adapters.{position_from-zero}
+use Rattle.std.specs.List.{list_all, position, position_from, slice_get}
+use Rattle.std.specs.Option.{option_map, option_or}
+use Rattle.world.specs.Failing.{first_failing}
+use Rattle.world_check.specs.Tables.{first_found}
+use Rattle.world_check.specs.declared.place.Place.{Place}
+
+-- the two parts of a conjunction
+pub both : (a b : Bool) → (a && b) ≡ true → (a ≡ true) × (b ≡ true)
+both true b e = (refl, e)
+both false b e = cc
+
+-- neither of two searches finds anything
+pub neither : {A : Type 0} (a b : Option A) → option_or a b ≡ None → (a ≡ None) × (b ≡ None)
+neither None b e = (refl, e)
+neither (Some x) b e = cc
+
+pub not_mapped : {A B : Type 0} (f : A → B) (o : Option A) → option_map f o ≡ None → o ≡ None
+not_mapped f None e = refl
+not_mapped f (Some x) e = cc
+
+-- what is found in a table that is not too long
+pub within_table : (short : Bool) (found : Option Place) (p : Place) → cond short found (Some p) ≡ None → (short ≡ true) × (found ≡ None)
+within_table true found p e = (refl, e)
+within_table false found p e = cc
+
+skipped : (b : Bool) (i : ℕ) (rest : Option ℕ) → cond b rest (Some i) ≡ None → (b ≡ true) × (rest ≡ None)
+skipped true i rest e = (refl, e)
+skipped false i rest e = cc
+
+passes_from : {X : Type 0} (test : ℕ → X → Bool) (i k : ℕ) (xs : List X) (x : X) → first_failing test i xs ≡ None → slice_get xs k ≡ Some x → test (i + k) x ≡ true
+passes_from test i k [] x e at = cc
+passes_from test i zero (y ∷ xs) x e at =
+    let here : y ≡ x = cc in
+    let start : i + zero ≡ i = omega arith in
+    ap (λ j. test j x) start ∙ ap (test i) (sym here) ∙ (skipped (test i y) i (first_failing test (i + 1) xs) e).0
+passes_from test i (suc k) (y ∷ xs) x e at =
+    let step : i + suc k ≡ (i + 1) + k = omega arith in
+    ap (λ j. test j x) step ∙ passes_from test (i + 1) k xs x (skipped (test i y) i (first_failing test (i + 1) xs) e).1 at
+
+-- where no element fails a test, each passes it
+pub passes_at : {X : Type 0} (test : ℕ → X → Bool) (k : ℕ) (xs : List X) (x : X) → first_failing test 0 xs ≡ None → slice_get xs k ≡ Some x → test k x ≡ true
+passes_at test k xs x e at =
+    let start : k ≡ 0 + k = omega arith in
+    ap (λ j. test j x) start ∙ passes_from test 0 k xs x e at
+
+found_none_from : {X : Type 0} (test : ℕ → X → Option Place) (i k : ℕ) (xs : List X) (x : X) → first_found test i xs ≡ None → slice_get xs k ≡ Some x → test (i + k) x ≡ None
+found_none_from test i k [] x e at = cc
+found_none_from test i zero (y ∷ xs) x e at =
+    let here : y ≡ x = cc in
+    let start : i + zero ≡ i = omega arith in
+    ap (λ j. test j x) start ∙ ap (test i) (sym here) ∙ (neither (test i y) (first_found test (i + 1) xs) e).0
+found_none_from test i (suc k) (y ∷ xs) x e at =
+    let step : i + suc k ≡ (i + 1) + k = omega arith in
+    ap (λ j. test j x) step ∙ found_none_from test (i + 1) k xs x (neither (test i y) (first_found test (i + 1) xs) e).1 at
+
+-- where nothing is found in any element, nothing is found in each
+pub found_none_at : {X : Type 0} (test : ℕ → X → Option Place) (k : ℕ) (xs : List X) (x : X) → first_found test 0 xs ≡ None → slice_get xs k ≡ Some x → test k x ≡ None
+found_none_at test k xs x e at =
+    let start : k ≡ 0 + k = omega arith in
+    ap (λ j. test j x) start ∙ found_none_from test 0 k xs x e at
+
+not_taken : (b : Bool) (i : ℕ) (rest : Option ℕ) → cond b (Some i) rest ≡ None → (b ≡ false) × (rest ≡ None)
+not_taken true i rest e = cc
+not_taken false i rest e = (refl, e)
+
+unnegated : (b : Bool) → not b ≡ false → b ≡ true
+unnegated true e = refl
+unnegated false e = cc
+
+all_pass_from : {X : Type 0} (test : X → Bool) (i : ℕ) (xs : List X) → position_from (λ x. not (test x)) i xs ≡ None → list_all test xs ≡ true
+all_pass_from test i [] e = refl
+all_pass_from test i (x ∷ xs) e =
+    let parts = not_taken (not (test x)) i (position_from (λ x. not (test x)) (i + 1) xs) e in
+    ap (λ b. b && list_all test xs) (unnegated (test x) parts.0) ∙ all_pass_from test (i + 1) xs parts.1
+
+-- where no row fails a test, all pass it
+pub all_pass : {X : Type 0} (test : X → Bool) (xs : List X) → position (λ x. not (test x)) xs ≡ None → list_all test xs ≡ true
+all_pass test xs e = all_pass_from test 0 xs (sym (position_from-zero (λ x. not (test x)) xs) ∙ e)
+
+pub all_at : {X : Type 0} (test : X → Bool) (k : ℕ) (xs : List X) (x : X) → list_all test xs ≡ true → slice_get xs k ≡ Some x → test x ≡ true
+all_at test k [] x e at = cc
+all_at test zero (y ∷ xs) x e at = let here : y ≡ x = cc in ap test (sym here) ∙ (both (test y) (list_all test xs) e).0
+all_at test (suc k) (y ∷ xs) x e at = all_at test k xs x (both (test y) (list_all test xs) e).1 at

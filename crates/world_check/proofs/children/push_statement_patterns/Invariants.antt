@@ -1,7 +1,0 @@
-use Rattle.std.proofs.Common.{◌≡◌, ◌++◌, take}
-use Rattle.std.specs.List.{flat_map}
-use Rattle.world_check.specs.Sites.{statement_patterns}
-use Rattle.world_check.proofs.children.push_statement_patterns.Given as goal
-
-abbrev pub invariant-loop-i : goal.invariant-loop-i
-invariant-loop-i l = l.out.items ≡ l.fn.out.items ++ flat_map statement_patterns (take l.i l.statements)

@@ -1,7 +1,0 @@
-use Rattle.std.proofs.Common.{◌≡◌, drop}
-use Rattle.world_check.specs.Sites.{each, first_failing, expr_range_sites}
-use Rattle.world_check.proofs.ranges.first_wrong_expr.Given as goal
-
-abbrev pub invariant-loop-i : goal.invariant-loop-i
-invariant-loop-i l =
-    first_failing (each (expr_range_sites l.body l.b) l.i (drop l.i l.nodes)) ≡ first_failing (each (expr_range_sites l.body l.b) 0 l.nodes)

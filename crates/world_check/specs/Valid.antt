@@ -1,0 +1,70 @@
+-- What of a checked world can be evaluated, and typed bodies that pass the check by themselves.
+use Rattle.std.specs.Prelude.{◌==◌, ◌&&◌, Bool, true, false, List, [], ◌∷◌, length, Option, Some, None, slice_get}
+use Rattle.std.specs.Option.{is_none}
+use Rattle.types.specs.declared.ids.DefWithBodyId.{DefWithBodyId}
+use Rattle.types.specs.declared.ids.DefWithBodyId.TheVariants as def
+use Rattle.types.specs.declared.ids.GenericParamId.{GenericParamId}
+use Rattle.types.specs.declared.ids.GenericParamId.TheVariants as param
+use Rattle.types.specs.declared.ty.GenericArg.{GenericArg}
+use Rattle.types.specs.declared.ty.GenericArg.TheVariants as arg
+use Rattle.types.specs.declared.ty.GenericArgs.{GenericArgs}
+use Rattle.types.specs.declared.ty.Ty.{Ty}
+use Rattle.world.specs.declared.body.Body.{Body}
+use Rattle.world.specs.declared.database.HirDatabase.{HirDatabase}
+use Rattle.world.specs.declared.infer.InferenceResult.{InferenceResult}
+use Rattle.world.specs.declared.items.ConstRow.{ConstRow}
+use Rattle.world.specs.declared.items.FunctionRow.{FunctionRow}
+use Rattle.world.specs.declared.items.StaticRow.{StaticRow}
+use Rattle.world_names.specs.Known.{are_args_settled}
+use Rattle.body_ids.specs.Parts.{wrong_part}
+use Rattle.body_trees.specs.Ellipsis.{wrong_ellipsis}
+use Rattle.body_trees.specs.Jumps.{loose_jump}
+use Rattle.body_trees.specs.Tree.{wrong_node}
+
+-- an argument of the parameter's sort
+abbrev pub is_of_sort : GenericParamId → GenericArg → Bool
+is_of_sort (param.TypeParamId id) (arg.Ty ty) = true
+is_of_sort (param.ConstParamId id) (arg.Konst konst) = true
+is_of_sort _ _ = false
+
+-- one argument for each parameter, of its sort
+abbrev pub are_of_sorts : List GenericParamId → List GenericArg → Bool
+are_of_sorts [] [] = true
+are_of_sorts (param ∷ params) (arg ∷ args) = is_of_sort param arg && are_of_sorts params args
+are_of_sorts _ _ = false
+
+-- no entries
+abbrev pub is_none_of : {X : Type 0} → List X → Bool
+is_none_of xs = length xs == 0
+
+-- arguments for the generic parameters of what has none but them
+abbrev pub fits_function : GenericArgs → Option FunctionRow → Bool
+fits_function args None = false
+fits_function args (Some row) = is_none_of row.sig.params && are_of_sorts row.generics args.0
+
+abbrev pub fits_const : GenericArgs → Option ConstRow → Bool
+fits_const args None = false
+fits_const args (Some row) = are_of_sorts row.generics args.0
+
+abbrev pub fits_static : GenericArgs → Option StaticRow → Bool
+fits_static args None = false
+fits_static args (Some row) = is_none_of args.0
+
+-- a constant, a static, or a function without parameters, with one argument of its sort for each generic parameter
+abbrev pub fits : HirDatabase → DefWithBodyId → GenericArgs → Bool
+fits world (def.FunctionId id) args = fits_function args (slice_get world.functions id.0)
+fits world (def.StaticId id) args = fits_static args (slice_get world.statics id.0)
+fits world (def.ConstId id) args = fits_const args (slice_get world.consts id.0)
+fits world (def.VariantId id) args = false
+
+-- it can be evaluated at arguments that hold no parameter and no error
+abbrev pub is_valid : HirDatabase → DefWithBodyId → GenericArgs → Bool
+is_valid world def args = fits world def args && are_args_settled args
+
+-- a typed body whose ids are in range, that is a tree, whose jumps stand inside what they name and whose patterns' `..` stand among their parts
+unfoldable pub is_body_right : HirDatabase → Body → InferenceResult → Bool
+is_body_right world body infer =
+    is_none (wrong_part world body infer)
+    && is_none (wrong_node body)
+    && is_none (loose_jump body)
+    && is_none (wrong_ellipsis body)

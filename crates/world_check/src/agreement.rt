@@ -1,0 +1,124 @@
+//! What stands for what is closed, layouts and tags are right, and rows agree with one another.
+ghost use Rattle.std.specs.Prelude.{◌≡◌, IfOk};
+ghost use Rattle.world.specs.Failing.{first_failing};
+ghost use Rattle.item_rows.specs.Agree.{has_all_params, is_closure_row};
+ghost use Rattle.item_rows.specs.Closed.{is_const_impl_closed, is_impl_closed, is_normal_closed};
+ghost use Rattle.layout_rows.specs.Layouts.{is_layout_right};
+ghost use Rattle.layout_rows.specs.Tags.{is_tag_right};
+ghost use Rattle.world_check.specs.Tables.{first_wrong, not_agreeing, not_closed, wrong_layout, wrong_tag};
+
+use crate::tables::{numbered_place, row_place};
+use crate::trees::first_wrong_dots;
+use crate::{Place, TableName};
+use item_rows::{
+    has_all_params, is_closure_row, is_const_impl_closed, is_impl_closed, is_normal_closed,
+    unlisted_variant,
+};
+use layout_rows::{is_layout_right, is_tag_right};
+use std::alloc::Global;
+use world::{
+    AliasId, ClosureRow, ConstImplRow, FunctionRow, GenericArgs, HirDatabase, ImplRow, Layout,
+    NoMemory, Ty,
+};
+
+/// The first normal type that holds an alias or a parameter.
+fn open_normal(rows: &[(AliasId, GenericArgs, Ty)]) -> Option<usize>
+    ensures { result ≡ first_wrong is_normal_closed rows.now }
+{
+    rows.iter().position(|row| !is_normal_closed(row))
+}
+
+/// The first row of functions of impls whose arguments hold an alias or a parameter.
+fn open_impl(rows: &[ImplRow]) -> Option<usize>
+    ensures { result ≡ first_wrong is_impl_closed rows.now }
+{
+    rows.iter().position(|row| !is_impl_closed(row))
+}
+
+/// The first row of constants of impls whose arguments hold an alias or a parameter.
+fn open_const_impl(rows: &[ConstImplRow]) -> Option<usize>
+    ensures { result ≡ first_wrong is_const_impl_closed rows.now }
+{
+    rows.iter().position(|row| !is_const_impl_closed(row))
+}
+
+/// The first row of what stands for what that holds an alias or a parameter.
+pub(crate) fn not_closed(db: &HirDatabase) -> Option<Place>
+    ensures { result ≡ not_closed db.now }
+{
+    let consts = open_const_impl(db.const_impls.as_slice());
+    let functions = open_impl(db.impls.as_slice());
+    let types = open_normal(db.normals.as_slice());
+    let last = row_place(TableName::ConstImpls, consts);
+    let second = row_place(TableName::Impls, functions).or(last);
+    row_place(TableName::Normals, types).or(second)
+}
+
+/// The first row whose layout is not as every target has it.
+fn first_wrong_layout(
+    alloc: Global,
+    db: &HirDatabase,
+    rows: &[(Ty, Layout)],
+) -> Result<Option<usize>, NoMemory>
+    ensures { IfOk result (λ found. found ≡ first_failing (is_layout_right db.now) 0 rows.now) }
+{
+    for (i, row) in rows.iter().enumerate() {
+        let right = is_layout_right(alloc, db, i as u64, row)?;
+        if !right {
+            return Ok(Some(i));
+        }
+    }
+    Ok(None)
+}
+
+/// The place of the first layout that is not as every target has it.
+pub(crate) fn wrong_layout(alloc: Global, db: &HirDatabase) -> Result<Option<Place>, NoMemory>
+    ensures { IfOk result (λ found. found ≡ wrong_layout db.now) }
+{
+    let found = first_wrong_layout(alloc, db, db.layouts.as_slice())?;
+    Ok(row_place(TableName::Layouts, found))
+}
+
+/// The first row whose tag does not fit its enum.
+fn first_wrong_tag(db: &HirDatabase, rows: &[(Ty, Layout)]) -> Option<usize>
+    ensures { result ≡ first_wrong (is_tag_right db.now) rows.now }
+{
+    rows.iter().position(|row| !is_tag_right(db, row))
+}
+
+/// The place of the first layout whose tag does not fit its enum.
+pub(crate) fn wrong_tag(db: &HirDatabase) -> Option<Place>
+    ensures { result ≡ wrong_tag db.now }
+{
+    row_place(
+        TableName::Layouts,
+        first_wrong_tag(db, db.layouts.as_slice()),
+    )
+}
+
+/// The first function whose signature has not as many parameters as its body.
+fn first_short_function(db: &HirDatabase, rows: &[FunctionRow]) -> Option<usize>
+    ensures { result ≡ first_wrong (has_all_params db.now) rows.now }
+{
+    rows.iter().position(|row| !has_all_params(db, row))
+}
+
+/// The first closure whose expression is none with as many parameters.
+fn first_no_closure(db: &HirDatabase, rows: &[ClosureRow]) -> Option<usize>
+    ensures { result ≡ first_wrong (is_closure_row db.now) rows.now }
+{
+    rows.iter().position(|row| !is_closure_row(db, row))
+}
+
+/// The first row that does not agree with what it belongs to.
+pub(crate) fn not_agreeing(alloc: Global, db: &HirDatabase) -> Result<Option<Place>, NoMemory>
+    ensures { IfOk result (λ found. found ≡ not_agreeing db.now) }
+{
+    let unlisted = unlisted_variant(alloc, db)?;
+    let closure = first_no_closure(db, db.closures.as_slice());
+    let function = first_short_function(db, db.functions.as_slice());
+    let dots = first_wrong_dots(db.bodies.as_slice());
+    let last = row_place(TableName::Closures, closure).or(dots);
+    let second = numbered_place(TableName::Variants, unlisted).or(last);
+    Ok(row_place(TableName::Functions, function).or(second))
+}

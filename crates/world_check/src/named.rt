@@ -1,0 +1,160 @@
+//! Ids in range: the tables whose places ids name.
+ghost use Rattle.std.specs.Prelude.{◌≡◌, length};
+ghost use Rattle.item_rows.specs.Names.{is_closure_named};
+ghost use Rattle.world_check.specs.Tables.{first_wrong, too_long, wrong_adts, wrong_items, wrong_names, wrong_table};
+ghost use Rattle.world_check.specs.declared.place.TableName.TheVariants.{Closures};
+
+use crate::tables::{in_table, row_place, too_long};
+use crate::{Place, TableName};
+use item_rows::{
+    is_closure_named, is_const_named, is_const_param_named, is_enum_named, is_function_named,
+    is_static_named, is_struct_named, is_variant_named,
+};
+use world::{
+    ClosureRow, ConstParamRow, ConstRow, EnumRow, FunctionRow, HirDatabase, List, StaticRow,
+    StructRow, VariantRow,
+};
+
+/// A row of a table whose places ids name.
+trait NamedRow {
+    ghost use Rattle.std.specs.Prelude.{Bool};
+    ghost use Rattle.world.specs.declared.database.HirDatabase.{HirDatabase};
+
+    ghost is_named: { HirDatabase → Self → Bool };
+
+    /// Whether it names what the world has.
+    fn is_named(&self, db: &HirDatabase) -> bool
+        ensures { result ≡ is_named db.now self.now };
+}
+
+impl NamedRow for FunctionRow {
+    ghost use Rattle.item_rows.specs.Names.{is_function_named};
+
+    ghost is_named = { is_function_named };
+
+    fn is_named(&self, db: &HirDatabase) -> bool {
+        is_function_named(db, self)
+    }
+}
+
+impl NamedRow for ConstRow {
+    ghost use Rattle.item_rows.specs.Names.{is_const_named};
+
+    ghost is_named = { is_const_named };
+
+    fn is_named(&self, db: &HirDatabase) -> bool {
+        is_const_named(db, self)
+    }
+}
+
+impl NamedRow for StaticRow {
+    ghost use Rattle.item_rows.specs.Names.{is_static_named};
+
+    ghost is_named = { is_static_named };
+
+    fn is_named(&self, db: &HirDatabase) -> bool {
+        is_static_named(db, self)
+    }
+}
+
+impl NamedRow for StructRow {
+    ghost use Rattle.item_rows.specs.Names.{is_struct_named};
+
+    ghost is_named = { is_struct_named };
+
+    fn is_named(&self, db: &HirDatabase) -> bool {
+        is_struct_named(db, self)
+    }
+}
+
+impl NamedRow for EnumRow {
+    ghost use Rattle.item_rows.specs.Names.{is_enum_named};
+
+    ghost is_named = { is_enum_named };
+
+    fn is_named(&self, db: &HirDatabase) -> bool {
+        is_enum_named(db, self)
+    }
+}
+
+impl NamedRow for VariantRow {
+    ghost use Rattle.item_rows.specs.Names.{is_variant_named};
+
+    ghost is_named = { is_variant_named };
+
+    fn is_named(&self, db: &HirDatabase) -> bool {
+        is_variant_named(db, self)
+    }
+}
+
+impl NamedRow for ConstParamRow {
+    ghost use Rattle.item_rows.specs.Names.{is_const_param_named};
+
+    ghost is_named = { is_const_param_named };
+
+    fn is_named(&self, db: &HirDatabase) -> bool {
+        is_const_param_named(db, self)
+    }
+}
+
+impl NamedRow for ClosureRow {
+    ghost use Rattle.item_rows.specs.Names.{is_closure_named};
+
+    ghost is_named = { is_closure_named };
+
+    fn is_named(&self, db: &HirDatabase) -> bool {
+        is_closure_named(db, self)
+    }
+}
+
+/// The first of some rows that names what is not there.
+fn first_wrong_row<R: NamedRow>(db: &HirDatabase, rows: &[R]) -> Option<usize>
+    ensures { result ≡ first_wrong (R.is_named db.now) rows.now }
+{
+    rows.iter().position(|row| !row.is_named(db))
+}
+
+/// A table, where it is too long, or the first of its rows that names what is not there.
+fn wrong_table<R: NamedRow>(db: &HirDatabase, table: TableName, rows: &List<R>) -> Option<Place>
+    ensures { result ≡ wrong_table table (R.is_named db.now) rows.now }
+{
+    let found = first_wrong_row(db, rows.as_slice());
+    in_table(table, rows.len(), row_place(table, found))
+}
+
+/// The first place among the closures.
+pub(crate) fn wrong_closures(db: &HirDatabase) -> Option<Place>
+    ensures { result ≡ wrong_table Closures (is_closure_named db.now) db.now.closures }
+{
+    wrong_table(db, TableName::Closures, &db.closures)
+}
+
+/// The first place among crates, functions, constants and statics.
+pub(crate) fn wrong_items(db: &HirDatabase) -> Option<Place>
+    ensures { result ≡ wrong_items db.now }
+{
+    let statics = wrong_table(db, TableName::Statics, &db.statics);
+    let consts = wrong_table(db, TableName::Consts, &db.consts).or(statics);
+    let functions = wrong_table(db, TableName::Functions, &db.functions).or(consts);
+    too_long(TableName::Crates, db.crates.len()).or(functions)
+}
+
+/// The first place among structs, unions, enums and variants.
+pub(crate) fn wrong_adts(db: &HirDatabase) -> Option<Place>
+    ensures { result ≡ wrong_adts db.now }
+{
+    let variants = wrong_table(db, TableName::Variants, &db.variants);
+    let enums = wrong_table(db, TableName::Enums, &db.enums).or(variants);
+    let unions = wrong_table(db, TableName::Unions, &db.unions).or(enums);
+    wrong_table(db, TableName::Structs, &db.structs).or(unions)
+}
+
+/// The first place among traits, aliases and parameters.
+pub(crate) fn wrong_names(db: &HirDatabase) -> Option<Place>
+    ensures { result ≡ wrong_names db.now }
+{
+    let const_params = wrong_table(db, TableName::ConstParams, &db.const_params);
+    let type_params = too_long(TableName::TypeParams, db.type_params.len()).or(const_params);
+    let aliases = too_long(TableName::Aliases, db.aliases.len()).or(type_params);
+    too_long(TableName::Traits, db.traits.len()).or(aliases)
+}

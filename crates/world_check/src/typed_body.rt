@@ -1,0 +1,28 @@
+//! The check of one typed body.
+ghost use Rattle.std.specs.Prelude.{◌≡◌, IfOk};
+ghost use Rattle.world_check.specs.Valid.{is_body_right};
+
+use body_ids::wrong_part;
+use body_trees::{loose_jump, wrong_ellipsis, wrong_node};
+use std::alloc::Global;
+use world::{Body, HirDatabase, InferenceResult, NoMemory};
+
+/// Whether a typed body passes the rows of the check that speak of one body: its ids and those that
+/// inference found are in range, each node has a type, its lists are short enough, its literals of type
+/// `char` are characters, it is a tree, its jumps stand inside what they name, and the `..` of its patterns
+/// stand among their parts. It errs only where there is no memory.
+#[tactic(auto, unfolding(crate::specs::Valid::is_body_right))]
+pub fn check_body(
+    alloc: Global,
+    db: &HirDatabase,
+    body: &Body,
+    infer: &InferenceResult,
+) -> Result<bool, NoMemory>
+    ensures { IfOk result (λ passes. passes ≡ is_body_right db.now body.now infer.now) }
+{
+    let part = wrong_part(alloc, db, body, infer)?;
+    let node = wrong_node(alloc, body)?;
+    let jump = loose_jump(alloc, body)?;
+    let dots = wrong_ellipsis(body);
+    Ok(part.is_none() && node.is_none() && jump.is_none() && dots.is_none())
+}

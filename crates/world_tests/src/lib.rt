@@ -1,0 +1,5 @@
+//! Look-ups in small worlds.
+#![tactic(auto)]
+
+#[cfg(test)]
+mod lookups;

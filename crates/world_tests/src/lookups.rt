@@ -1,0 +1,390 @@
+//! Look-ups in a small world, and its copy.
+
+use std::alloc::Global;
+use std::process::Abort;
+use std::test::Fail;
+use world::{
+    AliasId, Body, BodyRow, ConstId, ConstImplRow, ConstRow, Crate, CrateRow, DefWithBodyId,
+    EnumId, EnumRow, EnumVariantId, Expr, ExprId, FieldRow, FieldsShape, FnSig, FunctionId,
+    FunctionRow, GenericArg, GenericArgs, HirDatabase, ImplRow, InferenceResult, IntTy, Layout,
+    Limits, List, Literal, NoMemory, Special, StaticId, StaticRow, StructId, StructRow, Text,
+    TryClone, Ty, UnionId, VariantId, VariantRow, Variants,
+};
+
+fn text(alloc: Global, s: &str) -> Result<Text, NoMemory> {
+    Text::from_str(alloc, s)
+}
+
+/// The one generic argument `ty`.
+fn one_arg(alloc: Global, ty: Ty) -> Result<GenericArgs, NoMemory> {
+    let mut args = List::new(alloc);
+    args.push(GenericArg::Ty(ty))?;
+    Ok(GenericArgs(args))
+}
+
+fn plain_layout(alloc: Global, size: u64) -> Layout {
+    Layout {
+        size,
+        align: size,
+        sized: true,
+        offsets: List::new(alloc),
+        variants: Variants::Single(0),
+    }
+}
+
+/// A body of the literal `number` alone, of the type `i32`.
+fn literal_body(alloc: Global, number: i128) -> Result<BodyRow, NoMemory> {
+    let mut body = Body::new(alloc, ExprId(0));
+    body.exprs.push(Expr::Literal(Literal::Int(number, None)))?;
+    let mut infer = InferenceResult::new(alloc);
+    infer.expr_types.push(Ty::Int(IntTy::I32))?;
+    Ok(BodyRow { body, infer })
+}
+
+/// A field `name` of the type `bool`.
+fn field(alloc: Global, name: &str) -> Result<List<FieldRow>, NoMemory> {
+    let mut fields = List::new(alloc);
+    fields.push(FieldRow {
+        name: text(alloc, name)?,
+        ty: Ty::Bool,
+    })?;
+    Ok(fields)
+}
+
+/// A struct or union with one field.
+fn struct_row(alloc: Global, name: &str, field_name: &str) -> Result<StructRow, NoMemory> {
+    Ok(StructRow {
+        name: text(alloc, name)?,
+        fields: field(alloc, field_name)?,
+        shape: FieldsShape::Record,
+        manually_drop: false,
+        is_box: false,
+    })
+}
+
+/// Adds two constants with bodies, and a static without.
+fn push_values(alloc: Global, db: &mut HirDatabase) -> Result<(), NoMemory> {
+    for place in 0..2 {
+        db.consts.push(ConstRow {
+            name: Some(text(alloc, "GOAL")?),
+            krate: Crate(place),
+            generics: List::new(alloc),
+            ty: Ty::Int(IntTy::I32),
+            body: Some(place),
+        })?;
+    }
+    db.statics.push(StaticRow {
+        name: text(alloc, "S")?,
+        krate: Crate(7),
+        ty: Ty::Bool,
+        is_extern: true,
+        body: None,
+    })
+}
+
+/// Adds a function with a body.
+fn push_function(alloc: Global, db: &mut HirDatabase) -> Result<(), NoMemory> {
+    let mut params = List::new(alloc);
+    params.push(Ty::Bool)?;
+    let sig = FnSig {
+        params,
+        ret: Ty::Never,
+    };
+    db.functions.push(FunctionRow {
+        name: text(alloc, "f")?,
+        krate: Crate(5),
+        in_trait: None,
+        generics: List::new(alloc),
+        sig,
+        special: Some(Special::Write),
+        body: Some(1),
+    })
+}
+
+/// Adds a struct and a union.
+fn push_structs(alloc: Global, db: &mut HirDatabase) -> Result<(), NoMemory> {
+    db.structs.push(struct_row(alloc, "P", "in_struct")?)?;
+    db.unions.push(struct_row(alloc, "U", "in_union")?)
+}
+
+/// Adds an enum.
+fn push_enum(alloc: Global, db: &mut HirDatabase) -> Result<(), NoMemory> {
+    let mut variants = List::new(alloc);
+    variants.push(EnumVariantId(0))?;
+    db.enums.push(EnumRow {
+        name: text(alloc, "E")?,
+        repr_signed: None,
+        variants,
+    })
+}
+
+/// Adds the variant of the enum.
+fn push_variant(alloc: Global, db: &mut HirDatabase) -> Result<(), NoMemory> {
+    db.variants.push(VariantRow {
+        name: text(alloc, "V")?,
+        krate: Crate(6),
+        parent: EnumId(0),
+        index: 0,
+        fields: field(alloc, "in_variant")?,
+        shape: FieldsShape::Record,
+        body: None,
+    })
+}
+
+/// Adds two rows of what an alias stands for at one argument.
+fn push_normals(alloc: Global, db: &mut HirDatabase) -> Result<(), NoMemory> {
+    for target in [Ty::Char, Ty::Str] {
+        let args = one_arg(alloc, Ty::Bool)?;
+        db.normals.push((AliasId(3), args, target))?;
+    }
+    Ok(())
+}
+
+/// Adds two rows of what a function stands for at one argument.
+fn push_impls(alloc: Global, db: &mut HirDatabase) -> Result<(), NoMemory> {
+    for target in [11, 12] {
+        let args = one_arg(alloc, Ty::Bool)?;
+        let target_args = one_arg(alloc, Ty::Char)?;
+        db.impls.push(ImplRow {
+            function: FunctionId(3),
+            args,
+            target: FunctionId(target),
+            target_args,
+        })?;
+    }
+    Ok(())
+}
+
+/// Adds two rows of what a constant stands for at one argument.
+fn push_const_impls(alloc: Global, db: &mut HirDatabase) -> Result<(), NoMemory> {
+    for target in [11, 12] {
+        let args = one_arg(alloc, Ty::Bool)?;
+        let target_args = one_arg(alloc, Ty::Str)?;
+        db.const_impls.push(ConstImplRow {
+            konst: ConstId(3),
+            args,
+            target: ConstId(target),
+            target_args,
+        })?;
+    }
+    Ok(())
+}
+
+/// Adds a crate, two bodies, and two layouts of one type.
+fn push_bodies(alloc: Global, db: &mut HirDatabase) -> Result<(), NoMemory> {
+    db.crates.push(CrateRow {
+        pointer_bytes: Some(8),
+    })?;
+    db.bodies.push(literal_body(alloc, 5)?)?;
+    db.bodies.push(literal_body(alloc, 6)?)?;
+    db.layouts
+        .push((Ty::Int(IntTy::I32), plain_layout(alloc, 4)))?;
+    db.layouts
+        .push((Ty::Int(IntTy::I32), plain_layout(alloc, 8)))
+}
+
+/// A world with a few rows in each table that is looked into.
+fn small_world(alloc: Global) -> Result<HirDatabase, NoMemory> {
+    let mut db = HirDatabase::new(alloc);
+    push_bodies(alloc, &mut db)?;
+    push_items(alloc, &mut db)?;
+    push_adts(alloc, &mut db)?;
+    push_choices(alloc, &mut db)?;
+    Ok(db)
+}
+
+fn push_items(alloc: Global, db: &mut HirDatabase) -> Result<(), NoMemory> {
+    push_values(alloc, db)?;
+    push_function(alloc, db)
+}
+
+fn push_adts(alloc: Global, db: &mut HirDatabase) -> Result<(), NoMemory> {
+    push_structs(alloc, db)?;
+    push_enum(alloc, db)?;
+    push_variant(alloc, db)
+}
+
+/// Each row twice: the first one counts.
+fn push_choices(alloc: Global, db: &mut HirDatabase) -> Result<(), NoMemory> {
+    push_normals(alloc, db)?;
+    push_impls(alloc, db)?;
+    push_const_impls(alloc, db)
+}
+
+/// Asserts that a definition has the body of the literal `6`.
+fn assert_body(
+    rt: &impl Abort,
+    alloc: Global,
+    world: &HirDatabase,
+    def: DefWithBodyId,
+) -> Result<(), Fail> {
+    let second = literal_body(alloc, 6)?;
+    assert!(rt; world.body(def) == Some(&second.body));
+    assert!(rt; world.infer(def) == Some(&second.infer));
+    Ok(())
+}
+
+#[test]
+fn bodies_are_looked_up(rt: HostRuntime) -> Result<(), Fail> {
+    let world = small_world(rt.alloc())?;
+    assert_body(&rt, rt.alloc(), &world, DefWithBodyId::ConstId(ConstId(1)))?;
+    assert_body(
+        &rt,
+        rt.alloc(),
+        &world,
+        DefWithBodyId::FunctionId(FunctionId(0)),
+    )
+}
+
+#[test]
+fn missing_bodies_are_none(rt: HostRuntime) -> Result<(), Fail> {
+    let world = small_world(rt.alloc())?;
+    for def in [
+        DefWithBodyId::ConstId(ConstId(2)),
+        DefWithBodyId::StaticId(StaticId(0)),
+        DefWithBodyId::VariantId(EnumVariantId(0)),
+        DefWithBodyId::FunctionId(FunctionId(1)),
+    ] {
+        assert!(rt; world.body(def).is_none());
+        assert!(rt; world.infer(def).is_none());
+    }
+    Ok(())
+}
+
+#[test]
+fn crates_are_looked_up(rt: HostRuntime) -> Result<(), Fail> {
+    let world = small_world(rt.alloc())?;
+    for (def, krate) in [
+        (DefWithBodyId::ConstId(ConstId(1)), Some(Crate(1))),
+        (DefWithBodyId::ConstId(ConstId(2)), None),
+        (DefWithBodyId::StaticId(StaticId(0)), Some(Crate(7))),
+        (DefWithBodyId::FunctionId(FunctionId(0)), Some(Crate(5))),
+        (DefWithBodyId::VariantId(EnumVariantId(0)), Some(Crate(6))),
+        (DefWithBodyId::VariantId(EnumVariantId(1)), None),
+    ] {
+        assert_eq!(rt; world.crate_of(def), krate);
+    }
+    Ok(())
+}
+
+#[test]
+fn functions_are_looked_up(rt: HostRuntime) -> Result<(), Fail> {
+    let world = small_world(rt.alloc())?;
+    let sig = world.sig_of(FunctionId(0)).ok_or("a signature")?;
+    assert!(rt; sig.ret == Ty::Never);
+    assert!(rt; world.sig_of(FunctionId(1)).is_none());
+    assert!(rt; world.is_special(FunctionId(0)) == Some(&Special::Write));
+    assert!(rt; world.is_special(FunctionId(1)).is_none());
+    Ok(())
+}
+
+#[test]
+fn enums_are_looked_up(rt: HostRuntime) -> Result<(), Fail> {
+    let world = small_world(rt.alloc())?;
+    let variants = world.variants(EnumId(0)).ok_or("an enum")?;
+    assert_eq!(rt; variants.as_slice(), [EnumVariantId(0)].as_slice());
+    assert!(rt; world.variants(EnumId(1)).is_none());
+    Ok(())
+}
+
+/// Asserts that something has one field of this name.
+fn assert_field(
+    rt: &impl Abort,
+    world: &HirDatabase,
+    id: VariantId,
+    name: &str,
+) -> Result<(), Fail> {
+    let fields = world.field_types(id).ok_or("fields")?;
+    assert_eq!(rt; fields.len(), 1);
+    let first = fields.get(0).ok_or("a field")?;
+    assert_eq!(rt; first.name.as_str(), name);
+    Ok(())
+}
+
+#[test]
+fn fields_are_looked_up(rt: HostRuntime) -> Result<(), Fail> {
+    let world = small_world(rt.alloc())?;
+    assert_field(&rt, &world, VariantId::StructId(StructId(0)), "in_struct")?;
+    assert_field(&rt, &world, VariantId::UnionId(UnionId(0)), "in_union")?;
+    assert_field(
+        &rt,
+        &world,
+        VariantId::EnumVariantId(EnumVariantId(0)),
+        "in_variant",
+    )?;
+    assert!(rt; world.field_types(VariantId::UnionId(UnionId(1))).is_none());
+    Ok(())
+}
+
+#[test]
+fn first_layouts_are_found(rt: HostRuntime) -> Result<(), Fail> {
+    let world = small_world(rt.alloc())?;
+    let layout = world.layout_of(&Ty::Int(IntTy::I32)).ok_or("a layout")?;
+    assert_eq!(rt; layout.size, 4);
+    assert!(rt; world.layout_of(&Ty::Bool).is_none());
+    Ok(())
+}
+
+#[test]
+fn first_normal_types_are_found(rt: HostRuntime) -> Result<(), Fail> {
+    let world = small_world(rt.alloc())?;
+    let args = one_arg(rt.alloc(), Ty::Bool)?;
+    let others = one_arg(rt.alloc(), Ty::Char)?;
+    assert!(rt; world.normal_of(AliasId(3), &args) == Some(&Ty::Char));
+    assert!(rt; world.normal_of(AliasId(2), &args).is_none());
+    assert!(rt; world.normal_of(AliasId(3), &others).is_none());
+    Ok(())
+}
+
+#[test]
+fn first_impls_are_found(rt: HostRuntime) -> Result<(), Fail> {
+    let world = small_world(rt.alloc())?;
+    let args = one_arg(rt.alloc(), Ty::Bool)?;
+    let others = one_arg(rt.alloc(), Ty::Char)?;
+    let (target, target_args) = world.impl_of(FunctionId(3), &args).ok_or("an impl")?;
+    assert_eq!(rt; target, FunctionId(11));
+    assert!(rt; *target_args == others);
+    assert!(rt; world.impl_of(FunctionId(4), &args).is_none());
+    Ok(())
+}
+
+#[test]
+fn first_impls_of_constants_are_found(rt: HostRuntime) -> Result<(), Fail> {
+    let world = small_world(rt.alloc())?;
+    let args = one_arg(rt.alloc(), Ty::Bool)?;
+    let others = one_arg(rt.alloc(), Ty::Str)?;
+    let (target, target_args) = world.impl_const_of(ConstId(3), &args).ok_or("an impl")?;
+    assert_eq!(rt; target, ConstId(11));
+    assert!(rt; *target_args == others);
+    assert!(rt; world.impl_const_of(ConstId(3), &others).is_none());
+    Ok(())
+}
+
+#[test]
+fn worlds_are_copied(rt: HostRuntime) -> Result<(), Fail> {
+    let world = small_world(rt.alloc())?;
+    assert_eq!(rt; world.try_clone(rt.alloc())?, world);
+    assert!(rt; HirDatabase::new(rt.alloc()) < world);
+    Ok(())
+}
+
+#[test]
+fn limits_have_bounds(rt: HostRuntime) -> Result<(), Fail> {
+    let usual = Limits::default_limits();
+    assert!(rt; usual.within());
+    for (limits, within) in [
+        ((1 << 63, 1_000, 1 << 59), true),
+        (((1 << 63) + 1, 1_000, 1 << 59), false),
+        ((1 << 63, 1_001, 1 << 59), false),
+        ((1 << 63, 1_000, (1 << 59) + 1), false),
+    ] {
+        let (blocks, nesting, bytes) = limits;
+        let limits = Limits {
+            blocks,
+            nesting,
+            bytes,
+        };
+        assert_eq!(rt; limits.within(), within, "at {limits:?}");
+    }
+    Ok(())
+}
