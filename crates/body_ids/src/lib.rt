@@ -7,8 +7,6 @@ mod inferred;
 mod nodes;
 mod part;
 mod parts;
-#[cfg(test)]
-mod tests;
 
 pub use part::BodyPart;
 pub use parts::wrong_part;

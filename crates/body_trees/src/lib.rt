@@ -12,8 +12,6 @@ mod jumps;
 mod node;
 mod order;
 mod reach;
-#[cfg(test)]
-mod tests;
 mod tops;
 
 pub use ellipsis::wrong_ellipsis;

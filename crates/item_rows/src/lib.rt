@@ -9,8 +9,6 @@ mod layouts;
 mod listed;
 mod names;
 mod parts;
-#[cfg(test)]
-mod tests;
 
 pub use agree::{has_all_params, is_closure_row};
 pub use closed::{is_const_impl_closed, is_impl_closed, is_normal_closed};

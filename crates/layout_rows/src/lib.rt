@@ -7,8 +7,6 @@ mod fields;
 mod layouts;
 mod sizes;
 mod tags;
-#[cfg(test)]
-mod tests;
 
 pub use layouts::is_layout_right;
 pub use tags::is_tag_right;

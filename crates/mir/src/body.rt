@@ -4,20 +4,20 @@ use crate::{BasicBlockId, MirSpan, Place, Statement};
 use world::{DefWithBodyId, List, Ty};
 
 /// A local variable of a body.
-#[derive(PartialEq, Eq, Debug, Drop)]
+#[derive(PartialEq, Eq, Drop)]
 pub struct Local {
     pub ty: Ty,
 }
 
 /// How a block ends, and what that was lowered from.
-#[derive(PartialEq, Eq, Debug, Drop)]
+#[derive(PartialEq, Eq, Drop)]
 pub struct Terminator {
     pub span: MirSpan,
     pub kind: TerminatorKind,
 }
 
 /// How a block ends.
-#[derive(PartialEq, Eq, Debug, Drop)]
+#[derive(PartialEq, Eq, Drop)]
 pub enum TerminatorKind {
     Return,
     /// The value at the place is dropped, and the run goes on at `target`.
@@ -29,7 +29,7 @@ pub enum TerminatorKind {
 }
 
 /// Statements that run in order, and then a terminator.
-#[derive(PartialEq, Eq, Debug, Drop)]
+#[derive(PartialEq, Eq, Drop)]
 pub struct BasicBlock {
     pub statements: List<Statement>,
     pub terminator: Option<Terminator>,
@@ -37,7 +37,7 @@ pub struct BasicBlock {
 }
 
 /// A lowered body.
-#[derive(PartialEq, Eq, Debug, Drop)]
+#[derive(PartialEq, Eq, Drop)]
 pub struct MirBody {
     pub basic_blocks: List<BasicBlock>,
     /// Local 0 is the return slot.

@@ -4,7 +4,7 @@ use crate::{LocalId, MirSpan};
 use world::{ArithOp, CmpOp, Const, Ordering, Ty};
 
 /// Where a value lies: a local.
-#[derive(Clone, Copy, PartialEq, Eq, Hash, Debug)]
+#[derive(Clone, Copy, PartialEq, Eq, Hash)]
 pub struct Place {
     pub local: LocalId,
 }
@@ -20,28 +20,28 @@ impl From<LocalId> for Place {
 }
 
 /// What an operation reads.
-#[derive(PartialEq, Eq, Debug, Drop)]
+#[derive(PartialEq, Eq, Drop)]
 pub struct Operand {
     pub kind: OperandKind,
     pub span: Option<MirSpan>,
 }
 
 /// A place, whose bytes are read when the operation runs, or a constant.
-#[derive(PartialEq, Eq, Debug, Drop)]
+#[derive(PartialEq, Eq, Drop)]
 pub enum OperandKind {
     Copy(Place),
     Constant { konst: Const, ty: Ty },
 }
 
 /// An operator on one operand.
-#[derive(Clone, Copy, PartialEq, Eq, PartialOrd, Ord, Hash, Debug)]
+#[derive(Clone, Copy, PartialEq, Eq, PartialOrd, Ord, Hash)]
 pub enum UnOp {
     Not,
     Neg,
 }
 
 /// An operator on two operands.
-#[derive(Clone, Copy, PartialEq, Eq, Debug)]
+#[derive(Clone, Copy, PartialEq, Eq)]
 pub enum BinOp {
     Add,
     Sub,
@@ -120,7 +120,7 @@ impl From<CmpOp> for BinOp {
 }
 
 /// What an assignment computes.
-#[derive(PartialEq, Eq, Debug, Drop)]
+#[derive(PartialEq, Eq, Drop)]
 pub enum Rvalue {
     Use(Operand),
     CheckedBinaryOp(BinOp, Operand, Operand),

@@ -3,14 +3,14 @@
 use crate::{LocalId, MirSpan, Place, Rvalue};
 
 /// A statement, and what it was lowered from.
-#[derive(PartialEq, Eq, Debug, Drop)]
+#[derive(PartialEq, Eq, Drop)]
 pub struct Statement {
     pub kind: StatementKind,
     pub span: MirSpan,
 }
 
 /// What a statement does.
-#[derive(PartialEq, Eq, Debug, Drop)]
+#[derive(PartialEq, Eq, Drop)]
 pub enum StatementKind {
     /// The place is found, the value is computed, and its bytes are copied.
     Assign(Place, Rvalue),

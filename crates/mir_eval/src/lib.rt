@@ -10,8 +10,6 @@ mod output;
 mod places;
 mod runs;
 mod steps;
-#[cfg(test)]
-mod tests;
 
 pub use evaluator::{Evaluator, Turned};
 pub use output::MirOutput;

@@ -6,6 +6,8 @@ mod blocks;
 #[cfg(test)]
 mod integers;
 #[cfg(test)]
+mod machine;
+#[cfg(test)]
 mod operators;
 #[cfg(test)]
 mod program;

@@ -4,8 +4,6 @@
 mod arguments;
 mod instances;
 mod no_instance;
-#[cfg(test)]
-mod tests;
 
 pub use instances::{args_instance, ty_instance};
 pub use no_instance::NoInstance;

@@ -4,14 +4,14 @@ use crate::{Mutability, NoMemory, TryClone, Ty};
 use std::alloc::Global;
 
 /// One step, and the type that it leads to.
-#[derive(PartialEq, Eq, PartialOrd, Ord, Hash, Debug, Drop)]
+#[derive(PartialEq, Eq, PartialOrd, Ord, Hash, Drop)]
 pub struct Adjustment {
     pub kind: Adjust,
     pub target: Ty,
 }
 
 /// What a step does.
-#[derive(Clone, Copy, PartialEq, Eq, PartialOrd, Ord, Hash, Debug)]
+#[derive(Clone, Copy, PartialEq, Eq, PartialOrd, Ord, Hash)]
 pub enum Adjust {
     NeverToAny,
     Deref(Option<OverloadedDeref>),
@@ -20,20 +20,20 @@ pub enum Adjust {
 }
 
 /// A dereference by `Deref` or `DerefMut`, whichever is known.
-#[derive(Clone, Copy, PartialEq, Eq, PartialOrd, Ord, Hash, Debug)]
+#[derive(Clone, Copy, PartialEq, Eq, PartialOrd, Ord, Hash)]
 pub struct OverloadedDeref {
     pub mutability: Option<Mutability>,
 }
 
 /// A borrow.
-#[derive(Clone, Copy, PartialEq, Eq, PartialOrd, Ord, Hash, Debug)]
+#[derive(Clone, Copy, PartialEq, Eq, PartialOrd, Ord, Hash)]
 pub enum AutoBorrow {
     Ref(Mutability),
     RawPtr(Mutability),
 }
 
 /// A coercion from pointer to pointer.
-#[derive(Clone, Copy, PartialEq, Eq, PartialOrd, Ord, Hash, Debug)]
+#[derive(Clone, Copy, PartialEq, Eq, PartialOrd, Ord, Hash)]
 pub enum PointerCast {
     ReifyFnPointer,
     UnsafeFnPointer,

@@ -6,7 +6,7 @@ use crate::{BindingId, Expr, ExprId, List, NoMemory, Pat, PatId, Text, TryClone}
 use std::alloc::Global;
 
 /// The body of an item. A child's id is below its parent's of the same kind.
-#[derive(PartialEq, Eq, PartialOrd, Ord, Hash, Debug, Drop)]
+#[derive(PartialEq, Eq, PartialOrd, Ord, Hash, Drop)]
 pub struct Body {
     pub exprs: List<Expr>,
     pub pats: List<Pat>,
@@ -20,7 +20,7 @@ pub struct Body {
 }
 
 /// A variable of a body.
-#[derive(PartialEq, Eq, PartialOrd, Ord, Hash, Debug, Drop)]
+#[derive(PartialEq, Eq, PartialOrd, Ord, Hash, Drop)]
 pub struct Binding {
     pub name: Text,
     pub mode: BindingAnnotation,
@@ -29,7 +29,7 @@ pub struct Binding {
 }
 
 /// How a binding is written.
-#[derive(Clone, Copy, PartialEq, Eq, PartialOrd, Ord, Hash, Debug)]
+#[derive(Clone, Copy, PartialEq, Eq, PartialOrd, Ord, Hash)]
 pub enum BindingAnnotation {
     Unannotated,
     Mutable,
@@ -38,7 +38,7 @@ pub enum BindingAnnotation {
 }
 
 /// A statement of a block.
-#[derive(Clone, Copy, PartialEq, Eq, PartialOrd, Ord, Hash, Debug)]
+#[derive(Clone, Copy, PartialEq, Eq, PartialOrd, Ord, Hash)]
 pub enum Statement {
     Let {
         pat: PatId,

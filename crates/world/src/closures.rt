@@ -4,7 +4,7 @@ use crate::{BindingId, DefWithBodyId, ExprId, FieldId, List, NoMemory, TryClone,
 use std::alloc::Global;
 
 /// A closure.
-#[derive(PartialEq, Eq, PartialOrd, Ord, Hash, Debug, Drop)]
+#[derive(PartialEq, Eq, PartialOrd, Ord, Hash, Drop)]
 pub struct ClosureRow {
     /// The item whose body it stands in.
     pub owner: DefWithBodyId,
@@ -17,7 +17,7 @@ pub struct ClosureRow {
 }
 
 /// The trait by which a closure is called at most.
-#[derive(Clone, Copy, PartialEq, Eq, PartialOrd, Ord, Hash, Debug)]
+#[derive(Clone, Copy, PartialEq, Eq, PartialOrd, Ord, Hash)]
 pub enum FnTrait {
     Fn,
     FnMut,
@@ -25,7 +25,7 @@ pub enum FnTrait {
 }
 
 /// A place that a closure captures.
-#[derive(PartialEq, Eq, PartialOrd, Ord, Hash, Debug, Drop)]
+#[derive(PartialEq, Eq, PartialOrd, Ord, Hash, Drop)]
 pub struct Capture {
     pub local: BindingId,
     pub projections: List<HirPlaceProjection>,
@@ -37,7 +37,7 @@ pub struct Capture {
 }
 
 /// A step from a place to a part of it.
-#[derive(Clone, Copy, PartialEq, Eq, PartialOrd, Ord, Hash, Debug)]
+#[derive(Clone, Copy, PartialEq, Eq, PartialOrd, Ord, Hash)]
 pub enum HirPlaceProjection {
     Deref,
     Field(FieldId),
@@ -45,14 +45,14 @@ pub enum HirPlaceProjection {
 }
 
 /// How a place is captured.
-#[derive(Clone, Copy, PartialEq, Eq, PartialOrd, Ord, Hash, Debug)]
+#[derive(Clone, Copy, PartialEq, Eq, PartialOrd, Ord, Hash)]
 pub enum CaptureKind {
     ByRef(BorrowKind),
     ByValue,
 }
 
 /// A borrow of a place.
-#[derive(Clone, Copy, PartialEq, Eq, PartialOrd, Ord, Hash, Debug)]
+#[derive(Clone, Copy, PartialEq, Eq, PartialOrd, Ord, Hash)]
 pub enum BorrowKind {
     Shared,
     Shallow,
@@ -60,7 +60,7 @@ pub enum BorrowKind {
 }
 
 /// A borrow of a place that may change it.
-#[derive(Clone, Copy, PartialEq, Eq, PartialOrd, Ord, Hash, Debug)]
+#[derive(Clone, Copy, PartialEq, Eq, PartialOrd, Ord, Hash)]
 pub enum MutBorrowKind {
     ClosureCapture,
     Default,

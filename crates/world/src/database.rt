@@ -11,7 +11,7 @@ use std::alloc::Global;
 
 /// The world: tables of items and bodies, whose rows are named by their places, tables of layouts and of
 /// what stands for what, whose rows have keys, and the functions that operators and calls stand for.
-#[derive(PartialEq, Eq, PartialOrd, Ord, Hash, Debug, Drop)]
+#[derive(PartialEq, Eq, PartialOrd, Ord, Hash, Drop)]
 pub struct HirDatabase {
     pub crates: List<CrateRow>,
     pub functions: List<FunctionRow>,
@@ -51,7 +51,7 @@ pub struct HirDatabase {
 }
 
 /// A body, and what inference found of it.
-#[derive(PartialEq, Eq, PartialOrd, Ord, Hash, Debug, Drop)]
+#[derive(PartialEq, Eq, PartialOrd, Ord, Hash, Drop)]
 pub struct BodyRow {
     pub body: Body,
     pub infer: InferenceResult,

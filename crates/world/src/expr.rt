@@ -7,7 +7,7 @@ use crate::{
 use std::alloc::Global;
 
 /// An expression.
-#[derive(PartialEq, Eq, PartialOrd, Ord, Hash, Debug, Drop)]
+#[derive(PartialEq, Eq, PartialOrd, Ord, Hash, Drop)]
 pub enum Expr {
     Missing,
     Path(Text),
@@ -124,7 +124,7 @@ pub enum Expr {
 }
 
 /// An arm of a `match`.
-#[derive(Clone, Copy, PartialEq, Eq, PartialOrd, Ord, Hash, Debug)]
+#[derive(Clone, Copy, PartialEq, Eq, PartialOrd, Ord, Hash)]
 pub struct MatchArm {
     pub pat: PatId,
     pub guard: Option<ExprId>,
@@ -132,14 +132,14 @@ pub struct MatchArm {
 }
 
 /// A field of a record literal.
-#[derive(PartialEq, Eq, PartialOrd, Ord, Hash, Debug, Drop)]
+#[derive(PartialEq, Eq, PartialOrd, Ord, Hash, Drop)]
 pub struct RecordLitField {
     pub name: Text,
     pub expr: ExprId,
 }
 
 /// Where the fields come from that a record literal doesn't name.
-#[derive(Clone, Copy, PartialEq, Eq, PartialOrd, Ord, Hash, Debug)]
+#[derive(Clone, Copy, PartialEq, Eq, PartialOrd, Ord, Hash)]
 pub enum RecordSpread {
     Expr(ExprId),
     None,

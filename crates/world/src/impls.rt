@@ -4,7 +4,7 @@ use crate::{ConstId, FunctionId, GenericArgs, NoMemory, Row, TryClone};
 use std::alloc::Global;
 
 /// The function that a trait's function stands for at some arguments.
-#[derive(PartialEq, Eq, PartialOrd, Ord, Hash, Debug, Drop)]
+#[derive(PartialEq, Eq, PartialOrd, Ord, Hash, Drop)]
 pub struct ImplRow {
     pub function: FunctionId,
     pub args: GenericArgs,
@@ -13,7 +13,7 @@ pub struct ImplRow {
 }
 
 /// The constant that a trait's constant stands for at some arguments.
-#[derive(PartialEq, Eq, PartialOrd, Ord, Hash, Debug, Drop)]
+#[derive(PartialEq, Eq, PartialOrd, Ord, Hash, Drop)]
 pub struct ConstImplRow {
     pub konst: ConstId,
     pub args: GenericArgs,

@@ -11,7 +11,7 @@ use either::Either;
 use std::alloc::Global;
 
 /// The types of a body's nodes, and what its paths and names stand for.
-#[derive(PartialEq, Eq, PartialOrd, Ord, Hash, Debug, Drop)]
+#[derive(PartialEq, Eq, PartialOrd, Ord, Hash, Drop)]
 pub struct InferenceResult {
     /// One for each expression.
     pub expr_types: List<Ty>,
@@ -44,28 +44,28 @@ pub struct InferenceResult {
 }
 
 /// An associated item that a path names.
-#[derive(PartialEq, Eq, PartialOrd, Ord, Hash, Debug, Drop)]
+#[derive(PartialEq, Eq, PartialOrd, Ord, Hash, Drop)]
 pub struct AssocRes {
     pub def: CandidateId,
     pub args: GenericArgs,
 }
 
 /// An item that a trait or an impl can hold.
-#[derive(Clone, Copy, PartialEq, Eq, PartialOrd, Ord, Hash, Debug)]
+#[derive(Clone, Copy, PartialEq, Eq, PartialOrd, Ord, Hash)]
 pub enum CandidateId {
     ConstId(ConstId),
     FunctionId(FunctionId),
 }
 
 /// The function that a method call, or an operator, stands for.
-#[derive(PartialEq, Eq, PartialOrd, Ord, Hash, Debug, Drop)]
+#[derive(PartialEq, Eq, PartialOrd, Ord, Hash, Drop)]
 pub struct MethodRes {
     pub function: FunctionId,
     pub args: GenericArgs,
 }
 
 /// What a path of a body names.
-#[derive(Clone, Copy, PartialEq, Eq, PartialOrd, Ord, Hash, Debug)]
+#[derive(Clone, Copy, PartialEq, Eq, PartialOrd, Ord, Hash)]
 pub enum ValueNs {
     LocalBinding(BindingId),
     FunctionId(FunctionId),
@@ -78,7 +78,7 @@ pub enum ValueNs {
 }
 
 /// How a name pattern binds.
-#[derive(Clone, Copy, PartialEq, Eq, PartialOrd, Ord, Hash, Debug)]
+#[derive(Clone, Copy, PartialEq, Eq, PartialOrd, Ord, Hash)]
 pub enum BindingMode {
     Move,
     Ref(Mutability),

@@ -6,21 +6,21 @@ use crate::{
 use std::alloc::Global;
 
 /// A crate.
-#[derive(Clone, Copy, PartialEq, Eq, PartialOrd, Ord, Hash, Debug)]
+#[derive(Clone, Copy, PartialEq, Eq, PartialOrd, Ord, Hash)]
 pub struct CrateRow {
     /// The size of a pointer of the crate's target, where it is known.
     pub pointer_bytes: Option<u64>,
 }
 
 /// The types of a function's parameters, `self` included, and of its result.
-#[derive(PartialEq, Eq, PartialOrd, Ord, Hash, Debug, Drop)]
+#[derive(PartialEq, Eq, PartialOrd, Ord, Hash, Drop)]
 pub struct FnSig {
     pub params: List<Ty>,
     pub ret: Ty,
 }
 
 /// A function.
-#[derive(PartialEq, Eq, PartialOrd, Ord, Hash, Debug, Drop)]
+#[derive(PartialEq, Eq, PartialOrd, Ord, Hash, Drop)]
 pub struct FunctionRow {
     pub name: Text,
     pub krate: Crate,
@@ -36,7 +36,7 @@ pub struct FunctionRow {
 }
 
 /// A constant.
-#[derive(PartialEq, Eq, PartialOrd, Ord, Hash, Debug, Drop)]
+#[derive(PartialEq, Eq, PartialOrd, Ord, Hash, Drop)]
 pub struct ConstRow {
     pub name: Option<Text>,
     pub krate: Crate,
@@ -48,7 +48,7 @@ pub struct ConstRow {
 }
 
 /// A static.
-#[derive(PartialEq, Eq, PartialOrd, Ord, Hash, Debug, Drop)]
+#[derive(PartialEq, Eq, PartialOrd, Ord, Hash, Drop)]
 pub struct StaticRow {
     pub name: Text,
     pub krate: Crate,
@@ -60,14 +60,14 @@ pub struct StaticRow {
 }
 
 /// A field of a struct, union or variant.
-#[derive(PartialEq, Eq, PartialOrd, Ord, Hash, Debug, Drop)]
+#[derive(PartialEq, Eq, PartialOrd, Ord, Hash, Drop)]
 pub struct FieldRow {
     pub name: Text,
     pub ty: Ty,
 }
 
 /// How fields are written.
-#[derive(Clone, Copy, PartialEq, Eq, PartialOrd, Ord, Hash, Debug)]
+#[derive(Clone, Copy, PartialEq, Eq, PartialOrd, Ord, Hash)]
 pub enum FieldsShape {
     Record,
     Tuple,
@@ -75,7 +75,7 @@ pub enum FieldsShape {
 }
 
 /// A struct or a union.
-#[derive(PartialEq, Eq, PartialOrd, Ord, Hash, Debug, Drop)]
+#[derive(PartialEq, Eq, PartialOrd, Ord, Hash, Drop)]
 pub struct StructRow {
     pub name: Text,
     pub fields: List<FieldRow>,
@@ -87,7 +87,7 @@ pub struct StructRow {
 }
 
 /// An enum.
-#[derive(PartialEq, Eq, PartialOrd, Ord, Hash, Debug, Drop)]
+#[derive(PartialEq, Eq, PartialOrd, Ord, Hash, Drop)]
 pub struct EnumRow {
     pub name: Text,
     /// Whether the type of its discriminants is signed, where the source names one.
@@ -96,7 +96,7 @@ pub struct EnumRow {
 }
 
 /// A variant of an enum.
-#[derive(PartialEq, Eq, PartialOrd, Ord, Hash, Debug, Drop)]
+#[derive(PartialEq, Eq, PartialOrd, Ord, Hash, Drop)]
 pub struct VariantRow {
     pub name: Text,
     pub krate: Crate,
@@ -110,14 +110,14 @@ pub struct VariantRow {
 }
 
 /// A const parameter.
-#[derive(PartialEq, Eq, PartialOrd, Ord, Hash, Debug, Drop)]
+#[derive(PartialEq, Eq, PartialOrd, Ord, Hash, Drop)]
 pub struct ConstParamRow {
     pub name: Text,
     pub ty: Ty,
 }
 
 /// Functions that the machine does itself.
-#[derive(PartialEq, Eq, PartialOrd, Ord, Hash, Debug, Drop)]
+#[derive(PartialEq, Eq, PartialOrd, Ord, Hash, Drop)]
 pub enum Special {
     SizeOf,
     Transmute,

@@ -4,7 +4,7 @@ use crate::{List, NoMemory, TryClone};
 use std::alloc::Global;
 
 /// The layout of a type.
-#[derive(PartialEq, Eq, PartialOrd, Ord, Hash, Debug, Drop)]
+#[derive(PartialEq, Eq, PartialOrd, Ord, Hash, Drop)]
 pub struct Layout {
     /// In bytes.
     pub size: u64,
@@ -18,7 +18,7 @@ pub struct Layout {
 }
 
 /// Which variants a type's values show.
-#[derive(PartialEq, Eq, PartialOrd, Ord, Hash, Debug, Drop)]
+#[derive(PartialEq, Eq, PartialOrd, Ord, Hash, Drop)]
 pub enum Variants {
     Empty,
     Single(u32),
@@ -26,7 +26,7 @@ pub enum Variants {
 }
 
 /// How a tag tells the variants of an enum apart.
-#[derive(PartialEq, Eq, PartialOrd, Ord, Hash, Debug, Drop)]
+#[derive(PartialEq, Eq, PartialOrd, Ord, Hash, Drop)]
 pub struct MultiLayout {
     pub tag_offset: u64,
     /// In bytes.
@@ -38,7 +38,7 @@ pub struct MultiLayout {
 }
 
 /// What a tag's number means.
-#[derive(Clone, Copy, PartialEq, Eq, PartialOrd, Ord, Hash, Debug)]
+#[derive(Clone, Copy, PartialEq, Eq, PartialOrd, Ord, Hash)]
 pub enum TagEncoding {
     Direct,
     Niche {

@@ -4,7 +4,7 @@ use crate::{Bytes, FloatTy, IntTy, NoMemory, Text, TryClone, UintTy};
 use std::alloc::Global;
 
 /// A literal, with the type that its suffix names.
-#[derive(PartialEq, Eq, PartialOrd, Ord, Hash, Debug, Drop)]
+#[derive(PartialEq, Eq, PartialOrd, Ord, Hash, Drop)]
 pub enum Literal {
     Str(Text),
     /// The bytes of a C string, without the zero at its end.

@@ -4,7 +4,7 @@ use crate::{BindingId, ExprId, List, NoMemory, PatId, Text, TryClone};
 use std::alloc::Global;
 
 /// A pattern.
-#[derive(PartialEq, Eq, PartialOrd, Ord, Hash, Debug, Drop)]
+#[derive(PartialEq, Eq, PartialOrd, Ord, Hash, Drop)]
 pub enum Pat {
     Missing,
     Wild,
@@ -47,14 +47,14 @@ pub enum Pat {
 }
 
 /// A field of a record pattern.
-#[derive(PartialEq, Eq, PartialOrd, Ord, Hash, Debug, Drop)]
+#[derive(PartialEq, Eq, PartialOrd, Ord, Hash, Drop)]
 pub struct RecordFieldPat {
     pub name: Text,
     pub pat: PatId,
 }
 
 /// Whether a range holds its end.
-#[derive(Clone, Copy, PartialEq, Eq, PartialOrd, Ord, Hash, Debug)]
+#[derive(Clone, Copy, PartialEq, Eq, PartialOrd, Ord, Hash)]
 pub enum RangeOp {
     Exclusive,
     Inclusive,

@@ -6,7 +6,7 @@ use world::{DefWithBodyId, GenericArgs, HirDatabase};
 use world_names::{are_args_known, is_def_known};
 
 /// A world that the check has passed, which contracts see as the database.
-#[derive(Debug, Drop)]
+#[derive(Drop)]
 pub struct CheckedWorld {
     db: HirDatabase,
 }

@@ -21,6 +21,3 @@ pub use fault::{CheckFault, CheckRow, InvalidWorld};
 pub use place::{NamedFunction, NodeKind, Place, TableName};
 pub use rows::check;
 pub use typed_body::check_body;
-
-#[cfg(test)]
-mod tests;

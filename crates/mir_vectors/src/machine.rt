@@ -1,4 +1,4 @@
-use crate::{Evaluator, Limits, Turned};
+use mir_eval::{Evaluator, Limits, Turned};
 use mir::{
     BasicBlock, BasicBlockId, BinOp, Local, LocalId, MirBody, MirSpan, Operand, OperandKind, Place,
     Rvalue, Statement, StatementKind, Terminator, TerminatorKind,

@@ -1,6 +1,6 @@
 //! Types with parameters and aliases, at generic arguments, with ample memory.
 
-use crate::{NoInstance, args_instance, ty_instance};
+use type_instances::{NoInstance, args_instance, ty_instance};
 use std::alloc::Global;
 use std::test::Fail;
 use types::{

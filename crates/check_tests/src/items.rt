@@ -1,6 +1,6 @@
 //! Variants in the list of their enum.
 
-use crate::unlisted_variant;
+use item_rows::unlisted_variant;
 use std::alloc::Global;
 use std::test::Fail;
 use world::{

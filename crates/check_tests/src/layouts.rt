@@ -1,6 +1,6 @@
 //! The layouts of a tuple and of an enum with one field.
 
-use crate::is_layout_right;
+use layout_rows::is_layout_right;
 use std::alloc::Global;
 use std::test::Fail;
 use world::{

@@ -1,7 +1,7 @@
 //! The constant `const GOAL: usize = 2 + 2`, as it is and with one thing wrong in it, and small
 //! worlds that fail the other rows.
 
-use crate::{CheckFault, CheckRow, CheckedWorld, InvalidWorld, check, check_body};
+use world_check::{CheckFault, CheckRow, CheckedWorld, InvalidWorld, check, check_body};
 use std::alloc::Global;
 use std::test::Fail;
 use world::{
