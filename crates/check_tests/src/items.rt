@@ -30,12 +30,17 @@ fn with_variant(alloc: Global, index: u32) -> Result<HirDatabase, NoMemory> {
     Ok(db)
 }
 
+/// The first variant that its enum doesn't list, in a world whose only one says that it stands at `index`.
+fn unlisted_at(alloc: Global, index: u32) -> Result<Option<u64>, NoMemory> {
+    let db = with_variant(alloc, index)?;
+    unlisted_variant(alloc, &db)
+}
+
 #[test]
 fn a_variant_stands_at_its_index(rt: HostRuntime) -> Result<(), Fail> {
-    let alloc = rt.alloc();
-    let db = with_variant(alloc, 0)?;
-    assert_eq!(rt; unlisted_variant(alloc, &db)?, None);
-    let db = with_variant(alloc, 1)?;
-    assert_eq!(rt; unlisted_variant(alloc, &db)?, Some(0));
+    let first = unlisted_at(rt.alloc(), 0)?;
+    assert_eq!(rt; first, None);
+    let second = unlisted_at(rt.alloc(), 1)?;
+    assert_eq!(rt; second, Some(0));
     Ok(())
 }

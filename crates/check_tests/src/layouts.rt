@@ -78,23 +78,41 @@ fn is_tuple_right(alloc: Global, db: &HirDatabase, offset: u64) -> Result<bool, 
     is_layout_right(alloc, db, 1, &row)
 }
 
+/// Whether the layout of a tuple is right whose part begins at an offset, after the layout of `bool`.
+fn is_tuple_right_after_bool(alloc: Global, offset: u64) -> Result<bool, NoMemory> {
+    let db = with_bool(alloc)?;
+    is_tuple_right(alloc, &db, offset)
+}
+
 #[test]
 fn the_part_of_a_tuple_lies_inside(rt: HostRuntime) -> Result<(), Fail> {
-    let alloc = rt.alloc();
-    let db = with_bool(alloc)?;
-    assert!(rt; is_tuple_right(alloc, &db, 0)?);
-    assert!(rt; !is_tuple_right(alloc, &db, 1)?);
+    let inside = is_tuple_right_after_bool(rt.alloc(), 0)?;
+    assert!(rt; inside);
+    let past_the_end = is_tuple_right_after_bool(rt.alloc(), 1)?;
+    assert!(rt; !past_the_end);
     Ok(())
+}
+
+/// A world with an enum of one variant with one field, and the layout of the field.
+fn with_enum_of_bool(alloc: Global) -> Result<HirDatabase, NoMemory> {
+    let mut db = with_enum(alloc, Ty::Bool)?;
+    db.layouts.push((Ty::Bool, one_byte(List::new(alloc))))?;
+    Ok(db)
+}
+
+/// Whether the layout of the enum is right at a place among the rows.
+fn is_enum_right(alloc: Global, place: u64) -> Result<bool, NoMemory> {
+    let db = with_enum_of_bool(alloc)?;
+    let ty = Ty::Adt(AdtId::EnumId(EnumId(0)), GenericArgs(List::new(alloc)));
+    let row = (ty, with_field(alloc, 0)?);
+    is_layout_right(alloc, &db, place, &row)
 }
 
 #[test]
 fn the_field_of_a_variant_has_a_layout_further_up(rt: HostRuntime) -> Result<(), Fail> {
-    let alloc = rt.alloc();
-    let mut db = with_enum(alloc, Ty::Bool)?;
-    db.layouts.push((Ty::Bool, one_byte(List::new(alloc))))?;
-    let ty = Ty::Adt(AdtId::EnumId(EnumId(0)), GenericArgs(List::new(alloc)));
-    let row = (ty, with_field(alloc, 0)?);
-    assert!(rt; is_layout_right(alloc, &db, 1, &row)?);
-    assert!(rt; !is_layout_right(alloc, &db, 0, &row)?);
+    let after = is_enum_right(rt.alloc(), 1)?;
+    assert!(rt; after);
+    let before = is_enum_right(rt.alloc(), 0)?;
+    assert!(rt; !before);
     Ok(())
 }

@@ -1,8 +1,8 @@
 //! The constant `const GOAL: usize = 2 + 2`, as it is and with one thing wrong in it, and small
 //! worlds that fail the other rows.
 
-use world_check::{CheckFault, CheckRow, CheckedWorld, InvalidWorld, check, check_body};
 use std::alloc::Global;
+use std::process::Abort;
 use std::test::Fail;
 use world::{
     AdtId, AliasId, ArithOp, BinaryOp, Body, BodyRow, ConstId, ConstRow, Crate, CrateRow,
@@ -10,6 +10,7 @@ use world::{
     HirDatabase, InferenceResult, LabelId, Layout, List, Literal, NoMemory, Text, Ty, UintTy,
     UnaryOp, VariantRow, Variants,
 };
+use world_check::{CheckFault, CheckRow, CheckedWorld, InvalidWorld, check, check_body};
 
 /// What is wrong in a world.
 #[derive(Clone, Copy, PartialEq, Eq, Debug)]
@@ -139,6 +140,17 @@ fn verdict(alloc: Global, db: &HirDatabase) -> Result<Option<InvalidWorld>, Fail
     }
 }
 
+/// The row and the place that the check of a world names.
+fn refused(alloc: Global, db: HirDatabase) -> Result<InvalidWorld, Fail> {
+    Ok(verdict(alloc, &db)?.ok_or("passed")?)
+}
+
+/// Asserts that a refusal names a row and a place.
+fn assert_named(rt: &impl Abort, invalid: &InvalidWorld, row: CheckRow, place: &str) {
+    assert_eq!(rt; invalid.row, row);
+    assert_eq!(rt; invalid.place.as_str(), place);
+}
+
 /// What the check says of the constant with one thing wrong.
 fn verdict_of(alloc: Global, change: Change) -> Result<Option<InvalidWorld>, Fail> {
     let db = goal(alloc, change)?;
@@ -167,36 +179,38 @@ fn checked(alloc: Global) -> Result<CheckedWorld, Fail> {
     Ok(world.ok_or("refused")?)
 }
 
-#[test]
-fn a_checked_world_has_its_items(rt: HostRuntime) -> Result<(), Fail> {
-    let world = checked(rt.alloc())?;
+/// Asserts which definitions the checked world of the constant has.
+fn assert_has(rt: &impl Abort, world: &CheckedWorld) {
     assert!(rt; world.has(DefWithBodyId::ConstId(ConstId(0))));
     assert!(rt; !world.has(DefWithBodyId::ConstId(ConstId(1))));
     assert!(rt; !world.has(DefWithBodyId::FunctionId(FunctionId(0))));
+}
+
+#[test]
+fn a_checked_world_has_its_items(rt: HostRuntime) -> Result<(), Fail> {
+    let world = checked(rt.alloc())?;
+    assert_has(&rt, &world);
     Ok(())
 }
 
 #[test]
 fn a_missing_operand_is_named(rt: HostRuntime) -> Result<(), Fail> {
     let invalid = verdict_of(rt.alloc(), Change::NoOperand)?.ok_or("passed")?;
-    assert_eq!(rt; invalid.row, CheckRow::C1);
-    assert_eq!(rt; invalid.place.as_str(), "bodies[0].exprs[2]");
+    assert_named(&rt, &invalid, CheckRow::C1, "bodies[0].exprs[2]");
     Ok(())
 }
 
 #[test]
 fn an_odd_alignment_is_named(rt: HostRuntime) -> Result<(), Fail> {
     let invalid = verdict_of(rt.alloc(), Change::OddAlignment)?.ok_or("passed")?;
-    assert_eq!(rt; invalid.row, CheckRow::C5);
-    assert_eq!(rt; invalid.place.as_str(), "layouts[0]");
+    assert_named(&rt, &invalid, CheckRow::C5, "layouts[0]");
     Ok(())
 }
 
 #[test]
 fn an_expression_too_deep_is_named(rt: HostRuntime) -> Result<(), Fail> {
     let invalid = verdict_of_chain(rt.alloc(), 401)?.ok_or("passed")?;
-    assert_eq!(rt; invalid.row, CheckRow::C2);
-    assert_eq!(rt; invalid.place.as_str(), "bodies[0].exprs[401]");
+    assert_named(&rt, &invalid, CheckRow::C2, "bodies[0].exprs[401]");
     Ok(())
 }
 
@@ -242,9 +256,8 @@ fn loose_break(alloc: Global) -> Result<BodyRow, NoMemory> {
 fn a_loose_jump_is_named(rt: HostRuntime) -> Result<(), Fail> {
     let row = loose_break(rt.alloc())?;
     let db = world_of(rt.alloc(), row, Change::Nothing)?;
-    let invalid = verdict(rt.alloc(), &db)?.ok_or("passed")?;
-    assert_eq!(rt; invalid.row, CheckRow::C3);
-    assert_eq!(rt; invalid.place.as_str(), "bodies[0].exprs[0]");
+    let invalid = refused(rt.alloc(), db)?;
+    assert_named(&rt, &invalid, CheckRow::C3, "bodies[0].exprs[0]");
     Ok(())
 }
 
@@ -260,9 +273,8 @@ fn own_alias(alloc: Global) -> Result<HirDatabase, NoMemory> {
 #[test]
 fn an_alias_for_an_alias_is_named(rt: HostRuntime) -> Result<(), Fail> {
     let db = own_alias(rt.alloc())?;
-    let invalid = verdict(rt.alloc(), &db)?.ok_or("passed")?;
-    assert_eq!(rt; invalid.row, CheckRow::C4);
-    assert_eq!(rt; invalid.place.as_str(), "normals[0]");
+    let invalid = refused(rt.alloc(), db)?;
+    assert_named(&rt, &invalid, CheckRow::C4, "normals[0]");
     Ok(())
 }
 
@@ -288,15 +300,19 @@ fn layout_of_one(alloc: Global) -> Layout {
     }
 }
 
-#[test]
-fn a_tag_of_no_variant_is_named(rt: HostRuntime) -> Result<(), Fail> {
-    let alloc = rt.alloc();
+/// An enum of no variants, and a layout of it that shows one.
+fn tag_of_no_variant(alloc: Global) -> Result<HirDatabase, NoMemory> {
     let mut db = empty_enum(alloc)?;
     let ty = Ty::Adt(AdtId::EnumId(EnumId(0)), no_args(alloc));
     db.layouts.push((ty, layout_of_one(alloc)))?;
-    let invalid = verdict(alloc, &db)?.ok_or("passed")?;
-    assert_eq!(rt; invalid.row, CheckRow::C6);
-    assert_eq!(rt; invalid.place.as_str(), "layouts[0]");
+    Ok(db)
+}
+
+#[test]
+fn a_tag_of_no_variant_is_named(rt: HostRuntime) -> Result<(), Fail> {
+    let db = tag_of_no_variant(rt.alloc())?;
+    let invalid = refused(rt.alloc(), db)?;
+    assert_named(&rt, &invalid, CheckRow::C6, "layouts[0]");
     Ok(())
 }
 
@@ -313,26 +329,35 @@ fn variant(alloc: Global) -> Result<VariantRow, NoMemory> {
     })
 }
 
-#[test]
-fn a_variant_that_its_enum_lacks_is_named(rt: HostRuntime) -> Result<(), Fail> {
-    let alloc = rt.alloc();
+/// An enum of no variants, and a variant of it.
+fn unlisted_variant(alloc: Global) -> Result<HirDatabase, NoMemory> {
     let mut db = empty_enum(alloc)?;
     db.crates.push(CrateRow {
         pointer_bytes: Some(8),
     })?;
     db.variants.push(variant(alloc)?)?;
-    let invalid = verdict(alloc, &db)?.ok_or("passed")?;
-    assert_eq!(rt; invalid.row, CheckRow::C7);
-    assert_eq!(rt; invalid.place.as_str(), "variants[0]");
+    Ok(db)
+}
+
+#[test]
+fn a_variant_that_its_enum_lacks_is_named(rt: HostRuntime) -> Result<(), Fail> {
+    let db = unlisted_variant(rt.alloc())?;
+    let invalid = refused(rt.alloc(), db)?;
+    assert_named(&rt, &invalid, CheckRow::C7, "variants[0]");
     Ok(())
+}
+
+/// A world without functions, with a function that drops.
+fn no_drop_function(alloc: Global) -> HirDatabase {
+    let mut db = HirDatabase::new(alloc);
+    db.drop_fn = Some(FunctionId(0));
+    db
 }
 
 #[test]
 fn a_function_beside_the_tables_is_named(rt: HostRuntime) -> Result<(), Fail> {
-    let mut db = HirDatabase::new(rt.alloc());
-    db.drop_fn = Some(FunctionId(0));
-    let invalid = verdict(rt.alloc(), &db)?.ok_or("passed")?;
-    assert_eq!(rt; invalid.row, CheckRow::C1);
-    assert_eq!(rt; invalid.place.as_str(), "drop_fn");
+    let db = no_drop_function(rt.alloc());
+    let invalid = refused(rt.alloc(), db)?;
+    assert_named(&rt, &invalid, CheckRow::C1, "drop_fn");
     Ok(())
 }

@@ -1,8 +1,8 @@
-use mir_eval::{Evaluator, Limits, Turned};
 use mir::{
     BasicBlock, BasicBlockId, BinOp, Local, LocalId, MirBody, MirSpan, Operand, OperandKind, Place,
     Rvalue, Statement, StatementKind, Terminator, TerminatorKind,
 };
+use mir_eval::{Evaluator, Limits, Turned};
 use std::alloc::Global;
 use std::rc::Rc;
 use std::test::Fail;

@@ -1,8 +1,8 @@
 //! Types with parameters and aliases, at generic arguments, with ample memory.
 
-use type_instances::{NoInstance, args_instance, ty_instance};
 use std::alloc::Global;
 use std::test::Fail;
+use type_instances::{NoInstance, args_instance, ty_instance};
 use types::{
     AliasId, Box, Const, ConstParamId, GenericArg, GenericArgs, List, Mutability, NoMemory,
     ParamConst, ParamTy, Table, Ty, TypeParamId,

@@ -224,21 +224,20 @@ fn assert_body(
     Ok(())
 }
 
-#[test]
-fn bodies_are_looked_up(rt: HostRuntime) -> Result<(), Fail> {
-    let world = small_world(rt.alloc())?;
-    assert_body(&rt, rt.alloc(), &world, DefWithBodyId::ConstId(ConstId(1)))?;
-    assert_body(
-        &rt,
-        rt.alloc(),
-        &world,
-        DefWithBodyId::FunctionId(FunctionId(0)),
-    )
+/// Asserts that a constant and a function have the body of the literal `6`.
+fn assert_bodies(rt: &impl Abort, alloc: Global, world: &HirDatabase) -> Result<(), Fail> {
+    assert_body(rt, alloc, world, DefWithBodyId::ConstId(ConstId(1)))?;
+    assert_body(rt, alloc, world, DefWithBodyId::FunctionId(FunctionId(0)))
 }
 
 #[test]
-fn missing_bodies_are_none(rt: HostRuntime) -> Result<(), Fail> {
+fn bodies_are_looked_up(rt: HostRuntime) -> Result<(), Fail> {
     let world = small_world(rt.alloc())?;
+    assert_bodies(&rt, rt.alloc(), &world)
+}
+
+/// Asserts that definitions without a body have none.
+fn assert_no_bodies(rt: &impl Abort, world: &HirDatabase) {
     for def in [
         DefWithBodyId::ConstId(ConstId(2)),
         DefWithBodyId::StaticId(StaticId(0)),
@@ -248,12 +247,17 @@ fn missing_bodies_are_none(rt: HostRuntime) -> Result<(), Fail> {
         assert!(rt; world.body(def).is_none());
         assert!(rt; world.infer(def).is_none());
     }
-    Ok(())
 }
 
 #[test]
-fn crates_are_looked_up(rt: HostRuntime) -> Result<(), Fail> {
+fn missing_bodies_are_none(rt: HostRuntime) -> Result<(), Fail> {
     let world = small_world(rt.alloc())?;
+    assert_no_bodies(&rt, &world);
+    Ok(())
+}
+
+/// Asserts which crates definitions are in.
+fn assert_crates(rt: &impl Abort, world: &HirDatabase) {
     for (def, krate) in [
         (DefWithBodyId::ConstId(ConstId(1)), Some(Crate(1))),
         (DefWithBodyId::ConstId(ConstId(2)), None),
@@ -264,12 +268,17 @@ fn crates_are_looked_up(rt: HostRuntime) -> Result<(), Fail> {
     ] {
         assert_eq!(rt; world.crate_of(def), krate);
     }
-    Ok(())
 }
 
 #[test]
-fn functions_are_looked_up(rt: HostRuntime) -> Result<(), Fail> {
+fn crates_are_looked_up(rt: HostRuntime) -> Result<(), Fail> {
     let world = small_world(rt.alloc())?;
+    assert_crates(&rt, &world);
+    Ok(())
+}
+
+/// Asserts what the first function is.
+fn assert_function(rt: &impl Abort, world: &HirDatabase) -> Result<(), Fail> {
     let sig = world.sig_of(FunctionId(0)).ok_or("a signature")?;
     assert!(rt; sig.ret == Ty::Never);
     assert!(rt; world.sig_of(FunctionId(1)).is_none());
@@ -279,12 +288,23 @@ fn functions_are_looked_up(rt: HostRuntime) -> Result<(), Fail> {
 }
 
 #[test]
-fn enums_are_looked_up(rt: HostRuntime) -> Result<(), Fail> {
+fn functions_are_looked_up(rt: HostRuntime) -> Result<(), Fail> {
     let world = small_world(rt.alloc())?;
+    assert_function(&rt, &world)
+}
+
+/// Asserts which variants the first enum has.
+fn assert_variants(rt: &impl Abort, world: &HirDatabase) -> Result<(), Fail> {
     let variants = world.variants(EnumId(0)).ok_or("an enum")?;
     assert_eq!(rt; variants.as_slice(), [EnumVariantId(0)].as_slice());
     assert!(rt; world.variants(EnumId(1)).is_none());
     Ok(())
+}
+
+#[test]
+fn enums_are_looked_up(rt: HostRuntime) -> Result<(), Fail> {
+    let world = small_world(rt.alloc())?;
+    assert_variants(&rt, &world)
 }
 
 /// Asserts that something has one field of this name.
@@ -301,24 +321,24 @@ fn assert_field(
     Ok(())
 }
 
-#[test]
-fn fields_are_looked_up(rt: HostRuntime) -> Result<(), Fail> {
-    let world = small_world(rt.alloc())?;
-    assert_field(&rt, &world, VariantId::StructId(StructId(0)), "in_struct")?;
-    assert_field(&rt, &world, VariantId::UnionId(UnionId(0)), "in_union")?;
-    assert_field(
-        &rt,
-        &world,
-        VariantId::EnumVariantId(EnumVariantId(0)),
-        "in_variant",
-    )?;
+/// Asserts which fields a struct, a union and a variant have.
+fn assert_fields(rt: &impl Abort, world: &HirDatabase) -> Result<(), Fail> {
+    assert_field(rt, world, VariantId::StructId(StructId(0)), "in_struct")?;
+    assert_field(rt, world, VariantId::UnionId(UnionId(0)), "in_union")?;
+    let variant = VariantId::EnumVariantId(EnumVariantId(0));
+    assert_field(rt, world, variant, "in_variant")?;
     assert!(rt; world.field_types(VariantId::UnionId(UnionId(1))).is_none());
     Ok(())
 }
 
 #[test]
-fn first_layouts_are_found(rt: HostRuntime) -> Result<(), Fail> {
+fn fields_are_looked_up(rt: HostRuntime) -> Result<(), Fail> {
     let world = small_world(rt.alloc())?;
+    assert_fields(&rt, &world)
+}
+
+/// Asserts that the first of two layouts is found, and none of another type.
+fn assert_layouts(rt: &impl Abort, world: &HirDatabase) -> Result<(), Fail> {
     let layout = world.layout_of(&Ty::Int(IntTy::I32)).ok_or("a layout")?;
     assert_eq!(rt; layout.size, 4);
     assert!(rt; world.layout_of(&Ty::Bool).is_none());
@@ -326,45 +346,95 @@ fn first_layouts_are_found(rt: HostRuntime) -> Result<(), Fail> {
 }
 
 #[test]
-fn first_normal_types_are_found(rt: HostRuntime) -> Result<(), Fail> {
+fn first_layouts_are_found(rt: HostRuntime) -> Result<(), Fail> {
     let world = small_world(rt.alloc())?;
+    assert_layouts(&rt, &world)
+}
+
+/// Asserts what an alias stands for at `args`, and that it stands for nothing at `others`.
+fn assert_normals(rt: &impl Abort, world: &HirDatabase, args: &GenericArgs, others: &GenericArgs) {
+    assert!(rt; world.normal_of(AliasId(3), args) == Some(&Ty::Char));
+    assert!(rt; world.normal_of(AliasId(2), args).is_none());
+    assert!(rt; world.normal_of(AliasId(3), others).is_none());
+}
+
+#[test]
+fn first_normal_types_are_found(rt: HostRuntime) -> Result<(), Fail> {
     let args = one_arg(rt.alloc(), Ty::Bool)?;
     let others = one_arg(rt.alloc(), Ty::Char)?;
-    assert!(rt; world.normal_of(AliasId(3), &args) == Some(&Ty::Char));
-    assert!(rt; world.normal_of(AliasId(2), &args).is_none());
-    assert!(rt; world.normal_of(AliasId(3), &others).is_none());
+    let world = small_world(rt.alloc())?;
+    assert_normals(&rt, &world, &args, &others);
+    Ok(())
+}
+
+/// Asserts which function a function stands for at `args`, at which arguments.
+fn assert_impls(
+    rt: &impl Abort,
+    world: &HirDatabase,
+    args: &GenericArgs,
+    target_args: &GenericArgs,
+) -> Result<(), Fail> {
+    let (target, found) = world.impl_of(FunctionId(3), args).ok_or("an impl")?;
+    assert_eq!(rt; target, FunctionId(11));
+    assert!(rt; *found == *target_args);
+    assert!(rt; world.impl_of(FunctionId(4), args).is_none());
     Ok(())
 }
 
 #[test]
 fn first_impls_are_found(rt: HostRuntime) -> Result<(), Fail> {
-    let world = small_world(rt.alloc())?;
     let args = one_arg(rt.alloc(), Ty::Bool)?;
     let others = one_arg(rt.alloc(), Ty::Char)?;
-    let (target, target_args) = world.impl_of(FunctionId(3), &args).ok_or("an impl")?;
-    assert_eq!(rt; target, FunctionId(11));
-    assert!(rt; *target_args == others);
-    assert!(rt; world.impl_of(FunctionId(4), &args).is_none());
+    let world = small_world(rt.alloc())?;
+    assert_impls(&rt, &world, &args, &others)
+}
+
+/// Asserts which constant a constant stands for at `args`, at which arguments.
+fn assert_const_impls(
+    rt: &impl Abort,
+    world: &HirDatabase,
+    args: &GenericArgs,
+    target_args: &GenericArgs,
+) -> Result<(), Fail> {
+    let (target, found) = world.impl_const_of(ConstId(3), args).ok_or("an impl")?;
+    assert_eq!(rt; target, ConstId(11));
+    assert!(rt; *found == *target_args);
+    assert!(rt; world.impl_const_of(ConstId(3), target_args).is_none());
     Ok(())
 }
 
 #[test]
 fn first_impls_of_constants_are_found(rt: HostRuntime) -> Result<(), Fail> {
-    let world = small_world(rt.alloc())?;
     let args = one_arg(rt.alloc(), Ty::Bool)?;
     let others = one_arg(rt.alloc(), Ty::Str)?;
-    let (target, target_args) = world.impl_const_of(ConstId(3), &args).ok_or("an impl")?;
-    assert_eq!(rt; target, ConstId(11));
-    assert!(rt; *target_args == others);
-    assert!(rt; world.impl_const_of(ConstId(3), &others).is_none());
-    Ok(())
+    let world = small_world(rt.alloc())?;
+    assert_const_impls(&rt, &world, &args, &others)
+}
+
+/// Whether the copy of a world equals it.
+fn is_copied(alloc: Global, world: &HirDatabase) -> Result<bool, NoMemory> {
+    let copy = world.try_clone(alloc)?;
+    Ok(copy == *world)
+}
+
+/// Whether the empty world comes before a world.
+fn is_after_empty(alloc: Global, world: &HirDatabase) -> bool {
+    HirDatabase::new(alloc) < *world
 }
 
 #[test]
 fn worlds_are_copied(rt: HostRuntime) -> Result<(), Fail> {
     let world = small_world(rt.alloc())?;
-    assert_eq!(rt; world.try_clone(rt.alloc())?, world);
-    assert!(rt; HirDatabase::new(rt.alloc()) < world);
+    let copied = is_copied(rt.alloc(), &world)?;
+    assert!(rt; copied);
+    Ok(())
+}
+
+#[test]
+fn worlds_are_ordered(rt: HostRuntime) -> Result<(), Fail> {
+    let world = small_world(rt.alloc())?;
+    let after = is_after_empty(rt.alloc(), &world);
+    assert!(rt; after);
     Ok(())
 }
 
