@@ -2,17 +2,16 @@
 
 use serde_json::Value;
 use std::alloc::Global;
+use std::process::Abort;
 use std::test::Fail;
-use world::{ConstId, Crate, DefWithBodyId, ExprId, Text, Ty, UintTy, Variants};
-use world_json::{NotAWorld, read_world};
+use world::{ConstId, Crate, DefWithBodyId, ExprId, HirDatabase, List, Text, Ty, UintTy, Variants};
+use world_json::{Goal, NotAWorld, read_world};
 
 const SAMPLE: &str =
     r#"{"version":1,"world":{"crates":[{"pointer_bytes":8}],"consts":[{"name":"GOAL","krate":0,"ty":{"Uint":"Usize"},"body":0}],"bodies":[{"body":{"exprs":[{"Literal":{"Int":["2",null]}},{"Literal":{"Int":["2",null]}},{"BinaryOp":{"lhs":0,"rhs":1,"op":{"ArithOp":"Add"}}}],"body_expr":2},"infer":{"expr_types":[{"Uint":"Usize"},{"Uint":"Usize"},{"Uint":"Usize"}],"copy_types":[{"Uint":"Usize"}]}}],"layouts":[[{"Uint":"Usize"},{"size":8,"align":8,"sized":true,"offsets":[],"variants":{"Single":0}}]]},"goals":[{"def":{"ConstId":0}}]}"#;
 
-#[test]
-fn the_sample_is_read(rt: HostRuntime) -> Result<(), Fail> {
-    let tree = Value::from_str(rt.alloc(), SAMPLE)?;
-    let (db, goals) = read_world(rt.alloc(), &tree).ok().ok_or("a world")?;
+/// Asserts that a constant and its goal are those of the sample.
+fn assert_goal(rt: &impl Abort, db: &HirDatabase, goals: &List<Goal>) -> Result<(), Fail> {
     let goal = goals.get(0).ok_or("a goal")?;
     assert!(rt; goal.def == DefWithBodyId::ConstId(ConstId(0)));
     assert_eq!(rt; goals.len(), 1);
@@ -21,6 +20,11 @@ fn the_sample_is_read(rt: HostRuntime) -> Result<(), Fail> {
     assert!(rt; row.krate == Crate(0));
     assert!(rt; row.ty == Ty::Uint(UintTy::Usize));
     assert_eq!(rt; row.body, Some(0));
+    Ok(())
+}
+
+/// Asserts that the first body and the first layout are those of the sample.
+fn assert_sum(rt: &impl Abort, db: &HirDatabase) -> Result<(), Fail> {
     let body = db.bodies.get(0).ok_or("a body")?;
     assert_eq!(rt; body.body.exprs.len(), 3);
     assert!(rt; body.body.body_expr == ExprId(2));
@@ -30,6 +34,24 @@ fn the_sample_is_read(rt: HostRuntime) -> Result<(), Fail> {
     assert_eq!(rt; layout.size, 8);
     assert!(rt; layout.variants == Variants::Single(0));
     Ok(())
+}
+
+/// Asserts that a world and its goals are those of the sample.
+fn assert_sample(rt: &impl Abort, db: &HirDatabase, goals: &List<Goal>) -> Result<(), Fail> {
+    assert_goal(rt, db, goals)?;
+    assert_sum(rt, db)
+}
+
+/// What is read of the sample.
+fn sample(alloc: Global) -> Result<(HirDatabase, List<Goal>), Fail> {
+    let tree = Value::from_str(alloc, SAMPLE)?;
+    Ok(read_world(alloc, &tree).ok().ok_or("a world")?)
+}
+
+#[test]
+fn the_sample_is_read(rt: HostRuntime) -> Result<(), Fail> {
+    let (db, goals) = sample(rt.alloc())?;
+    assert_sample(&rt, &db, &goals)
 }
 
 /// Inputs with one misfit each, and its path.

@@ -118,39 +118,62 @@ fn assert_bodies(rt: &impl Abort, read: &List<BodyRow>, hand: &List<BodyRow>) {
     }
 }
 
+/// Asserts that worlds are equal, table by table and as a whole.
+fn assert_worlds(rt: &impl Abort, read: &HirDatabase, hand: &HirDatabase) {
+    assert_items(rt, read, hand);
+    assert_adts(rt, read, hand);
+    assert_operators(rt, read, hand);
+    assert_bodies(rt, &read.bodies, &hand.bodies);
+    assert!(rt; *read == *hand);
+}
+
+/// The world of the whole input.
+fn found_world(alloc: Global) -> Result<HirDatabase, Fail> {
+    let (world, _goals) = found(alloc)?;
+    Ok(world)
+}
+
 #[test]
 fn every_variant_is_read(rt: HostRuntime) -> Result<(), Fail> {
-    let alloc = rt.alloc();
-    let (read, goals) = found(alloc)?;
-    let hand = made(alloc)?;
-    assert_items(&rt, &read, &hand);
-    assert_adts(&rt, &read, &hand);
-    assert_operators(&rt, &read, &hand);
-    assert_bodies(&rt, &read.bodies, &hand.bodies);
-    assert!(rt; read == hand);
-    assert!(rt; goals == all_goals(alloc)?);
+    let read = found_world(rt.alloc())?;
+    let hand = made(rt.alloc())?;
+    assert_worlds(&rt, &read, &hand);
     Ok(())
+}
+
+/// The goals of the whole input.
+fn found_goals(alloc: Global) -> Result<List<Goal>, Fail> {
+    let (_world, goals) = found(alloc)?;
+    Ok(goals)
+}
+
+#[test]
+fn every_goal_is_read(rt: HostRuntime) -> Result<(), Fail> {
+    let read = found_goals(rt.alloc())?;
+    let hand = all_goals(rt.alloc())?;
+    assert!(rt; read == hand);
+    Ok(())
+}
+
+/// Whether an input without tables stands for the empty world without goals.
+fn is_empty_read(alloc: Global) -> Result<bool, Fail> {
+    let (read, goals) = read_of(alloc, br#"{"version":1,"world":{}}"#)?;
+    let empty = HirDatabase::new(alloc);
+    Ok(read == empty && goals.len() == 0)
 }
 
 #[test]
 fn tables_may_be_left_out(rt: HostRuntime) -> Result<(), Fail> {
-    let alloc = rt.alloc();
-    let (read, goals) = read_of(alloc, br#"{"version":1,"world":{}}"#)?;
-    assert!(rt; read == HirDatabase::new(alloc));
-    assert_eq!(rt; goals.len(), 0);
+    let empty = is_empty_read(rt.alloc())?;
+    assert!(rt; empty);
     Ok(())
 }
 
 #[test]
 fn every_variant_is_copied(rt: HostRuntime) -> Result<(), Fail> {
-    let alloc = rt.alloc();
-    let hand = made(alloc)?;
-    let copy = hand.try_clone(alloc)?;
-    assert_items(&rt, &copy, &hand);
-    assert_adts(&rt, &copy, &hand);
-    assert_operators(&rt, &copy, &hand);
-    assert_bodies(&rt, &copy.bodies, &hand.bodies);
-    assert!(rt; copy == hand);
+    let hand = made(rt.alloc())?;
+    let copy = hand.try_clone(rt.alloc())?;
+    assert_worlds(&rt, &copy, &hand);
     Ok(())
 }
 
@@ -203,13 +226,17 @@ fn assert_unknown(rt: &impl Abort, alloc: Global, db: &HirDatabase) -> Result<()
     Ok(())
 }
 
+/// Asserts that first rows are found.
+fn assert_first_rows(rt: &impl Abort, alloc: Global, db: &HirDatabase) -> Result<(), Fail> {
+    assert_layouts(rt, alloc, db)?;
+    assert_normals(rt, alloc, db)?;
+    assert_impls(rt, alloc, db)?;
+    assert_const_impls(rt, alloc, db)?;
+    assert_unknown(rt, alloc, db)
+}
+
 #[test]
 fn first_rows_are_found(rt: HostRuntime) -> Result<(), Fail> {
-    let alloc = rt.alloc();
-    let (db, _goals) = found(alloc)?;
-    assert_layouts(&rt, alloc, &db)?;
-    assert_normals(&rt, alloc, &db)?;
-    assert_impls(&rt, alloc, &db)?;
-    assert_const_impls(&rt, alloc, &db)?;
-    assert_unknown(&rt, alloc, &db)
+    let db = found_world(rt.alloc())?;
+    assert_first_rows(&rt, rt.alloc(), &db)
 }
