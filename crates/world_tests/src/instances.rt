@@ -1,5 +1,6 @@
 //! Types with parameters and aliases, at generic arguments, with ample memory.
 
+use crate::args::one_arg;
 use std::alloc::Global;
 use std::test::Fail;
 use type_instances::{NoInstance, args_instance, ty_instance};
@@ -33,13 +34,6 @@ fn type_and_const(alloc: Global, ty: Ty, konst: Const) -> Result<GenericArgs, No
     Ok(GenericArgs(args))
 }
 
-/// A type as the only argument.
-fn one_type(alloc: Global, ty: Ty) -> Result<GenericArgs, NoMemory> {
-    let mut args = List::new(alloc);
-    args.push(GenericArg::Ty(ty))?;
-    Ok(GenericArgs(args))
-}
-
 #[test]
 fn parameters_are_their_arguments(rt: HostRuntime) -> Result<(), Fail> {
     let alloc = rt.alloc();
@@ -55,7 +49,7 @@ fn parameters_are_their_arguments(rt: HostRuntime) -> Result<(), Fail> {
 fn parameters_without_arguments_are_missing(rt: HostRuntime) -> Result<(), Fail> {
     let alloc = rt.alloc();
     let normals = Table::new(alloc);
-    let args = one_type(alloc, Ty::Char)?;
+    let args = one_arg(alloc, Ty::Char)?;
     let past_the_end = Ty::Slice(Box::new(alloc, type_parameter(1))?);
     assert_eq!(rt;
         ty_instance(alloc, &normals, &args, &past_the_end),
@@ -73,15 +67,15 @@ fn parameters_without_arguments_are_missing(rt: HostRuntime) -> Result<(), Fail>
 fn aliases_are_their_normal_types(rt: HostRuntime) -> Result<(), Fail> {
     let alloc = rt.alloc();
     let mut normals = Table::new(alloc);
-    normals.push((AliasId(2), one_type(alloc, Ty::Str)?, Ty::Never))?;
-    let args = one_type(alloc, Ty::Str)?;
-    let alias = Ty::Alias(AliasId(2), one_type(alloc, type_parameter(0))?);
+    normals.push((AliasId(2), one_arg(alloc, Ty::Str)?, Ty::Never))?;
+    let args = one_arg(alloc, Ty::Str)?;
+    let alias = Ty::Alias(AliasId(2), one_arg(alloc, type_parameter(0))?);
     let behind = Ty::Ref(Box::new(alloc, alias)?, Mutability::Not);
-    let own = one_type(alloc, behind)?;
+    let own = one_arg(alloc, behind)?;
     let normal = Ty::Ref(Box::new(alloc, Ty::Never)?, Mutability::Not);
-    let made = one_type(alloc, normal)?;
+    let made = one_arg(alloc, normal)?;
     assert_eq!(rt; args_instance(alloc, &normals, &args, &own), Ok(made));
-    let other = Ty::Alias(AliasId(3), one_type(alloc, type_parameter(0))?);
+    let other = Ty::Alias(AliasId(3), one_arg(alloc, type_parameter(0))?);
     assert_eq!(rt;
         ty_instance(alloc, &normals, &args, &other),
         Err(NoInstance::Missing)

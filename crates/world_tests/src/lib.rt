@@ -3,6 +3,8 @@
 #![tactic(auto)]
 
 #[cfg(test)]
+mod args;
+#[cfg(test)]
 mod containers;
 #[cfg(test)]
 mod instances;

@@ -1,25 +1,19 @@
 //! Look-ups in a small world, and its copy.
 
+use crate::args::one_arg;
 use std::alloc::Global;
 use std::process::Abort;
 use std::test::Fail;
 use world::{
     AliasId, Body, BodyRow, ConstId, ConstImplRow, ConstRow, Crate, CrateRow, DefWithBodyId,
     EnumId, EnumRow, EnumVariantId, Expr, ExprId, FieldRow, FieldsShape, FnSig, FunctionId,
-    FunctionRow, GenericArg, GenericArgs, HirDatabase, ImplRow, InferenceResult, IntTy, Layout,
-    Limits, List, Literal, NoMemory, Special, StaticId, StaticRow, StructId, StructRow, Text,
-    TryClone, Ty, UnionId, VariantId, VariantRow, Variants,
+    FunctionRow, GenericArgs, HirDatabase, ImplRow, InferenceResult, IntTy, Layout, Limits, List,
+    Literal, NoMemory, Special, StaticId, StaticRow, StructId, StructRow, Text, TryClone, Ty,
+    UnionId, VariantId, VariantRow, Variants,
 };
 
 fn text(alloc: Global, s: &str) -> Result<Text, NoMemory> {
     Text::from_str(alloc, s)
-}
-
-/// The one generic argument `ty`.
-fn one_arg(alloc: Global, ty: Ty) -> Result<GenericArgs, NoMemory> {
-    let mut args = List::new(alloc);
-    args.push(GenericArg::Ty(ty))?;
-    Ok(GenericArgs(args))
 }
 
 fn plain_layout(alloc: Global, size: u64) -> Layout {

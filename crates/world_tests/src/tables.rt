@@ -1,11 +1,9 @@
 //! Each call of tables and of queries once, with ample memory.
 
+use crate::args::one_arg;
 use std::alloc::Global;
 use std::test::Fail;
-use types::{
-    FunctionId, GenericArg, GenericArgs, IntTy, ItemKey, List, NoMemory, Table, TryClone, Ty,
-    UintTy,
-};
+use types::{FunctionId, IntTy, ItemKey, Table, TryClone, Ty, UintTy};
 
 #[test]
 fn tables_find_the_first_row(rt: HostRuntime) -> Result<(), Fail> {
@@ -30,23 +28,16 @@ fn tables_find_the_first_row(rt: HostRuntime) -> Result<(), Fail> {
     Ok(())
 }
 
-/// The arguments of one type.
-fn args_of(alloc: Global, ty: Ty) -> Result<GenericArgs, NoMemory> {
-    let mut args = List::new(alloc);
-    args.push(GenericArg::Ty(ty))?;
-    Ok(GenericArgs(args))
-}
-
 #[test]
 fn tables_find_an_item_with_arguments(rt: HostRuntime) -> Result<(), Fail> {
     let alloc = rt.alloc();
-    let signed = args_of(alloc, Ty::Int(IntTy::I32))?;
-    let unsigned = args_of(alloc, Ty::Uint(UintTy::U32))?;
+    let signed = one_arg(alloc, Ty::Int(IntTy::I32))?;
+    let unsigned = one_arg(alloc, Ty::Uint(UintTy::U32))?;
     let mut table = Table::new(alloc);
-    table.push((FunctionId(3), args_of(alloc, Ty::Int(IntTy::I32))?, 1u64))?;
-    table.push((FunctionId(3), args_of(alloc, Ty::Uint(UintTy::U32))?, 2))?;
-    table.push((FunctionId(1), args_of(alloc, Ty::Uint(UintTy::U32))?, 3))?;
-    table.push((FunctionId(3), args_of(alloc, Ty::Uint(UintTy::U32))?, 4))?;
+    table.push((FunctionId(3), one_arg(alloc, Ty::Int(IntTy::I32))?, 1u64))?;
+    table.push((FunctionId(3), one_arg(alloc, Ty::Uint(UintTy::U32))?, 2))?;
+    table.push((FunctionId(1), one_arg(alloc, Ty::Uint(UintTy::U32))?, 3))?;
+    table.push((FunctionId(3), one_arg(alloc, Ty::Uint(UintTy::U32))?, 4))?;
     assert_eq!(rt;
         table.get(ItemKey {
             id: FunctionId(3),
