@@ -1,6 +1,6 @@
 //! The first wrong part of small bodies.
 
-use body_ids::{BodyPart, wrong_part};
+use check_ids::{BodyPart, wrong_part};
 use std::alloc::Global;
 use std::test::Fail;
 use world::{

@@ -1,6 +1,6 @@
 //! Variants in the list of their enum.
 
-use item_rows::unlisted_variant;
+use check_items::unlisted_variant;
 use std::alloc::Global;
 use std::test::Fail;
 use world::{

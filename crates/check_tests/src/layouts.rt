@@ -1,6 +1,6 @@
 //! The layouts of a tuple and of an enum with one field.
 
-use layout_rows::is_layout_right;
+use check_layouts::is_layout_right;
 use std::alloc::Global;
 use std::test::Fail;
 use world::{

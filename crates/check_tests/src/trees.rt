@@ -1,6 +1,6 @@
 //! Small bodies, most with one thing wrong in them.
 
-use body_trees::{BodyNode, loose_jump, wrong_ellipsis, wrong_node};
+use check_trees::{BodyNode, loose_jump, wrong_ellipsis, wrong_node};
 use std::alloc::Global;
 use std::test::Fail;
 use world::{Body, Expr, ExprId, LabelId, List, NoMemory, Pat, PatId};

@@ -10,7 +10,7 @@ use Rattle.world_json.specs.declared.goal.Goal.{Goal}
 use Rattle.mirconst_run.specs.Answers.{AreAnswers, IsAnswer, IsGoalAnswer, are_within, is_misfit, is_variant, is_want_of_memory, limits_of, nothing_kept}
 use Rattle.world.specs.Limits.{IsWithin, is_within}
 use Rattle.world.specs.declared.limits.Limits.{Limits}
-use Rattle.world_names.specs.Known.{are_args_known, is_def_known}
+use Rattle.check_names.specs.Known.{are_args_known, is_def_known}
 use Rattle.std.specs.Prelude.{Bool, true, false, Some, None, not, ◌&&◌, ◌||◌, ◌^◌, nat_le, position}
 use Rattle.world.specs.declared.database.HirDatabase.{HirDatabase}
 

@@ -17,7 +17,7 @@ use Rattle.types.specs.declared.ids.DefWithBodyId.TheVariants.{VariantId}
 use Rattle.types.specs.declared.ty.Const.{Const}
 use Rattle.types.specs.declared.ty.GenericArgs.{GenericArgs}
 use Rattle.world_json.specs.declared.goal.Goal.{Goal}
-use Rattle.world_names.specs.Known.{are_args_known, is_def_known}
+use Rattle.check_names.specs.Known.{are_args_known, is_def_known}
 
 -- an answer to a definition, and what was kept before and after it
 pub record IsAnswer (before after : Kept) (def : DefWithBodyId) (args : GenericArgs) (blocks : ℕ) (answer : Evaluated) : Type 0 where

@@ -15,16 +15,16 @@ use Rattle.world.specs.declared.database.BodyRow.{BodyRow}
 use Rattle.world.specs.declared.database.HirDatabase.{HirDatabase}
 use Rattle.world.specs.declared.items.ConstRow.{ConstRow}
 use Rattle.world.specs.declared.layout.Layout.{Layout}
-use Rattle.body_ids.specs.Inferred.{has_type_each, is_inferred_right}
-use Rattle.body_ids.specs.Parts.{are_roots_known, unless, wrong_name, wrong_node, wrong_part}
-use Rattle.body_ids.specs.declared.part.BodyPart.{BodyPart}
-use Rattle.body_ids.specs.declared.part.BodyPart.TheVariants as part
+use Rattle.check_ids.specs.Inferred.{has_type_each, is_inferred_right}
+use Rattle.check_ids.specs.Parts.{are_roots_known, unless, wrong_name, wrong_node, wrong_part}
+use Rattle.check_ids.specs.declared.part.BodyPart.{BodyPart}
+use Rattle.check_ids.specs.declared.part.BodyPart.TheVariants as part
 use Rattle.world.specs.Failing.{first_failing}
-use Rattle.body_trees.specs.Tree.{is_expr_in_order}
-use Rattle.item_rows.specs.Names.{is_body_known, is_const_named}
-use Rattle.layout_rows.specs.Layouts.{are_parts_right, is_layout_right, is_size_right}
-use Rattle.layout_rows.specs.Sizes.{alignments, is_alignment, is_fixed_size, is_multiple_of, known_size}
-use Rattle.world_names.specs.Known.{is_nameable, is_ty_closed}
+use Rattle.check_trees.specs.Tree.{is_expr_in_order}
+use Rattle.check_items.specs.Names.{is_body_known, is_const_named}
+use Rattle.check_layouts.specs.Layouts.{are_parts_right, is_layout_right, is_size_right}
+use Rattle.check_layouts.specs.Sizes.{alignments, is_alignment, is_fixed_size, is_multiple_of, known_size}
+use Rattle.check_names.specs.Known.{is_nameable, is_ty_closed}
 use Rattle.world_check.specs.Rows.{Holds, failing_place, first_failure, first_failure_among, row_failure}
 use Rattle.world_check.specs.Tables.{first_found, wrong_adts, wrong_bodies, wrong_body_ids, wrong_items, wrong_names, wrong_row, wrong_table, wrong_tree}
 use Rattle.world_check.specs.declared.fault.CheckRow.{CheckRow}

@@ -18,21 +18,21 @@ use Rattle.world.specs.declared.database.HirDatabase.{HirDatabase}
 use Rattle.world.specs.declared.impls.ConstImplRow.{ConstImplRow}
 use Rattle.world.specs.declared.impls.ImplRow.{ImplRow}
 use Rattle.world.specs.declared.layout.Layout.{Layout}
-use Rattle.world_names.specs.Known.{is_nameable}
-use Rattle.item_rows.specs.Agree.{has_all_params, is_closure_row, unlisted_variant}
-use Rattle.item_rows.specs.Closed.{is_const_impl_closed, is_impl_closed, is_normal_closed}
-use Rattle.item_rows.specs.Names.{is_closure_named, is_const_impl_named, is_const_named, is_const_param_named, is_enum_named, is_function_known, is_function_named, is_impl_named, is_layout_named, is_normal_named, is_static_named, is_struct_named, is_variant_named}
-use Rattle.body_ids.specs.Parts.{wrong_part}
-use Rattle.body_ids.specs.declared.part.BodyPart.{BodyPart}
-use Rattle.body_ids.specs.declared.part.BodyPart.TheVariants as part
-use Rattle.body_trees.specs.Ellipsis.{wrong_ellipsis}
-use Rattle.body_trees.specs.Jumps.{loose_jump}
+use Rattle.check_names.specs.Known.{is_nameable}
+use Rattle.check_items.specs.Agree.{has_all_params, is_closure_row, unlisted_variant}
+use Rattle.check_items.specs.Closed.{is_const_impl_closed, is_impl_closed, is_normal_closed}
+use Rattle.check_items.specs.Names.{is_closure_named, is_const_impl_named, is_const_named, is_const_param_named, is_enum_named, is_function_known, is_function_named, is_impl_named, is_layout_named, is_normal_named, is_static_named, is_struct_named, is_variant_named}
+use Rattle.check_ids.specs.Parts.{wrong_part}
+use Rattle.check_ids.specs.declared.part.BodyPart.{BodyPart}
+use Rattle.check_ids.specs.declared.part.BodyPart.TheVariants as part
+use Rattle.check_trees.specs.Ellipsis.{wrong_ellipsis}
+use Rattle.check_trees.specs.Jumps.{loose_jump}
 use Rattle.world.specs.Failing.{first_failing}
-use Rattle.body_trees.specs.Tree.{wrong_node}
-use Rattle.body_trees.specs.declared.node.BodyNode.{BodyNode}
-use Rattle.body_trees.specs.declared.node.BodyNode.TheVariants as node
-use Rattle.layout_rows.specs.Layouts.{is_layout_right}
-use Rattle.layout_rows.specs.Tags.{is_tag_right}
+use Rattle.check_trees.specs.Tree.{wrong_node}
+use Rattle.check_trees.specs.declared.node.BodyNode.{BodyNode}
+use Rattle.check_trees.specs.declared.node.BodyNode.TheVariants as node
+use Rattle.check_layouts.specs.Layouts.{is_layout_right}
+use Rattle.check_layouts.specs.Tags.{is_tag_right}
 use Rattle.world_check.specs.declared.place.NamedFunction.{NamedFunction}
 use Rattle.world_check.specs.declared.place.NamedFunction.TheVariants.{Drop, Deref, DerefMut, Call, CallMut, CallOnce}
 use Rattle.world_check.specs.declared.place.NodeKind.TheVariants.{Exprs, Pats, Bindings, Labels}

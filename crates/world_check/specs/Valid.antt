@@ -15,11 +15,11 @@ use Rattle.world.specs.declared.infer.InferenceResult.{InferenceResult}
 use Rattle.world.specs.declared.items.ConstRow.{ConstRow}
 use Rattle.world.specs.declared.items.FunctionRow.{FunctionRow}
 use Rattle.world.specs.declared.items.StaticRow.{StaticRow}
-use Rattle.world_names.specs.Known.{are_args_settled}
-use Rattle.body_ids.specs.Parts.{wrong_part}
-use Rattle.body_trees.specs.Ellipsis.{wrong_ellipsis}
-use Rattle.body_trees.specs.Jumps.{loose_jump}
-use Rattle.body_trees.specs.Tree.{wrong_node}
+use Rattle.check_names.specs.Known.{are_args_settled}
+use Rattle.check_ids.specs.Parts.{wrong_part}
+use Rattle.check_trees.specs.Ellipsis.{wrong_ellipsis}
+use Rattle.check_trees.specs.Jumps.{loose_jump}
+use Rattle.check_trees.specs.Tree.{wrong_node}
 
 -- an argument of the parameter's sort
 abbrev pub is_of_sort : GenericParamId → GenericArg → Bool

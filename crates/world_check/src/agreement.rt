@@ -1,20 +1,20 @@
 //! What stands for what is closed, layouts and tags are right, and rows agree with one another.
 ghost use Rattle.std.specs.Prelude.{◌≡◌, IfOk};
 ghost use Rattle.world.specs.Failing.{first_failing};
-ghost use Rattle.item_rows.specs.Agree.{has_all_params, is_closure_row};
-ghost use Rattle.item_rows.specs.Closed.{is_const_impl_closed, is_impl_closed, is_normal_closed};
-ghost use Rattle.layout_rows.specs.Layouts.{is_layout_right};
-ghost use Rattle.layout_rows.specs.Tags.{is_tag_right};
+ghost use Rattle.check_items.specs.Agree.{has_all_params, is_closure_row};
+ghost use Rattle.check_items.specs.Closed.{is_const_impl_closed, is_impl_closed, is_normal_closed};
+ghost use Rattle.check_layouts.specs.Layouts.{is_layout_right};
+ghost use Rattle.check_layouts.specs.Tags.{is_tag_right};
 ghost use Rattle.world_check.specs.Tables.{first_wrong, not_agreeing, not_closed, wrong_layout, wrong_tag};
 
 use crate::tables::{numbered_place, row_place};
 use crate::trees::first_wrong_dots;
 use crate::{Place, TableName};
-use item_rows::{
+use check_items::{
     has_all_params, is_closure_row, is_const_impl_closed, is_impl_closed, is_normal_closed,
     unlisted_variant,
 };
-use layout_rows::{is_layout_right, is_tag_right};
+use check_layouts::{is_layout_right, is_tag_right};
 use std::alloc::Global;
 use world::{
     AliasId, ClosureRow, ConstImplRow, FunctionRow, GenericArgs, HirDatabase, ImplRow, Layout,

@@ -3,7 +3,7 @@ use crate::{CheckFault, check};
 use std::alloc::Global;
 use std::marker::Model;
 use world::{DefWithBodyId, GenericArgs, HirDatabase};
-use world_names::{are_args_known, is_def_known};
+use check_names::{are_args_known, is_def_known};
 
 /// A world that the check has passed, which contracts see as the database.
 #[derive(Drop)]
@@ -31,7 +31,7 @@ impl CheckedWorld {
     ghost use Rattle.world.specs.Checked.{IsChecked};
     ghost use Rattle.world_check.specs.Rows.{first_failure, Holds, IsRefusal};
     ghost use Rattle.world_check.specs.Valid.{is_valid};
-    ghost use Rattle.world_names.specs.Known.{are_args_known, is_def_known};
+    ghost use Rattle.check_names.specs.Known.{are_args_known, is_def_known};
 
     /// Checks a world, as `check` does. Where that errs, it hands the database back with the fault.
     pub fn new(alloc: Global, db: HirDatabase) -> Result<CheckedWorld, (HirDatabase, CheckFault)>

@@ -5,7 +5,7 @@ ghost use Rattle.world_check.specs.Tables.{is_number, wrong_keyed, wrong_row_at}
 
 use crate::tables::row_place;
 use crate::{Place, TableName};
-use item_rows::{is_const_impl_named, is_impl_named, is_layout_named, is_normal_named};
+use check_items::{is_const_impl_named, is_impl_named, is_layout_named, is_normal_named};
 use world::{
     AliasId, ConstImplRow, GenericArgs, HirDatabase, ImplRow, ItemKey, Layout, Row, Table, Ty,
 };

@@ -1,12 +1,12 @@
 //! Ids in range: the tables whose places ids name.
 ghost use Rattle.std.specs.Prelude.{◌≡◌, length};
-ghost use Rattle.item_rows.specs.Names.{is_closure_named};
+ghost use Rattle.check_items.specs.Names.{is_closure_named};
 ghost use Rattle.world_check.specs.Tables.{first_wrong, too_long, wrong_adts, wrong_items, wrong_names, wrong_table};
 ghost use Rattle.world_check.specs.declared.place.TableName.TheVariants.{Closures};
 
 use crate::tables::{in_table, row_place, too_long};
 use crate::{Place, TableName};
-use item_rows::{
+use check_items::{
     is_closure_named, is_const_named, is_const_param_named, is_enum_named, is_function_named,
     is_static_named, is_struct_named, is_variant_named,
 };
@@ -28,7 +28,7 @@ trait NamedRow {
 }
 
 impl NamedRow for FunctionRow {
-    ghost use Rattle.item_rows.specs.Names.{is_function_named};
+    ghost use Rattle.check_items.specs.Names.{is_function_named};
 
     ghost is_named = { is_function_named };
 
@@ -38,7 +38,7 @@ impl NamedRow for FunctionRow {
 }
 
 impl NamedRow for ConstRow {
-    ghost use Rattle.item_rows.specs.Names.{is_const_named};
+    ghost use Rattle.check_items.specs.Names.{is_const_named};
 
     ghost is_named = { is_const_named };
 
@@ -48,7 +48,7 @@ impl NamedRow for ConstRow {
 }
 
 impl NamedRow for StaticRow {
-    ghost use Rattle.item_rows.specs.Names.{is_static_named};
+    ghost use Rattle.check_items.specs.Names.{is_static_named};
 
     ghost is_named = { is_static_named };
 
@@ -58,7 +58,7 @@ impl NamedRow for StaticRow {
 }
 
 impl NamedRow for StructRow {
-    ghost use Rattle.item_rows.specs.Names.{is_struct_named};
+    ghost use Rattle.check_items.specs.Names.{is_struct_named};
 
     ghost is_named = { is_struct_named };
 
@@ -68,7 +68,7 @@ impl NamedRow for StructRow {
 }
 
 impl NamedRow for EnumRow {
-    ghost use Rattle.item_rows.specs.Names.{is_enum_named};
+    ghost use Rattle.check_items.specs.Names.{is_enum_named};
 
     ghost is_named = { is_enum_named };
 
@@ -78,7 +78,7 @@ impl NamedRow for EnumRow {
 }
 
 impl NamedRow for VariantRow {
-    ghost use Rattle.item_rows.specs.Names.{is_variant_named};
+    ghost use Rattle.check_items.specs.Names.{is_variant_named};
 
     ghost is_named = { is_variant_named };
 
@@ -88,7 +88,7 @@ impl NamedRow for VariantRow {
 }
 
 impl NamedRow for ConstParamRow {
-    ghost use Rattle.item_rows.specs.Names.{is_const_param_named};
+    ghost use Rattle.check_items.specs.Names.{is_const_param_named};
 
     ghost is_named = { is_const_param_named };
 
@@ -98,7 +98,7 @@ impl NamedRow for ConstParamRow {
 }
 
 impl NamedRow for ClosureRow {
-    ghost use Rattle.item_rows.specs.Names.{is_closure_named};
+    ghost use Rattle.check_items.specs.Names.{is_closure_named};
 
     ghost is_named = { is_closure_named };
 

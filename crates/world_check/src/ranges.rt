@@ -1,15 +1,15 @@
 //! Ids in range, lists short enough for their places to be named, and distinct keys.
 ghost use Rattle.std.specs.Prelude.{◌≡◌, IfOk};
 ghost use Rattle.std.specs.Option.{option_map};
-ghost use Rattle.body_ids.specs.Parts.{wrong_part};
+ghost use Rattle.check_ids.specs.Parts.{wrong_part};
 ghost use Rattle.world_check.specs.Tables.{first_found, out_of_range, part_place, wrong_bodies, wrong_body_ids, wrong_call, wrong_drop_or_deref, wrong_function};
 
 use crate::keyed::wrong_keyed;
 use crate::named::{wrong_adts, wrong_closures, wrong_items, wrong_names};
 use crate::tables::in_table;
 use crate::{NamedFunction, NodeKind, Place, TableName};
-use body_ids::{BodyPart, wrong_part};
-use item_rows::is_function_known;
+use check_ids::{BodyPart, wrong_part};
+use check_items::is_function_known;
 use std::alloc::Global;
 use world::{BodyRow, FunctionId, HirDatabase, NoMemory};
 

@@ -5,7 +5,7 @@ ghost use Rattle.world_check.specs.Tables.{in_table, too_long};
 ghost use Rattle.world_check.specs.declared.place.Place.TheVariants.{Row};
 
 use crate::{Place, TableName};
-use world_names::is_nameable;
+use check_names::is_nameable;
 
 /// The place of a row of a table.
 pub(crate) fn row_place(table: TableName, found: Option<usize>) -> Option<Place>

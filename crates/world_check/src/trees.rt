@@ -4,7 +4,7 @@ ghost use Rattle.std.specs.Option.{option_map};
 ghost use Rattle.world_check.specs.Tables.{first_found, no_label, no_tree, node_place, wrong_dots, wrong_jump, wrong_tree};
 
 use crate::{NodeKind, Place};
-use body_trees::{BodyNode, loose_jump, wrong_ellipsis, wrong_node};
+use check_trees::{BodyNode, loose_jump, wrong_ellipsis, wrong_node};
 use std::alloc::Global;
 use world::{BodyRow, HirDatabase, NoMemory};
 

@@ -2,8 +2,8 @@
 ghost use Rattle.std.specs.Prelude.{◌≡◌, IfOk};
 ghost use Rattle.world_check.specs.Valid.{is_body_right};
 
-use body_ids::wrong_part;
-use body_trees::{loose_jump, wrong_ellipsis, wrong_node};
+use check_ids::wrong_part;
+use check_trees::{loose_jump, wrong_ellipsis, wrong_node};
 use std::alloc::Global;
 use world::{Body, HirDatabase, InferenceResult, NoMemory};
 

@@ -7,7 +7,7 @@ use world::{
     ConstRow, DefWithBodyId, FunctionRow, GenericArg, GenericArgs, GenericParamId, HirDatabase,
     StaticRow,
 };
-use world_names::are_args_settled;
+use check_names::are_args_settled;
 
 /// Whether an argument is of a parameter's sort.
 fn is_of_sort(param: GenericParamId, arg: &GenericArg) -> bool

@@ -3,7 +3,7 @@
 use crate::args::one_arg;
 use std::alloc::Global;
 use std::test::Fail;
-use type_instances::{NoInstance, args_instance, ty_instance};
+use check_instances::{NoInstance, args_instance, ty_instance};
 use types::{
     AliasId, Box, Const, ConstParamId, GenericArg, GenericArgs, List, Mutability, NoMemory,
     ParamConst, ParamTy, Table, Ty, TypeParamId,

@@ -1,5 +1,5 @@
 use Rattle.std.proofs.Common.{sym, ◌∙◌}
-use Rattle.layout_rows.specs.Layouts.{is_layout_right}
+use Rattle.check_layouts.specs.Layouts.{is_layout_right}
 use Rattle.world_check.proofs.Walks.{failing_here, failing_next, failing_end}
 use Rattle.world_check.proofs.agreement.first_wrong_layout.Goals as goal
 

@@ -1,6 +1,6 @@
 use Rattle.std.proofs.Common.{◌≡◌, drop}
 use Rattle.world.specs.Failing.{first_failing}
-use Rattle.layout_rows.specs.Layouts.{is_layout_right}
+use Rattle.check_layouts.specs.Layouts.{is_layout_right}
 use Rattle.world_check.proofs.agreement.first_wrong_layout.Given as goal
 
 abbrev pub invariant-loop-i : goal.invariant-loop-i

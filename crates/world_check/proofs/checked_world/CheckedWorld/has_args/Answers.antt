@@ -1,5 +1,5 @@
 use Rattle.std.proofs.Common.{◌∙◌, ap}
-use Rattle.world_names.specs.Known.{are_args_known}
+use Rattle.check_names.specs.Known.{are_args_known}
 use Rattle.world_check.proofs.checked_world.CheckedWorld.has_args.Goals as goal
 
 pub returns : goal.returns

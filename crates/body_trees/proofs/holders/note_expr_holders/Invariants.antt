@@ -1,7 +1,0 @@
-use Rattle.std.proofs.Common.{take}
-use Rattle.body_trees.specs.Holders.{AreFirstHolders}
-use Rattle.body_trees.specs.declared.node.BodyNode.TheVariants.{Expr}
-use Rattle.body_trees.proofs.holders.note_expr_holders.Given as goal
-
-abbrev pub invariant-loop-i : goal.invariant-loop-i
-invariant-loop-i l = AreFirstHolders Expr (take l.i l.pairs) l.slots

@@ -1,7 +1,0 @@
-use Rattle.std.proofs.Common.{take}
-use Rattle.body_trees.specs.Holders.{AreFirstHolders}
-use Rattle.body_trees.specs.declared.node.BodyNode.TheVariants.{Pat}
-use Rattle.body_trees.proofs.holders.note_pat_holders.Given as goal
-
-abbrev pub invariant-loop-i : goal.invariant-loop-i
-invariant-loop-i l = AreFirstHolders Pat (take l.i l.pairs) l.slots

@@ -1,6 +1,0 @@
-use Rattle.std.proofs.Common.{take}
-use Rattle.body_trees.specs.Tops.{AreMarked}
-use Rattle.body_trees.proofs.tops.mark_params.Given as goal
-
-abbrev pub invariant-loop-i : goal.invariant-loop-i
-invariant-loop-i l = AreMarked (take l.i l.params) l.marks

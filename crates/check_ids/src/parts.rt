@@ -1,0 +1,148 @@
+//! The first part of a typed body where an id is out of range.
+ghost use Rattle.std.specs.Prelude.{◌≡◌, not, IfOk};
+ghost use Rattle.std.specs.List.{list_all, position};
+ghost use Rattle.std.specs.Option.{option_map};
+ghost use Rattle.check_ids.specs.Nodes.{is_binding_in_range, is_expr_in_range, is_pat_in_range};
+ghost use Rattle.check_ids.specs.Parts.{are_roots_known, unless, wrong_in_list, wrong_name, wrong_node, wrong_part};
+ghost use Rattle.check_names.specs.Known.{is_in_range};
+ghost use Rattle.check_ids.specs.declared.part.BodyPart.TheVariants as part;
+
+use crate::BodyPart;
+use crate::inferred::is_inferred_right;
+use crate::nodes::{is_binding_in_range, is_binding_known, is_expr_in_range, is_pat_in_range};
+use std::alloc::Global;
+use world::{Binding, Body, Expr, HirDatabase, InferenceResult, NoMemory, Pat, PatId};
+use check_names::is_nameable;
+
+/// A part, where a test fails.
+fn unless(passes: bool, found: BodyPart) -> Option<BodyPart>
+    ensures { result ≡ unless passes found }
+{
+    if passes { None } else { Some(found) }
+}
+
+/// The place of the first expression where an id is out of range.
+fn first_wrong_expr(alloc: Global, body: &Body, nodes: &[Expr]) -> Result<Option<usize>, NoMemory>
+    ensures { IfOk result (λ found. found ≡ position (λ node. not (is_expr_in_range body.now node)) nodes.now) }
+{
+    let mut numbers = Vec::new(alloc);
+    for (i, node) in nodes.iter().enumerate() {
+        if !is_expr_in_range(&mut numbers, body, node)? {
+            return Ok(Some(i));
+        }
+    }
+    Ok(None)
+}
+
+/// The place of the first pattern where an id is out of range.
+fn first_wrong_pat(alloc: Global, body: &Body, nodes: &[Pat]) -> Result<Option<usize>, NoMemory>
+    ensures { IfOk result (λ found. found ≡ position (λ node. not (is_pat_in_range body.now node)) nodes.now) }
+{
+    let mut numbers = Vec::new(alloc);
+    for (i, node) in nodes.iter().enumerate() {
+        if !is_pat_in_range(&mut numbers, body, node)? {
+            return Ok(Some(i));
+        }
+    }
+    Ok(None)
+}
+
+/// The expressions, where there are too many, or the first where an id is out of range.
+fn wrong_exprs(alloc: Global, body: &Body) -> Result<Option<BodyPart>, NoMemory>
+    ensures { IfOk result (λ found. found ≡ wrong_in_list part.Exprs part.Expr (is_expr_in_range body.now) body.now.exprs) }
+{
+    if !is_nameable(body.exprs.len()) {
+        return Ok(Some(BodyPart::Exprs));
+    }
+    match first_wrong_expr(alloc, body, body.exprs.as_slice())? {
+        Some(i) => Ok(Some(BodyPart::Expr(i as u64))),
+        None => Ok(None),
+    }
+}
+
+/// The patterns, where there are too many, or the first where an id is out of range.
+fn wrong_pats(alloc: Global, body: &Body) -> Result<Option<BodyPart>, NoMemory>
+    ensures { IfOk result (λ found. found ≡ wrong_in_list part.Pats part.Pat (is_pat_in_range body.now) body.now.pats) }
+{
+    if !is_nameable(body.pats.len()) {
+        return Ok(Some(BodyPart::Pats));
+    }
+    match first_wrong_pat(alloc, body, body.pats.as_slice())? {
+        Some(i) => Ok(Some(BodyPart::Pat(i as u64))),
+        None => Ok(None),
+    }
+}
+
+/// The place of the first binding whose closure the body has not.
+fn first_wrong_binding(body: &Body, bindings: &[Binding]) -> Option<usize>
+    ensures { result ≡ position (λ binding. not (is_binding_in_range body.now binding)) bindings.now }
+{
+    bindings
+        .iter()
+        .position(|binding| !is_binding_in_range(body, binding))
+}
+
+/// The bindings, where there are too many, or the first whose closure the body has not.
+fn wrong_bindings(body: &Body) -> Option<BodyPart>
+    ensures { result ≡ wrong_in_list part.Bindings part.Binding (is_binding_in_range body.now) body.now.bindings }
+{
+    if !is_nameable(body.bindings.len()) {
+        return Some(BodyPart::Bindings);
+    }
+    match first_wrong_binding(body, body.bindings.as_slice()) {
+        Some(i) => Some(BodyPart::Binding(i as u64)),
+        None => None,
+    }
+}
+
+/// Whether the body has the patterns of its parameters.
+fn are_params_known(body: &Body, params: &[PatId]) -> bool
+    ensures { result ≡ list_all (λ id. is_in_range body.now.pats id.0) params.now }
+{
+    let entries = body.pats.len();
+    params.iter().all(|id| (id.0 as u64) < entries)
+}
+
+/// Whether the body has its parameters and its root.
+fn are_roots_known(body: &Body) -> bool
+    ensures { result ≡ are_roots_known body.now }
+{
+    are_params_known(body, body.params.as_slice())
+        && is_binding_known(body, body.self_param)
+        && (body.body_expr.0 as u64) < body.exprs.len()
+}
+
+/// The first of the expressions and patterns that is wrong.
+fn wrong_node(alloc: Global, body: &Body) -> Result<Option<BodyPart>, NoMemory>
+    ensures { IfOk result (λ found. found ≡ wrong_node body.now) }
+{
+    let exprs = wrong_exprs(alloc, body)?;
+    let pats = wrong_pats(alloc, body)?;
+    Ok(exprs.or(pats))
+}
+
+/// The first of the bindings and labels that is wrong.
+fn wrong_name(body: &Body) -> Option<BodyPart>
+    ensures { result ≡ wrong_name body.now }
+{
+    wrong_bindings(body).or(unless(is_nameable(body.labels.len()), BodyPart::Labels))
+}
+
+/// The first part of a typed body where an id is out of range, a list is too long for its places to be
+/// named, a literal of type `char` is no character, or there isn't one type for each node. It errs only
+/// where there is no memory.
+pub fn wrong_part(
+    alloc: Global,
+    db: &HirDatabase,
+    body: &Body,
+    infer: &InferenceResult,
+) -> Result<Option<BodyPart>, NoMemory>
+    ensures { IfOk result (λ found. found ≡ wrong_part db.now body.now infer.now) }
+{
+    let node = wrong_node(alloc, body)?;
+    let rest = unless(
+        are_roots_known(body) && is_inferred_right(db, body, infer),
+        BodyPart::Rest,
+    );
+    Ok(node.or(wrong_name(body).or(rest)))
+}

@@ -1,0 +1,251 @@
+//! The fields of a type, at its arguments, inside the type's layout.
+ghost use Rattle.std.specs.Prelude.{◌≡◌, IfOk, OnOk, map, Some, slice_get};
+ghost use Rattle.std.specs.Option.{option_and_then, option_copied};
+ghost use Rattle.check_instances.specs.Instances.{ty_instance};
+ghost use Rattle.check_layouts.specs.Fields.{AreSizesRight, are_inside, captures_at, field_size, fields_of_variant, is_part_inside, is_placed_right, types_at, variants_of};
+
+use crate::sizes::layout_above;
+use std::alloc::Global;
+use check_instances::{NoInstance, ty_instance};
+use world::{
+    Capture, ClosureRow, EnumId, EnumVariantId, FieldRow, GenericArgs, HirDatabase, List, Map,
+    NoMemory, TryClone, Ty, VariantId,
+};
+
+/// Whether there is a size of a part that lies inside a size, from an offset on where there is one.
+fn is_part_inside(size: u64, offset: Option<u64>, part: Option<u64>) -> bool
+    ensures { result ≡ is_part_inside size offset part }
+{
+    match part {
+        Some(part) => match offset {
+            Some(offset) => offset <= size && part <= size - offset,
+            None => true,
+        },
+        None => false,
+    }
+}
+
+/// The size of a type, by its layout in one of the first `i` rows.
+fn size_above(db: &HirDatabase, i: u64, ty: &Ty) -> Option<u64>
+    ensures { result ≡ field_size db.now i (Some ty.now) }
+{
+    match layout_above(db, i, ty) {
+        Some(layout) => Some(layout.size),
+        None => None,
+    }
+}
+
+/// Whether a type has a layout in one of the first `i` rows, inside a size.
+fn is_type_inside(db: &HirDatabase, i: u64, size: u64, offset: Option<u64>, ty: &Ty) -> bool
+    ensures { result ≡ is_part_inside size offset (field_size db.now i (Some ty.now)) }
+{
+    is_part_inside(size, offset, size_above(db, i, ty))
+}
+
+/// The size of a type at generic arguments, by its layout in one of the first `i` rows.
+fn made_size(
+    alloc: Global,
+    db: &HirDatabase,
+    i: u64,
+    args: &GenericArgs,
+    ty: &Ty,
+) -> Result<Option<u64>, NoMemory>
+    ensures { IfOk result (λ size. size ≡ field_size db.now i (ty_instance db.now.normals args.now ty.now)) }
+{
+    match ty_instance(alloc, &db.normals, args, ty) {
+        Ok(made) => Ok(size_above(db, i, &made)),
+        Err(NoInstance::Missing) => Ok(None),
+        Err(NoInstance::NoMemory) => Err(NoMemory),
+    }
+}
+
+/// The same of a type that is met for the first time in a row: its size, where it has one, is kept.
+fn first_size(
+    alloc: Global,
+    db: &HirDatabase,
+    i: u64,
+    args: &GenericArgs,
+    sizes: &mut Map<Ty, u64>,
+    ty: &Ty,
+) -> Result<Option<u64>, NoMemory>
+    requires { AreSizesRight db.now i args.now sizes.old }
+    ensures size { IfOk result (λ size. size ≡ field_size db.now i (ty_instance db.now.normals args.now ty.now)) }
+    ensures sizes { OnOk result (AreSizesRight db.now i args.now sizes.new) }
+{
+    let made = made_size(alloc, db, i, args, ty)?;
+    if let Some(size) = made {
+        sizes.insert(ty.try_clone(alloc)?, size)?;
+    }
+    Ok(made)
+}
+
+/// The same of any type. Many fields of one type look up what was found at the first of them, so that
+/// a long argument is copied into a type once in a row, and not once for each field.
+fn field_size(
+    alloc: Global,
+    db: &HirDatabase,
+    i: u64,
+    args: &GenericArgs,
+    sizes: &mut Map<Ty, u64>,
+    ty: &Ty,
+) -> Result<Option<u64>, NoMemory>
+    requires { AreSizesRight db.now i args.now sizes.old }
+    ensures size { IfOk result (λ size. size ≡ field_size db.now i (ty_instance db.now.normals args.now ty.now)) }
+    ensures sizes { OnOk result (AreSizesRight db.now i args.now sizes.new) }
+{
+    if let Some(size) = sizes.get(ty) {
+        return Ok(Some(*size));
+    }
+    first_size(alloc, db, i, args, sizes, ty)
+}
+
+/// Whether each of the types has a layout in one of the first `i` rows, inside a size.
+fn are_types_inside(
+    db: &HirDatabase,
+    i: u64,
+    size: u64,
+    offsets: &List<u64>,
+    types: &List<Ty>,
+) -> bool
+    ensures { result ≡ are_inside db.now i size offsets.now (map Some types.now) }
+{
+    let items = types.as_slice();
+    for (k, ty) in items.iter().enumerate() {
+        let offset = offsets.get(k as u64).copied();
+        if !is_type_inside(db, i, size, offset, ty) {
+            return false;
+        }
+    }
+    true
+}
+
+/// Whether each of the fields, at generic arguments, has a layout in one of the first `i` rows,
+/// inside a size.
+pub(crate) fn are_fields_inside(
+    alloc: Global,
+    db: &HirDatabase,
+    i: u64,
+    size: u64,
+    args: &GenericArgs,
+    sizes: &mut Map<Ty, u64>,
+    offsets: &List<u64>,
+    fields: &List<FieldRow>,
+) -> Result<bool, NoMemory>
+    requires { AreSizesRight db.now i args.now sizes.old }
+    ensures inside { IfOk result (λ inside. inside ≡ are_inside db.now i size offsets.now (types_at db.now args.now fields.now)) }
+    ensures sizes { OnOk result (AreSizesRight db.now i args.now sizes.new) }
+{
+    let items = fields.as_slice();
+    for (k, field) in items.iter().enumerate() {
+        let offset = offsets.get(k as u64).copied();
+        let part = field_size(alloc, db, i, args, sizes, &field.ty)?;
+        if !is_part_inside(size, offset, part) {
+            return Ok(false);
+        }
+    }
+    Ok(true)
+}
+
+/// Whether each of the captures of a closure, at generic arguments, has a layout in one of the first
+/// `i` rows, inside a size.
+fn are_captures_inside(
+    alloc: Global,
+    db: &HirDatabase,
+    i: u64,
+    size: u64,
+    args: &GenericArgs,
+    offsets: &List<u64>,
+    captures: &List<Capture>,
+) -> Result<bool, NoMemory>
+    ensures { IfOk result (λ inside. inside ≡ are_inside db.now i size offsets.now (map (λ capture. ty_instance db.now.normals args.now capture.ty) captures.now)) }
+{
+    let mut sizes = Map::new(alloc);
+    let items = captures.as_slice();
+    for (k, capture) in items.iter().enumerate() {
+        let offset = offsets.get(k as u64).copied();
+        let part = field_size(alloc, db, i, args, &mut sizes, &capture.ty)?;
+        if !is_part_inside(size, offset, part) {
+            return Ok(false);
+        }
+    }
+    Ok(true)
+}
+
+/// The same of a closure, where there is a row of it.
+pub(crate) fn is_closure_inside(
+    alloc: Global,
+    db: &HirDatabase,
+    i: u64,
+    size: u64,
+    args: &GenericArgs,
+    offsets: &List<u64>,
+    row: Option<&ClosureRow>,
+) -> Result<bool, NoMemory>
+    ensures { IfOk result (λ inside. inside ≡ are_inside db.now i size offsets.now (captures_at db.now args.now (option_copied row.entry))) }
+{
+    match row {
+        Some(row) => are_captures_inside(alloc, db, i, size, args, offsets, &row.captures),
+        None => Ok(true),
+    }
+}
+
+/// Whether a tuple has one offset for each part, each inside a size.
+pub(crate) fn is_tuple_placed(
+    db: &HirDatabase,
+    i: u64,
+    size: u64,
+    offsets: &List<u64>,
+    parts: &List<Ty>,
+) -> bool
+    ensures { result ≡ is_placed_right db.now i size (record { offsets = offsets.now; types = map Some parts.now }) }
+{
+    offsets.len() == parts.len() && are_types_inside(db, i, size, offsets, parts)
+}
+
+/// Whether fields have one offset each, each inside a size.
+pub(crate) fn are_fields_placed(
+    alloc: Global,
+    db: &HirDatabase,
+    i: u64,
+    size: u64,
+    args: &GenericArgs,
+    sizes: &mut Map<Ty, u64>,
+    offsets: &List<u64>,
+    fields: &List<FieldRow>,
+) -> Result<bool, NoMemory>
+    requires { AreSizesRight db.now i args.now sizes.old }
+    ensures right { IfOk result (λ right. right ≡ is_placed_right db.now i size (record { offsets = offsets.now; types = types_at db.now args.now fields.now })) }
+    ensures sizes { OnOk result (AreSizesRight db.now i args.now sizes.new) }
+{
+    if offsets.len() != fields.len() {
+        return Ok(false);
+    }
+    are_fields_inside(alloc, db, i, size, args, sizes, offsets, fields)
+}
+
+/// The fields of a variant.
+pub(crate) fn variant_fields(db: &HirDatabase, v: EnumVariantId) -> Option<&List<FieldRow>>
+    ensures { option_copied result ≡ fields_of_variant db.now v }
+{
+    db.field_types(VariantId::EnumVariantId(v))
+}
+
+/// The variants of an enum.
+pub(crate) fn enum_variants(db: &HirDatabase, e: EnumId) -> &[EnumVariantId]
+    ensures { result.now ≡ variants_of db.now e.0 }
+{
+    match db.enums.get(e.0 as u64) {
+        Some(row) => row.variants.as_slice(),
+        None => &[],
+    }
+}
+
+/// The fields of the variant at a place of an enum.
+pub(crate) fn fields_at(db: &HirDatabase, e: EnumId, place: u32) -> Option<&List<FieldRow>>
+    ensures { option_copied result ≡ option_and_then (fields_of_variant db.now) (slice_get (variants_of db.now e.0) place) }
+{
+    match enum_variants(db, e).get(place as usize) {
+        Some(v) => variant_fields(db, *v),
+        None => None,
+    }
+}

@@ -1,0 +1,91 @@
+//! Tags that fit their enums.
+ghost use Rattle.std.specs.Prelude.{◌≡◌, ◌+◌, ◌<◌, length, nat_le};
+ghost use Rattle.check_layouts.specs.Tags.{is_enum_tag_right, is_multiple_right, is_niche_right, is_tag_right, is_untagged, tag_values};
+
+use crate::fields::enum_variants;
+use world::{AdtId, HirDatabase, Layout, MultiLayout, TagEncoding, Ty, Variants};
+
+/// How many numbers a tag of less than 16 bytes can be.
+fn tag_values(size: u64) -> u128
+    requires { size < 16 }
+    ensures { result ≡ tag_values size }
+{
+    1 << (8 * size)
+}
+
+/// Whether a tag of 16 bytes can be as many numbers as a sum, which may be 2^128.
+fn is_widest(start: u128, more: u64) -> bool
+    ensures { result ≡ nat_le (start + more) (tag_values 16) }
+{
+    more == 0 || start <= u128::MAX - (more as u128 - 1)
+}
+
+/// Whether a tag of so many bytes can be as many numbers as a sum.
+fn is_within_tag(start: u128, more: u64, size: u64) -> bool
+    ensures { result ≡ nat_le (start + more) (tag_values size) }
+{
+    if size > 16 {
+        return true;
+    }
+    if size == 16 {
+        return is_widest(start, more);
+    }
+    let values = tag_values(size);
+    start <= values && more as u128 <= values - start
+}
+
+/// Whether the numbers of a niche, one for each variant but the untagged one, fit the tag.
+fn is_niche_right(count: u64, size: u64, encoding: TagEncoding) -> bool
+    ensures { result ≡ is_niche_right count size encoding }
+{
+    match encoding {
+        TagEncoding::Direct => true,
+        TagEncoding::Niche {
+            untagged_variant,
+            niche_start,
+            ..
+        } => (untagged_variant as u64) < count && is_within_tag(niche_start, count - 1, size),
+    }
+}
+
+/// Whether there are as many variants as the enum has, which the tag can tell apart.
+fn is_multiple_right(count: u64, multiple: &MultiLayout) -> bool
+    ensures { result ≡ is_multiple_right count multiple.now }
+{
+    multiple.variants.len() == count
+        && is_within_tag(0, count, multiple.tag_size)
+        && is_niche_right(count, multiple.tag_size, multiple.encoding)
+}
+
+/// Whether a layout shows the variants of an enum of so many.
+fn is_enum_tag_right(count: u64, variants: &Variants) -> bool
+    ensures { result ≡ is_enum_tag_right count variants.now }
+{
+    match variants {
+        Variants::Empty => true,
+        Variants::Single(i) => (*i as u64) < count,
+        Variants::Multiple(multiple) => is_multiple_right(count, multiple),
+    }
+}
+
+/// Whether a layout has no tag.
+fn is_untagged(variants: &Variants) -> bool
+    ensures { result ≡ is_untagged variants.now }
+{
+    match variants {
+        Variants::Multiple(_) => false,
+        _ => true,
+    }
+}
+
+/// Whether the tag of a layout fits its enum, and what is no enum has none.
+pub fn is_tag_right(db: &HirDatabase, row: &(Ty, Layout)) -> bool
+    ensures { result ≡ is_tag_right db.now row.now }
+{
+    match &row.0 {
+        Ty::Adt(AdtId::EnumId(id), _) => {
+            is_enum_tag_right(enum_variants(db, *id).len() as u64, &row.1.variants)
+        }
+        _ => is_untagged(&row.1.variants),
+    }
+}

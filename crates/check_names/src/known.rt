@@ -1,0 +1,96 @@
+//! Which names a world has rows of.
+
+ghost use Rattle.std.specs.Prelude.{◌≡◌, length, nat_lt};
+ghost use Rattle.check_names.specs.Known.{is_nameable, is_known, is_named, is_def_known, is_variant_known, is_field_known, is_param_known};
+
+use crate::mention::Mention;
+use world::{DefWithBodyId, FieldId, GenericParamId, HirDatabase, VariantId};
+
+/// Whether a list of this length has such a place.
+fn is_in_range(len: u64, place: u32) -> bool
+    ensures { result ≡ nat_lt place len }
+{
+    (place as u64) < len
+}
+
+/// Whether there are so few entries that numbers of 32 bits name each place.
+pub fn is_nameable(entries: u64) -> bool
+    ensures { result ≡ is_nameable entries }
+{
+    entries < 0x1_0000_0000
+}
+
+/// Whether the world has a row of what is mentioned. An error and a list are no names.
+pub fn is_known(db: &HirDatabase, mention: Mention) -> bool
+    ensures { result ≡ is_known db.now mention }
+{
+    match mention {
+        Mention::Function(id) => is_in_range(db.functions.len(), id.0),
+        Mention::Const(id) => is_in_range(db.consts.len(), id.0),
+        Mention::Static(id) => is_in_range(db.statics.len(), id.0),
+        Mention::Struct(id) => is_in_range(db.structs.len(), id.0),
+        Mention::Union(id) => is_in_range(db.unions.len(), id.0),
+        Mention::Enum(id) => is_in_range(db.enums.len(), id.0),
+        Mention::Variant(id) => is_in_range(db.variants.len(), id.0),
+        Mention::Trait(id) => is_in_range(db.traits.len(), id.0),
+        Mention::Alias(id) => is_in_range(db.aliases.len(), id.0),
+        Mention::TypeParam(id) => is_in_range(db.type_params.len(), id.0),
+        Mention::ConstParam(id) => is_in_range(db.const_params.len(), id.0),
+        Mention::Closure(id) => is_in_range(db.closures.len(), id.0),
+        Mention::Error => true,
+        Mention::Entries(_) => true,
+    }
+}
+
+/// Whether what is mentioned is known, and a list so short that its places have names.
+pub(crate) fn is_named(db: &HirDatabase, mention: Mention) -> bool
+    ensures { result ≡ is_named db.now mention }
+{
+    match mention {
+        Mention::Entries(entries) => is_nameable(entries),
+        _ => is_known(db, mention),
+    }
+}
+
+/// Whether the world has a row of what can have a body.
+pub fn is_def_known(db: &HirDatabase, def: DefWithBodyId) -> bool
+    ensures { result ≡ is_def_known db.now def }
+{
+    match def {
+        DefWithBodyId::FunctionId(id) => is_in_range(db.functions.len(), id.0),
+        DefWithBodyId::StaticId(id) => is_in_range(db.statics.len(), id.0),
+        DefWithBodyId::ConstId(id) => is_in_range(db.consts.len(), id.0),
+        DefWithBodyId::VariantId(id) => is_in_range(db.variants.len(), id.0),
+    }
+}
+
+/// Whether the world has a row of what has fields.
+pub fn is_variant_known(db: &HirDatabase, v: VariantId) -> bool
+    ensures { result ≡ is_variant_known db.now v }
+{
+    match v {
+        VariantId::EnumVariantId(id) => is_in_range(db.variants.len(), id.0),
+        VariantId::StructId(id) => is_in_range(db.structs.len(), id.0),
+        VariantId::UnionId(id) => is_in_range(db.unions.len(), id.0),
+    }
+}
+
+/// Whether the world has a row of a field's parent, and the parent such a field.
+pub fn is_field_known(db: &HirDatabase, field: FieldId) -> bool
+    ensures { result ≡ is_field_known db.now field }
+{
+    match db.field_types(field.parent) {
+        Some(fields) => is_in_range(fields.len(), field.local_id),
+        None => false,
+    }
+}
+
+/// Whether the world has a row of a generic parameter.
+pub fn is_param_known(db: &HirDatabase, param: GenericParamId) -> bool
+    ensures { result ≡ is_param_known db.now param }
+{
+    match param {
+        GenericParamId::TypeParamId(id) => is_in_range(db.type_params.len(), id.0),
+        GenericParamId::ConstParamId(id) => is_in_range(db.const_params.len(), id.0),
+    }
+}

@@ -1,0 +1,77 @@
+//! Tests of what is mentioned.
+
+ghost use Rattle.std.specs.Prelude.{◌≡◌, Bool};
+ghost use Rattle.check_names.specs.Known.{is_known, is_named, is_closed, is_settled};
+
+use crate::known::{is_known, is_named};
+use crate::mention::Mention;
+use world::HirDatabase;
+
+/// A test that a walk puts to everything that is mentioned.
+pub(crate) trait MentionTest {
+    ghost use Rattle.check_names.specs.declared.mention.Mention.{Mention};
+
+    ghost passes: { Self → Mention → Bool };
+
+    /// Whether a mention passes.
+    fn passes(&self, mention: Mention) -> bool
+        ensures { result ≡ passes self.now mention };
+}
+
+/// The world has a row of what is mentioned.
+#[derive(Drop)]
+pub(crate) struct Known<'a> {
+    pub(crate) db: &'a HirDatabase,
+}
+
+impl<'a> MentionTest for Known<'a> {
+    ghost passes = { λ test mention. is_known test.db.now mention };
+
+    fn passes(&self, mention: Mention) -> bool {
+        is_known(self.db, mention)
+    }
+}
+
+/// What is mentioned is known, and lists are so short that their places have names.
+#[derive(Drop)]
+pub(crate) struct Named<'a> {
+    pub(crate) db: &'a HirDatabase,
+}
+
+impl<'a> MentionTest for Named<'a> {
+    ghost passes = { λ test mention. is_named test.db.now mention };
+
+    fn passes(&self, mention: Mention) -> bool {
+        is_named(self.db, mention)
+    }
+}
+
+/// No alias and no parameter.
+#[derive(Drop)]
+pub(crate) struct Closed;
+
+impl MentionTest for Closed {
+    ghost passes = { λ test mention. is_closed mention };
+
+    fn passes(&self, mention: Mention) -> bool {
+        !matches!(
+            mention,
+            Mention::Alias(_) | Mention::TypeParam(_) | Mention::ConstParam(_)
+        )
+    }
+}
+
+/// No parameter and no error.
+#[derive(Drop)]
+pub(crate) struct Settled;
+
+impl MentionTest for Settled {
+    ghost passes = { λ test mention. is_settled mention };
+
+    fn passes(&self, mention: Mention) -> bool {
+        !matches!(
+            mention,
+            Mention::TypeParam(_) | Mention::ConstParam(_) | Mention::Error
+        )
+    }
+}

@@ -1,0 +1,7 @@
+use Rattle.std.proofs.Common.{◌≡◌, ◌++◌, take}
+use Rattle.std.specs.Prelude.{map}
+use Rattle.world.specs.declared.expr.MatchArm.{MatchArm}
+use Rattle.check_trees.proofs.nodes.parts.push_arm_patterns.Given as goal
+
+abbrev pub invariant-loop-i : goal.invariant-loop-i
+invariant-loop-i l = l.out.items ≡ l.fn.out.items ++ map (λ (arm : MatchArm). arm.pat.0) (take l.i l.arms)

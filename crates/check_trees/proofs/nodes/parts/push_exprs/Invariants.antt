@@ -1,0 +1,6 @@
+use Rattle.std.proofs.Common.{◌≡◌, ◌++◌, take}
+use Rattle.world.specs.Nodes.{expr_numbers}
+use Rattle.check_trees.proofs.nodes.parts.push_exprs.Given as goal
+
+abbrev pub invariant-loop-i : goal.invariant-loop-i
+invariant-loop-i l = l.out.items ≡ l.fn.out.items ++ expr_numbers (take l.i l.ids)

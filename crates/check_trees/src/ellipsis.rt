@@ -1,0 +1,44 @@
+//! Which patterns have their `..` past their parts.
+ghost use Rattle.std.specs.Prelude.{◌≡◌, not};
+ghost use Rattle.std.specs.List.{position};
+ghost use Rattle.check_trees.specs.Ellipsis.{is_ellipsis_inside, is_within, wrong_ellipsis};
+
+use world::{Body, Pat, PatId};
+
+/// Whether at most as many parts stand before the `..` as there are.
+fn is_within(ellipsis: Option<u32>, parts: &[PatId]) -> bool
+    ensures { result ≡ is_within ellipsis parts.now }
+{
+    match ellipsis {
+        None => true,
+        Some(before) => before as usize <= parts.len(),
+    }
+}
+
+/// Whether the `..` of a pattern stands among its parts, or at their end.
+fn is_ellipsis_inside(pat: &Pat) -> bool
+    ensures { result ≡ is_ellipsis_inside pat.now }
+{
+    match pat {
+        Pat::Tuple { args, ellipsis } => is_within(*ellipsis, args.as_slice()),
+        Pat::TupleStruct { args, ellipsis } => is_within(*ellipsis, args.as_slice()),
+        _ => true,
+    }
+}
+
+/// The first of these patterns with its `..` past its parts.
+fn first_wrong_ellipsis(pats: &[Pat]) -> Option<usize>
+    ensures { result ≡ position (λ pat. not (is_ellipsis_inside pat)) pats.now }
+{
+    pats.iter().position(|pat| !is_ellipsis_inside(pat))
+}
+
+/// The first pattern of a body with its `..` past its parts.
+pub fn wrong_ellipsis(body: &Body) -> Option<u64>
+    ensures { result ≡ wrong_ellipsis body.now }
+{
+    match first_wrong_ellipsis(body.pats.as_slice()) {
+        Some(p) => Some(p as u64),
+        None => None,
+    }
+}

@@ -1,0 +1,41 @@
+//! What is told of the nodes of a body before they are walked.
+ghost use Rattle.std.specs.Prelude.{◌≡◌, true, IfOk};
+ghost use Rattle.check_trees.specs.Facts.{AreFacts};
+ghost use Rattle.check_trees.specs.Holders.{is_node};
+ghost use Rattle.check_trees.specs.Tree.{has_one_holder};
+
+use crate::BodyNode;
+use crate::counts::NodeCounts;
+use crate::held::held_pairs;
+use crate::tops::{is_top, top_marks};
+use std::alloc::Global;
+use world::{Body, NoMemory};
+
+/// How often nodes are held, and which patterns are parameters.
+#[derive(Drop)]
+pub(crate) struct Facts {
+    counts: NodeCounts,
+    tops: Vec<bool>,
+}
+
+impl Facts {
+    /// What is told of a body.
+    pub(crate) fn of(alloc: Global, body: &Body) -> Result<Facts, NoMemory>
+        ensures { IfOk result (λ facts. AreFacts body.now facts) }
+    {
+        let pairs = held_pairs(alloc, body)?;
+        let held = pairs.as_slice();
+        let counts = NodeCounts::of(alloc, body, held)?;
+        let tops = top_marks(alloc, body)?;
+        Ok(Facts { counts, tops })
+    }
+
+    /// Whether a node is the root or a parameter, or is held at one place at most.
+    pub(crate) fn has_one_holder(&self, body: &Body, node: BodyNode) -> bool
+        requires facts { AreFacts body.now self.now }
+        requires there { is_node body.now node ≡ true }
+        ensures { result ≡ has_one_holder body.now node }
+    {
+        is_top(body, self.tops.as_slice(), node) || self.counts.count(node) <= 1
+    }
+}

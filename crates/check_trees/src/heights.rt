@@ -1,0 +1,132 @@
+//! How many levels stand below each node of a body.
+ghost use Rattle.std.specs.Prelude.{◌≡◌, ◌==◌, ◌&&◌, if◌then◌else◌, ℕ, length, nat_lt, slice_index_or, IfOk, OnOk};
+ghost use Rattle.check_trees.specs.Heights.{known_of, noted_of, AreHeights, AreLevels, AreSettled, IsHeight, LeavesNoneOpen};
+
+use crate::BodyNode;
+use crate::held::held_by;
+use std::alloc::Global;
+use world::{Body, NoMemory};
+
+/// What is known of a node's height.
+#[derive(Clone, Copy)]
+pub(crate) enum Known {
+    Nothing,
+    /// The walk is below the node.
+    Open,
+    Height(u64),
+}
+
+/// What is known of the heights of a body's expressions and patterns.
+#[derive(Drop)]
+pub(crate) struct Heights {
+    exprs: Vec<Known>,
+    pats: Vec<Known>,
+}
+
+/// Notes what is known at a place, where there is one.
+fn note_at(slots: &mut [Known], place: u64, known: Known)
+    ensures { (k : ℕ) → slice_index_or slots.new k Known.Nothing ≡ (if k == place && nat_lt place (length slots.old) then known else slice_index_or slots.old k Known.Nothing) }
+{
+    let place = place as usize;
+    if place < slots.len() {
+        slots[place] = known;
+    }
+}
+
+impl Heights {
+    /// The heights of a body of which nothing is known.
+    pub(crate) fn new(alloc: Global, body: &Body) -> Result<Heights, NoMemory>
+        ensures { IfOk result (λ heights. AreSettled body.now heights) }
+    {
+        let exprs = vec![in alloc; Known::Nothing; body.exprs.len() as usize]?;
+        let pats = vec![in alloc; Known::Nothing; body.pats.len() as usize]?;
+        Ok(Heights { exprs, pats })
+    }
+
+    /// What is known of a node's height.
+    fn known(&self, node: BodyNode) -> Known
+        ensures { result ≡ known_of self.now node }
+    {
+        let slots = match node {
+            BodyNode::Expr(_) => self.exprs.as_slice(),
+            BodyNode::Pat(_) => self.pats.as_slice(),
+        };
+        let place = match node {
+            BodyNode::Expr(e) => e as usize,
+            BodyNode::Pat(p) => p as usize,
+        };
+        if place < slots.len() {
+            slots[place]
+        } else {
+            Known::Nothing
+        }
+    }
+
+    /// Notes what is known of a node's height.
+    fn note(&mut self, node: BodyNode, known: Known)
+        ensures { (other : BodyNode) → known_of self.new other ≡ noted_of self.old node known other }
+    {
+        match node {
+            BodyNode::Expr(e) => note_at(&mut self.exprs, e, known),
+            BodyNode::Pat(p) => note_at(&mut self.pats, p, known),
+        }
+    }
+}
+
+/// The height of a node, where it is below a budget. Each node on the way is walked once: below one
+/// that the walk is in already, a ring leads to paths of any length.
+#[cycle(heights)]
+pub(crate) fn height(
+    alloc: Global,
+    body: &Body,
+    heights: &mut Heights,
+    node: BodyNode,
+    budget: u64,
+) -> Result<Option<u64>, NoMemory>
+    requires { AreHeights body.now heights.old }
+    ensures heights { OnOk result (AreHeights body.now heights.new) }
+    ensures closed { IfOk result (λ found. LeavesNoneOpen heights.old heights.new found) }
+    ensures height { IfOk result (λ found. IsHeight body.now heights.old budget node found) }
+{
+    match heights.known(node) {
+        Known::Nothing => {}
+        Known::Open => return Ok(None),
+        Known::Height(height) => {
+            return Ok(if height < budget { Some(height) } else { None });
+        }
+    }
+    if budget == 0 {
+        return Ok(None);
+    }
+    heights.note(node, Known::Open);
+    let nodes = held_by(alloc, body, node)?;
+    let Some(height) = levels_of(alloc, body, heights, nodes.as_slice(), budget - 1)? else {
+        return Ok(None);
+    };
+    heights.note(node, Known::Height(height));
+    Ok(Some(height))
+}
+
+/// The levels that some nodes make: one more than the greatest of their heights.
+#[cycle(heights)]
+fn levels_of(
+    alloc: Global,
+    body: &Body,
+    heights: &mut Heights,
+    nodes: &[BodyNode],
+    budget: u64,
+) -> Result<Option<u64>, NoMemory>
+    requires { AreHeights body.now heights.old }
+    ensures heights { OnOk result (AreHeights body.now heights.new) }
+    ensures closed { IfOk result (λ found. LeavesNoneOpen heights.old heights.new found) }
+    ensures levels { IfOk result (λ found. AreLevels body.now heights.old budget nodes.now found) }
+{
+    let mut levels = 0;
+    for (i, node) in nodes.iter().enumerate() {
+        let Some(height) = height(alloc, body, heights, *node, budget)? else {
+            return Ok(None);
+        };
+        levels = levels.max(height + 1);
+    }
+    Ok(Some(levels))
+}

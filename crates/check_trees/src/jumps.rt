@@ -1,0 +1,100 @@
+//! Which jumps name a label of a loop or a block that encloses them.
+ghost use Rattle.std.specs.Prelude.{◌≡◌, ◌<◌, length, true, IfOk};
+ghost use Rattle.world.specs.Nodes.{jump_label, scope_label};
+ghost use Rattle.check_trees.specs.Holders.{is_node, AreHolders};
+ghost use Rattle.check_trees.specs.Jumps.{is_enclosed, is_jump_inside, is_label, is_labelled, loose_jump};
+ghost use Rattle.check_trees.specs.Tops.{AreTops};
+ghost use Rattle.world.specs.Failing.{first_failing};
+
+use crate::BodyNode;
+use crate::held::held_pairs;
+use crate::holders::Holders;
+use crate::tops::{is_top, top_marks};
+use crate::nodes::{jump_label, scope_label};
+use std::alloc::Global;
+use world::{Body, Expr, LabelId, NoMemory};
+
+/// Whether a label is told, and this one.
+fn is_label(told: Option<LabelId>, label: LabelId) -> bool
+    ensures { result ≡ is_label told label }
+{
+    match told {
+        None => false,
+        Some(other) => other.0 == label.0,
+    }
+}
+
+/// Whether a node is a loop or a block with the label.
+fn is_labelled(body: &Body, label: LabelId, node: BodyNode) -> bool
+    ensures { result ≡ is_labelled body.now label node }
+{
+    match node {
+        BodyNode::Expr(e) => match body.exprs.get(e) {
+            None => false,
+            Some(expr) => is_label(scope_label(expr), label),
+        },
+        BodyNode::Pat(_) => false,
+    }
+}
+
+/// Whether a loop or a block with the label holds an expression, below the root or a parameter.
+fn is_enclosed(body: &Body, holders: &Holders, tops: &[bool], label: LabelId, e: u64) -> bool
+    requires holders { AreHolders body.now holders.now }
+    requires tops { AreTops body.now tops.now }
+    requires there { e < length body.now.exprs }
+    ensures { result ≡ is_enclosed body.now label 401 (BodyNode.Expr e) }
+{
+    let mut node = BodyNode::Expr(e);
+    for step in 0..401u64 {
+        if is_top(body, tops, node) {
+            return false;
+        }
+        let Some(holder) = holders.holder(node) else {
+            return false;
+        };
+        if is_labelled(body, label, holder) {
+            return true;
+        }
+        node = holder;
+    }
+    false
+}
+
+/// Whether an expression is no jump to a label, or one to a label that encloses it.
+fn is_jump_inside(body: &Body, holders: &Holders, tops: &[bool], e: u64, node: &Expr) -> bool
+    requires holders { AreHolders body.now holders.now }
+    requires tops { AreTops body.now tops.now }
+    requires there { e < length body.now.exprs }
+    ensures { result ≡ is_jump_inside body.now e node.now }
+{
+    match jump_label(node) {
+        None => true,
+        Some(label) => is_enclosed(body, holders, tops, label, e),
+    }
+}
+
+/// The first jump whose label does not enclose it.
+fn first_loose_jump(body: &Body, holders: &Holders, tops: &[bool], exprs: &[Expr]) -> Option<u64>
+    requires all { exprs.now ≡ body.now.exprs }
+    requires holders { AreHolders body.now holders.now }
+    requires tops { AreTops body.now tops.now }
+    ensures { result ≡ first_failing (is_jump_inside body.now) 0 exprs.now }
+{
+    for (i, node) in exprs.iter().enumerate() {
+        if !is_jump_inside(body, holders, tops, i as u64, node) {
+            return Some(i as u64);
+        }
+    }
+    None
+}
+
+/// The first jump of a body that names a label which no loop or block around it has. It errs only where
+/// there is no memory.
+pub fn loose_jump(alloc: Global, body: &Body) -> Result<Option<u64>, NoMemory>
+    ensures { IfOk result (λ found. found ≡ loose_jump body.now) }
+{
+    let pairs = held_pairs(alloc, body)?;
+    let holders = Holders::of(alloc, body, pairs.as_slice())?;
+    let tops = top_marks(alloc, body)?;
+    Ok(first_loose_jump(body, &holders, tops.as_slice(), body.exprs.as_slice()))
+}

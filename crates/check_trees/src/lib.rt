@@ -1,0 +1,24 @@
+//! What the nodes of a body hold: whether bodies are trees, whether jumps name enclosing labels, and
+//! whether the `..` of patterns stand inside them.
+#![tactic(auto)]
+
+mod counts;
+mod ellipsis;
+mod facts;
+mod heights;
+mod held;
+mod holders;
+mod jumps;
+mod node;
+mod nodes;
+mod order;
+mod reach;
+mod tops;
+
+pub use ellipsis::wrong_ellipsis;
+pub use jumps::loose_jump;
+pub use node::BodyNode;
+pub use nodes::{
+    jump_label, push_children, push_inner_exprs, push_patterns, push_subpatterns, scope_label,
+};
+pub use order::wrong_node;

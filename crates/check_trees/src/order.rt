@@ -1,0 +1,195 @@
+//! The first node of a body that is not in order.
+ghost use Rattle.std.specs.Prelude.{◌≡◌, ◌<◌, ◌&&◌, length, nat_lt, slice_get, true, IfOk, OnOk};
+ghost use Rattle.std.specs.List.{list_all};
+ghost use Rattle.world.specs.Nodes.{children_of, patterns_of, subpatterns_of};
+ghost use Rattle.check_trees.specs.Facts.{AreFacts};
+ghost use Rattle.check_trees.specs.Heights.{AreSettled};
+ghost use Rattle.check_trees.specs.Reach.{AreReaches};
+ghost use Rattle.world.specs.Failing.{first_failing};
+ghost use Rattle.check_trees.specs.Tree.{is_expr_in_order, is_pat_in_order, is_shallow, stands_inside, wrong_node};
+
+use crate::BodyNode;
+use crate::facts::Facts;
+use crate::heights::{Heights, height};
+use crate::reach::{Reaches, reach_of_pats};
+use crate::nodes::{push_children, push_patterns, push_subpatterns};
+use std::alloc::Global;
+use world::{Body, Expr, NoMemory, Pat};
+
+/// Whether all of these numbers are below a limit.
+fn are_below(ids: &[u64], limit: u64) -> bool
+    ensures { result ≡ list_all (λ id. nat_lt id limit) ids.now }
+{
+    ids.iter().all(|id| *id < limit)
+}
+
+/// Whether no path of more than 400 steps leads down from a node.
+fn is_shallow(
+    alloc: Global,
+    body: &Body,
+    heights: &mut Heights,
+    node: BodyNode,
+) -> Result<bool, NoMemory>
+    requires { AreSettled body.now heights.old }
+    ensures settled { IfOk result (λ shallow. shallow ≡ true → AreSettled body.now heights.new) }
+    ensures shallow { IfOk result (λ shallow. shallow ≡ is_shallow body.now node) }
+{
+    match height(alloc, body, heights, node, 401)? {
+        Some(_) => Ok(true),
+        None => Ok(false),
+    }
+}
+
+/// Whether the expressions that an expression holds stand before it.
+fn are_children_before(alloc: Global, e: u64, node: &Expr) -> Result<bool, NoMemory>
+    ensures { IfOk result (λ before. before ≡ list_all (λ child. nat_lt child e) (children_of node.now)) }
+{
+    let mut children = Vec::new(alloc);
+    push_children(&mut children, node)?;
+    Ok(are_below(children.as_slice(), e))
+}
+
+/// Whether the patterns that a pattern holds stand before it.
+fn are_parts_before(alloc: Global, p: u64, node: &Pat) -> Result<bool, NoMemory>
+    ensures { IfOk result (λ before. before ≡ list_all (λ child. nat_lt child p) (subpatterns_of node.now)) }
+{
+    let mut parts = Vec::new(alloc);
+    push_subpatterns(&mut parts, node)?;
+    Ok(are_below(parts.as_slice(), p))
+}
+
+/// Whether the expressions inside the patterns that a shallow expression holds stand before it.
+fn are_inner_before(
+    alloc: Global,
+    body: &Body,
+    reaches: &mut Reaches,
+    e: u64,
+    node: &Expr,
+) -> Result<bool, NoMemory>
+    requires reaches { AreReaches body.now reaches.old }
+    requires at { slice_get body.now.exprs e ≡ Some node.now }
+    requires shallow { is_shallow body.now (BodyNode.Expr e) ≡ true }
+    ensures reaches { OnOk result (AreReaches body.now reaches.new) }
+    ensures before { IfOk result (λ before. before ≡ list_all (stands_inside body.now e 400) (patterns_of node.now)) }
+{
+    let mut patterns = Vec::new(alloc);
+    push_patterns(&mut patterns, node)?;
+    let reach = reach_of_pats(alloc, body, reaches, patterns.as_slice(), 400)?;
+    Ok(reach.is_before(e))
+}
+
+/// Whether an expression of a body is in order. Only where it is shallow are its patterns walked.
+fn is_expr_in_order(
+    alloc: Global,
+    body: &Body,
+    facts: &Facts,
+    heights: &mut Heights,
+    reaches: &mut Reaches,
+    e: u64,
+    node: &Expr,
+) -> Result<bool, NoMemory>
+    requires facts { AreFacts body.now facts.now }
+    requires heights { AreSettled body.now heights.old }
+    requires reaches { AreReaches body.now reaches.old }
+    requires there { e < length body.now.exprs }
+    requires at { slice_get body.now.exprs e ≡ Some node.now }
+    ensures settled { IfOk result (λ order. order ≡ true → AreSettled body.now heights.new) }
+    ensures reaches { OnOk result (AreReaches body.now reaches.new) }
+    ensures order { IfOk result (λ order. order ≡ is_expr_in_order body.now e node.now) }
+{
+    if !is_shallow(alloc, body, heights, BodyNode::Expr(e))? {
+        return Ok(false);
+    }
+    let before = are_children_before(alloc, e, node)?;
+    let inner = are_inner_before(alloc, body, reaches, e, node)?;
+    let once = facts.has_one_holder(body, BodyNode::Expr(e));
+    Ok(before && inner && once)
+}
+
+/// Whether a pattern of a body is in order.
+fn is_pat_in_order(
+    alloc: Global,
+    body: &Body,
+    facts: &Facts,
+    heights: &mut Heights,
+    p: u64,
+    node: &Pat,
+) -> Result<bool, NoMemory>
+    requires facts { AreFacts body.now facts.now }
+    requires heights { AreSettled body.now heights.old }
+    requires there { p < length body.now.pats }
+    ensures settled { IfOk result (λ order. order ≡ true → AreSettled body.now heights.new) }
+    ensures order { IfOk result (λ order. order ≡ is_pat_in_order body.now p node.now) }
+{
+    let before = are_parts_before(alloc, p, node)?;
+    let once = facts.has_one_holder(body, BodyNode::Pat(p));
+    let shallow = is_shallow(alloc, body, heights, BodyNode::Pat(p))?;
+    Ok(before && once && shallow)
+}
+
+/// The first expression of a body that is not in order.
+fn first_wrong_expr(
+    alloc: Global,
+    body: &Body,
+    facts: &Facts,
+    heights: &mut Heights,
+    reaches: &mut Reaches,
+    exprs: &[Expr],
+) -> Result<Option<u64>, NoMemory>
+    requires all { exprs.now ≡ body.now.exprs }
+    requires facts { AreFacts body.now facts.now }
+    requires heights { AreSettled body.now heights.old }
+    requires reaches { AreReaches body.now reaches.old }
+    ensures settled { IfOk result (λ found. found ≡ None → AreSettled body.now heights.new) }
+    ensures reaches { OnOk result (AreReaches body.now reaches.new) }
+    ensures first { IfOk result (λ found. found ≡ first_failing (is_expr_in_order body.now) 0 exprs.now) }
+{
+    for (i, node) in exprs.iter().enumerate() {
+        if !is_expr_in_order(alloc, body, facts, heights, reaches, i as u64, node)? {
+            return Ok(Some(i as u64));
+        }
+    }
+    Ok(None)
+}
+
+/// The first pattern of a body that is not in order.
+fn first_wrong_pat(
+    alloc: Global,
+    body: &Body,
+    facts: &Facts,
+    heights: &mut Heights,
+    pats: &[Pat],
+) -> Result<Option<u64>, NoMemory>
+    requires all { pats.now ≡ body.now.pats }
+    requires facts { AreFacts body.now facts.now }
+    requires heights { AreSettled body.now heights.old }
+    ensures { IfOk result (λ found. found ≡ first_failing (is_pat_in_order body.now) 0 pats.now) }
+{
+    for (i, node) in pats.iter().enumerate() {
+        if !is_pat_in_order(alloc, body, facts, heights, i as u64, node)? {
+            return Ok(Some(i as u64));
+        }
+    }
+    Ok(None)
+}
+
+/// The first node of a body that is not in order, expressions first. A node is in order that stands
+/// after those that it holds, an expression also after those inside its patterns; that is held at one
+/// place at most, unless it is the root or a parameter; and from which no path of more than 400 steps
+/// leads down. It errs only where there is no memory.
+pub fn wrong_node(alloc: Global, body: &Body) -> Result<Option<BodyNode>, NoMemory>
+    ensures { IfOk result (λ found. found ≡ wrong_node body.now) }
+{
+    let facts = Facts::of(alloc, body)?;
+    let mut heights = Heights::new(alloc, body)?;
+    let mut reaches = Reaches::new(alloc, body)?;
+    let exprs = body.exprs.as_slice();
+    if let Some(e) = first_wrong_expr(alloc, body, &facts, &mut heights, &mut reaches, exprs)? {
+        return Ok(Some(BodyNode::Expr(e)));
+    }
+    let pats = body.pats.as_slice();
+    match first_wrong_pat(alloc, body, &facts, &mut heights, pats)? {
+        Some(p) => Ok(Some(BodyNode::Pat(p))),
+        None => Ok(None),
+    }
+}

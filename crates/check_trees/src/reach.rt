@@ -1,0 +1,169 @@
+//! Up to which expressions the patterns of a body reach.
+ghost use Rattle.std.specs.Prelude.{◌≡◌, ◌==◌, ◌&&◌, if◌then◌else◌, ℕ, false, length, nat_lt, slice_index_or, IfOk, OnOk};
+ghost use Rattle.std.specs.List.{list_all};
+ghost use Rattle.check_trees.specs.Reach.{any_path, is_before, kept_reach, AreReaches, HasReach, HaveReach};
+ghost use Rattle.check_trees.specs.Tree.{has_path, inner_exprs_at, subpatterns_at};
+
+use crate::BodyNode;
+use crate::nodes::{push_inner_exprs, push_subpatterns};
+use std::alloc::Global;
+use world::{Body, NoMemory};
+
+/// The last of some expressions, where there is one.
+#[derive(Clone, Copy)]
+pub(crate) enum Reach {
+    Nothing,
+    UpTo(u64),
+}
+
+impl Reach {
+    /// Whether the expressions stand before one.
+    pub(crate) fn is_before(self, e: u64) -> bool
+        ensures { result ≡ is_before self e }
+    {
+        match self {
+            Reach::Nothing => true,
+            Reach::UpTo(last) => last < e,
+        }
+    }
+
+    /// The last of both.
+    fn max(self, other: Reach) -> Reach
+        ensures { (e : ℕ) → is_before result e ≡ (is_before self e && is_before other e) }
+    {
+        match (self, other) {
+            (Reach::Nothing, _) => other,
+            (_, Reach::Nothing) => self,
+            (Reach::UpTo(a), Reach::UpTo(b)) => Reach::UpTo(a.max(b)),
+        }
+    }
+}
+
+/// How far each pattern of a body that was walked reaches.
+#[derive(Drop)]
+pub(crate) struct Reaches {
+    pats: Vec<Option<Reach>>,
+}
+
+/// Writes a reach at a place, where there is one.
+fn keep_at(slots: &mut [Option<Reach>], place: u64, reach: Reach)
+    ensures { (k : ℕ) → slice_index_or slots.new k None ≡ (if k == place && nat_lt place (length slots.old) then Some reach else slice_index_or slots.old k None) }
+{
+    let place = place as usize;
+    if place < slots.len() {
+        slots[place] = Some(reach);
+    }
+}
+
+impl Reaches {
+    /// The reaches of a body of which no pattern was walked.
+    pub(crate) fn new(alloc: Global, body: &Body) -> Result<Reaches, NoMemory>
+        ensures { IfOk result (λ reaches. AreReaches body.now reaches) }
+    {
+        let pats = vec![in alloc; None; body.pats.len() as usize]?;
+        Ok(Reaches { pats })
+    }
+
+    /// The reach of a pattern, where it was walked.
+    fn kept(&self, p: u64) -> Option<Reach>
+        ensures { result ≡ kept_reach self.now p }
+    {
+        let place = p as usize;
+        if place < self.pats.len() {
+            self.pats[place]
+        } else {
+            None
+        }
+    }
+
+    /// Keeps the reach of a pattern.
+    fn keep(&mut self, body: &Body, p: u64, reach: Reach)
+        requires kept { AreReaches body.now self.old }
+        requires reach { HasReach body.now p reach }
+        ensures { AreReaches body.now self.new }
+    {
+        let _ = body;
+        keep_at(&mut self.pats, p, reach);
+    }
+}
+
+/// The last of these expressions.
+fn reach_of_exprs(ids: &[u64]) -> Reach
+    ensures { (e : ℕ) → is_before result e ≡ list_all (λ inner. nat_lt inner e) ids.now }
+{
+    let mut reach = Reach::Nothing;
+    for (i, id) in ids.iter().enumerate() {
+        reach = reach.max(Reach::UpTo(*id));
+    }
+    reach
+}
+
+/// The patterns that the pattern of a number holds.
+fn subpatterns_at(alloc: Global, body: &Body, p: u64) -> Result<Vec<u64>, NoMemory>
+    ensures { IfOk result (λ parts. parts.items ≡ subpatterns_at body.now p) }
+{
+    let mut parts = Vec::new(alloc);
+    if let Some(pat) = body.pats.get(p) {
+        push_subpatterns(&mut parts, pat)?;
+    }
+    Ok(parts)
+}
+
+/// The expressions that the pattern of a number holds.
+fn inner_exprs_at(alloc: Global, body: &Body, p: u64) -> Result<Vec<u64>, NoMemory>
+    ensures { IfOk result (λ inner. inner.items ≡ inner_exprs_at body.now p) }
+{
+    let mut inner = Vec::new(alloc);
+    if let Some(pat) = body.pats.get(p) {
+        push_inner_exprs(&mut inner, pat)?;
+    }
+    Ok(inner)
+}
+
+/// How far a pattern reaches from which no path of so many steps leads down. Each pattern on the
+/// way is walked once.
+#[cycle(reaches)]
+fn reach_of_pat(
+    alloc: Global,
+    body: &Body,
+    reaches: &mut Reaches,
+    p: u64,
+    budget: u64,
+) -> Result<Reach, NoMemory>
+    requires reaches { AreReaches body.now reaches.old }
+    requires shallow { has_path body.now budget (BodyNode.Pat p) ≡ false }
+    ensures reaches { OnOk result (AreReaches body.now reaches.new) }
+    ensures reach { IfOk result (λ reach. HasReach body.now p reach) }
+{
+    if let Some(reach) = reaches.kept(p) {
+        return Ok(reach);
+    }
+    let parts = subpatterns_at(alloc, body, p)?;
+    let inner = inner_exprs_at(alloc, body, p)?;
+    let below = reach_of_pats(alloc, body, reaches, parts.as_slice(), budget - 1)?;
+    let reach = reach_of_exprs(inner.as_slice()).max(below);
+    reaches.keep(body, p, reach);
+    Ok(reach)
+}
+
+/// How far some patterns reach from which no path of so many steps leads down.
+#[cycle(reaches)]
+pub(crate) fn reach_of_pats(
+    alloc: Global,
+    body: &Body,
+    reaches: &mut Reaches,
+    ids: &[u64],
+    budget: u64,
+) -> Result<Reach, NoMemory>
+    requires reaches { AreReaches body.now reaches.old }
+    requires shallow { any_path body.now budget ids.now ≡ false }
+    ensures reaches { OnOk result (AreReaches body.now reaches.new) }
+    ensures reach { IfOk result (λ reach. HaveReach body.now ids.now reach) }
+{
+    let mut reach = Reach::Nothing;
+    for (i, p) in ids.iter().enumerate() {
+        let found = reach_of_pat(alloc, body, reaches, *p, budget)?;
+        reach = reach.max(found);
+    }
+    Ok(reach)
+}

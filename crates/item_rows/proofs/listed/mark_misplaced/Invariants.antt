@@ -1,6 +1,0 @@
-use Rattle.std.proofs.Common.{take}
-use Rattle.item_rows.specs.Marks.{AreMarks}
-use Rattle.item_rows.proofs.listed.mark_misplaced.Given as goal
-
-abbrev pub invariant-loop-i : goal.invariant-loop-i
-invariant-loop-i l = AreMarks l.db.variants (take l.i l.places) l.marks
