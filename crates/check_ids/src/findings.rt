@@ -3,12 +3,12 @@ ghost use Rattle.std.specs.Prelude.{◌≡◌};
 ghost use Rattle.check_ids.specs.Inferred.{are_adjustments_named, is_assoc_named, is_candidate_known, is_field_named, is_method_named, is_value_known};
 ghost use Rattle.check_names.specs.Known.{is_in_range, is_variant_known};
 
+use check_names::{are_args_named, is_field_known, is_ty_named, is_variant_known};
 use either::Either;
 use world::{
     Adjustment, AssocRes, BindingMode, Body, CandidateId, ExprId, FieldId, HirDatabase, List,
     MethodRes, PatId, TupleFieldId, ValueNs, VariantId,
 };
-use check_names::{are_args_named, is_field_known, is_ty_named, is_variant_known};
 
 /// A node of a body, as the key of what inference found of it.
 pub(crate) trait NodeKey {

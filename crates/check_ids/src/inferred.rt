@@ -3,8 +3,8 @@ ghost use Rattle.std.specs.Prelude.{◌≡◌, ◌&&◌, true};
 ghost use Rattle.check_ids.specs.Inferred.{are_adjustments_named, are_by_expr, are_by_pat, are_exprs_known, are_parts_named, are_reworkings_named, are_types_named, are_values_named, has_type_each, is_inferred_right};
 
 use crate::entries::are_entries_named;
-use world::{Body, ExprId, HirDatabase, InferenceResult};
 use check_names::are_tys_named;
+use world::{Body, ExprId, HirDatabase, InferenceResult};
 
 /// Whether there is one type for each node.
 fn has_type_each(body: &Body, infer: &InferenceResult) -> bool

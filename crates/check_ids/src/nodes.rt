@@ -3,11 +3,11 @@ ghost use Rattle.std.specs.Prelude.{◌≡◌, IfOk};
 ghost use Rattle.world.specs.Nodes.{binding_of, children_of, inner_exprs_of, jump_label, patterns_of, scope_label, subpatterns_of};
 ghost use Rattle.check_ids.specs.Nodes.{are_exprs, are_parts_named, are_pats, is_binding_in_range, is_binding_known, is_expr_in_range, is_expr_known, is_label_known, is_literal_right, is_pat_in_range, is_scalar};
 
+use check_names::is_nameable;
 use check_trees::{
     jump_label, push_children, push_inner_exprs, push_patterns, push_subpatterns, scope_label,
 };
 use world::{Binding, BindingId, Body, Expr, ExprId, LabelId, Literal, NoMemory, Pat};
-use check_names::is_nameable;
 
 /// Whether each number is one of an expression of the body.
 fn are_exprs(body: &Body, numbers: &[u64]) -> bool

@@ -10,9 +10,9 @@ ghost use Rattle.check_ids.specs.declared.part.BodyPart.TheVariants as part;
 use crate::BodyPart;
 use crate::inferred::is_inferred_right;
 use crate::nodes::{is_binding_in_range, is_binding_known, is_expr_in_range, is_pat_in_range};
+use check_names::is_nameable;
 use std::alloc::Global;
 use world::{Binding, Body, Expr, HirDatabase, InferenceResult, NoMemory, Pat, PatId};
-use check_names::is_nameable;
 
 /// A part, where a test fails.
 fn unless(passes: bool, found: BodyPart) -> Option<BodyPart>

@@ -3,8 +3,8 @@
 ghost use Rattle.std.specs.Prelude.{◌≡◌};
 ghost use Rattle.check_items.specs.Closed.{is_const_impl_closed, is_impl_closed, is_normal_closed};
 
-use world::{AliasId, ConstImplRow, GenericArgs, ImplRow, Ty};
 use check_names::{are_args_closed, is_ty_closed};
+use world::{AliasId, ConstImplRow, GenericArgs, ImplRow, Ty};
 
 /// Whether the type that an alias stands for holds no alias and no parameter.
 pub fn is_normal_closed(row: &(AliasId, GenericArgs, Ty)) -> bool

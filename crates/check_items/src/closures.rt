@@ -6,8 +6,8 @@ ghost use Rattle.std.specs.Option.{option_copied};
 ghost use Rattle.check_items.specs.Names.{is_capture_named, is_closure_named, is_in_body, is_projection_known};
 
 use crate::parts::is_in_range;
-use world::{Body, Capture, ClosureRow, HirDatabase, HirPlaceProjection};
 use check_names::{are_tys_named, is_def_known, is_field_known, is_nameable, is_ty_named};
+use world::{Body, Capture, ClosureRow, HirDatabase, HirPlaceProjection};
 
 /// Whether the world has the field that a step names, where it names one.
 fn is_projection_known(db: &HirDatabase, step: HirPlaceProjection) -> bool

@@ -4,8 +4,8 @@ ghost use Rattle.std.specs.Prelude.{◌≡◌};
 ghost use Rattle.check_items.specs.Names.{is_const_impl_named, is_impl_named, is_normal_named};
 
 use crate::parts::is_in_range;
-use world::{AliasId, ConstImplRow, GenericArgs, HirDatabase, ImplRow, Ty};
 use check_names::{are_args_named, is_ty_named};
+use world::{AliasId, ConstImplRow, GenericArgs, HirDatabase, ImplRow, Ty};
 
 /// Whether all ids in the row of an alias are in range, and its lists are short enough.
 pub fn is_normal_named(db: &HirDatabase, row: &(AliasId, GenericArgs, Ty)) -> bool

@@ -5,8 +5,8 @@ ghost use Rattle.std.specs.List.{list_all};
 ghost use Rattle.check_names.specs.Known.{is_nameable};
 ghost use Rattle.check_items.specs.Names.{are_variants_named, is_layout_named};
 
-use world::{HirDatabase, Layout, List, Ty, Variants};
 use check_names::{is_nameable, is_ty_named};
+use world::{HirDatabase, Layout, List, Ty, Variants};
 
 /// Whether lists of offsets are so short that their places have names.
 fn are_offsets_nameable(lists: &[List<u64>]) -> bool

@@ -9,11 +9,11 @@ ghost use Rattle.check_items.specs.Names.{is_const_named, is_const_param_named, 
 use crate::parts::{
     are_fields_named, are_params_named, is_body_known, is_in_range, is_sig_named, is_trait_known,
 };
+use check_names::{is_nameable, is_ty_named};
 use world::{
     ConstParamRow, ConstRow, EnumRow, EnumVariantId, FunctionRow, HirDatabase, StaticRow,
     StructRow, VariantRow,
 };
-use check_names::{is_nameable, is_ty_named};
 
 /// Whether all ids in a function's row are in range, and its lists are short enough.
 pub fn is_function_named(db: &HirDatabase, row: &FunctionRow) -> bool

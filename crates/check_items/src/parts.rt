@@ -6,8 +6,8 @@ ghost use Rattle.world.specs.declared.items.FieldRow.{FieldRow as Field};
 ghost use Rattle.check_names.specs.Known.{is_param_known, is_ty_named};
 ghost use Rattle.check_items.specs.Names.{are_fields_named, are_params_named, is_body_known, is_function_known, is_sig_named, is_trait_known};
 
-use world::{FieldRow, FnSig, FunctionId, GenericParamId, HirDatabase, List, TraitId};
 use check_names::{are_tys_named, is_nameable, is_param_known, is_ty_named};
+use world::{FieldRow, FnSig, FunctionId, GenericParamId, HirDatabase, List, TraitId};
 
 /// Whether a list of this length has such a place.
 pub(crate) fn is_in_range(len: u64, place: u32) -> bool

@@ -5,8 +5,8 @@ ghost use Rattle.check_instances.specs.Instances.{ty_instance};
 ghost use Rattle.check_layouts.specs.Fields.{AreSizesRight, are_inside, captures_at, field_size, fields_of_variant, is_part_inside, is_placed_right, types_at, variants_of};
 
 use crate::sizes::layout_above;
-use std::alloc::Global;
 use check_instances::{NoInstance, ty_instance};
+use std::alloc::Global;
 use world::{
     Capture, ClosureRow, EnumId, EnumVariantId, FieldRow, GenericArgs, HirDatabase, List, Map,
     NoMemory, TryClone, Ty, VariantId,

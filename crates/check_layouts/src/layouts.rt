@@ -11,12 +11,12 @@ use crate::fields::{
     is_tuple_placed, variant_fields,
 };
 use crate::sizes::{is_alignment, is_fixed_size, is_multiple_of, known_size};
+use check_names::is_ty_closed;
 use std::alloc::Global;
 use world::{
     AdtId, EnumId, EnumVariantId, FieldRow, GenericArgs, HirDatabase, Layout, List, Map, NoMemory,
     Ty, VariantId, Variants,
 };
-use check_names::is_ty_closed;
 
 /// Whether a tag has the size of an integer.
 fn is_tag_size(size: u64) -> bool

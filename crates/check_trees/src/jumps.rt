@@ -9,8 +9,8 @@ ghost use Rattle.world.specs.Failing.{first_failing};
 use crate::BodyNode;
 use crate::held::held_pairs;
 use crate::holders::Holders;
-use crate::tops::{is_top, top_marks};
 use crate::nodes::{jump_label, scope_label};
+use crate::tops::{is_top, top_marks};
 use std::alloc::Global;
 use world::{Body, Expr, LabelId, NoMemory};
 

@@ -11,8 +11,8 @@ ghost use Rattle.check_trees.specs.Tree.{is_expr_in_order, is_pat_in_order, is_s
 use crate::BodyNode;
 use crate::facts::Facts;
 use crate::heights::{Heights, height};
-use crate::reach::{Reaches, reach_of_pats};
 use crate::nodes::{push_children, push_patterns, push_subpatterns};
+use crate::reach::{Reaches, reach_of_pats};
 use std::alloc::Global;
 use world::{Body, Expr, NoMemory, Pat};
 

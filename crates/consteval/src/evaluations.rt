@@ -15,7 +15,6 @@ use world::{Const, DefWithBodyId, GenericArgs, Map, NoMemory, TryClone};
 use world_check::CheckedWorld;
 
 /// Evaluations over one checked world. They keep each lowered body and each value.
-#[derive(Drop)]
 pub struct Evaluations<'w> {
     alloc: Global,
     world: &'w CheckedWorld,
@@ -23,6 +22,19 @@ pub struct Evaluations<'w> {
     values: Vec<(DefWithBodyId, Const)>,
     body_places: Map<DefWithBodyId, u64>,
     value_places: Map<DefWithBodyId, u64>,
+}
+
+impl Drop for Evaluations<'_> {
+    fn drop(self) {
+        let Evaluations {
+            alloc: _alloc,
+            world: _world,
+            bodies: _bodies,
+            values: _values,
+            body_places: _body_places,
+            value_places: _value_places,
+        } = self;
+    }
 }
 
 impl<'w> Model for Evaluations<'w> {

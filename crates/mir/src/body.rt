@@ -4,16 +4,31 @@ use crate::{BasicBlockId, MirSpan, Place, Statement};
 use world::{DefWithBodyId, List, Ty};
 
 /// A local variable of a body.
-#[derive(PartialEq, Eq, Drop)]
+#[derive(PartialEq, Eq)]
 pub struct Local {
     pub ty: Ty,
 }
 
+impl Drop for Local {
+    fn drop(self) {
+        let Local { ty: _ty } = self;
+    }
+}
+
 /// How a block ends, and what that was lowered from.
-#[derive(PartialEq, Eq, Drop)]
+#[derive(PartialEq, Eq)]
 pub struct Terminator {
     pub span: MirSpan,
     pub kind: TerminatorKind,
+}
+
+impl Drop for Terminator {
+    fn drop(self) {
+        let Terminator {
+            span: _span,
+            kind: _kind,
+        } = self;
+    }
 }
 
 /// How a block ends.
@@ -29,19 +44,40 @@ pub enum TerminatorKind {
 }
 
 /// Statements that run in order, and then a terminator.
-#[derive(PartialEq, Eq, Drop)]
+#[derive(PartialEq, Eq)]
 pub struct BasicBlock {
     pub statements: List<Statement>,
     pub terminator: Option<Terminator>,
     pub is_cleanup: bool,
 }
 
+impl Drop for BasicBlock {
+    fn drop(self) {
+        let BasicBlock {
+            statements: _statements,
+            terminator: _terminator,
+            is_cleanup: _is_cleanup,
+        } = self;
+    }
+}
+
 /// A lowered body.
-#[derive(PartialEq, Eq, Drop)]
+#[derive(PartialEq, Eq)]
 pub struct MirBody {
     pub basic_blocks: List<BasicBlock>,
     /// Local 0 is the return slot.
     pub locals: List<Local>,
     pub start_block: BasicBlockId,
     pub owner: DefWithBodyId,
+}
+
+impl Drop for MirBody {
+    fn drop(self) {
+        let MirBody {
+            basic_blocks: _basic_blocks,
+            locals: _locals,
+            start_block: _start_block,
+            owner: _owner,
+        } = self;
+    }
 }

@@ -2,6 +2,8 @@
 //! lowering and running them, and, in `specs/`, what a run of a body means.
 #![tactic(auto)]
 
+// Drops are written by hand: derived ones would be proved anew in each crate that drops such a value.
+
 mod body;
 mod copies;
 mod errors;

@@ -3,10 +3,19 @@
 use crate::{LocalId, MirSpan, Place, Rvalue};
 
 /// A statement, and what it was lowered from.
-#[derive(PartialEq, Eq, Drop)]
+#[derive(PartialEq, Eq)]
 pub struct Statement {
     pub kind: StatementKind,
     pub span: MirSpan,
+}
+
+impl Drop for Statement {
+    fn drop(self) {
+        let Statement {
+            kind: _kind,
+            span: _span,
+        } = self;
+    }
 }
 
 /// What a statement does.

@@ -7,7 +7,8 @@ use Rattle.std.specs.List.{position_from}
 use Rattle.consteval.specs.Kept.{Kept}
 use Rattle.consteval.specs.declared.evaluated.Evaluated.{Evaluated}
 use Rattle.world_json.specs.declared.goal.Goal.{Goal}
-use Rattle.mirconst_run.specs.Answers.{AreAnswers, IsAnswer, IsGoalAnswer, are_within, is_misfit, is_variant, is_want_of_memory, limits_of, nothing_kept}
+use Rattle.mirconst_run.specs.Answers.{AreAnswers, IsAnswer, IsGoalAnswer, is_want_of_memory, limits_of, nothing_kept}
+use Rattle.mirconst_input.specs.Goals.{are_within, is_misfit, is_variant}
 use Rattle.world.specs.Limits.{IsWithin, is_within}
 use Rattle.world.specs.declared.limits.Limits.{Limits}
 use Rattle.check_names.specs.Known.{are_args_known, is_def_known}

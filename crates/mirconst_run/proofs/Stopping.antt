@@ -2,11 +2,11 @@
 use Rattle.std.proofs.Common.{ℕ, Bool, List, Option, String, refl}
 use Rattle.std.specs.declared.alloc.Global.{Global}
 use Rattle.streams.specs.Faults.{HasCause}
-use Rattle.mirconst_run.specs.Refusals.{IsOfReading, IsOfInput}
-use Rattle.mirconst_run.specs.Input.{IsReadToEnd}
+use Rattle.mirconst_input.specs.Refusals.{IsOfReading, IsOfInput}
+use Rattle.mirconst_input.specs.Input.{IsReadToEnd}
 use Rattle.mirconst_run.specs.Runs.{IsBegun, IsReportOf, Stops, Means}
-use Rattle.mirconst_run.specs.declared.status.Status.{Status}
-use Rattle.mirconst_run.specs.declared.status.Status.TheVariants.{Values, Errors, BadWords, NotJson, NotAWorld, BadWorld, TooLong, ReadFault, WriteFault, NoMemory}
+use Rattle.mirconst_input.specs.declared.status.Status.{Status}
+use Rattle.mirconst_input.specs.declared.status.Status.TheVariants.{Values, Errors, BadWords, NotJson, NotAWorld, BadWorld, TooLong, ReadFault, WriteFault, NoMemory}
 
 -- the input was not read as a whole
 pub unread : (left left' : Option (List ℕ)) (faults faults' : ℕ) (written : Option (List ℕ)) (counted counted' : ℕ) (status : Status) →

@@ -66,18 +66,3 @@ nothing_kept world = record { world = world; bodies = []; values = [] }
 
 abbrev pub has_value : Evaluated → Bool
 has_value answer = is_ok answer.result
-
--- a variant of an enum, whose value no goal asks for
-abbrev pub is_variant : DefWithBodyId → Bool
-is_variant (VariantId id) = true
-is_variant _ = false
-
--- no limits, or limits that are at most the greatest ones
-abbrev pub are_within : Option Limits → Bool
-are_within None = true
-are_within (Some limits) = is_within limits
-
--- whether a goal doesn't fit: it is a variant, it or an id in its arguments is out of range, or its limits are too great
-abbrev pub is_misfit : HirDatabase → Goal → Bool
-is_misfit world goal =
-    is_variant goal.def || not (is_def_known world goal.def) || not (are_args_known world goal.args) || not (are_within goal.limits)

@@ -8,12 +8,12 @@ use Rattle.streams.specs.Faults.{HasCause}
 use Rattle.world.specs.declared.database.HirDatabase.{HirDatabase}
 use Rattle.world_check.specs.declared.fault.InvalidWorld.{InvalidWorld}
 use Rattle.world_json.specs.declared.goal.Goal.{Goal}
-use Rattle.mirconst_run.specs.declared.status.Status.{Status}
-use Rattle.mirconst_run.specs.declared.status.Status.TheVariants.{Values, Errors, BadWords, NotJson, NotAWorld, BadWorld, TooLong, ReadFault, WriteFault, NoMemory}
+use Rattle.mirconst_input.specs.declared.status.Status.{Status}
+use Rattle.mirconst_input.specs.declared.status.Status.TheVariants.{Values, Errors, BadWords, NotJson, NotAWorld, BadWorld, TooLong, ReadFault, WriteFault, NoMemory}
 use Rattle.mirconst_run.specs.Answers.{AreAnswers, has_value, nothing_kept}
-use Rattle.mirconst_run.specs.Input.{most_bytes, IsReadToEnd, StandsFor, IsNoJson, HasMisfit, HasMisfitGoal, HasFailure}
+use Rattle.mirconst_input.specs.Input.{most_bytes, IsReadToEnd, StandsFor, IsNoJson, HasMisfit, HasMisfitGoal, HasFailure}
 use Rattle.mirconst_run.specs.Report.{report_text}
-use Rattle.mirconst_run.specs.Words.{is_command}
+use Rattle.mirconst_input.specs.Words.{is_command}
 
 -- outcomes of the goals that bytes stand for, in the world that they stand for
 pub record AreOutcomes (bytes : List ℕ) (world : HirDatabase) (outcomes : List Evaluated) : Type 0 where

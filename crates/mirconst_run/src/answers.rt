@@ -2,7 +2,8 @@
 
 ghost use Rattle.std.specs.Prelude.{◌≡◌, true, false, None, IfOk, IfErr, OnOk, position};
 ghost use Rattle.std.specs.List.{list_all};
-ghost use Rattle.mirconst_run.specs.Answers.{AreAnswers, IsGoalAnswer, are_within, has_value, is_misfit, is_want_of_memory, limits_of, nothing_kept};
+ghost use Rattle.mirconst_run.specs.Answers.{AreAnswers, IsGoalAnswer, has_value, is_want_of_memory, limits_of, nothing_kept};
+ghost use Rattle.mirconst_input.specs.Goals.{are_within, is_misfit};
 ghost use Rattle.world.specs.Limits.{IsWithin};
 ghost use Rattle.world.specs.declared.database.HirDatabase.{HirDatabase};
 ghost use Rattle.consteval.specs.Kept.{Kept};

@@ -1,17 +1,13 @@
 //! A run of the program: it reads a world and goals, checks them, evaluates the goals and writes the
-//! report.
+//! report. All calls of the library that a program rests on stand here.
 #![tactic(auto)]
 
 mod answers;
-mod input;
-mod reading;
 mod reports;
 mod runs;
-mod status;
-mod words;
 mod writing;
 
-pub use input::goals_fit;
+pub use mirconst_input::{Status, goals_fit};
 pub use reports::report;
 pub use runs::run;
-pub use status::Status;
+pub use world_json::{Goal, NotAWorld, read_world};

@@ -1,17 +1,15 @@
 //! A whole run.
 
 ghost use Rattle.std.specs.Prelude.{◌≡◌, false, IfOk, IfErr};
-ghost use Rattle.mirconst_run.specs.Input.{TakesFew};
-ghost use Rattle.mirconst_run.specs.Refusals.{IsOfInput};
+ghost use Rattle.mirconst_input.specs.Input.{TakesFew};
+ghost use Rattle.mirconst_input.specs.Refusals.{IsOfInput};
 ghost use Rattle.mirconst_run.specs.Runs.{IsReportOf, IsAnswered, Stops, Means};
-ghost use Rattle.mirconst_run.specs.Words.{is_command};
+ghost use Rattle.mirconst_input.specs.Words.{is_command};
 
 use crate::answers::{all_have_values, answers};
-use crate::input::input;
-use crate::reading::read_input;
-use crate::words::is_command;
+use crate::report;
 use crate::writing::write_whole;
-use crate::{Status, report};
+use mirconst_input::{Status, input, is_command, read_input};
 use std::alloc::Global;
 use streams::{Sink, Source};
 use world::Bytes;
@@ -57,7 +55,7 @@ fn answer_input<S: Source, K: Sink>(alloc: Global, src: &mut S, out: &mut K) -> 
 
 /// Runs the program: reads the world and its goals, evaluates the goals in order, and writes the report.
 /// The words are none, or `eval` alone.
-#[tactic(auto, using(crate::proofs::Stopping::stop_means, crate::proofs::Moving::takes_none))]
+#[tactic(auto, using(crate::proofs::Stopping::stop_means, mirconst_input::proofs::Reading::takes_none))]
 pub fn run<S: Source, K: Sink>(
     alloc: Global,
     words: &Vec<String>,

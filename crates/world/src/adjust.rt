@@ -4,10 +4,19 @@ use crate::{Mutability, NoMemory, TryClone, Ty};
 use std::alloc::Global;
 
 /// One step, and the type that it leads to.
-#[derive(PartialEq, Eq, PartialOrd, Ord, Hash, Drop)]
+#[derive(PartialEq, Eq, PartialOrd, Ord, Hash)]
 pub struct Adjustment {
     pub kind: Adjust,
     pub target: Ty,
+}
+
+impl Drop for Adjustment {
+    fn drop(self) {
+        let Adjustment {
+            kind: _kind,
+            target: _target,
+        } = self;
+    }
 }
 
 /// What a step does.

@@ -6,7 +6,7 @@ use crate::{BindingId, Expr, ExprId, List, NoMemory, Pat, PatId, Text, TryClone}
 use std::alloc::Global;
 
 /// The body of an item. A child's id is below its parent's of the same kind.
-#[derive(PartialEq, Eq, PartialOrd, Ord, Hash, Drop)]
+#[derive(PartialEq, Eq, PartialOrd, Ord, Hash)]
 pub struct Body {
     pub exprs: List<Expr>,
     pub pats: List<Pat>,
@@ -19,13 +19,37 @@ pub struct Body {
     pub body_expr: ExprId,
 }
 
+impl Drop for Body {
+    fn drop(self) {
+        let Body {
+            exprs: _exprs,
+            pats: _pats,
+            bindings: _bindings,
+            labels: _labels,
+            params: _params,
+            self_param: _self_param,
+            body_expr: _body_expr,
+        } = self;
+    }
+}
+
 /// A variable of a body.
-#[derive(PartialEq, Eq, PartialOrd, Ord, Hash, Drop)]
+#[derive(PartialEq, Eq, PartialOrd, Ord, Hash)]
 pub struct Binding {
     pub name: Text,
     pub mode: BindingAnnotation,
     /// The closure that it is in.
     pub owner: Option<ExprId>,
+}
+
+impl Drop for Binding {
+    fn drop(self) {
+        let Binding {
+            name: _name,
+            mode: _mode,
+            owner: _owner,
+        } = self;
+    }
 }
 
 /// How a binding is written.

@@ -4,7 +4,7 @@ use crate::{BindingId, DefWithBodyId, ExprId, FieldId, List, NoMemory, TryClone,
 use std::alloc::Global;
 
 /// A closure.
-#[derive(PartialEq, Eq, PartialOrd, Ord, Hash, Drop)]
+#[derive(PartialEq, Eq, PartialOrd, Ord, Hash)]
 pub struct ClosureRow {
     /// The item whose body it stands in.
     pub owner: DefWithBodyId,
@@ -16,6 +16,18 @@ pub struct ClosureRow {
     pub captures: List<Capture>,
 }
 
+impl Drop for ClosureRow {
+    fn drop(self) {
+        let ClosureRow {
+            owner: _owner,
+            expr: _expr,
+            kind: _kind,
+            params: _params,
+            captures: _captures,
+        } = self;
+    }
+}
+
 /// The trait by which a closure is called at most.
 #[derive(Clone, Copy, PartialEq, Eq, PartialOrd, Ord, Hash)]
 pub enum FnTrait {
@@ -25,7 +37,7 @@ pub enum FnTrait {
 }
 
 /// A place that a closure captures.
-#[derive(PartialEq, Eq, PartialOrd, Ord, Hash, Drop)]
+#[derive(PartialEq, Eq, PartialOrd, Ord, Hash)]
 pub struct Capture {
     pub local: BindingId,
     pub projections: List<HirPlaceProjection>,
@@ -34,6 +46,18 @@ pub struct Capture {
     pub ty: Ty,
     /// The expression that makes it captured.
     pub span: ExprId,
+}
+
+impl Drop for Capture {
+    fn drop(self) {
+        let Capture {
+            local: _local,
+            projections: _projections,
+            kind: _kind,
+            ty: _ty,
+            span: _span,
+        } = self;
+    }
 }
 
 /// A step from a place to a part of it.

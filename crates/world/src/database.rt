@@ -11,7 +11,7 @@ use std::alloc::Global;
 
 /// The world: tables of items and bodies, whose rows are named by their places, tables of layouts and of
 /// what stands for what, whose rows have keys, and the functions that operators and calls stand for.
-#[derive(PartialEq, Eq, PartialOrd, Ord, Hash, Drop)]
+#[derive(PartialEq, Eq, PartialOrd, Ord, Hash)]
 pub struct HirDatabase {
     pub crates: List<CrateRow>,
     pub functions: List<FunctionRow>,
@@ -50,11 +50,51 @@ pub struct HirDatabase {
     pub call_once_fn: Option<FunctionId>,
 }
 
+impl Drop for HirDatabase {
+    fn drop(self) {
+        let HirDatabase {
+            crates: _crates,
+            functions: _functions,
+            consts: _consts,
+            statics: _statics,
+            structs: _structs,
+            unions: _unions,
+            enums: _enums,
+            variants: _variants,
+            traits: _traits,
+            aliases: _aliases,
+            type_params: _type_params,
+            const_params: _const_params,
+            closures: _closures,
+            bodies: _bodies,
+            layouts: _layouts,
+            normals: _normals,
+            impls: _impls,
+            const_impls: _const_impls,
+            drop_fn: _drop_fn,
+            deref_fn: _deref_fn,
+            deref_mut_fn: _deref_mut_fn,
+            call_fn: _call_fn,
+            call_mut_fn: _call_mut_fn,
+            call_once_fn: _call_once_fn,
+        } = self;
+    }
+}
+
 /// A body, and what inference found of it.
-#[derive(PartialEq, Eq, PartialOrd, Ord, Hash, Drop)]
+#[derive(PartialEq, Eq, PartialOrd, Ord, Hash)]
 pub struct BodyRow {
     pub body: Body,
     pub infer: InferenceResult,
+}
+
+impl Drop for BodyRow {
+    fn drop(self) {
+        let BodyRow {
+            body: _body,
+            infer: _infer,
+        } = self;
+    }
 }
 
 impl HirDatabase {

@@ -7,7 +7,7 @@ use crate::{
 use std::alloc::Global;
 
 /// An expression.
-#[derive(PartialEq, Eq, PartialOrd, Ord, Hash, Drop)]
+#[derive(PartialEq, Eq, PartialOrd, Ord, Hash)]
 pub enum Expr {
     Missing,
     Path(Text),
@@ -123,6 +123,110 @@ pub enum Expr {
     InlineAsm,
 }
 
+impl Drop for Expr {
+    fn drop(self) {
+        match self {
+            Expr::Path(_part) => {}
+            Expr::If {
+                condition: _condition,
+                then_branch: _then_branch,
+                else_branch: _else_branch,
+            } => {}
+            Expr::Let {
+                pat: _pat,
+                expr: _expr,
+            } => {}
+            Expr::Block {
+                statements: _statements,
+                tail: _tail,
+                label: _label,
+            } => {}
+            Expr::Unsafe {
+                statements: _statements,
+                tail: _tail,
+            } => {}
+            Expr::Loop {
+                body: _body,
+                label: _label,
+            } => {}
+            Expr::Call {
+                callee: _callee,
+                args: _args,
+            } => {}
+            Expr::MethodCall {
+                receiver: _receiver,
+                args: _args,
+                method_name: _method_name,
+            } => {}
+            Expr::Match {
+                expr: _expr,
+                arms: _arms,
+            } => {}
+            Expr::Continue { label: _label } => {}
+            Expr::Break {
+                expr: _expr,
+                label: _label,
+            } => {}
+            Expr::Return { expr: _expr } => {}
+            Expr::RecordLit {
+                path: _path,
+                fields: _fields,
+                spread: _spread,
+            } => {}
+            Expr::Field {
+                expr: _expr,
+                name: _name,
+            } => {}
+            Expr::Cast { expr: _expr } => {}
+            Expr::Ref {
+                expr: _expr,
+                mutability: _mutability,
+            } => {}
+            Expr::Box { expr: _expr } => {}
+            Expr::UnaryOp {
+                expr: _expr,
+                op: _op,
+            } => {}
+            Expr::BinaryOp {
+                lhs: _lhs,
+                rhs: _rhs,
+                op: _op,
+            } => {}
+            Expr::Assignment {
+                target: _target,
+                value: _value,
+            } => {}
+            Expr::Range {
+                lhs: _lhs,
+                rhs: _rhs,
+            } => {}
+            Expr::Index {
+                base: _base,
+                index: _index,
+            } => {}
+            Expr::Closure {
+                args: _args,
+                body: _body,
+            } => {}
+            Expr::Tuple { exprs: _exprs } => {}
+            Expr::Array {
+                elements: _elements,
+            } => {}
+            Expr::Repeat {
+                initializer: _initializer,
+            } => {}
+            Expr::Literal(_part) => {}
+            Expr::Become(_part) => {}
+            Expr::Yield(_part) => {}
+            Expr::Yeet(_part) => {}
+            Expr::Await(_part) => {}
+            Expr::Async(_part) => {}
+            Expr::Const(_part) => {}
+            Expr::Missing | Expr::Underscore | Expr::OffsetOf | Expr::InlineAsm => {}
+        }
+    }
+}
+
 /// An arm of a `match`.
 #[derive(Clone, Copy, PartialEq, Eq, PartialOrd, Ord, Hash)]
 pub struct MatchArm {
@@ -132,10 +236,19 @@ pub struct MatchArm {
 }
 
 /// A field of a record literal.
-#[derive(PartialEq, Eq, PartialOrd, Ord, Hash, Drop)]
+#[derive(PartialEq, Eq, PartialOrd, Ord, Hash)]
 pub struct RecordLitField {
     pub name: Text,
     pub expr: ExprId,
+}
+
+impl Drop for RecordLitField {
+    fn drop(self) {
+        let RecordLitField {
+            name: _name,
+            expr: _expr,
+        } = self;
+    }
 }
 
 /// Where the fields come from that a record literal doesn't name.

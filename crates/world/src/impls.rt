@@ -4,7 +4,7 @@ use crate::{ConstId, FunctionId, GenericArgs, NoMemory, Row, TryClone};
 use std::alloc::Global;
 
 /// The function that a trait's function stands for at some arguments.
-#[derive(PartialEq, Eq, PartialOrd, Ord, Hash, Drop)]
+#[derive(PartialEq, Eq, PartialOrd, Ord, Hash)]
 pub struct ImplRow {
     pub function: FunctionId,
     pub args: GenericArgs,
@@ -12,13 +12,35 @@ pub struct ImplRow {
     pub target_args: GenericArgs,
 }
 
+impl Drop for ImplRow {
+    fn drop(self) {
+        let ImplRow {
+            function: _function,
+            args: _args,
+            target: _target,
+            target_args: _target_args,
+        } = self;
+    }
+}
+
 /// The constant that a trait's constant stands for at some arguments.
-#[derive(PartialEq, Eq, PartialOrd, Ord, Hash, Drop)]
+#[derive(PartialEq, Eq, PartialOrd, Ord, Hash)]
 pub struct ConstImplRow {
     pub konst: ConstId,
     pub args: GenericArgs,
     pub target: ConstId,
     pub target_args: GenericArgs,
+}
+
+impl Drop for ConstImplRow {
+    fn drop(self) {
+        let ConstImplRow {
+            konst: _konst,
+            args: _args,
+            target: _target,
+            target_args: _target_args,
+        } = self;
+    }
 }
 
 impl TryClone for ImplRow {

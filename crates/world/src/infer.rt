@@ -11,7 +11,7 @@ use either::Either;
 use std::alloc::Global;
 
 /// The types of a body's nodes, and what its paths and names stand for.
-#[derive(PartialEq, Eq, PartialOrd, Ord, Hash, Drop)]
+#[derive(PartialEq, Eq, PartialOrd, Ord, Hash)]
 pub struct InferenceResult {
     /// One for each expression.
     pub expr_types: List<Ty>,
@@ -43,11 +43,46 @@ pub struct InferenceResult {
     pub mismatches: List<ExprId>,
 }
 
+impl Drop for InferenceResult {
+    fn drop(self) {
+        let InferenceResult {
+            expr_types: _expr_types,
+            pat_types: _pat_types,
+            binding_types: _binding_types,
+            expr_adjustments: _expr_adjustments,
+            pat_adjustments: _pat_adjustments,
+            value_res: _value_res,
+            pat_value_res: _pat_value_res,
+            assoc_res: _assoc_res,
+            pat_assoc_res: _pat_assoc_res,
+            variant_res: _variant_res,
+            pat_variant_res: _pat_variant_res,
+            field_res: _field_res,
+            method_res: _method_res,
+            binding_modes: _binding_modes,
+            coercion_casts: _coercion_casts,
+            diverging: _diverging,
+            copy_types: _copy_types,
+            erroneous: _erroneous,
+            mismatches: _mismatches,
+        } = self;
+    }
+}
+
 /// An associated item that a path names.
-#[derive(PartialEq, Eq, PartialOrd, Ord, Hash, Drop)]
+#[derive(PartialEq, Eq, PartialOrd, Ord, Hash)]
 pub struct AssocRes {
     pub def: CandidateId,
     pub args: GenericArgs,
+}
+
+impl Drop for AssocRes {
+    fn drop(self) {
+        let AssocRes {
+            def: _def,
+            args: _args,
+        } = self;
+    }
 }
 
 /// An item that a trait or an impl can hold.
@@ -58,10 +93,19 @@ pub enum CandidateId {
 }
 
 /// The function that a method call, or an operator, stands for.
-#[derive(PartialEq, Eq, PartialOrd, Ord, Hash, Drop)]
+#[derive(PartialEq, Eq, PartialOrd, Ord, Hash)]
 pub struct MethodRes {
     pub function: FunctionId,
     pub args: GenericArgs,
+}
+
+impl Drop for MethodRes {
+    fn drop(self) {
+        let MethodRes {
+            function: _function,
+            args: _args,
+        } = self;
+    }
 }
 
 /// What a path of a body names.

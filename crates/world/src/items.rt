@@ -13,14 +13,23 @@ pub struct CrateRow {
 }
 
 /// The types of a function's parameters, `self` included, and of its result.
-#[derive(PartialEq, Eq, PartialOrd, Ord, Hash, Drop)]
+#[derive(PartialEq, Eq, PartialOrd, Ord, Hash)]
 pub struct FnSig {
     pub params: List<Ty>,
     pub ret: Ty,
 }
 
+impl Drop for FnSig {
+    fn drop(self) {
+        let FnSig {
+            params: _params,
+            ret: _ret,
+        } = self;
+    }
+}
+
 /// A function.
-#[derive(PartialEq, Eq, PartialOrd, Ord, Hash, Drop)]
+#[derive(PartialEq, Eq, PartialOrd, Ord, Hash)]
 pub struct FunctionRow {
     pub name: Text,
     pub krate: Crate,
@@ -35,8 +44,22 @@ pub struct FunctionRow {
     pub body: Option<u32>,
 }
 
+impl Drop for FunctionRow {
+    fn drop(self) {
+        let FunctionRow {
+            name: _name,
+            krate: _krate,
+            in_trait: _in_trait,
+            generics: _generics,
+            sig: _sig,
+            special: _special,
+            body: _body,
+        } = self;
+    }
+}
+
 /// A constant.
-#[derive(PartialEq, Eq, PartialOrd, Ord, Hash, Drop)]
+#[derive(PartialEq, Eq, PartialOrd, Ord, Hash)]
 pub struct ConstRow {
     pub name: Option<Text>,
     pub krate: Crate,
@@ -47,8 +70,20 @@ pub struct ConstRow {
     pub body: Option<u32>,
 }
 
+impl Drop for ConstRow {
+    fn drop(self) {
+        let ConstRow {
+            name: _name,
+            krate: _krate,
+            generics: _generics,
+            ty: _ty,
+            body: _body,
+        } = self;
+    }
+}
+
 /// A static.
-#[derive(PartialEq, Eq, PartialOrd, Ord, Hash, Drop)]
+#[derive(PartialEq, Eq, PartialOrd, Ord, Hash)]
 pub struct StaticRow {
     pub name: Text,
     pub krate: Crate,
@@ -59,11 +94,32 @@ pub struct StaticRow {
     pub body: Option<u32>,
 }
 
+impl Drop for StaticRow {
+    fn drop(self) {
+        let StaticRow {
+            name: _name,
+            krate: _krate,
+            ty: _ty,
+            is_extern: _is_extern,
+            body: _body,
+        } = self;
+    }
+}
+
 /// A field of a struct, union or variant.
-#[derive(PartialEq, Eq, PartialOrd, Ord, Hash, Drop)]
+#[derive(PartialEq, Eq, PartialOrd, Ord, Hash)]
 pub struct FieldRow {
     pub name: Text,
     pub ty: Ty,
+}
+
+impl Drop for FieldRow {
+    fn drop(self) {
+        let FieldRow {
+            name: _name,
+            ty: _ty,
+        } = self;
+    }
 }
 
 /// How fields are written.
@@ -75,7 +131,7 @@ pub enum FieldsShape {
 }
 
 /// A struct or a union.
-#[derive(PartialEq, Eq, PartialOrd, Ord, Hash, Drop)]
+#[derive(PartialEq, Eq, PartialOrd, Ord, Hash)]
 pub struct StructRow {
     pub name: Text,
     pub fields: List<FieldRow>,
@@ -86,8 +142,20 @@ pub struct StructRow {
     pub is_box: bool,
 }
 
+impl Drop for StructRow {
+    fn drop(self) {
+        let StructRow {
+            name: _name,
+            fields: _fields,
+            shape: _shape,
+            manually_drop: _manually_drop,
+            is_box: _is_box,
+        } = self;
+    }
+}
+
 /// An enum.
-#[derive(PartialEq, Eq, PartialOrd, Ord, Hash, Drop)]
+#[derive(PartialEq, Eq, PartialOrd, Ord, Hash)]
 pub struct EnumRow {
     pub name: Text,
     /// Whether the type of its discriminants is signed, where the source names one.
@@ -95,8 +163,18 @@ pub struct EnumRow {
     pub variants: List<EnumVariantId>,
 }
 
+impl Drop for EnumRow {
+    fn drop(self) {
+        let EnumRow {
+            name: _name,
+            repr_signed: _repr_signed,
+            variants: _variants,
+        } = self;
+    }
+}
+
 /// A variant of an enum.
-#[derive(PartialEq, Eq, PartialOrd, Ord, Hash, Drop)]
+#[derive(PartialEq, Eq, PartialOrd, Ord, Hash)]
 pub struct VariantRow {
     pub name: Text,
     pub krate: Crate,
@@ -109,15 +187,38 @@ pub struct VariantRow {
     pub body: Option<u32>,
 }
 
+impl Drop for VariantRow {
+    fn drop(self) {
+        let VariantRow {
+            name: _name,
+            krate: _krate,
+            parent: _parent,
+            index: _index,
+            fields: _fields,
+            shape: _shape,
+            body: _body,
+        } = self;
+    }
+}
+
 /// A const parameter.
-#[derive(PartialEq, Eq, PartialOrd, Ord, Hash, Drop)]
+#[derive(PartialEq, Eq, PartialOrd, Ord, Hash)]
 pub struct ConstParamRow {
     pub name: Text,
     pub ty: Ty,
 }
 
+impl Drop for ConstParamRow {
+    fn drop(self) {
+        let ConstParamRow {
+            name: _name,
+            ty: _ty,
+        } = self;
+    }
+}
+
 /// Functions that the machine does itself.
-#[derive(PartialEq, Eq, PartialOrd, Ord, Hash, Drop)]
+#[derive(PartialEq, Eq, PartialOrd, Ord, Hash)]
 pub enum Special {
     SizeOf,
     Transmute,
@@ -133,6 +234,26 @@ pub enum Special {
     Panic,
     /// One that the machine knows by name alone.
     Other(Text),
+}
+
+impl Drop for Special {
+    fn drop(self) {
+        match self {
+            Special::Other(_part) => {}
+            Special::SizeOf
+            | Special::Transmute
+            | Special::WrappingAdd
+            | Special::AddWithOverflow
+            | Special::SaturatingAdd
+            | Special::SaturatingSub
+            | Special::CopyNonoverlapping
+            | Special::WriteBytes
+            | Special::Memcmp
+            | Special::SliceLen
+            | Special::Write
+            | Special::Panic => {}
+        }
+    }
 }
 
 impl TryClone for CrateRow {

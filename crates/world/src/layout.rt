@@ -4,7 +4,7 @@ use crate::{List, NoMemory, TryClone};
 use std::alloc::Global;
 
 /// The layout of a type.
-#[derive(PartialEq, Eq, PartialOrd, Ord, Hash, Drop)]
+#[derive(PartialEq, Eq, PartialOrd, Ord, Hash)]
 pub struct Layout {
     /// In bytes.
     pub size: u64,
@@ -17,16 +17,38 @@ pub struct Layout {
     pub variants: Variants,
 }
 
+impl Drop for Layout {
+    fn drop(self) {
+        let Layout {
+            size: _size,
+            align: _align,
+            sized: _sized,
+            offsets: _offsets,
+            variants: _variants,
+        } = self;
+    }
+}
+
 /// Which variants a type's values show.
-#[derive(PartialEq, Eq, PartialOrd, Ord, Hash, Drop)]
+#[derive(PartialEq, Eq, PartialOrd, Ord, Hash)]
 pub enum Variants {
     Empty,
     Single(u32),
     Multiple(MultiLayout),
 }
 
+impl Drop for Variants {
+    fn drop(self) {
+        match self {
+            Variants::Single(_part) => {}
+            Variants::Multiple(_part) => {}
+            Variants::Empty => {}
+        }
+    }
+}
+
 /// How a tag tells the variants of an enum apart.
-#[derive(PartialEq, Eq, PartialOrd, Ord, Hash, Drop)]
+#[derive(PartialEq, Eq, PartialOrd, Ord, Hash)]
 pub struct MultiLayout {
     pub tag_offset: u64,
     /// In bytes.
@@ -35,6 +57,18 @@ pub struct MultiLayout {
     pub encoding: TagEncoding,
     /// Where each field of each variant begins.
     pub variants: List<List<u64>>,
+}
+
+impl Drop for MultiLayout {
+    fn drop(self) {
+        let MultiLayout {
+            tag_offset: _tag_offset,
+            tag_size: _tag_size,
+            tag_signed: _tag_signed,
+            encoding: _encoding,
+            variants: _variants,
+        } = self;
+    }
 }
 
 /// What a tag's number means.

@@ -2,6 +2,8 @@
 //! impls. All of `types` is passed on.
 #![tactic(auto)]
 
+// Drops are written by hand: derived ones would be proved anew in each crate that drops such a value.
+
 mod adjust;
 mod body;
 mod closures;

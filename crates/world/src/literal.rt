@@ -4,7 +4,7 @@ use crate::{Bytes, FloatTy, IntTy, NoMemory, Text, TryClone, UintTy};
 use std::alloc::Global;
 
 /// A literal, with the type that its suffix names.
-#[derive(PartialEq, Eq, PartialOrd, Ord, Hash, Drop)]
+#[derive(PartialEq, Eq, PartialOrd, Ord, Hash)]
 pub enum Literal {
     Str(Text),
     /// The bytes of a C string, without the zero at its end.
@@ -17,6 +17,21 @@ pub enum Literal {
     Uint(u128, Option<UintTy>),
     /// The number as it is written.
     Float(Text, Option<FloatTy>),
+}
+
+impl Drop for Literal {
+    fn drop(self) {
+        match self {
+            Literal::Str(_part) => {}
+            Literal::CStr(_part) => {}
+            Literal::ByteStr(_part) => {}
+            Literal::Char(_part) => {}
+            Literal::Bool(_part) => {}
+            Literal::Int(_first, _second) => {}
+            Literal::Uint(_first, _second) => {}
+            Literal::Float(_first, _second) => {}
+        }
+    }
 }
 
 impl TryClone for Literal {

@@ -4,7 +4,7 @@ use crate::{BindingId, ExprId, List, NoMemory, PatId, Text, TryClone};
 use std::alloc::Global;
 
 /// A pattern.
-#[derive(PartialEq, Eq, PartialOrd, Ord, Hash, Drop)]
+#[derive(PartialEq, Eq, PartialOrd, Ord, Hash)]
 pub enum Pat {
     Missing,
     Wild,
@@ -46,11 +46,58 @@ pub enum Pat {
     ConstBlock(ExprId),
 }
 
+impl Drop for Pat {
+    fn drop(self) {
+        match self {
+            Pat::Tuple {
+                args: _args,
+                ellipsis: _ellipsis,
+            } => {}
+            Pat::Or(_part) => {}
+            Pat::Record { args: _args } => {}
+            Pat::Range {
+                start: _start,
+                end: _end,
+                range_type: _range_type,
+            } => {}
+            Pat::Slice {
+                prefix: _prefix,
+                slice: _slice,
+                suffix: _suffix,
+            } => {}
+            Pat::Path(_part) => {}
+            Pat::Lit(_part) => {}
+            Pat::Bind {
+                id: _id,
+                subpat: _subpat,
+            } => {}
+            Pat::TupleStruct {
+                args: _args,
+                ellipsis: _ellipsis,
+            } => {}
+            Pat::Ref { pat: _pat } => {}
+            Pat::Expr(_part) => {}
+            Pat::Box(_part) => {}
+            Pat::ConstBlock(_part) => {}
+            Pat::Missing | Pat::Wild => {}
+        }
+    }
+}
+
 /// A field of a record pattern.
-#[derive(PartialEq, Eq, PartialOrd, Ord, Hash, Drop)]
+#[derive(PartialEq, Eq, PartialOrd, Ord, Hash)]
 pub struct RecordFieldPat {
     pub name: Text,
     pub pat: PatId,
+}
+
+impl Drop for RecordFieldPat {
+    fn drop(self) {
+        let RecordFieldPat {
+            name: _name,
+            pat: _pat,
+        } = self;
+    }
 }
 
 /// Whether a range holds its end.

@@ -1,14 +1,19 @@
 use crate::valid::is_valid;
 use crate::{CheckFault, check};
+use check_names::{are_args_known, is_def_known};
 use std::alloc::Global;
 use std::marker::Model;
 use world::{DefWithBodyId, GenericArgs, HirDatabase};
-use check_names::{are_args_known, is_def_known};
 
 /// A world that the check has passed, which contracts see as the database.
-#[derive(Drop)]
 pub struct CheckedWorld {
     db: HirDatabase,
+}
+
+impl Drop for CheckedWorld {
+    fn drop(self) {
+        let CheckedWorld { db: _db } = self;
+    }
 }
 
 impl Model for CheckedWorld {

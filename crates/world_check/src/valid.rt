@@ -3,11 +3,11 @@ ghost use Rattle.std.specs.Prelude.{◌≡◌, ◌==◌, length};
 ghost use Rattle.std.specs.Option.{option_copied};
 ghost use Rattle.world_check.specs.Valid.{are_of_sorts, fits, fits_const, fits_function, fits_static, is_of_sort, is_valid};
 
+use check_names::are_args_settled;
 use world::{
     ConstRow, DefWithBodyId, FunctionRow, GenericArg, GenericArgs, GenericParamId, HirDatabase,
     StaticRow,
 };
-use check_names::are_args_settled;
 
 /// Whether an argument is of a parameter's sort.
 fn is_of_sort(param: GenericParamId, arg: &GenericArg) -> bool

@@ -1,9 +1,9 @@
 //! Types with parameters and aliases, at generic arguments, with ample memory.
 
 use crate::args::one_arg;
+use check_instances::{NoInstance, args_instance, ty_instance};
 use std::alloc::Global;
 use std::test::Fail;
-use check_instances::{NoInstance, args_instance, ty_instance};
 use types::{
     AliasId, Box, Const, ConstParamId, GenericArg, GenericArgs, List, Mutability, NoMemory,
     ParamConst, ParamTy, Table, Ty, TypeParamId,

@@ -1,7 +1,8 @@
 use Rattle.std.proofs.Common.{◌≡◌, sym, subst}
 use Rattle.std.specs.Prelude.{true}
 use Rattle.world_json.specs.declared.goal.Goal.{Goal}
-use Rattle.mirconst_run.specs.Answers.{IsGoalAnswer, are_within}
+use Rattle.mirconst_run.specs.Answers.{IsGoalAnswer}
+use Rattle.mirconst_input.specs.Goals.{are_within}
 use Rattle.mirconst_run.proofs.Answering.{limits_fit, one_more}
 use Rattle.mirconst_run.proofs.answers.answer_all.Goals as goal
 

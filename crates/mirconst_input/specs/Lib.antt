@@ -1,0 +1,5 @@
+pub mod Goals
+pub mod Input
+pub mod Refusals
+pub mod Statuses
+pub mod Words

@@ -1,0 +1,149 @@
+//! What the input stands for.
+
+ghost use Rattle.std.specs.Prelude.{◌≡◌, IfOk, IfErr, OnOk, IsUtf8, position};
+ghost use Rattle.serde_json.specs.Read.{read};
+ghost use Rattle.serde_json.specs.View.{view};
+ghost use Rattle.mirconst_input.specs.Goals.{are_within, is_misfit, is_variant};
+ghost use Rattle.mirconst_input.specs.Input.{StandsFor, goal_path};
+ghost use Rattle.mirconst_input.specs.Refusals.{IsOfInput, IsOfTree, IsOfCheck, IsOfFault, IsOfGoal};
+ghost use Rattle.world_check.specs.Rows.{first_failure};
+ghost use Rattle.world_json.specs.Input.{world_of};
+
+use crate::Status;
+use serde_json::Value;
+use std::alloc::Global;
+use world::{DefWithBodyId, HirDatabase, Limits, List, NoMemory, Text};
+use world_check::{CheckFault, CheckedWorld};
+use world_json::{Goal, NotAWorld, read_world};
+
+/// The tree that bytes are in JSON.
+#[tactic(auto, using(crate::proofs::Refusing::no_json))]
+fn tree(alloc: Global, bytes: &[u8]) -> Result<Value, Status>
+    ensures utf8 { OnOk result (IsUtf8 bytes.now) }
+    ensures json { IfOk result (λ tree. read bytes.now ≡ Some (view tree)) }
+    ensures refused { IfErr result (λ status. IsOfInput bytes.now status) }
+{
+    match Value::from_slice(alloc, bytes) {
+        Ok(tree) => Ok(tree),
+        Err(e) => {
+            if e.is_memory() {
+                Err(Status::NoMemory)
+            } else {
+                Err(Status::NotJson)
+            }
+        }
+    }
+}
+
+/// The world and the goals that a tree stands for.
+fn world_and_goals(alloc: Global, tree: &Value) -> Result<(HirDatabase, List<Goal>), Status>
+    ensures stands { IfOk result (λ input. world_of (view tree.now) ≡ Ok input) }
+    ensures refused { IfErr result (λ status. IsOfTree (view tree.now) status) }
+{
+    match read_world(alloc, tree) {
+        Ok(input) => Ok(input),
+        Err(NotAWorld::At(path)) => Err(Status::NotAWorld(path)),
+        Err(NotAWorld::NoMemory) => Err(Status::NoMemory),
+    }
+}
+
+/// The world, once it has passed the check.
+fn checked(alloc: Global, db: HirDatabase) -> Result<CheckedWorld, Status>
+    ensures same { IfOk result (λ world. world ≡ db) }
+    ensures passes { OnOk result (first_failure db ≡ None) }
+    ensures refused { IfErr result (λ status. IsOfCheck db status) }
+{
+    match CheckedWorld::new(alloc, db) {
+        Ok(world) => Ok(world),
+        Err((_db, fault)) => Err(refused(fault)),
+    }
+}
+
+/// The status of a world that fails the check.
+fn refused(fault: CheckFault) -> Status
+    ensures { IsOfFault fault result }
+{
+    match fault {
+        CheckFault::InvalidWorld(invalid) => Status::BadWorld(invalid),
+        CheckFault::NoMemory => Status::NoMemory,
+    }
+}
+
+fn is_variant(def: DefWithBodyId) -> bool
+    ensures { result ≡ is_variant def }
+{
+    matches!(def, DefWithBodyId::VariantId(_))
+}
+
+/// Whether there are no limits, or limits that are at most the greatest ones.
+fn are_within(limits: Option<Limits>) -> bool
+    ensures { result ≡ are_within limits }
+{
+    match limits {
+        Some(limits) => limits.within(),
+        None => true,
+    }
+}
+
+/// Whether a goal doesn't fit: it is a variant, it or an id in its arguments is out of range, or its
+/// limits are too great.
+fn is_misfit(world: &CheckedWorld, goal: &Goal) -> bool
+    ensures { result ≡ is_misfit world.now goal.now }
+{
+    is_variant(goal.def)
+        || !world.has(goal.def)
+        || !world.has_args(&goal.args)
+        || !are_within(goal.limits)
+}
+
+/// The place of the first goal that doesn't fit.
+fn first_misfit(world: &CheckedWorld, goals: &[Goal]) -> Option<usize>
+    ensures { result ≡ position (is_misfit world.now) goals.now }
+{
+    goals.iter().position(|goal| is_misfit(world, goal))
+}
+
+/// The first goal that doesn't fit: that is a variant, is out of range or has an id out of range in
+/// its arguments, or has limits that are too great.
+pub fn goals_fit(world: &CheckedWorld, goals: &List<Goal>) -> Option<u64>
+    ensures { result ≡ position (is_misfit world.now) goals.now }
+{
+    match first_misfit(world, goals.as_slice()) {
+        Some(i) => Some(i as u64),
+        None => None,
+    }
+}
+
+/// The status of a goal that doesn't fit.
+fn misfit(alloc: Global, i: u64) -> Status
+    ensures { IsOfGoal i result }
+{
+    match misfit_path(alloc, i) {
+        Ok(path) => Status::NotAWorld(path),
+        Err(NoMemory) => Status::NoMemory,
+    }
+}
+
+/// The path of a goal.
+fn misfit_path(alloc: Global, i: u64) -> Result<Text, NoMemory>
+    ensures { IfOk result (λ path. path ≡ goal_path i) }
+{
+    let path = format!(in alloc; "goals[{i}]")?;
+    Text::from_str(alloc, path.as_str())
+}
+
+/// The world and the goals that bytes stand for, once the world has passed the check and the goals are
+/// in it.
+#[tactic(auto, using(crate::proofs::Standing::stands_for, crate::proofs::Refusing::tree_refused, crate::proofs::Refusing::check_refused, crate::proofs::Refusing::goal_refused))]
+pub fn input(alloc: Global, bytes: &[u8]) -> Result<(CheckedWorld, List<Goal>), Status>
+    ensures stands { IfOk result (λ input. StandsFor bytes.now input.0 input.1) }
+    ensures refused { IfErr result (λ status. IsOfInput bytes.now status) }
+{
+    let tree = tree(alloc, bytes)?;
+    let (db, goals) = world_and_goals(alloc, &tree)?;
+    let world = checked(alloc, db)?;
+    match goals_fit(&world, &goals) {
+        None => Ok((world, goals)),
+        Some(i) => Err(misfit(alloc, i)),
+    }
+}

@@ -1,0 +1,13 @@
+//! What a run reads: the words, the bytes of the input, and the checked world and the goals that they
+//! stand for, or the status that refuses them.
+#![tactic(auto)]
+
+mod input;
+mod reading;
+mod status;
+mod words;
+
+pub use input::{goals_fit, input};
+pub use reading::read_input;
+pub use status::Status;
+pub use words::is_command;

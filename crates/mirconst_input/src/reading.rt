@@ -1,0 +1,65 @@
+//! Reading the whole input.
+
+ghost use Rattle.std.specs.Prelude.{◌≡◌, ◌+◌, ◌<◌, ◌≤◌, [], Some, length, IfOk, IfErr, IfSome, OnOk};
+ghost use Rattle.mirconst_input.specs.Input.{Moves, IsReadToEnd, Takes, TakesFew};
+ghost use Rattle.mirconst_input.specs.Refusals.{IsOfRead, IsOfReading};
+
+use crate::Status;
+use std::alloc::{AllocError, Global};
+use streams::Source;
+
+/// How many bytes the input may have.
+const MOST: usize = 67_108_864;
+
+/// How many bytes are read at once.
+const PIECE: usize = 65_536;
+
+/// Room for a piece.
+fn piece(alloc: Global) -> Result<Vec<u8>, AllocError>
+    ensures { IfOk result (λ piece. length piece.items ≡ 65536) }
+{
+    vec![in alloc; 0u8; 65_536]
+}
+
+/// Reads some bytes and adds them at the end; how many they are.
+#[tactic(auto, using(crate::proofs::Reading::piece_moves, crate::proofs::Reading::ends, crate::proofs::Reading::takes_piece, crate::proofs::Reading::takes_none))]
+fn read_piece<S: Source>(src: &mut S, room: &mut [u8], bytes: &mut Vec<u8>) -> Result<usize, Status>
+    requires { 0 < length room.old }
+    ensures moves { OnOk result (Moves bytes.old.items (S.left src.old) bytes.new.items (S.left src.new)) }
+    ensures grows { IfOk result (λ n. length bytes.new.items ≡ length bytes.old.items + n) }
+    ensures fits { IfOk result (λ n. n ≤ length room.old) }
+    ensures end { IfOk result (λ n. n ≡ 0 → IfSome (S.left src.new) (λ rest. rest ≡ [])) }
+    ensures taken { Takes (length room.old) (S.left src.old) (S.left src.new) }
+    ensures rising { S.faults src.old ≤ S.faults src.new }
+    ensures refused { IfErr result (λ status. IsOfRead (S.faults src.old) (S.faults src.new) status) }
+{
+    let n = match src.read(room) {
+        Ok(n) => n,
+        Err(_) => return Err(Status::ReadFault),
+    };
+    match bytes.extend_from_slice(&room[..n]) {
+        Ok(()) => Ok(n),
+        Err(_) => Err(Status::NoMemory),
+    }
+}
+
+/// Reads the input to its end, in pieces, and never past the first byte that is too many.
+#[tactic(auto, using(crate::proofs::Reading::read_to_end, crate::proofs::Reading::takes_few, crate::proofs::Reading::takes_more, crate::proofs::Reading::too_long, crate::proofs::Refusing::read_refused))]
+pub fn read_input<S: Source>(alloc: Global, src: &mut S) -> Result<Vec<u8>, Status>
+    ensures end { IfOk result (λ bytes. IsReadToEnd (S.left src.old) (S.left src.new) bytes.items) }
+    ensures few { TakesFew (S.left src.old) (S.left src.new) }
+    ensures refused { IfErr result (λ status. IsOfReading (S.left src.old) (S.left src.new) (S.faults src.old) (S.faults src.new) status) }
+{
+    let mut bytes = Vec::new(alloc);
+    let Ok(mut room) = piece(alloc) else {
+        return Err(Status::NoMemory);
+    };
+    while bytes.len() <= MOST {
+        let want = PIECE.min(MOST + 1 - bytes.len());
+        let n = read_piece(src, &mut room[..want], &mut bytes)?;
+        if n == 0 {
+            return Ok(bytes);
+        }
+    }
+    Err(Status::TooLong)
+}
