@@ -3,7 +3,9 @@
 ghost use Rattle.json_bodies.specs.Bodies.{binding_annotation_of, binding_of, body_of};
 
 use crate::JsonBodies;
-use json_kit::{FromJson, NotAWorld, here, members_of, optional, required, variant_of, with_no_other};
+use json_kit::{
+    FromJson, NotAWorld, here, members_of, optional, required, variant_of, with_no_other,
+};
 use serde_json::Value;
 use std::alloc::Global;
 use world::{Binding, BindingAnnotation, Body};

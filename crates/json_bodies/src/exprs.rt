@@ -6,7 +6,10 @@ ghost use Rattle.json_kit.specs.Fit.{Gives};
 ghost use Rattle.json_bodies.specs.Exprs.{match_arm_of, record_lit_field_of, record_spread_of, expr_of, expr_if_of, expr_let_of, expr_block_of, expr_unsafe_of, expr_loop_of, expr_call_of, expr_method_call_of, expr_match_of, expr_continue_of, expr_break_of, expr_return_of, expr_record_lit_of, expr_field_of, expr_cast_of, expr_ref_of, expr_box_of, expr_unary_op_of, expr_binary_op_of, expr_assignment_of, expr_range_of, expr_index_of, expr_closure_of, expr_tuple_of, expr_array_of, expr_repeat_of, bare_expr_of, simple_expr_of, jump_expr_of, branch_expr_of, call_expr_of, exit_expr_of, place_expr_of, operator_expr_of, part_expr_of, array_expr_of};
 
 use crate::JsonBodies;
-use json_kit::{Fields, FromJson, NotAWorld, Variant, here, members_of, optional, required, variant_of, with_no_other};
+use json_kit::{
+    Fields, FromJson, NotAWorld, Variant, here, members_of, optional, required, variant_of,
+    with_no_other,
+};
 use serde_json::Value;
 use std::alloc::Global;
 use world::{Expr, MatchArm, RecordLitField, RecordSpread};

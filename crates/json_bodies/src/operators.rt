@@ -3,7 +3,9 @@
 ghost use Rattle.json_bodies.specs.Operators.{unary_op_of, logic_op_of, arith_op_of, ordering_of, cmp_op_of, cmp_op_eq_of, cmp_op_ord_of, binary_op_of, binary_op_assignment_of};
 
 use crate::JsonBodies;
-use json_kit::{Fields, FromJson, NotAWorld, here, members_of, optional, required, variant_of, with_no_other};
+use json_kit::{
+    Fields, FromJson, NotAWorld, here, members_of, optional, required, variant_of, with_no_other,
+};
 use serde_json::Value;
 use std::alloc::Global;
 use types::{ArithOp, BinaryOp, CmpOp, LogicOp, Ordering, UnaryOp};

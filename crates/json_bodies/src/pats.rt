@@ -6,7 +6,10 @@ ghost use Rattle.json_kit.specs.Fit.{Gives};
 ghost use Rattle.json_bodies.specs.Pats.{record_field_pat_of, range_op_of, pat_of, pat_tuple_of, pat_record_of, pat_range_of, pat_slice_of, pat_bind_of, pat_tuple_struct_of, pat_ref_of, bare_pat_of, simple_pat_of, part_pat_of, bound_pat_of, field_pat_of};
 
 use crate::JsonBodies;
-use json_kit::{Fields, FromJson, NotAWorld, Variant, here, members_of, optional, required, variant_of, with_no_other};
+use json_kit::{
+    Fields, FromJson, NotAWorld, Variant, here, members_of, optional, required, variant_of,
+    with_no_other,
+};
 use serde_json::Value;
 use std::alloc::Global;
 use world::{Pat, RangeOp, RecordFieldPat};

@@ -3,7 +3,9 @@
 ghost use Rattle.json_bodies.specs.Statements.{statement_of, statement_let_of, statement_expr_of};
 
 use crate::JsonBodies;
-use json_kit::{Fields, FromJson, NotAWorld, here, members_of, optional, required, variant_of, with_no_other};
+use json_kit::{
+    Fields, FromJson, NotAWorld, here, members_of, optional, required, variant_of, with_no_other,
+};
 use serde_json::Value;
 use std::alloc::Global;
 use world::Statement;

@@ -3,7 +3,9 @@
 ghost use Rattle.json_items.specs.Adjusts.{pointer_cast_of, auto_borrow_of, overloaded_deref_of, adjust_of, adjustment_of};
 
 use crate::JsonItems;
-use json_kit::{FromJson, NotAWorld, here, members_of, optional, required, variant_of, with_no_other};
+use json_kit::{
+    FromJson, NotAWorld, here, members_of, optional, required, variant_of, with_no_other,
+};
 use serde_json::Value;
 use std::alloc::Global;
 use world::{Adjust, Adjustment, AutoBorrow, OverloadedDeref, PointerCast};

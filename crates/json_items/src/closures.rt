@@ -3,7 +3,9 @@
 ghost use Rattle.json_items.specs.Closures.{mut_borrow_kind_of, borrow_kind_of, borrow_kind_mut_of, capture_kind_of, hir_place_projection_of, capture_of, fn_trait_of, closure_row_of};
 
 use crate::JsonItems;
-use json_kit::{Fields, FromJson, NotAWorld, here, members_of, optional, required, variant_of, with_no_other};
+use json_kit::{
+    Fields, FromJson, NotAWorld, here, members_of, optional, required, variant_of, with_no_other,
+};
 use serde_json::Value;
 use std::alloc::Global;
 use world::{

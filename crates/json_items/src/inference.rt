@@ -5,9 +5,11 @@ ghost use Rattle.serde_json.specs.View.{view};
 ghost use Rattle.json_kit.specs.Fit.{Gives};
 ghost use Rattle.json_items.specs.Inference.{candidate_id_of, assoc_res_of, method_res_of, value_ns_of, item_value_ns_of, data_value_ns_of, binding_mode_of, inference_result_of, inference_result_node_types_of, inference_result_adjustments_of, inference_result_values_of, inference_result_members_of, inference_result_marks_of, inference_result_judgements_of};
 
-use either::Either;
 use crate::JsonItems;
-use json_kit::{FromJson, NotAWorld, Variant, here, members_of, optional, required, variant_of, with_no_other};
+use either::Either;
+use json_kit::{
+    FromJson, NotAWorld, Variant, here, members_of, optional, required, variant_of, with_no_other,
+};
 use serde_json::Value;
 use std::alloc::Global;
 use types::{ExprId, FieldId, List, Map, PatId, TupleFieldId, Ty, VariantId};

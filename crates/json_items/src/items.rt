@@ -6,7 +6,9 @@ ghost use Rattle.json_kit.specs.Fit.{Gives};
 ghost use Rattle.json_items.specs.Items.{crate_row_of, fn_sig_of, special_of, number_special_of, memory_special_of, other_special_of, function_row_of, const_row_of, static_row_of, field_row_of, fields_shape_of, struct_row_of, enum_row_of, variant_row_of, const_param_row_of};
 
 use crate::JsonItems;
-use json_kit::{FromJson, NotAWorld, Variant, here, members_of, optional, required, variant_of, with_no_other};
+use json_kit::{
+    FromJson, NotAWorld, Variant, here, members_of, optional, required, variant_of, with_no_other,
+};
 use serde_json::Value;
 use std::alloc::Global;
 use world::{

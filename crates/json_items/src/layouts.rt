@@ -3,7 +3,9 @@
 ghost use Rattle.json_items.specs.Layouts.{tag_encoding_of, tag_encoding_niche_of, multi_layout_of, variants_of, layout_of};
 
 use crate::JsonItems;
-use json_kit::{Fields, FromJson, NotAWorld, here, members_of, optional, required, variant_of, with_no_other};
+use json_kit::{
+    Fields, FromJson, NotAWorld, here, members_of, optional, required, variant_of, with_no_other,
+};
 use serde_json::Value;
 use std::alloc::Global;
 use world::{Layout, MultiLayout, TagEncoding, Variants};
