@@ -2,12 +2,12 @@
 use Rattle.std.specs.Prelude.{[], ◌∷◌, None, codes}
 use Rattle.serde_json.specs.Data.{Data}
 use Rattle.world.specs.declared.limits.Limits.{Limits}
-use Rattle.world_json.specs.Fit.{Fit, ◌>>=◌}
-use Rattle.world_json.specs.Ids.{def_with_body_id_of}
-use Rattle.world_json.specs.Keys.{members_of, optional, required, with_no_other}
-use Rattle.world_json.specs.Parts.{option_of}
-use Rattle.world_json.specs.Scalars.{u32_of, u64_of}
-use Rattle.world_json.specs.Types.{generic_args_of}
+use Rattle.json_kit.specs.Fit.{Fit, ◌>>=◌}
+use Rattle.json_types.specs.Ids.{def_with_body_id_of}
+use Rattle.json_kit.specs.Keys.{members_of, optional, required, with_no_other}
+use Rattle.json_kit.specs.Parts.{option_of}
+use Rattle.json_kit.specs.Scalars.{u32_of, u64_of}
+use Rattle.json_types.specs.Types.{generic_args_of}
 use Rattle.world_json.specs.declared.goal.Goal.{Goal}
 
 unfoldable pub limits_of : Data → Fit Limits

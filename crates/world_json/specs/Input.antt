@@ -5,13 +5,13 @@ use Rattle.world.specs.declared.database.HirDatabase.{HirDatabase}
 use Rattle.world_json.specs.declared.goal.Goal.{Goal}
 use Rattle.world_json.specs.declared.input.Version.{Version}
 use Rattle.world_json.specs.declared.input.Input.{Input}
-use Rattle.world_json.specs.declared.misfit.NotAWorld.{NotAWorld}
-use Rattle.world_json.specs.declared.misfit.NotAWorld.TheVariants.{At, NoMemory}
-use Rattle.world_json.specs.Fit.{Fit, misfit, ◌>>=◌}
+use Rattle.json_kit.specs.declared.misfit.NotAWorld.{NotAWorld}
+use Rattle.json_kit.specs.declared.misfit.NotAWorld.TheVariants.{At, NoMemory}
+use Rattle.json_kit.specs.Fit.{Fit, misfit, ◌>>=◌}
 use Rattle.world_json.specs.Goals.{goal_of}
-use Rattle.world_json.specs.Keys.{members_of, required, optional, with_no_other}
-use Rattle.world_json.specs.Parts.{list_of}
-use Rattle.world_json.specs.Scalars.{u64_of}
+use Rattle.json_kit.specs.Keys.{members_of, required, optional, with_no_other}
+use Rattle.json_kit.specs.Parts.{list_of}
+use Rattle.json_kit.specs.Scalars.{u64_of}
 use Rattle.world_json.specs.Tables.{hir_database_of}
 
 -- the one version of the form

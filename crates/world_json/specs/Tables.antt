@@ -19,18 +19,18 @@ use Rattle.world.specs.declared.items.StaticRow.{StaticRow}
 use Rattle.world.specs.declared.items.StructRow.{StructRow}
 use Rattle.world.specs.declared.items.VariantRow.{VariantRow}
 use Rattle.world.specs.declared.layout.Layout.{Layout}
-use Rattle.world_json.specs.Bodies.{body_of}
-use Rattle.world_json.specs.Closures.{closure_row_of}
-use Rattle.world_json.specs.Fit.{Fit, ◌>>=◌}
-use Rattle.world_json.specs.Ids.{alias_id_of, function_id_of}
-use Rattle.world_json.specs.Impls.{const_impl_row_of, impl_row_of}
-use Rattle.world_json.specs.Inference.{inference_result_of}
-use Rattle.world_json.specs.Items.{const_param_row_of, const_row_of, crate_row_of, enum_row_of, function_row_of, static_row_of, struct_row_of, variant_row_of}
-use Rattle.world_json.specs.Keys.{members_of, optional, required, with_no_other}
-use Rattle.world_json.specs.Layouts.{layout_of}
-use Rattle.world_json.specs.Parts.{list_of, option_of, pair_of, triple_of}
-use Rattle.world_json.specs.Scalars.{text_of}
-use Rattle.world_json.specs.Types.{generic_args_of, ty_of}
+use Rattle.json_bodies.specs.Bodies.{body_of}
+use Rattle.json_items.specs.Closures.{closure_row_of}
+use Rattle.json_kit.specs.Fit.{Fit, ◌>>=◌}
+use Rattle.json_types.specs.Ids.{alias_id_of, function_id_of}
+use Rattle.json_items.specs.Impls.{const_impl_row_of, impl_row_of}
+use Rattle.json_items.specs.Inference.{inference_result_of}
+use Rattle.json_items.specs.Items.{const_param_row_of, const_row_of, crate_row_of, enum_row_of, function_row_of, static_row_of, struct_row_of, variant_row_of}
+use Rattle.json_kit.specs.Keys.{members_of, optional, required, with_no_other}
+use Rattle.json_items.specs.Layouts.{layout_of}
+use Rattle.json_kit.specs.Parts.{list_of, option_of, pair_of, triple_of}
+use Rattle.json_kit.specs.Scalars.{text_of}
+use Rattle.json_types.specs.Types.{generic_args_of, ty_of}
 
 unfoldable pub body_row_of : Data → Fit BodyRow
 body_row_of d = do

@@ -2,9 +2,8 @@
 
 ghost use Rattle.world_json.specs.Goals.{limits_of, goal_of};
 
-use crate::NotAWorld;
-use crate::from_json::FromJson;
-use crate::keys::{members_of, optional, required, with_no_other};
+use crate::WorldJson;
+use json_kit::{FromJson, NotAWorld, members_of, optional, required, with_no_other};
 use serde_json::Value;
 use std::alloc::Global;
 use types::{DefWithBodyId, GenericArgs};
@@ -20,7 +19,7 @@ pub struct Goal {
     pub limits: Option<Limits>,
 }
 
-impl FromJson for Limits {
+impl FromJson<WorldJson> for Limits {
     ghost reads = { limits_of };
 
     #[tactic(auto, unfolding(crate::specs::Goals::limits_of))]
@@ -39,7 +38,7 @@ impl FromJson for Limits {
     }
 }
 
-impl FromJson for Goal {
+impl FromJson<WorldJson> for Goal {
     ghost reads = { goal_of };
 
     #[tactic(auto, unfolding(crate::specs::Goals::goal_of))]

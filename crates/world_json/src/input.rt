@@ -2,12 +2,11 @@
 
 ghost use Rattle.std.specs.Prelude.{◌≡◌};
 ghost use Rattle.serde_json.specs.View.{view};
-ghost use Rattle.world_json.specs.Fit.{Gives};
+ghost use Rattle.json_kit.specs.Fit.{Gives};
 ghost use Rattle.world_json.specs.Input.{version_of, input_of, world_of, without_dot, IsAtRoot};
 
-use crate::from_json::{FromJson, here};
-use crate::keys::{members_of, optional, required, with_no_other};
-use crate::{Goal, NotAWorld};
+use crate::{Goal, WorldJson};
+use json_kit::{FromJson, NotAWorld, here, members_of, optional, required, with_no_other};
 use serde_json::Value;
 use std::alloc::Global;
 use world::{HirDatabase, List, Text};
@@ -16,7 +15,7 @@ use world::{HirDatabase, List, Text};
 #[derive(Clone, Copy)]
 pub(crate) struct Version;
 
-impl FromJson for Version {
+impl FromJson<WorldJson> for Version {
     ghost reads = { version_of };
 
     fn from_json(alloc: Global, tree: &Value) -> Result<Version, NotAWorld> {

@@ -1,12 +1,11 @@
 //! The world's tables.
 
 ghost use Rattle.serde_json.specs.View.{view};
-ghost use Rattle.world_json.specs.Fit.{Gives};
+ghost use Rattle.json_kit.specs.Fit.{Gives};
 ghost use Rattle.world_json.specs.Tables.{body_row_of, hir_database_of, hir_database_items_of, hir_database_adts_of, hir_database_names_of, hir_database_bodies_of, hir_database_choices_of, hir_database_dereferences_of, hir_database_calls_of, hir_database_definitions_of, hir_database_meanings_of};
 
-use crate::NotAWorld;
-use crate::from_json::FromJson;
-use crate::keys::{members_of, optional, required, with_no_other};
+use crate::WorldJson;
+use json_kit::{FromJson, NotAWorld, members_of, optional, required, with_no_other};
 use serde_json::Value;
 use std::alloc::Global;
 use types::{AliasId, ConstId, FunctionId, GenericArgs, List, Table, Text, Ty};
@@ -15,7 +14,7 @@ use world::{
     HirDatabase, ImplRow, Layout, StaticRow, StructRow, VariantRow,
 };
 
-impl FromJson for BodyRow {
+impl FromJson<WorldJson> for BodyRow {
     ghost reads = { body_row_of };
 
     #[tactic(auto, unfolding(crate::specs::Tables::body_row_of))]
@@ -207,7 +206,7 @@ fn hir_database_meanings(
     Ok((choices, dereferences, calls))
 }
 
-impl FromJson for HirDatabase {
+impl FromJson<WorldJson> for HirDatabase {
     ghost reads = { hir_database_of };
 
     #[tactic(auto, unfolding(crate::specs::Tables::hir_database_of))]

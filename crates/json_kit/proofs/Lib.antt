@@ -1,0 +1,6 @@
+pub mod Arrays
+pub mod Digits
+pub mod Entries
+pub mod Faults
+pub mod HexPairs
+pub mod Members

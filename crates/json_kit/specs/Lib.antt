@@ -1,0 +1,9 @@
+pub mod Choices
+pub mod Fit
+pub mod Hex
+pub mod Keys
+pub mod Maps
+pub mod Numerals
+pub mod Parts
+pub mod Scalars
+pub mod Variants

@@ -1,0 +1,32 @@
+//! Why a tree is no world.
+
+ghost use Rattle.std.specs.Prelude.{◌≡◌, [], Some};
+ghost use Rattle.json_kit.specs.declared.misfit.NotAWorld.TheVariants.{NoMemory as no_memory};
+
+use std::alloc::{AllocError, Global};
+use types::{NoMemory, Text};
+
+/// Why a tree is no world.
+#[derive(PartialEq, Eq, Debug, Drop)]
+pub enum NotAWorld {
+    /// The path of the first place that doesn't fit, as `world.consts[0].ty`.
+    At(Text),
+    /// There was no memory.
+    NoMemory,
+}
+
+impl From<NoMemory> for NotAWorld {
+    ghost from_gives = { λ _ fault. fault ≡ no_memory };
+
+    fn from(_error: NoMemory) -> NotAWorld {
+        NotAWorld::NoMemory
+    }
+}
+
+impl From<AllocError> for NotAWorld {
+    ghost from_gives = { λ _ fault. fault ≡ no_memory };
+
+    fn from(_error: AllocError) -> NotAWorld {
+        NotAWorld::NoMemory
+    }
+}

@@ -1,0 +1,69 @@
+//! Numbers, texts and truth values.
+
+ghost use Rattle.std.specs.Prelude.{false};
+
+use crate::from_json::{FromJson, MayBeAbsent, here};
+use crate::{JsonKit, NotAWorld};
+use serde_json::Value;
+use std::alloc::Global;
+use types::Text;
+
+impl FromJson<JsonKit> for u32 {
+    ghost use Rattle.json_kit.specs.Scalars.{u32_of};
+
+    ghost reads = { u32_of };
+
+    fn from_json(alloc: Global, tree: &Value) -> Result<u32, NotAWorld> {
+        match tree.as_u64() {
+            Some(n) if n < 1 << 32 => Ok(n as u32),
+            _ => Err(here(alloc)),
+        }
+    }
+}
+
+impl FromJson<JsonKit> for u64 {
+    ghost use Rattle.json_kit.specs.Scalars.{u64_of};
+
+    ghost reads = { u64_of };
+
+    fn from_json(alloc: Global, tree: &Value) -> Result<u64, NotAWorld> {
+        match tree.as_u64() {
+            Some(n) => Ok(n),
+            None => Err(here(alloc)),
+        }
+    }
+}
+
+impl FromJson<JsonKit> for bool {
+    ghost use Rattle.json_kit.specs.Scalars.{bool_of};
+
+    ghost reads = { bool_of };
+
+    fn from_json(alloc: Global, tree: &Value) -> Result<bool, NotAWorld> {
+        match tree.as_bool() {
+            Some(b) => Ok(b),
+            None => Err(here(alloc)),
+        }
+    }
+}
+
+impl<By> MayBeAbsent<By> for bool {
+    ghost left_out = { false };
+
+    fn absent(_alloc: Global) -> bool {
+        false
+    }
+}
+
+impl FromJson<JsonKit> for Text {
+    ghost use Rattle.json_kit.specs.Scalars.{text_of};
+
+    ghost reads = { text_of };
+
+    fn from_json(alloc: Global, tree: &Value) -> Result<Text, NotAWorld> {
+        match tree.as_str() {
+            Some(text) => Ok(Text::from_str(alloc, text)?),
+            None => Err(here(alloc)),
+        }
+    }
+}

@@ -1,5 +1,0 @@
-use Rattle.world_json.proofs.Digits.{unsigned_is}
-use Rattle.world_json.proofs.numerals.unsigned_digits.Goals as goal
-
-pub returns : goal.returns
-returns c = unsigned_is c.args.text.now c.parse.result c.ok.result c.parse.ensures.value.0 c.requires c.ok.ensures.value

@@ -1,8 +1,0 @@
-use Rattle.std.proofs.Common.{◌≡◌}
-use Rattle.serde_json.specs.View.{items_view}
-use Rattle.world_json.specs.Parts.{items_from}
-use Rattle.world_json.proofs.Arrays.{with_front, rest_from}
-use Rattle.world_json.proofs.parts.items_of.Given as goal
-
-abbrev pub invariant-loop-place : goal.invariant-loop-place
-invariant-loop-place g l = with_front (g.T.FromJson.reads) l.list (rest_from (g.T.FromJson.reads) l.items l.place) ≡ items_from (g.T.FromJson.reads) 0 (items_view l.items)
