@@ -1,6 +1,6 @@
 -- What a valid body with a defined cost is refused for: want of memory alone.
 use Rattle.std.proofs.Common.{◌≡◌, ◌≢◌, ℕ, ◌<◌, ◌≤◌, ⊎_elim, eqb-true, Bool, true, false, List, [], Option, Some, None, refl, sym, ap, ◌∙◌, subst, arith}
-use Rattle.std.specs.Prelude.{option_and_then, not, ◌==◌, ◌||◌}
+use Rattle.std.specs.Prelude.{option_and_then, option_map, not, ◌==◌, ◌||◌}
 use Rattle.std.proofs.lemmas.List.Elements.{All-contains}
 use Rattle.types.specs.declared.operators.BinaryOp.{BinaryOp}
 use Rattle.types.specs.declared.operators.BinaryOp.TheVariants as binary
@@ -33,13 +33,15 @@ use Rattle.mir.specs.declared.errors.MirEvalError as error
 use Rattle.mir.specs.declared.errors.MirLowerError.{MirLowerError}
 use Rattle.mir.specs.declared.errors.MirLowerError.TheVariants as refusal
 use Rattle.mir.specs.Errors.{from_lower_error, from_eval_error}
-use Rattle.mir_lower.specs.Refusals.{IsNumber, LacksOperator, IsUnbuiltLiteral, IsUnbuiltStatement, IsUnbuilt, LetBindsNone, LacksLocal, RefusesNode, Refuses, HasTypingErrors}
+use Rattle.mir_lower.specs.Refusals.{IsNumber, LacksOperator, IsUnbuiltLiteral, IsUnbuiltStatement, IsUnbuilt, LetBindsNone, LacksLocal, RefusesNode, RefusesInferred}
 use Rattle.mir_lower.specs.Simulates.{Simulates}
 use Rattle.source_meaning.proofs.Sizes.{integer_is_width}
 use Rattle.source_meaning.specs.Meaning.{eager_operator}
 use Rattle.source_meaning.specs.Source.{Source, node, node_type, named_by, binding_type}
 use Rattle.source_meaning.specs.Valid.{IsInteger, IsPlainLiteral, IsPlainBinary, IsPlainStatement, HasPlainForm, IsPlainNode, HasSizedLayout, HasDefinedCost}
-use Rattle.consteval.specs.Answers.{RefusesBody, RefusesRun, has_generics, is_empty, is_unbuilt_item, panic_of}
+use Rattle.consteval.specs.Answers.{RefusesBody, RefusesRun, has_errors, has_generics, is_empty, is_erroneous, is_unbuilt, is_unbuilt_item, panic_of}
+use Rattle.types.specs.declared.ids.ExprId.{ExprId}
+use Rattle.types.specs.declared.ty.GenericArg.{GenericArg}
 use Rattle.consteval.specs.Kept.{source_of}
 use Rattle.consteval.specs.Valid.{IsValid}
 use Rattle.consteval.proofs.Begins.{begins, begun-is-frameless}
@@ -203,26 +205,34 @@ refuses-node source e (refusal.NotSupported text) checked plain sized refuses = 
 refuses-node source e refusal.NoMemory checked plain sized refuses = refl
 
 -- there is no typing error where inference found none
-no-typing-errors : (world : HirDatabase) (row : BodyRow) → row.infer.erroneous ≡ false → row.infer.mismatches ≡ [] → HasTypingErrors row.infer → ⊥
-no-typing-errors world row inferred fitting = ⊎_elim (λ erroneous. cc) (λ some. some fitting)
+valid-has-no-errors : (world : HirDatabase) (def : DefWithBodyId) (args : GenericArgs) (row : BodyRow) → IsValid world def args row → is_erroneous world def ≡ true → ⊥
+valid-has-no-errors world def args row valid errors =
+    let found : is_erroneous world def ≡ has_errors (Some row.infer) = ap (λ (r : Option BodyRow). has_errors (option_map (λ row. row.infer) r)) valid.body in
+    let none : has_errors (Some row.infer) ≡ false =
+    ap (λ (erroneous : Bool). erroneous || not (is_empty row.infer.mismatches)) valid.inferred ∙ ap (λ (es : List ExprId). not (is_empty es)) valid.fitting in
+    cc
 
 -- a constant without generic parameters is of a kind that is built
-valid-is-built : (world : HirDatabase) (def : DefWithBodyId) (item : ConstRow) → const_row world def ≡ Some item → item.generics ≡ [] → is_unbuilt_item world def ≡ true → ⊥
-valid-is-built world (ConstId id) item is none unbuilt =
-    let some : has_generics (Some item) ≡ true = ap has_generics (sym is) ∙ unbuilt in
-    let built : has_generics (Some item) ≡ false = ap (λ (generics : List GenericParamId). not (is_empty generics)) none in
+valid-item-is-built : (world : HirDatabase) (def : DefWithBodyId) (item : ConstRow) → const_row world def ≡ Some item → item.generics ≡ [] → is_unbuilt_item world def ≡ false
+valid-item-is-built world (ConstId id) item is none =
+    ap has_generics is ∙ ap (λ (generics : List GenericParamId). not (is_empty generics)) none
+valid-item-is-built world (FunctionId id) item is none = cc
+valid-item-is-built world (StaticId id) item is none = cc
+valid-item-is-built world (VariantId id) item is none = cc
+
+valid-is-built : (world : HirDatabase) (def : DefWithBodyId) (args : GenericArgs) (item : ConstRow) → const_row world def ≡ Some item → item.generics ≡ [] → args.0 ≡ [] → is_unbuilt world def args ≡ true → ⊥
+valid-is-built world def args item is none given unbuilt =
+    let built : is_unbuilt world def args ≡ false =
+    ap (λ (some : List GenericArg). not (is_empty some) || is_unbuilt_item world def) given ∙ valid-item-is-built world def item is none in
     cc
-valid-is-built world (FunctionId id) item is none unbuilt = cc
-valid-is-built world (StaticId id) item is none unbuilt = cc
-valid-is-built world (VariantId id) item is none unbuilt = cc
 
 -- a valid body with a defined cost is lowered, but for want of memory
 pub lowering-is-not-refused : (world : HirDatabase) (def : DefWithBodyId) (args : GenericArgs) (row : BodyRow) (e : MirLowerError) → IsChecked world → IsValid world def args row → HasDefinedCost (source_of world row) → RefusesBody world def args e → e ≡ refusal.NoMemory
 lowering-is-not-refused world def args row e checked valid cost =
-    ⊎_elim (λ missing. absurd (let is = missing.1 in let there = valid.body in cc))
-    (⊎_elim (λ given. absurd (given.1 valid.no_args))
-    (⊎_elim (λ unbuilt. absurd (valid-is-built world def valid.item valid.is_item valid.no_generics unbuilt.1)) (λ refused.
-    let same : refused.0 ≡ row = (let is = refused.1 in let there = valid.body in cc) in
-    ⊎_elim (λ errors. absurd (no-typing-errors world row valid.inferred valid.fitting errors.1))
+    ⊎_elim (λ errors. absurd (valid-has-no-errors world def args row valid errors.errors))
+    (⊎_elim (λ unbuilt. absurd (valid-is-built world def args valid.item valid.is_item valid.no_generics valid.no_args unbuilt.unbuilt))
+    (⊎_elim (λ none. absurd (let is = none.missing in let there = valid.body in cc)) (λ refused.
+    let same : refused.row ≡ row = (let is = refused.found in let there = valid.body in cc) in
+    ⊎_elim (λ drops. absurd (valid.dropless drops.1))
     (λ at. refuses-node (source_of world row) at.0 e checked (valid.plain at.0 at.1) (cost.nodes at.0 at.1) at.2)
-    (subst (λ (r : BodyRow). Refuses (source_of world r) e) same refused.2))))
+    (subst (λ (r : BodyRow). RefusesInferred (source_of world r) e) same refused.refuses))))

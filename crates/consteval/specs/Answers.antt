@@ -1,5 +1,5 @@
 -- What the answer to a definition says: the value or the panic that its source means, and the cause of any other.
-use Rattle.std.specs.Prelude.{◌≡◌, ◌≢◌, ℕ, ◌≤◌, Bool, true, false, not, List, [], ◌∷◌, ◌⊎◌, Option, Some, None, Result, Ok, Err, Contains, codes, slice_get}
+use Rattle.std.specs.Prelude.{◌≡◌, ◌≢◌, ℕ, ◌≤◌, Bool, true, false, not, List, [], ◌∷◌, ◌⊎◌, ◌||◌, Option, Some, None, Result, Ok, Err, Contains, codes, option_map, slice_get}
 use Rattle.world.specs.declared.database.BodyRow.{BodyRow}
 use Rattle.world.specs.declared.items.ConstRow.{ConstRow}
 use Rattle.world.specs.declared.database.HirDatabase.{HirDatabase}
@@ -22,7 +22,8 @@ use Rattle.mir.specs.Errors.{from_lower_error, from_eval_error}
 use Rattle.mir.specs.Run.{begun}
 use Rattle.mir_eval.specs.Evaluators.{crate_or_first}
 use Rattle.mir_eval.specs.Machine.{pointer_bytes}
-use Rattle.mir_lower.specs.Refusals.{Refuses}
+use Rattle.mir_lower.specs.Refusals.{RefusesInferred}
+use Rattle.world.specs.declared.infer.InferenceResult.{InferenceResult}
 use Rattle.source_meaning.specs.Ends.{Cost, Go, Panic}
 use Rattle.source_meaning.specs.Meaning.{Gives}
 use Rattle.source_meaning.specs.Source.{Source, Store, node_type, root}
@@ -86,14 +87,49 @@ abbrev pub is_unbuilt_item : HirDatabase → DefWithBodyId → Bool
 is_unbuilt_item world (ConstId id) = has_generics (slice_get world.consts id.0)
 is_unbuilt_item world _ = true
 
--- the body could not be lowered: it has none, it was given arguments, its definition's kind isn't built yet, or its
--- lowering was refused
+-- whether a definition isn't built yet: it was given arguments, or it is of a kind that isn't
+abbrev pub is_unbuilt : HirDatabase → DefWithBodyId → GenericArgs → Bool
+is_unbuilt world def args = not (is_empty args.0) || is_unbuilt_item world def
+
+-- whether inference met an error in what it found
+abbrev pub has_errors : Option InferenceResult → Bool
+has_errors None = false
+has_errors (Some infer) = infer.erroneous || not (is_empty infer.mismatches)
+
+-- whether inference met an error in the definition's body
+abbrev pub is_erroneous : HirDatabase → DefWithBodyId → Bool
+is_erroneous world def = has_errors (option_map (λ row. row.infer) (body_row world def))
+
+-- the definition's body has a typing error
+pub record RefusesErrors (world : HirDatabase) (def : DefWithBodyId) (e : MirLowerError) : Type 0 where
+  pub errors : is_erroneous world def ≡ true
+  pub is : e ≡ refusal.HasErrors
+
+-- the definition has no typing error, and isn't built yet
+pub record RefusesUnbuilt (world : HirDatabase) (def : DefWithBodyId) (args : GenericArgs) (e : MirLowerError) : Type 0 where
+  pub no_errors : is_erroneous world def ≡ false
+  pub unbuilt : is_unbuilt world def args ≡ true
+  pub is : e ≡ refusal.NotSupported (codes "form not built")
+
+-- the definition is built, and has no body
+pub record RefusesMissing (world : HirDatabase) (def : DefWithBodyId) (args : GenericArgs) (e : MirLowerError) : Type 0 where
+  pub built : is_unbuilt world def args ≡ false
+  pub missing : body_row world def ≡ None
+  pub is : e ≡ refusal.IncompleteExpr
+
+-- the definition is built, its body has no typing error, and its lowering was refused
+pub record RefusesLowering (world : HirDatabase) (def : DefWithBodyId) (args : GenericArgs) (e : MirLowerError) : Type 0 where
+  pub no_errors : is_erroneous world def ≡ false
+  pub built : is_unbuilt world def args ≡ false
+  pub row : BodyRow
+  pub found : body_row world def ≡ Some row
+  pub refuses : RefusesInferred (source_of world row) e
+
+-- The body could not be lowered. Each cause stands only where those before it don't: a typing error, a definition that
+-- isn't built yet, no body, and what lowering refuses.
 abbrev pub RefusesBody : HirDatabase → DefWithBodyId → GenericArgs → MirLowerError → Type 0
 RefusesBody world def args e =
-    ((e ≡ refusal.IncompleteExpr) × (body_row world def ≡ None) × (args.0 ≡ []))
-    ⊎ ((e ≡ refusal.NotSupported (codes "form not built")) × (args.0 ≢ []))
-    ⊎ ((e ≡ refusal.NotSupported (codes "form not built")) × (is_unbuilt_item world def ≡ true))
-    ⊎ ((row : BodyRow) × (body_row world def ≡ Some row) × Refuses (source_of world row) e)
+    RefusesErrors world def e ⊎ RefusesUnbuilt world def args e ⊎ RefusesMissing world def args e ⊎ RefusesLowering world def args e
 
 -- a body could not begin: the crate's pointers, or a local that can have no cell
 abbrev pub RefusesRun : HirDatabase → DefWithBodyId → MirBody → MirEvalError → Type 0

@@ -9,10 +9,11 @@ use Rattle.world.specs.Lookups.{const_row, body_row}
 use Rattle.mir_eval.specs.Machine.{pointer_bytes}
 use Rattle.source_meaning.specs.Source.{node_type, root}
 use Rattle.source_meaning.specs.Valid.{IsPlain}
+use Rattle.mir_lower.specs.Refusals.{HasDrops}
 use Rattle.consteval.specs.Kept.{source_of}
 
 -- A definition and its arguments are valid: it is a constant without generic parameters, has a plain body of its type
--- without typing errors, no arguments, and its crate has pointers of 8 bytes.
+-- without typing errors, no value of which may need a drop function, no arguments, and its crate has pointers of 8 bytes.
 pub record IsValid (world : HirDatabase) (def : DefWithBodyId) (args : GenericArgs) (row : BodyRow) : Type 0 where
   pub item : ConstRow
   pub is_item : const_row world def ≡ Some item
@@ -22,5 +23,6 @@ pub record IsValid (world : HirDatabase) (def : DefWithBodyId) (args : GenericAr
   pub inferred : row.infer.erroneous ≡ false
   pub fitting : row.infer.mismatches ≡ []
   pub plain : IsPlain (source_of world row)
+  pub dropless : ¬ HasDrops (source_of world row)
   pub typed : node_type (source_of world row) (root (source_of world row)) ≡ Some item.ty
   pub pointers : pointer_bytes world def ≡ Some 8

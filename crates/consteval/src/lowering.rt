@@ -3,13 +3,13 @@
 ghost use Rattle.std.specs.Prelude.{◌≡◌, ◌⊎◌, [], IsTrue, IfOk, IfErr, OnOk, codes};
 ghost use Rattle.mir.specs.declared.errors.MirLowerError.TheVariants as refusal;
 ghost use Rattle.std.specs.Option.{option_copied};
-ghost use Rattle.consteval.specs.Answers.{RefusesBody, has_generics, is_unbuilt_item};
+ghost use Rattle.consteval.specs.Answers.{RefusesBody, has_errors, has_generics, is_unbuilt, is_unbuilt_item};
 ghost use Rattle.consteval.specs.Kept.{IsLowered};
 
 use mir::{MirBody, MirLowerError};
 use mir_lower::lower_to_mir;
 use std::alloc::Global;
-use world::{ConstRow, DefWithBodyId, GenericArgs, HirDatabase, Text};
+use world::{ConstRow, DefWithBodyId, GenericArgs, HirDatabase, InferenceResult, Text};
 use world_check::CheckedWorld;
 
 /// Whether there are no arguments.
@@ -51,9 +51,27 @@ fn is_unbuilt_item(db: &HirDatabase, def: DefWithBodyId) -> bool
     }
 }
 
-/// The lowered body of a definition. The refusals, in this order: `NotSupported` where there are
-/// arguments or the definition's kind isn't built yet, `IncompleteExpr` where there is no body, those
-/// of `lower_to_mir`, and `NoMemory`.
+/// Whether a definition isn't built yet: it was given arguments, or it is of a kind that isn't.
+fn is_unbuilt(db: &HirDatabase, def: DefWithBodyId, args: &GenericArgs) -> bool
+    ensures { result ≡ is_unbuilt db.now def args.now }
+{
+    !args.0.as_slice().is_empty() || is_unbuilt_item(db, def)
+}
+
+/// Whether inference met an error in what it found of a body.
+fn has_errors(infer: Option<&InferenceResult>) -> bool
+    ensures { result ≡ has_errors (option_copied infer.entry) }
+{
+    match infer {
+        Some(infer) => infer.erroneous || !infer.mismatches.as_slice().is_empty(),
+        None => false,
+    }
+}
+
+/// The lowered body of a definition. The refusals, in this order: `HasErrors` where inference met an
+/// error in its body, `NotSupported` where there are arguments or the definition's kind isn't built
+/// yet, `IncompleteExpr` where there is no body, and those of its expressions. `NoMemory` may come in
+/// place of any of them.
 pub(crate) fn lower(
     alloc: Global,
     world: &CheckedWorld,
@@ -64,11 +82,11 @@ pub(crate) fn lower(
     ensures given { OnOk result (args.now.0 ≡ []) }
     ensures refused { IfErr result (λ e. (e ≡ refusal.NoMemory) ⊎ RefusesBody world.now def args.now e) }
 {
-    if !args.0.as_slice().is_empty() {
-        return Err(form_not_built(alloc));
-    }
     let db = world.db();
-    if is_unbuilt_item(db, def) {
+    if has_errors(db.infer(def)) {
+        return Err(MirLowerError::HasErrors);
+    }
+    if is_unbuilt(db, def, args) {
         return Err(form_not_built(alloc));
     }
     let Some(body) = db.body(def) else {

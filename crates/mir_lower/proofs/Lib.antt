@@ -7,6 +7,7 @@ pub mod InUse
 pub mod Laid
 pub mod Leaving
 pub mod Lists
+pub mod Needed
 pub mod Operands
 pub mod Operations
 pub mod Placing

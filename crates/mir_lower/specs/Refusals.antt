@@ -1,5 +1,10 @@
 -- Why a typed body can't be lowered.
-use Rattle.std.specs.Prelude.{◌≡◌, ◌≢◌, ℕ, ◌<◌, IsTrue, [], ◌⊎◌, Contains, Option, Some, None, codes}
+use Rattle.std.specs.Prelude.{◌≡◌, ◌≢◌, ℕ, ◌<◌, Bool, true, false, not, ◌&&◌, IsTrue, List, [], ◌⊎◌, Contains, Option, Some, None, codes, is_some}
+use Rattle.std.specs.List.{list_any}
+use Rattle.mir.specs.declared.body.Local.{Local}
+use Rattle.types.specs.declared.ty.Ty.{Ty}
+use Rattle.world.specs.Lookups.{is_copy}
+use Rattle.mir_lower.specs.Growth.{IsUsed}
 use Rattle.source_meaning.specs.Core.{CoreExpr}
 use Rattle.source_meaning.specs.Core as expr
 use Rattle.source_meaning.specs.Core.{local_named}
@@ -16,7 +21,7 @@ use Rattle.world.specs.declared.layout.Layout.{Layout}
 use Rattle.mir.specs.declared.errors.MirLowerError.{MirLowerError}
 use Rattle.mir.specs.declared.errors.MirLowerError.TheVariants as refusal
 use Rattle.source_meaning.specs.Meaning.{eager_operator}
-use Rattle.source_meaning.specs.Source.{Source, node, node_layout, named_by, pattern, binding_type, root}
+use Rattle.source_meaning.specs.Source.{Source, Cell, cell_type, node, node_layout, named_by, pattern, binding_type, root}
 use Rattle.source_meaning.specs.Valid.{Evaluates}
 
 -- inference met an error in the body
@@ -110,6 +115,28 @@ RefusesPattern source pat _ = ⊥
 abbrev pub RefusesAt : Source → ℕ → MirLowerError → Type 0
 RefusesAt source e error = (at : ℕ) × Evaluates source e at × RefusesNode source at error
 
--- a body's refusal is that of its typing errors, or that of one of its expressions
+-- whether a local has a type that isn't listed as `Copy`
+abbrev pub are_some_dropped : Source → List Local → Bool
+are_some_dropped source locals = list_any (λ local. not (is_copy source.infer local.ty)) locals
+
+-- whether locals may need the drop function that the world has
+abbrev pub needs_drops : Source → List Local → Bool
+needs_drops source locals = is_some source.world.drop_fn && are_some_dropped source locals
+
+-- The world has a drop function, and the result, a binding or the value of an expression that is evaluated may need
+-- it: its type isn't listed as `Copy`.
+pub record HasDrops (source : Source) : Type 0 where
+  pub drop_fn : is_some source.world.drop_fn ≡ true
+  pub cell : Cell
+  pub used : IsUsed source cell
+  pub ty : Ty
+  pub typed : cell_type source cell ≡ Some ty
+  pub no_copy : is_copy source.infer ty ≡ false
+
+-- a body without typing errors is refused for one of its expressions, or for what may need a drop function
+abbrev pub RefusesInferred : Source → MirLowerError → Type 0
+RefusesInferred source error = ((error ≡ refusal.NotSupported (codes "form not built")) × HasDrops source) ⊎ RefusesAt source (root source) error
+
+-- a body's refusal is that of its typing errors, or that of the body without them
 abbrev pub Refuses : Source → MirLowerError → Type 0
-Refuses source error = ((error ≡ refusal.HasErrors) × HasTypingErrors source.infer) ⊎ RefusesAt source (root source) error
+Refuses source error = ((error ≡ refusal.HasErrors) × HasTypingErrors source.infer) ⊎ RefusesInferred source error

@@ -5,20 +5,21 @@ ghost use Rattle.source_meaning.specs.Source.{Source};
 ghost use Rattle.world.specs.Checked.{IsChecked, IsCheckedBody};
 ghost use Rattle.source_meaning.specs.Source.{root};
 ghost use Rattle.mir_lower.specs.Contexts.{source_of};
-ghost use Rattle.mir_lower.specs.Refusals.{Refuses, RefusesAt};
+ghost use Rattle.mir_lower.specs.Refusals.{Refuses, RefusesAt, RefusesInferred, are_some_dropped, needs_drops};
 ghost use Rattle.mir_lower.specs.Simulates.{Simulates};
 
 use crate::context::Context;
 use crate::graph::Graph;
-use crate::leave::leave_scope;
-use crate::literal::node_ty;
+use crate::leave::{is_copy, leave_scope};
+use crate::literal::{form_not_built, node_ty};
 use crate::lower::lower_into;
-use mir::{LocalId, MirBody, MirLowerError, MirSpan, Place, Terminator, TerminatorKind};
+use mir::{Local, LocalId, MirBody, MirLowerError, MirSpan, Place, Terminator, TerminatorKind};
 use std::alloc::Global;
 use world::{Body, DefWithBodyId, HirDatabase, InferenceResult, TryClone};
 
 /// The graph of a typed body: a run of it does what the body means. The refusals are `HasErrors` where
-/// inference met an error, that of an expression, and `NoMemory`.
+/// inference met an error, that of an expression, `NotSupported` where the world has a drop function and
+/// a local's type isn't listed as `Copy`, and `NoMemory`.
 pub fn lower_to_mir(
     alloc: Global,
     db: &HirDatabase,
@@ -31,6 +32,7 @@ pub fn lower_to_mir(
     ensures simulates { IfOk result (Simulates (record { world = db.now; body = body.now; infer = infer.now })) }
     ensures owner { IfOk result (λ lowered. lowered.owner ≡ owner) }
     ensures errors { OnOk result ((infer.now.erroneous ≡ false) × (infer.now.mismatches ≡ [])) }
+    ensures dropless { IfOk result (λ lowered. needs_drops (record { world = db.now; body = body.now; infer = infer.now }) lowered.locals ≡ false) }
     ensures refused { IfErr result (Refuses (record { world = db.now; body = body.now; infer = infer.now })) }
 {
     if infer.erroneous || !infer.mismatches.as_slice().is_empty() {
@@ -42,7 +44,37 @@ pub fn lower_to_mir(
         body,
         infer,
     };
-    lower_body(&context, owner)
+    lower_inferred(&context, owner)
+}
+
+/// Whether a local has a type that isn't listed as `Copy`.
+fn are_some_dropped(context: &Context<'_>, locals: &[Local]) -> bool
+    ensures { result ≡ are_some_dropped (source_of context.now) locals.now }
+{
+    locals.iter().any(|local| !is_copy(context, &local.ty))
+}
+
+/// Whether locals may need the drop function that the world has.
+fn needs_drops(context: &Context<'_>, locals: &[Local]) -> bool
+    ensures { result ≡ needs_drops (source_of context.now) locals.now }
+{
+    context.db.drop_fn.is_some() && are_some_dropped(context, locals)
+}
+
+/// The graph of a body without typing errors, whose locals need no drop function.
+fn lower_inferred(context: &Context<'_>, owner: DefWithBodyId) -> Result<MirBody, MirLowerError>
+    requires world { IsChecked context.now.db.now }
+    requires checked { IsCheckedBody context.now.body.now context.now.infer.now }
+    ensures simulates { IfOk result (Simulates (source_of context.now)) }
+    ensures owner { IfOk result (λ lowered. lowered.owner ≡ owner) }
+    ensures dropless { IfOk result (λ lowered. needs_drops (source_of context.now) lowered.locals ≡ false) }
+    ensures refused { IfErr result (RefusesInferred (source_of context.now)) }
+{
+    let lowered = lower_body(context, owner)?;
+    if needs_drops(context, lowered.locals.as_slice()) {
+        return Err(form_not_built(context.alloc));
+    }
+    Ok(lowered)
 }
 
 /// The graph of a body without typing errors.

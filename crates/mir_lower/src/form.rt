@@ -4,8 +4,9 @@ ghost use Rattle.std.specs.Prelude.{◌≡◌, Some};
 ghost use Rattle.std.specs.Option.{option_and_then, option_copied};
 ghost use Rattle.types.specs.declared.operators.BinaryOp.TheVariants as binary;
 ghost use Rattle.source_meaning.specs.Core as expr;
-ghost use Rattle.source_meaning.specs.Core.{core_of, is_any_step, is_by_reference, is_positive, is_reworked, is_reworked_pattern, name_of};
+ghost use Rattle.source_meaning.specs.Core.{core_of, is_adjusted, is_adjusted_pattern, is_any_step, is_by_reference, is_positive, name_of, names_item};
 ghost use Rattle.source_meaning.specs.Source.{node, pattern};
+ghost use Rattle.world.specs.declared.expr.Expr.TheVariants as whole;
 ghost use Rattle.mir_lower.specs.Contexts.{source_of};
 ghost use Rattle.mir_lower.specs.Form.{HasForm};
 
@@ -51,13 +52,24 @@ fn binary_form<'a>(lhs: ExprId, rhs: ExprId, op: BinaryOp) -> Form<'a>
     }
 }
 
-/// The form of an expression, whatever is done to its value.
-fn form_of(expr: Option<&Expr>) -> Form<'_>
-    ensures { HasForm (option_and_then core_of (option_copied expr.entry)) result }
+/// The form of a path, which is resolved to an item or not.
+fn path_form<'a>(names_item: bool, name: &'a Text) -> Form<'a>
+    ensures { HasForm (core_of names_item (whole.Path name.now)) result }
+{
+    if names_item {
+        Form::Unbuilt
+    } else {
+        Form::Path(name)
+    }
+}
+
+/// The form of an expression whose value isn't adjusted.
+fn form_of<'a>(context: &Context<'_>, e: ExprId, expr: Option<&'a Expr>) -> Form<'a>
+    ensures { HasForm (option_and_then (core_of (names_item context.now.infer.now e)) (option_copied expr.entry)) result }
 {
     match expr {
         Some(Expr::Literal(literal)) => Form::Literal(literal),
-        Some(Expr::Path(name)) => Form::Path(name),
+        Some(Expr::Path(name)) => path_form(names_item(context, e), name),
         Some(Expr::UnaryOp { expr, op }) => unary_form(*expr, *op),
         Some(Expr::BinaryOp { lhs, rhs, op }) => match op {
             Some(op) => binary_form(*lhs, *rhs, *op),
@@ -83,15 +95,20 @@ fn is_any_step(steps: Option<&List<Adjustment>>) -> bool
     }
 }
 
-/// Whether something is done to an expression's value before it is used, or its path names an
-/// associated item or a variant.
-#[tactic(auto, unfolding(source_meaning::specs::Core::is_reworked))]
-fn is_reworked(context: &Context<'_>, e: ExprId) -> bool
-    ensures { result ≡ is_reworked context.now.infer.now e }
+/// Whether an expression's value is adjusted before it is used.
+#[tactic(auto, unfolding(source_meaning::specs::Core::is_adjusted))]
+fn is_adjusted(context: &Context<'_>, e: ExprId) -> bool
+    ensures { result ≡ is_adjusted context.now.infer.now e }
 {
     is_any_step(context.infer.expr_adjustments.get(&e))
-        || context.infer.assoc_res.get(&e).is_some()
-        || context.infer.variant_res.get(&e).is_some()
+}
+
+/// Whether a path is resolved to an associated item or a variant.
+#[tactic(auto, unfolding(source_meaning::specs::Core::names_item))]
+fn names_item(context: &Context<'_>, e: ExprId) -> bool
+    ensures { result ≡ names_item context.now.infer.now e }
+{
+    context.infer.assoc_res.get(&e).is_some() || context.infer.variant_res.get(&e).is_some()
 }
 
 /// The form of an expression of the body.
@@ -99,10 +116,10 @@ fn is_reworked(context: &Context<'_>, e: ExprId) -> bool
 pub(crate) fn form_at<'a>(context: &Context<'a>, e: ExprId) -> Form<'a>
     ensures { HasForm (node (source_of context.now) e.0) result }
 {
-    if is_reworked(context, e) {
+    if is_adjusted(context, e) {
         Form::Unbuilt
     } else {
-        form_of(context.body.exprs.get(e.0 as u64))
+        form_of(context, e, context.body.exprs.get(e.0 as u64))
     }
 }
 
@@ -122,9 +139,9 @@ fn is_positive(count: Option<&u32>) -> bool
 }
 
 /// Whether a pattern binds by reference, or dereferences the value first.
-#[tactic(auto, unfolding(source_meaning::specs::Core::is_reworked_pattern))]
-fn is_reworked_pattern(context: &Context<'_>, pat: PatId) -> bool
-    ensures { result ≡ is_reworked_pattern context.now.infer.now pat }
+#[tactic(auto, unfolding(source_meaning::specs::Core::is_adjusted_pattern))]
+fn is_adjusted_pattern(context: &Context<'_>, pat: PatId) -> bool
+    ensures { result ≡ is_adjusted_pattern context.now.infer.now pat }
 {
     is_by_reference(context.infer.binding_modes.get(&pat))
         || is_positive(context.infer.pat_adjustments.get(&pat))
@@ -145,7 +162,7 @@ fn name_of(pat: Option<&Pat>) -> Option<BindingId>
 pub(crate) fn name_bound(context: &Context<'_>, pat: PatId) -> Option<BindingId>
     ensures { result ≡ pattern (source_of context.now) pat.0 }
 {
-    if is_reworked_pattern(context, pat) {
+    if is_adjusted_pattern(context, pat) {
         None
     } else {
         name_of(context.body.pats.get(pat.0 as u64))

@@ -20,7 +20,7 @@ use std::alloc::Global;
 use world::{ExprId, NoMemory, Ty};
 
 /// Whether a type is listed as `Copy`.
-fn is_copy(context: &Context<'_>, ty: &Ty) -> bool
+pub(crate) fn is_copy(context: &Context<'_>, ty: &Ty) -> bool
     ensures { result ≡ is_copy_type context.now.infer.now ty.now }
 {
     context

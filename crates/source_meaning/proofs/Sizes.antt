@@ -1,6 +1,6 @@
 -- A plain body of a checked world is never stuck: each value has the size of its type.
 use Rattle.std.specs.Prelude.{All, flat_map, Contains}
-use Rattle.std.proofs.Common.{◌≡◌, ◌≢◌, ℕ, zero, suc, Bool, true, false, cond, if◌then◌else◌, ◌==◌, List, [], ◌∷◌, length, Option, Some, None, unwrap_or, option_map, option_and_then, ℤ, pos, refl, sym, ap, ◌∙◌, subst, eqb-true, eq-eqb, is_eq}
+use Rattle.std.proofs.Common.{◌≡◌, ◌≢◌, ℕ, zero, suc, Bool, true, false, cond, if◌then◌else◌, ◌==◌, List, [], ◌∷◌, length, Option, Some, None, unwrap_or, option_map, option_and_then, ℤ, pos, refl, sym, ap, ◌∙◌, subst, eqb-true, eq-eqb}
 use Rattle.std.proofs.lemmas.Bool.{false≢true}
 use Rattle.std.proofs.lemmas.List.{length-replicate}
 use Rattle.std.proofs.lemmas.List.Elements.{All-head, All-tail, Contains-append_left, Contains-append_right}

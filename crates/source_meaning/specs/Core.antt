@@ -1,5 +1,5 @@
 -- The expressions that have a meaning so far.
-use Rattle.std.specs.Prelude.{ℕ, Bool, true, false, ◌||◌, List, [], ◌∷◌, Option, Some, None, suc, is_some}
+use Rattle.std.specs.Prelude.{ℕ, Bool, true, false, ◌||◌, List, ◌∷◌, Option, Some, None, suc, is_some, if◌then◌else◌}
 use Rattle.std.specs.BTreeMap.{is_at}
 use Rattle.std.specs.Map.{lookup}
 use Rattle.types.specs.contracts.ids.ExprIdOrd.TheImpl as ExprIdOrd
@@ -30,26 +30,29 @@ pub data CoreExpr : Type 0 where
   BinaryOp : ExprId → ExprId → Option BinaryOperator → CoreExpr
   Block : List Statement → Option ExprId → CoreExpr
 
--- the form of an expression, where it is one with a meaning: a block has no label
-abbrev pub core_of : Expr → Option CoreExpr
-core_of (expr.Literal literal) = Some (Literal literal)
-core_of (expr.Path name) = Some (Path name)
-core_of (expr.UnaryOp e op) = Some (UnaryOp e op)
-core_of (expr.BinaryOp lhs rhs op) = Some (BinaryOp lhs rhs op)
-core_of (expr.Block statements tail None) = Some (Block statements tail)
-core_of _ = None
+-- the form of an expression, where it is one with a meaning: a block has no label, and a path is not resolved to an item
+-- that a trait or an impl has, or to a variant
+abbrev pub core_of : Bool → Expr → Option CoreExpr
+core_of names_item (expr.Literal literal) = Some (Literal literal)
+core_of names_item (expr.Path name) = if names_item then None else Some (Path name)
+core_of names_item (expr.UnaryOp e op) = Some (UnaryOp e op)
+core_of names_item (expr.BinaryOp lhs rhs op) = Some (BinaryOp lhs rhs op)
+core_of names_item (expr.Block statements tail None) = Some (Block statements tail)
+core_of names_item _ = None
 
--- whether something is done
+-- whether there are adjustments
 abbrev pub is_any_step : Option (List Adjustment) → Bool
 is_any_step (Some (step ∷ steps)) = true
 is_any_step _ = false
 
--- whether something is done to an expression's value before it is used, or its path names an associated item or a
--- variant
-unfoldable pub is_reworked : InferenceResult → ExprId → Bool
-is_reworked infer e =
-    is_any_step (lookup (is_at (ExprIdOrd.ghosts.cmp e)) infer.expr_adjustments)
-    || is_some (lookup (is_at (ExprIdOrd.ghosts.cmp e)) infer.assoc_res)
+-- whether an expression's value is adjusted before it is used
+unfoldable pub is_adjusted : InferenceResult → ExprId → Bool
+is_adjusted infer e = is_any_step (lookup (is_at (ExprIdOrd.ghosts.cmp e)) infer.expr_adjustments)
+
+-- whether a path is resolved to an associated item or a variant
+unfoldable pub names_item : InferenceResult → ExprId → Bool
+names_item infer e =
+    is_some (lookup (is_at (ExprIdOrd.ghosts.cmp e)) infer.assoc_res)
     || is_some (lookup (is_at (ExprIdOrd.ghosts.cmp e)) infer.variant_res)
 
 -- the binding of a pattern that is a name and no more
@@ -66,8 +69,8 @@ is_positive (Some (suc n)) = true
 is_positive _ = false
 
 -- whether a pattern binds by reference, or dereferences the value first
-unfoldable pub is_reworked_pattern : InferenceResult → PatId → Bool
-is_reworked_pattern infer p =
+unfoldable pub is_adjusted_pattern : InferenceResult → PatId → Bool
+is_adjusted_pattern infer p =
     is_by_reference (lookup (is_at (PatIdOrd.ghosts.cmp p)) infer.binding_modes)
     || is_positive (lookup (is_at (PatIdOrd.ghosts.cmp p)) infer.pat_adjustments)
 

@@ -15,7 +15,7 @@ use Rattle.types.specs.declared.ty.Ty.{Ty}
 use Rattle.types.specs.declared.ids.BindingId.{BindingId}
 use Rattle.world.specs.Lookups.{layout_of, type_of, expr_of, is_copy}
 use Rattle.source_meaning.specs.Core as expr
-use Rattle.source_meaning.specs.Core.{CoreExpr, core_of, is_reworked, is_reworked_pattern, name_of}
+use Rattle.source_meaning.specs.Core.{CoreExpr, core_of, is_adjusted, is_adjusted_pattern, name_of, names_item}
 
 -- a typed body in its world
 pub record Source : Type 0 where
@@ -23,9 +23,11 @@ pub record Source : Type 0 where
   pub body : Body
   pub infer : InferenceResult
 
--- an expression of the source, where it has a meaning as it stands, and its type
+-- an expression of the source, where it is of a form with a meaning and its value isn't adjusted, and its type
 unfoldable pub node : Source → ℕ → Option CoreExpr
-node source e = if is_reworked source.infer (record { 0 = e }) then None else option_and_then core_of (expr_of source.body e)
+node source e =
+    if is_adjusted source.infer (record { 0 = e }) then None
+    else option_and_then (core_of (names_item source.infer (record { 0 = e }))) (expr_of source.body e)
 
 abbrev pub node_type : Source → ℕ → Option Ty
 node_type source e = type_of source.infer e
@@ -40,7 +42,7 @@ binding_type source b = slice_get source.infer.binding_types b
 
 -- the binding that a pattern of the source binds, where it is a name that binds by value, and its type
 unfoldable pub pattern : Source → ℕ → Option BindingId
-pattern source p = if is_reworked_pattern source.infer (record { 0 = p }) then None else option_and_then name_of (slice_get source.body.pats p)
+pattern source p = if is_adjusted_pattern source.infer (record { 0 = p }) then None else option_and_then name_of (slice_get source.body.pats p)
 
 abbrev pub pattern_type : Source → ℕ → Option Ty
 pattern_type source p = slice_get source.infer.pat_types p

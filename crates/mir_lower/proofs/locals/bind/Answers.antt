@@ -1,5 +1,5 @@
 -- The name's local comes into use, and the place is copied to it.
-use Rattle.std.proofs.Common.{Some, sym, refl, ap, ◌∙◌}
+use Rattle.std.proofs.Common.{sym, refl}
 use Rattle.std.proofs.lemmas.Result.{on_ok_weaker}
 use Rattle.mir.specs.declared.span.MirSpan.TheVariants.{PatId}
 use Rattle.mir_lower.specs.Contexts.{source_of}
