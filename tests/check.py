@@ -4,10 +4,10 @@ the line on the standard error and the exit code with what the check asks.
 
 usage: check.py [PROGRAM | --list | --validate]
 
-Without PROGRAM it is the one that `rt ci` or `rt run` leaves; where there is none, nothing is tested. `--list` prints
-the names of all worlds, with what is expected of them. `--validate` runs nothing: it holds all worlds to the schema,
-where python3 has the package `jsonschema`, and looks for rules without a world and for fields that no world has an id in.
-The exit code is 1 where something is wrong.
+Without PROGRAM it is the one that `rt ci` or `rt run` leaves. `--list` prints the names of all worlds, with what is
+expected of them. `--validate` runs nothing: it holds all worlds to the schema, where python3 has the package
+`jsonschema`, and looks for rules without a world and for fields that no world has an id in. The exit code is 1 where
+something is wrong, also where there is no program.
 
 The rows of the check stand in modules of their own: ids in `check_ids.py`, trees and jumps in `check_bodies.py`, whole
 types and agreement of rows in `check_rows.py`, layouts and tags in `check_layouts.py`. Several rows at once, goals and
@@ -30,13 +30,12 @@ from check_rows import AGREEMENT, WHOLE_TYPES
 from every_id import EVERY_ID
 from faults import show
 from id_places import SCHEMA, ids_of_world, slots_with_ids
+from running import PROGRAM, SECONDS, THREADS
 
 try:
     from jsonschema import Draft202012Validator
 except ImportError:
     Draft202012Validator = None
-
-PROGRAM = Path(__file__).resolve().parent.parent / "crates" / "mirconst" / "out" / "mirconst"
 
 # The rows of the check, with their rules, in the order in which they are tested.
 ROWS = {
@@ -51,9 +50,6 @@ ROWS = {
 
 # The exit codes: every goal has a value, some goal has none, no world, a world that fails the check.
 VALUES, ERRORS, NOT_A_WORLD, BAD_WORLD = 0, 1, 4, 5
-
-THREADS = 3
-SECONDS = 60
 
 
 @dataclass(frozen=True)
@@ -161,9 +157,9 @@ def main():
     if words == ["--validate"]:
         return report(list(faults_of_worlds(cases)), cases, "looked at")
     program = Path(words[0]).resolve() if words else PROGRAM
-    if not program.exists():
-        print("check: skipped, as the program is not built here")
-        return 0
+    if not program.is_file():
+        print(f"check: there is no program {program}")
+        return 1
     return report(faults_of_runs(program, cases), cases, "run")
 
 

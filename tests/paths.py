@@ -5,8 +5,8 @@ read or refused, as their folder says.
 
 usage: paths.py [PROGRAM]
 
-Without PROGRAM it is the one that `rt ci` or `rt run` leaves; where there is none, nothing is tested. The
-last line says how many tests passed and failed, and the exit code is 1 where some failed.
+Without PROGRAM it is the one that `rt ci` or `rt run` leaves. The last line says how many tests passed and
+failed, and the exit code is 1 where some failed, also where there is no program.
 """
 
 import json
@@ -21,9 +21,8 @@ from typing import Optional
 
 from faults import show
 from input_types import Input
+from running import PROGRAM, ROOT, SECONDS, THREADS
 
-ROOT = Path(__file__).resolve().parent.parent
-PROGRAM = ROOT / "crates" / "mirconst" / "out" / "mirconst"
 SCHEMA = ROOT / "schema" / "world.schema.json"
 EXAMPLES = ROOT / "schema" / "examples"
 SAMPLE = ROOT / "crates" / "mirconst" / "stdin"
@@ -34,9 +33,6 @@ VALUES, ERRORS, NOT_A_WORLD, BAD_WORLD = 0, 1, 4, 5
 # A key of the whole input that no field has. All else is read before it, so it is the place that is named
 # just where all else fits.
 EXTRA = "~"
-
-THREADS = 3
-SECONDS = 60
 
 
 @dataclass(frozen=True)
@@ -215,9 +211,9 @@ def main():
     if len(sys.argv) > 2:
         sys.exit("usage: paths.py [PROGRAM]")
     program = Path(sys.argv[1]).resolve() if len(sys.argv) == 2 else PROGRAM
-    if not program.exists():
-        print("paths: skipped, as the program is not built here")
-        return 0
+    if not program.is_file():
+        print(f"paths: there is no program {program}")
+        return 1
     root = Input(json.loads(SCHEMA.read_text(encoding="utf-8"))).root
     answers = list(answers_of(program, root))
     faults = [f"{name}: {answer}" for name, answer in answers if answer]

@@ -1,19 +1,16 @@
-//! Runs of the program over bytes in memory.
+//! What the cases in `tests` can't reach: runs whose reads and writes fail, the machine alone, a body that
+//! is checked by itself, texts that no run writes yet, and the adapters over `std`.
 #![tactic(auto)]
 
 #[cfg(test)]
-mod blocks;
+mod bodies;
 #[cfg(test)]
-mod integers;
+mod examples;
+#[cfg(test)]
+mod goal_texts;
 #[cfg(test)]
 mod machine;
 #[cfg(test)]
-mod operators;
+mod runs;
 #[cfg(test)]
-mod program;
-#[cfg(test)]
-mod refusals;
-#[cfg(test)]
-mod tests;
-#[cfg(test)]
-mod worlds;
+mod std_streams;

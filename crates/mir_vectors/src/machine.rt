@@ -1,3 +1,5 @@
+//! The machine by itself, without a source.
+
 use mir::{
     BasicBlock, BasicBlockId, BinOp, Local, LocalId, MirBody, MirSpan, Operand, OperandKind, Place,
     Rvalue, Statement, StatementKind, Terminator, TerminatorKind,

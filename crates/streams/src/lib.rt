@@ -17,6 +17,3 @@ pub use sink::Sink;
 pub use source::Source;
 pub use std_streams::{StdSink, StdSource};
 pub use steady::{SteadySink, SteadySource};
-
-#[cfg(test)]
-mod tests;

@@ -1,0 +1,193 @@
+//! The lines of answers that no run of the program gives yet, written by hand.
+
+use mir::{ConstEvalError, MirEvalError, MirSpan, TrailEntry};
+use mir_eval::MirOutput;
+use report_text::goal_text;
+use std::alloc::Global;
+use std::test::Fail;
+use world::{
+    BindingId, Box, Bytes, ComplexMemoryMap, Const, ConstId, ConstParamId, ConstParamRow,
+    DefWithBodyId, EnumVariantId, ExprId, FunctionId, HirDatabase, List, Map, MemoryMap,
+    Mutability, NoMemory, ParamConst, ParamTy, PatId, StaticId, Text, Ty, TypeParamId, UintTy,
+    ValueConst,
+};
+
+/// A list of one element.
+fn one<T: Drop>(alloc: Global, item: T) -> Result<List<T>, NoMemory> {
+    let mut items = List::new(alloc);
+    items.push(item)?;
+    Ok(items)
+}
+
+/// A list of two elements.
+fn two<T: Drop>(alloc: Global, first: T, second: T) -> Result<List<T>, NoMemory> {
+    let mut items = List::new(alloc);
+    items.push(first)?;
+    items.push(second)?;
+    Ok(items)
+}
+
+/// The const parameters: one with a name.
+fn const_param_rows(alloc: Global) -> Result<List<ConstParamRow>, NoMemory> {
+    let name = Text::from_str(alloc, "N")?;
+    one(
+        alloc,
+        ConstParamRow {
+            name,
+            ty: Ty::Uint(UintTy::Usize),
+        },
+    )
+}
+
+/// A world in which a type parameter and a const parameter have names.
+fn named_world(alloc: Global) -> Result<HirDatabase, NoMemory> {
+    let mut db = HirDatabase::new(alloc);
+    let name = Text::from_str(alloc, "T")?;
+    db.type_params = one(alloc, name)?;
+    db.const_params = const_param_rows(alloc)?;
+    Ok(db)
+}
+
+/// The lines of a goal that wrote nothing.
+fn lines_of(
+    alloc: Global,
+    db: &HirDatabase,
+    number: u64,
+    answer: &Result<Const, ConstEvalError>,
+    turns: u64,
+) -> Result<Bytes, NoMemory> {
+    let output = MirOutput::empty(alloc);
+    goal_text(alloc, db, number, answer, &output, turns)
+}
+
+/// Fails with the lines unless they were written.
+fn expect(written: &Bytes, lines: &'static str) -> Result<(), Fail> {
+    if written.as_slice() == lines.as_bytes() {
+        return Ok(());
+    }
+    Err(Fail::new(lines))
+}
+
+/// Fails with the lines unless a goal that wrote nothing has them.
+fn says(
+    alloc: Global,
+    number: u64,
+    answer: &Result<Const, ConstEvalError>,
+    turns: u64,
+    lines: &'static str,
+) -> Result<(), Fail> {
+    let db = named_world(alloc)?;
+    let written = lines_of(alloc, &db, number, answer, turns)?;
+    expect(&written, lines)
+}
+
+/// A const parameter, as a constant.
+fn param(id: u32) -> Const {
+    Const::Param(ParamConst {
+        id: ConstParamId(id),
+        index: 0,
+    })
+}
+
+/// Answers that are no values, one of which has no name in the world.
+fn no_values(alloc: Global) -> Result<(), Fail> {
+    says(alloc, 0, &Ok(param(0)), 0, "goal 0 value N\n  turns 0\n")?;
+    let unnamed = "goal 3 value {error}\n  turns 1\n";
+    says(alloc, 3, &Ok(param(1)), 1, unnamed)?;
+    let unknown = "goal 1 value {error}\n  turns 2\n";
+    says(alloc, 1, &Ok(Const::Error), 2, unknown)
+}
+
+/// Two entries and two table ids.
+fn two_of_each(alloc: Global) -> Result<MemoryMap, NoMemory> {
+    let vtable = two(alloc, Ty::Uint(UintTy::U8), Ty::Str)?;
+    let mut memory = Map::new(alloc);
+    let text = Bytes::from_slice(alloc, b"hi")?;
+    memory.insert(8192u64, text)?;
+    memory.insert(4096, Bytes::new(alloc))?;
+    Ok(MemoryMap::Complex(ComplexMemoryMap { memory, vtable }))
+}
+
+/// A value of the type `&str` that refers to this memory.
+fn referring(alloc: Global, memory_map: MemoryMap) -> Result<Const, NoMemory> {
+    let to = Box::new(alloc, Ty::Str)?;
+    let memory = Bytes::from_slice(alloc, &[0, 32])?;
+    Ok(Const::Value(ValueConst {
+        ty: Ty::Ref(to, Mutability::Not),
+        memory,
+        memory_map,
+    }))
+}
+
+/// Values that refer to memory: entries stand by rising addresses, and bytes alone at address 0.
+fn memory(alloc: Global) -> Result<(), Fail> {
+    let map = two_of_each(alloc)?;
+    let answer = referring(alloc, map)?;
+    let lines =
+        "goal 0 value &str 0020\n  turns 1\n  at 4096 -\n  at 8192 6869\n  table 1000 u8\n  table 1001 str\n";
+    says(alloc, 0, &Ok(answer), 1, lines)?;
+    let bytes = Bytes::from_slice(alloc, &[255, 0])?;
+    let answer = referring(alloc, MemoryMap::Simple(bytes))?;
+    says(
+        alloc,
+        0,
+        &Ok(answer),
+        1,
+        "goal 0 value &str 0020\n  turns 1\n  at 0 ff00\n",
+    )
+}
+
+/// A fault that names a type and has a quoted text.
+fn unsized_fault(alloc: Global) -> Result<MirEvalError, NoMemory> {
+    let param = ParamTy {
+        id: TypeParamId(0),
+        index: 0,
+    };
+    let text = Text::from_str(alloc, "a \"b\"\n\\")?;
+    let element = Box::new(alloc, Ty::Param(param))?;
+    Ok(MirEvalError::TypeIsUnsized(Ty::Slice(element), text))
+}
+
+/// A fault inside two frames.
+fn framed(
+    alloc: Global,
+    first: TrailEntry,
+    second: TrailEntry,
+) -> Result<ConstEvalError, NoMemory> {
+    let fault = unsized_fault(alloc)?;
+    let inner = Box::new(alloc, fault)?;
+    let trail = two(alloc, first, second)?;
+    Ok(ConstEvalError::MirEvalError(MirEvalError::InFunction(inner, trail)))
+}
+
+/// A frame.
+fn entry(span: MirSpan, caller: DefWithBodyId) -> TrailEntry {
+    TrailEntry { span, caller }
+}
+
+/// Faults that passed through frames.
+fn frames(alloc: Global) -> Result<(), Fail> {
+    let function = DefWithBodyId::FunctionId(FunctionId(2));
+    let of_static = DefWithBodyId::StaticId(StaticId(1));
+    let first = entry(MirSpan::ExprId(ExprId(4)), function);
+    let second = entry(MirSpan::Unknown, of_static);
+    let fault = framed(alloc, first, second)?;
+    let lines =
+        "goal 2 error eval InFunction(TypeIsUnsized([T], \"a \\\"b\\\"\\n\\\\\"), [expr#4 of fn#2, unknown of static#1])\n  turns 5\n";
+    says(alloc, 2, &Err(fault), 5, lines)?;
+    let constant = DefWithBodyId::ConstId(ConstId(0));
+    let variant = DefWithBodyId::VariantId(EnumVariantId(9));
+    let first = entry(MirSpan::PatId(PatId(3)), constant);
+    let second = entry(MirSpan::BindingId(BindingId(6)), variant);
+    let fault = framed(alloc, first, second)?;
+    let lines =
+        "goal 0 error eval InFunction(TypeIsUnsized([T], \"a \\\"b\\\"\\n\\\\\"), [pat#3 of const#0, binding#6 of variant#9])\n  turns 1\n";
+    says(alloc, 0, &Err(fault), 1, lines)
+}
+
+#[test]
+fn answers_that_no_run_gives_have_lines(rt: HostRuntime) -> Result<(), Fail> {
+    no_values(rt.alloc())?;
+    memory(rt.alloc())?;
+    frames(rt.alloc())
+}

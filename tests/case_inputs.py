@@ -1,0 +1,130 @@
+"""Makes the inputs of cases from their rows: texts, trees, files, changes of the sample, bodies in Rust, and more."""
+
+import json
+
+from running import ROOT
+from rust_text import read
+from typed_bodies import SCALARS, body_row, world_of_bodies
+from worlds import (
+    USIZE,
+    WILD,
+    body,
+    closure,
+    closure_row,
+    const,
+    enum_row,
+    fn_def,
+    goal,
+    layout,
+    literal,
+    function,
+    static,
+    struct_row,
+    variant_row,
+    world,
+)
+
+SAMPLE = ROOT / "crates" / "mirconst" / "stdin"
+MOST_BYTES = 67108864
+
+
+class BadCase(Exception):
+    """A row that is no case."""
+
+
+def bytes_of(text):
+    """The bytes of a text, in which a lone surrogate such as `\\udcff` stands for the byte `ff`, which is no UTF-8."""
+    return text.encode("utf-8", "surrogateescape")
+
+
+def json_of(tree):
+    """The text of a JSON tree."""
+    return json.dumps(tree, ensure_ascii=False, separators=(",", ":"))
+
+
+def sample_with(changes):
+    """The sample, in which the first text of each pair, which it has, is the second one."""
+    text = SAMPLE.read_text(encoding="utf-8")
+    for old, new in changes:
+        if old not in text:
+            raise BadCase(f"the sample has no {old}")
+        text = text.replace(old, new, 1)
+    return text
+
+
+def file_of(name):
+    """A file of the repository."""
+    return (ROOT / name).read_text(encoding="utf-8")
+
+
+def nested(parts):
+    """So many arrays, each in the one before, between two texts."""
+    front, depth, back = parts
+    return f"{front}{'[' * depth}{']' * depth}{back}"
+
+
+def blanks(more):
+    """As many blanks as an input may have, and so many more."""
+    return " " * (MOST_BYTES + more)
+
+
+def padded(count):
+    """The sample with so many blanks behind it."""
+    return sample_with([]) + " " * count
+
+
+# A world with a name of each sort, for the texts of types and constants. Its last constant is the goal: a number, in
+# a body that has a binding besides.
+NAMES = {
+    "functions": [function(name="run")],
+    "consts": [const(name="LIMIT"), const(), const(name="GOAL", body=0)],
+    "statics": [static(name="COUNT")],
+    "structs": [{**struct_row(), "name": "Pair"}],
+    "unions": [{**struct_row(), "name": "Bits"}],
+    "enums": [{**enum_row(0), "name": "Shape"}],
+    "variants": [variant_row(name="Round")],
+    "traits": ["Draw", "Send"],
+    "aliases": ["Item", "Output"],
+    "type_params": ["T", "U"],
+    "const_params": [{"name": "N", "ty": USIZE}],
+    "closures": [closure_row({"ConstId": 2}, 2)],
+}
+
+
+def with_binding(ty):
+    """A world in which a run misses the layout of a type, so that its report has the type's text."""
+    exprs = [literal(2), literal(2), closure(inside=1)]
+    row = body(exprs, bindings=1, root=0, found={"binding_types": [ty]})
+    return json_of(world([goal({"ConstId": 2})], **NAMES, bodies=[row], layouts=[[USIZE, layout(8, 8)]]))
+
+
+def with_root(root):
+    """A world whose goal is this expression. Besides, its body has the numbers 2 and 2 as expressions 0 and 1, a
+    pattern for anything, a variable and a label."""
+    exprs = [literal(2), literal(2), root]
+    row = body(exprs, [WILD], bindings=1, found={"copy_types": [USIZE]}, labels=["'a"])
+    return json_of(world([goal({"ConstId": 0})], consts=[const(body=0)], bodies=[row], layouts=[[USIZE, layout(8, 8)]]))
+
+
+def source_world(row):
+    """A world of one constant, whose body is written in Rust, and whose run may have a limit on blocks."""
+    copy_types = SCALARS if row.get("copies", True) else []
+    made = world_of_bodies([(body_row(read(row["source"]), row["type"], copy_types), row["type"])])
+    if "blocks" in row:
+        made["goals"][0]["limits"] = {"blocks": row["blocks"], "nesting": 100, "bytes": 1000000}
+    return json_of(made)
+
+
+# The keys of a row that tell its input, with what makes the text of the input.
+INPUTS = {
+    "text": lambda row: row["text"],
+    "input": lambda row: json_of(row["input"]),
+    "file": lambda row: file_of(row["file"]),
+    "sample": lambda row: sample_with(row["sample"]),
+    "nested": lambda row: nested(row["nested"]),
+    "blanks": lambda row: blanks(row["blanks"]),
+    "padded": lambda row: padded(row["padded"]),
+    "root": lambda row: with_root(row["root"]),
+    "unplaced": lambda row: with_binding(row["unplaced"]),
+    "source": source_world,
+}

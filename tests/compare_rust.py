@@ -1,0 +1,105 @@
+#!/usr/bin/env python3
+"""Compares the expected values of cases with what Rust itself gives, where there is `rustc`.
+
+usage: compare_rust.py
+
+The tables of operators and the texts of types are compared with what the programs in `rust_programs` print. Each case
+in `cases` whose values come from `Rust` is compiled as the body of a function, and its value or its panic is compared.
+Rust checks for overflow here. The exit code is 1 where something differs.
+"""
+
+import re
+import shutil
+import subprocess
+import sys
+import tempfile
+from collections import Counter
+from pathlib import Path
+
+from case_files import CASES, RUST, all_rows
+from case_inputs import json_of
+from faults import show
+from running import ROOT
+
+PROGRAMS = Path(__file__).resolve().parent / "rust_programs"
+TYPES = PROGRAMS / "types.rs"
+OPTIONS = ["--edition", "2024", "-C", "overflow-checks=on"]
+
+# What stands around the sources of cases. A case's line is its number and the bytes of its value, or `panic`.
+FRONT = """#![allow(arithmetic_overflow, path_statements, unconditional_panic, unused)]
+trait Bytes { fn text(self) -> String; }
+macro_rules! integers { ($($ty:ident)*) => { $(impl Bytes for $ty {
+    fn text(self) -> String { self.to_le_bytes().iter().map(|byte| format!("{byte:02x}")).collect() }
+})* }; }
+integers!(i8 i16 i32 i64 i128 isize u8 u16 u32 u64 u128 usize);
+impl Bytes for bool { fn text(self) -> String { (self as u8).text() } }
+impl Bytes for () { fn text(self) -> String { "-".to_string() } }
+fn show<T: Bytes>(number: usize, run: fn() -> T) {
+    println!("{number} {}", std::panic::catch_unwind(run).map_or("panic".to_string(), Bytes::text));
+}
+fn main() {
+std::panic::set_hook(Box::new(|_| {}));
+"""
+
+
+def output_of(source, folder):
+    """Builds a Rust program and runs it. The answer has the lines that it prints."""
+    program = Path(folder) / source.stem
+    subprocess.run(["rustc", *OPTIONS, "-A", "warnings", "-o", program, source], check=True)
+    return subprocess.run([program], capture_output=True, check=True, text=True).stdout.splitlines()
+
+
+def faults_of_operators(folder):
+    """Rows of the tables that Rust doesn't print, and the other way around."""
+    printed = output_of(PROGRAMS / "operators.rs", folder)
+    rows = [row for path in (CASES / "operators").glob("*.tsv") for row in path.read_text(encoding="utf-8").splitlines()]
+    yield from (f"operators: Rust gives {row!r}" for row in sorted(set(printed) - set(rows)))
+    yield from (f"operators: Rust doesn't give {row!r}" for row in sorted(set(rows) - set(printed)))
+    yield from (f"operators: {row!r} stands twice" for row, count in Counter(rows).items() if count > 1)
+
+
+def faults_of_types(folder, rows):
+    """Texts of types that Rust doesn't print."""
+    printed = set(output_of(TYPES, folder))
+    named = [row["written"] for row in rows if row["from"] == str(TYPES.relative_to(ROOT))]
+    yield from (f"types: Rust doesn't write {text!r}" for text in named if text not in printed)
+
+
+def program_of(rows):
+    """A Rust program that shows the values of the sources of these rows."""
+    calls = [f"show::<{row['type']}>({number}, || {row['source']});" for number, row in enumerate(rows)]
+    return "\n".join([FRONT, *calls, "}", ""])
+
+
+def wanted(row):
+    """What Rust has to give where the answer of a row is right: the bytes of its value, or `panic`."""
+    found = re.fullmatch(r"value \S+ (\S+)", row["answer"])
+    return found.group(1) if found else "panic"
+
+
+def faults_of_sources(folder, rows):
+    """Cases whose values differ from those of Rust."""
+    rows = [row for row in rows if row["from"] == RUST]
+    source = Path(folder) / "sources.rs"
+    source.write_text(program_of(rows), encoding="utf-8")
+    for line, (number, row) in zip(output_of(source, folder), enumerate(rows), strict=True):
+        if line != f"{number} {wanted(row)}":
+            yield f"{row['name']}: Rust gives {line.partition(' ')[2]}, and not {wanted(row)}: {json_of(row)}"
+
+
+def main():
+    if len(sys.argv) > 1:
+        sys.exit("usage: compare_rust.py")
+    if shutil.which("rustc") is None:
+        print("rust: skipped, as there is no rustc here")
+        return 0
+    rows = [row for _, row in all_rows()]
+    with tempfile.TemporaryDirectory() as folder:
+        faults = [*faults_of_operators(folder), *faults_of_types(folder, rows), *faults_of_sources(folder, rows)]
+    show("rust", faults)
+    print(f"rust: {len(faults)} faults")
+    return 1 if faults else 0
+
+
+if __name__ == "__main__":
+    sys.exit(main())

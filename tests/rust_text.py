@@ -1,0 +1,168 @@
+"""Reads bodies that are written in Rust: numbers, truth values, names, operators, blocks, `let`, and assignments.
+
+A body is read as a tree of tuples, the first part of which says what it is:
+
+    ("number", digits, suffix or None)      ("truth", bool)             ("path", name)
+    ("unary", operator, operand)            ("binary", operator, left, right)
+    ("assign", operator or None, target, value)                         ("block", statements, tail or None)
+
+An operator is one of the worlds' JSON, as `{"ArithOp": "Add"}`. A statement is one of
+
+    ("let", name, type or None, initializer or None, block of `else` or None)        ("expr", expression)
+"""
+
+import re
+
+ARITHMETIC = {"+": "Add", "-": "Sub", "*": "Mul", "/": "Div", "%": "Rem", "<<": "Shl", ">>": "Shr",
+              "&": "BitAnd", "|": "BitOr", "^": "BitXor"}
+COMPARISONS = {
+    "==": {"Eq": {"negated": False}},
+    "!=": {"Eq": {"negated": True}},
+    "<": {"Ord": {"ordering": "Less", "strict": True}},
+    "<=": {"Ord": {"ordering": "Less", "strict": False}},
+    ">": {"Ord": {"ordering": "Greater", "strict": True}},
+    ">=": {"Ord": {"ordering": "Greater", "strict": False}},
+}
+LOGIC = {"&&": "And", "||": "Or"}
+UNARY = {"-": "Neg", "!": "Not", "*": "Deref"}
+
+# Which operators bind as strongly as one another, from the weakest to the strongest.
+LEVELS = (("||",), ("&&",), tuple(COMPARISONS), ("|",), ("^",), ("&",), ("<<", ">>"), ("+", "-"), ("*", "/", "%"))
+
+TOKEN = re.compile(
+    r"\s*(\d+(?:[iu](?:8|16|32|64|128|size))?|[A-Za-z_]\w*|<<=|>>=|&&|\|\||<<|>>|[-+*/%&|^=!<>]=|[-+*/%&|^=!<>(){};:])"
+)
+
+
+class NoBody(Exception):
+    """A text that is no body of these forms, or one whose types don't fit."""
+
+
+def operator_of(token):
+    """The operator of two operands, as JSON."""
+    if token in ARITHMETIC:
+        return {"ArithOp": ARITHMETIC[token]}
+    return {"LogicOp": LOGIC[token]} if token in LOGIC else {"CmpOp": COMPARISONS[token]}
+
+
+def tokens_of(text):
+    """The words and signs of a text, and an empty one at its end."""
+    tokens, place = [], 0
+    while text[place:].strip():
+        found = TOKEN.match(text, place)
+        if found is None:
+            raise NoBody(f"no token at {text[place:]!r}")
+        tokens.append(found.group(1))
+        place = found.end()
+    return [*tokens, ""]
+
+
+class Reader:
+    """Goes through the tokens of a body."""
+
+    def __init__(self, text):
+        self.tokens, self.place = tokens_of(text), 0
+
+    def next(self):
+        """The next token, which isn't taken."""
+        return self.tokens[self.place]
+
+    def take(self, *wanted):
+        """Takes the next token, where it is one of those that are wanted. The answer is the token, or nothing."""
+        token = self.next()
+        if token == "" or (wanted and token not in wanted):
+            return None
+        self.place += 1
+        return token
+
+    def need(self, *wanted):
+        """Takes the next token, which has to be one of these."""
+        token = self.take(*wanted)
+        if token is None:
+            raise NoBody(f"{self.next()!r} stands where {' or '.join(wanted) or 'a token'} is wanted")
+        return token
+
+    def body(self):
+        """The whole text as one expression."""
+        tree = self.expr()
+        if self.next() != "":
+            raise NoBody(f"{self.next()!r} stands after the end")
+        return tree
+
+    def expr(self):
+        """An expression, which may be an assignment."""
+        left = self.operation(0)
+        if self.take("="):
+            return ("assign", None, left, self.expr())
+        token = self.take(*(f"{sign}=" for sign in ARITHMETIC))
+        return left if token is None else ("assign", ARITHMETIC[token[:-1]], left, self.expr())
+
+    def operation(self, level):
+        """An expression of operators that bind at least as strongly as those of the level."""
+        if level == len(LEVELS):
+            return self.operand()
+        left = self.operation(level + 1)
+        while (token := self.take(*LEVELS[level])) is not None:
+            left = ("binary", operator_of(token), left, self.operation(level + 1))
+        return left
+
+    def operand(self):
+        """An expression without operators of two operands."""
+        if self.next() == "{":
+            return self.block()
+        token = self.need()
+        if token in UNARY:
+            return ("unary", UNARY[token], self.operand())
+        if token == "(":
+            inside = self.expr()
+            self.need(")")
+            return inside
+        if token in ("true", "false"):
+            return ("truth", token == "true")
+        if token[0].isdigit():
+            digits, suffix = re.fullmatch(r"(\d+)(\w*)", token).groups()
+            return ("number", digits, suffix or None)
+        if token[0].isalpha() or token[0] == "_":
+            return ("path", token)
+        raise NoBody(f"{token!r} stands where an expression is wanted")
+
+    def block(self):
+        """Statements and a tail in braces."""
+        self.need("{")
+        statements, tail = [], None
+        while not self.take("}"):
+            if tail is not None:
+                raise NoBody(f"{self.next()!r} stands after the tail of a block")
+            if self.take("let"):
+                statements.append(self.let())
+                continue
+            found = self.expr()
+            if self.take(";") or (found[0] == "block" and self.next() != "}"):
+                statements.append(("expr", found))
+            else:
+                tail = found
+        return ("block", statements, tail)
+
+    def let(self):
+        """What follows `let`, with the semicolon."""
+        name, initializer, other = self.need(), None, None
+        ty = self.type() if self.take(":") else None
+        if self.take("="):
+            initializer = self.expr()
+        if self.take("else"):
+            other = self.block()
+        self.need(";")
+        return ("let", name, ty, initializer, other)
+
+    def type(self):
+        """A type: its name, or `()`."""
+        token = self.need()
+        if token == "(":
+            self.need(")")
+            return "()"
+        return token
+
+
+def read(text):
+    """The tree of a body."""
+    return Reader(text).body()

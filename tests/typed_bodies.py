@@ -1,0 +1,184 @@
+"""Makes the typed bodies of a world from the trees that `rust_text.py` reads.
+
+Types are found as Rust finds them: a literal without a suffix has the type that its uses ask for, and `i32` where none
+does. A block without a tail may have any type that is asked for, as where its end isn't reached.
+"""
+
+from rust_text import NoBody
+from worlds import (
+    BOOL,
+    INTEGER_SIZES,
+    UNIT,
+    assignment,
+    bind,
+    block,
+    const,
+    expr_pat,
+    filled,
+    goal,
+    integer,
+    let_statement,
+    path,
+    sized,
+    statement,
+    world,
+)
+
+INTEGERS = {name.lower(): integer(name) for name in INTEGER_SIZES}
+TYPES = {**INTEGERS, "bool": BOOL, "()": UNIT}
+LAYOUTS = [*(sized(integer(name), size) for name, size in INTEGER_SIZES.items()), sized(BOOL, 1), sized(UNIT, 0)]
+SCALARS = [BOOL, *INTEGERS.values()]
+
+SHIFTS = ("Shl", "Shr")
+
+
+class Unknown:
+    """A type that isn't known yet, which may have to be an integer."""
+
+    def __init__(self, is_integer=False):
+        self.is_integer, self.known = is_integer, None
+
+
+def known(ty):
+    """What is known of a type: its name, or the last of the types that it is the same as."""
+    while isinstance(ty, Unknown) and ty.known is not None:
+        ty = ty.known
+    return ty
+
+
+def same(left, right):
+    """Makes two types the same one."""
+    left, right = known(left), known(right)
+    if left is right or left == right:
+        return
+    if not isinstance(left, Unknown):
+        left, right = right, left
+    if not isinstance(left, Unknown) or (left.is_integer and isinstance(right, str) and right not in INTEGERS):
+        raise NoBody(f"{left} and {right} are two types")
+    if isinstance(right, Unknown):
+        right.is_integer = right.is_integer or left.is_integer
+    left.known = right
+
+
+def settled(ty):
+    """The JSON of a type, once nothing more is learned of it."""
+    ty = known(ty)
+    return TYPES[("i32" if ty.is_integer else "()") if isinstance(ty, Unknown) else ty]
+
+
+def literal_of(digits, suffix):
+    """A number's literal: unsigned where its suffix is, or where it is too great for a signed one."""
+    name = suffix.capitalize() if suffix else None
+    is_unsigned = suffix.startswith("u") if suffix else int(digits) >= 2**127
+    return {"Literal": {"Uint" if is_unsigned else "Int": [digits, name]}}
+
+
+class Draft:
+    """A body that is made node by node, in the order in which its nodes have to stand."""
+
+    def __init__(self):
+        self.exprs, self.pats, self.bindings = [], [], []
+        self.expr_types, self.pat_types, self.binding_types = [], [], []
+        self.value_res, self.binding_modes = [], []
+        self.scopes = [{}]
+
+    def add(self, node, ty):
+        """Adds an expression. The answer is its id."""
+        self.exprs.append(node)
+        self.expr_types.append(ty)
+        return len(self.exprs) - 1
+
+    def add_pat(self, node, ty):
+        """Adds a pattern. The answer is its id."""
+        self.pats.append(node)
+        self.pat_types.append(ty)
+        return len(self.pats) - 1
+
+    def expr(self, tree, ty):
+        """Adds the expression of a tree, which is of this type. The answer is its id."""
+        return getattr(self, tree[0])(*tree[1:], ty)
+
+    def number(self, digits, suffix, ty):
+        same(ty, suffix or Unknown(is_integer=True))
+        return self.add(literal_of(digits, suffix), ty)
+
+    def truth(self, test, ty):
+        same(ty, "bool")
+        return self.add({"Literal": {"Bool": test}}, ty)
+
+    def path(self, name, ty):
+        """A name, which may be one that nothing has."""
+        found = next((scope[name] for scope in reversed(self.scopes) if name in scope), None)
+        place = self.add(path(name), ty)
+        if found is not None:
+            same(ty, self.binding_types[found])
+            self.value_res.append([place, {"LocalBinding": found}])
+        return place
+
+    def unary(self, op, operand, ty):
+        inside = self.expr(operand, ty)
+        return self.add({"UnaryOp": {"expr": inside, "op": op}}, ty)
+
+    def binary(self, op, left, right, ty):
+        operand = Unknown() if "CmpOp" in op else ty
+        amount = Unknown(is_integer=True) if op.get("ArithOp") in SHIFTS else operand
+        if "CmpOp" in op or "LogicOp" in op:
+            same(ty, "bool")
+        lhs = self.expr(left, operand)
+        rhs = self.expr(right, amount)
+        return self.add({"BinaryOp": {"lhs": lhs, "rhs": rhs, "op": op}}, ty)
+
+    def assign(self, op, target, assigned, ty):
+        same(ty, "()")
+        inside = Unknown()
+        lhs = self.expr(target, inside)
+        rhs = self.expr(assigned, inside)
+        if op is None:
+            return self.add(assignment(self.add_pat(expr_pat(lhs), inside), rhs), ty)
+        return self.add({"BinaryOp": {"lhs": lhs, "rhs": rhs, "op": {"Assignment": {"op": op}}}}, ty)
+
+    def block(self, statements, tail, ty):
+        self.scopes.append({})
+        inside = [self.statement(*parts) for parts in statements]
+        last = None if tail is None else self.expr(tail, ty)
+        self.scopes.pop()
+        return self.add(block(*inside, tail=last), ty)
+
+    def statement(self, form, *parts):
+        """A statement, which is no node."""
+        return statement(self.expr(parts[0], Unknown())) if form == "expr" else self.let(*parts)
+
+    def let(self, name, written, initializer, other):
+        """A `let`, whose name is known from here on."""
+        ty = Unknown() if written is None else written
+        value = None if initializer is None else self.expr(initializer, ty)
+        instead = None if other is None else self.expr(other, Unknown())
+        self.bindings.append({"name": name, "mode": "Unannotated"})
+        self.binding_types.append(ty)
+        self.scopes[-1][name] = len(self.bindings) - 1
+        pat = self.add_pat(bind(len(self.bindings) - 1), ty)
+        self.binding_modes.append([pat, "Move"])
+        return let_statement(pat, value, instead)
+
+    def row(self, copy_types):
+        """The row of the body, whose root is the last expression."""
+        kinds = ("expr_types", "pat_types", "binding_types")
+        types = {kind: [settled(ty) for ty in getattr(self, kind)] for kind in kinds}
+        nodes = filled(exprs=self.exprs, pats=self.pats, bindings=self.bindings)
+        names = {"value_res": self.value_res, "binding_modes": self.binding_modes}
+        found = filled(**types, **names, copy_types=copy_types)
+        return {"body": {**nodes, "body_expr": len(self.exprs) - 1}, "infer": found}
+
+
+def body_row(tree, ty, copy_types=SCALARS):
+    """The row of a body that is a tree, at a type, with the types that are listed as `Copy`."""
+    draft = Draft()
+    draft.expr(tree, ty)
+    return draft.row(copy_types)
+
+
+def world_of_bodies(bodies):
+    """An input in which each of these bodies, which stand with the names of their types, is a constant and a goal."""
+    consts = [const(TYPES[ty], name="GOAL", body=place) for place, (_, ty) in enumerate(bodies)]
+    goals = [goal({"ConstId": place}) for place in range(len(bodies))]
+    return world(goals, consts=consts, bodies=[row for row, _ in bodies], layouts=LAYOUTS)
