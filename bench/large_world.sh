@@ -4,14 +4,13 @@
 # usage: bench/large_world.sh [BYTES]
 set -eu
 here=$(cd "$(dirname "$0")" && pwd)
-crate=$here/../crates/mirconst
-program=${MIRCONST:-$crate/out/mirconst}
+program=${MIRCONST:-$here/../crates/mirconst/out/mirconst}
 work=$(mktemp -d)
 trap 'rm -rf "$work"' EXIT
 
 # Proves and builds the program, and runs it once on the sample of the repository. Where MIRCONST names
 # a program that is built already, that one is taken.
-if [ -z "${MIRCONST:-}" ] && ! (cd "$crate" && rt run < stdin > "$work/sample"); then
+if [ -z "${MIRCONST:-}" ] && ! bash "$here/../sample.sh" > "$work/sample"; then
     cat "$work/sample"
     exit 2
 fi

@@ -3,14 +3,13 @@
 # usage: bench/run.sh [N]
 set -eu
 here=$(cd "$(dirname "$0")" && pwd)
-crate=$here/../crates/mirconst
-program=$crate/out/mirconst
+program=$here/../crates/mirconst/out/mirconst
 count=${1:-10000}
 work=$(mktemp -d)
 trap 'rm -rf "$work"' EXIT
 
 # Proves and builds the program, and runs it once on the sample of the repository.
-if ! (cd "$crate" && rt run < stdin > "$work/sample"); then
+if ! bash "$here/../sample.sh" > "$work/sample"; then
     cat "$work/sample"
     exit 2
 fi
