@@ -1,3 +1,3 @@
-pub mod Reading
+pub mod Moving
 pub mod Refusing
 pub mod Standing

@@ -135,7 +135,7 @@ fn misfit_path(alloc: Global, i: u64) -> Result<Text, NoMemory>
 /// The world and the goals that bytes stand for, once the world has passed the check and the goals are
 /// in it.
 #[tactic(auto, using(crate::proofs::Standing::stands_for, crate::proofs::Refusing::tree_refused, crate::proofs::Refusing::check_refused, crate::proofs::Refusing::goal_refused))]
-pub fn input(alloc: Global, bytes: &[u8]) -> Result<(CheckedWorld, List<Goal>), Status>
+pub fn checked_input(alloc: Global, bytes: &[u8]) -> Result<(CheckedWorld, List<Goal>), Status>
     ensures stands { IfOk result (λ input. StandsFor bytes.now input.0 input.1) }
     ensures refused { IfErr result (λ status. IsOfInput bytes.now status) }
 {

@@ -7,7 +7,7 @@ mod reading;
 mod status;
 mod words;
 
-pub use input::{goals_fit, input};
+pub use input::{checked_input, goals_fit};
 pub use reading::read_input;
 pub use status::Status;
 pub use words::is_command;

@@ -22,7 +22,7 @@ fn piece(alloc: Global) -> Result<Vec<u8>, AllocError>
 }
 
 /// Reads some bytes and adds them at the end; how many they are.
-#[tactic(auto, using(crate::proofs::Reading::piece_moves, crate::proofs::Reading::ends, crate::proofs::Reading::takes_piece, crate::proofs::Reading::takes_none))]
+#[tactic(auto, using(crate::proofs::Moving::piece_moves, crate::proofs::Moving::ends, crate::proofs::Moving::takes_piece, crate::proofs::Moving::takes_none))]
 fn read_piece<S: Source>(src: &mut S, room: &mut [u8], bytes: &mut Vec<u8>) -> Result<usize, Status>
     requires { 0 < length room.old }
     ensures moves { OnOk result (Moves bytes.old.items (S.left src.old) bytes.new.items (S.left src.new)) }
@@ -44,7 +44,7 @@ fn read_piece<S: Source>(src: &mut S, room: &mut [u8], bytes: &mut Vec<u8>) -> R
 }
 
 /// Reads the input to its end, in pieces, and never past the first byte that is too many.
-#[tactic(auto, using(crate::proofs::Reading::read_to_end, crate::proofs::Reading::takes_few, crate::proofs::Reading::takes_more, crate::proofs::Reading::too_long, crate::proofs::Refusing::read_refused))]
+#[tactic(auto, using(crate::proofs::Moving::read_to_end, crate::proofs::Moving::takes_few, crate::proofs::Moving::takes_more, crate::proofs::Moving::too_long, crate::proofs::Refusing::read_refused))]
 pub fn read_input<S: Source>(alloc: Global, src: &mut S) -> Result<Vec<u8>, Status>
     ensures end { IfOk result (λ bytes. IsReadToEnd (S.left src.old) (S.left src.new) bytes.items) }
     ensures few { TakesFew (S.left src.old) (S.left src.new) }

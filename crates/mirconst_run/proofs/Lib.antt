@@ -1,5 +1,5 @@
 pub mod Answering
+pub mod Moving
 pub mod Reporting
 pub mod Running
 pub mod Stopping
-pub mod Writing

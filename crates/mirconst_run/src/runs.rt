@@ -9,7 +9,7 @@ ghost use Rattle.mirconst_input.specs.Words.{is_command};
 use crate::answers::{all_have_values, answers};
 use crate::report;
 use crate::writing::write_whole;
-use mirconst_input::{Status, input, is_command, read_input};
+use mirconst_input::{Status, checked_input, is_command, read_input};
 use std::alloc::Global;
 use streams::{Sink, Source};
 use world::Bytes;
@@ -27,7 +27,7 @@ fn answered(alloc: Global, bytes: &[u8]) -> Result<Output, Status>
     ensures reports { IfOk result (λ output. IsReportOf bytes.now output.text output.all) }
     ensures refused { IfErr result (λ status. IsOfInput bytes.now status) }
 {
-    let (world, goals) = input(alloc, bytes)?;
+    let (world, goals) = checked_input(alloc, bytes)?;
     let Ok(outcomes) = answers(alloc, &world, &goals) else {
         return Err(Status::NoMemory);
     };
@@ -55,7 +55,7 @@ fn answer_input<S: Source, K: Sink>(alloc: Global, src: &mut S, out: &mut K) -> 
 
 /// Runs the program: reads the world and its goals, evaluates the goals in order, and writes the report.
 /// The words are none, or `eval` alone.
-#[tactic(auto, using(crate::proofs::Stopping::stop_means, mirconst_input::proofs::Reading::takes_none))]
+#[tactic(auto, using(crate::proofs::Stopping::stop_means, mirconst_input::proofs::Moving::takes_none))]
 pub fn run<S: Source, K: Sink>(
     alloc: Global,
     words: &Vec<String>,

@@ -7,7 +7,7 @@ ghost use Rattle.streams.specs.Faults.{HasCause};
 use streams::{Failed, Sink};
 
 /// Writes all the bytes, piece by piece.
-#[tactic(auto, using(crate::proofs::Writing::all_written))]
+#[tactic(auto, using(crate::proofs::Moving::all_written))]
 pub(crate) fn write_whole<K: Sink>(out: &mut K, bytes: &[u8]) -> Result<(), Failed>
     ensures written { OnOk result (K.written out.new ≡ option_map (λ before. before ++ bytes.now) (K.written out.old)) }
     ensures begun { OnErr result (IsBegun bytes.now (K.written out.old) (K.written out.new)) }

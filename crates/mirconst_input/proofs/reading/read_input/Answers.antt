@@ -1,4 +1,4 @@
-use Rattle.mirconst_input.proofs.Reading.{too_long, takes_more}
+use Rattle.mirconst_input.proofs.Moving.{too_long, takes_more}
 use Rattle.mirconst_input.proofs.reading.read_input.Goals as goal
 use Rattle.std.proofs.lemmas.List.{length-take}
 use Rattle.std.proofs.Common.{arith}

@@ -1,6 +1,6 @@
 use Rattle.std.proofs.Common.{◌-◌, length, take, drop, arith}
 use Rattle.std.proofs.lemmas.List.{take_rest}
-use Rattle.mirconst_run.proofs.Writing.{more_written, still_within}
+use Rattle.mirconst_run.proofs.Moving.{more_written, still_within}
 use Rattle.mirconst_run.proofs.writing.write_whole.Goals as goal
 
 pub loop-done-preserved : goal.loop-done-preserved
