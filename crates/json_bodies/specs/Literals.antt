@@ -1,5 +1,5 @@
 -- Readers of literals.
-use Rattle.std.specs.Prelude.{Bool, [], ◌∷◌, Option, codes}
+use Rattle.std.specs.Prelude.{[], ◌∷◌, Option, codes}
 use Rattle.serde_json.specs.Data.{Data}
 use Rattle.world.specs.declared.literal.Literal.TheVariants as the_literal
 use Rattle.world.specs.declared.literal.Literal.{Literal}
