@@ -1,0 +1,139 @@
+// Each integer type at the ends of its range, in every way to write a number.
+
+const I8_LOW: i8 = -128;
+const I8_HIGH: i8 = 127;
+const I8_HEX: i8 = 0x55;
+const I8_SUFFIX: i8 = 0b101_i8 + 0o17_i8 + 1_0i8;
+const I8_NEXT_TO_LOW: i8 = -128 + 1;
+const I8_NEXT_TO_HIGH: i8 = 127 - 1;
+const I8_ALL_BITS: i8 = !0;
+const I8_TOP_BIT: i8 = 1 << 7;
+const I8_MINUS_ONE: i8 = -1;
+const I8_LOW_BY_SUM: i8 = -127 - 1;
+const I8_TWICE_NEGATED: i8 = -(-127);
+
+const I16_LOW: i16 = -32768;
+const I16_HIGH: i16 = 32767;
+const I16_HEX: i16 = 0x5555;
+const I16_SUFFIX: i16 = 0b101_i16 + 0o17_i16 + 1_0i16;
+const I16_NEXT_TO_LOW: i16 = -32768 + 1;
+const I16_NEXT_TO_HIGH: i16 = 32767 - 1;
+const I16_ALL_BITS: i16 = !0;
+const I16_TOP_BIT: i16 = 1 << 15;
+const I16_MINUS_ONE: i16 = -1;
+const I16_LOW_BY_SUM: i16 = -32767 - 1;
+const I16_TWICE_NEGATED: i16 = -(-32767);
+
+const I32_LOW: i32 = -2147483648;
+const I32_HIGH: i32 = 2147483647;
+const I32_HEX: i32 = 0x55555555;
+const I32_SUFFIX: i32 = 0b101_i32 + 0o17_i32 + 1_0i32;
+const I32_NEXT_TO_LOW: i32 = -2147483648 + 1;
+const I32_NEXT_TO_HIGH: i32 = 2147483647 - 1;
+const I32_ALL_BITS: i32 = !0;
+const I32_TOP_BIT: i32 = 1 << 31;
+const I32_MINUS_ONE: i32 = -1;
+const I32_LOW_BY_SUM: i32 = -2147483647 - 1;
+const I32_TWICE_NEGATED: i32 = -(-2147483647);
+
+const I64_LOW: i64 = -9223372036854775808;
+const I64_HIGH: i64 = 9223372036854775807;
+const I64_HEX: i64 = 0x5555555555555555;
+const I64_SUFFIX: i64 = 0b101_i64 + 0o17_i64 + 1_0i64;
+const I64_NEXT_TO_LOW: i64 = -9223372036854775808 + 1;
+const I64_NEXT_TO_HIGH: i64 = 9223372036854775807 - 1;
+const I64_ALL_BITS: i64 = !0;
+const I64_TOP_BIT: i64 = 1 << 63;
+const I64_MINUS_ONE: i64 = -1;
+const I64_LOW_BY_SUM: i64 = -9223372036854775807 - 1;
+const I64_TWICE_NEGATED: i64 = -(-9223372036854775807);
+
+const I128_LOW: i128 = -170141183460469231731687303715884105728;
+const I128_HIGH: i128 = 170141183460469231731687303715884105727;
+const I128_HEX: i128 = 0x55555555555555555555555555555555;
+const I128_SUFFIX: i128 = 0b101_i128 + 0o17_i128 + 1_0i128;
+const I128_NEXT_TO_LOW: i128 = -170141183460469231731687303715884105728 + 1;
+const I128_NEXT_TO_HIGH: i128 = 170141183460469231731687303715884105727 - 1;
+const I128_ALL_BITS: i128 = !0;
+const I128_TOP_BIT: i128 = 1 << 127;
+const I128_MINUS_ONE: i128 = -1;
+const I128_LOW_BY_SUM: i128 = -170141183460469231731687303715884105727 - 1;
+const I128_TWICE_NEGATED: i128 = -(-170141183460469231731687303715884105727);
+
+const ISIZE_LOW: isize = -9223372036854775808;
+const ISIZE_HIGH: isize = 9223372036854775807;
+const ISIZE_HEX: isize = 0x5555555555555555;
+const ISIZE_SUFFIX: isize = 0b101_isize + 0o17_isize + 1_0isize;
+const ISIZE_NEXT_TO_LOW: isize = -9223372036854775808 + 1;
+const ISIZE_NEXT_TO_HIGH: isize = 9223372036854775807 - 1;
+const ISIZE_ALL_BITS: isize = !0;
+const ISIZE_TOP_BIT: isize = 1 << 63;
+const ISIZE_MINUS_ONE: isize = -1;
+const ISIZE_LOW_BY_SUM: isize = -9223372036854775807 - 1;
+const ISIZE_TWICE_NEGATED: isize = -(-9223372036854775807);
+
+const U8_LOW: u8 = 0;
+const U8_HIGH: u8 = 255;
+const U8_HEX: u8 = 0xaa;
+const U8_SUFFIX: u8 = 0b101_u8 + 0o17_u8 + 1_0u8;
+const U8_NEXT_TO_LOW: u8 = 0 + 1;
+const U8_NEXT_TO_HIGH: u8 = 255 - 1;
+const U8_ALL_BITS: u8 = !0;
+const U8_TOP_BIT: u8 = 1 << 7;
+const U8_HALF: u8 = 255 / 2;
+const U8_SQUARE: u8 = 15 * 15;
+
+const U16_LOW: u16 = 0;
+const U16_HIGH: u16 = 65535;
+const U16_HEX: u16 = 0xaaaa;
+const U16_SUFFIX: u16 = 0b101_u16 + 0o17_u16 + 1_0u16;
+const U16_NEXT_TO_LOW: u16 = 0 + 1;
+const U16_NEXT_TO_HIGH: u16 = 65535 - 1;
+const U16_ALL_BITS: u16 = !0;
+const U16_TOP_BIT: u16 = 1 << 15;
+const U16_HALF: u16 = 65535 / 2;
+const U16_SQUARE: u16 = 255 * 255;
+
+const U32_LOW: u32 = 0;
+const U32_HIGH: u32 = 4294967295;
+const U32_HEX: u32 = 0xaaaaaaaa;
+const U32_SUFFIX: u32 = 0b101_u32 + 0o17_u32 + 1_0u32;
+const U32_NEXT_TO_LOW: u32 = 0 + 1;
+const U32_NEXT_TO_HIGH: u32 = 4294967295 - 1;
+const U32_ALL_BITS: u32 = !0;
+const U32_TOP_BIT: u32 = 1 << 31;
+const U32_HALF: u32 = 4294967295 / 2;
+const U32_SQUARE: u32 = 65535 * 65535;
+
+const U64_LOW: u64 = 0;
+const U64_HIGH: u64 = 18446744073709551615;
+const U64_HEX: u64 = 0xaaaaaaaaaaaaaaaa;
+const U64_SUFFIX: u64 = 0b101_u64 + 0o17_u64 + 1_0u64;
+const U64_NEXT_TO_LOW: u64 = 0 + 1;
+const U64_NEXT_TO_HIGH: u64 = 18446744073709551615 - 1;
+const U64_ALL_BITS: u64 = !0;
+const U64_TOP_BIT: u64 = 1 << 63;
+const U64_HALF: u64 = 18446744073709551615 / 2;
+const U64_SQUARE: u64 = 4294967295 * 4294967295;
+
+const U128_LOW: u128 = 0;
+const U128_HIGH: u128 = 340282366920938463463374607431768211455;
+const U128_HEX: u128 = 0xaaaaaaaaaaaaaaaaaaaaaaaaaaaaaaaa;
+const U128_SUFFIX: u128 = 0b101_u128 + 0o17_u128 + 1_0u128;
+const U128_NEXT_TO_LOW: u128 = 0 + 1;
+const U128_NEXT_TO_HIGH: u128 = 340282366920938463463374607431768211455 - 1;
+const U128_ALL_BITS: u128 = !0;
+const U128_TOP_BIT: u128 = 1 << 127;
+const U128_HALF: u128 = 340282366920938463463374607431768211455 / 2;
+const U128_SQUARE: u128 = 18446744073709551615 * 18446744073709551615;
+
+const USIZE_LOW: usize = 0;
+const USIZE_HIGH: usize = 18446744073709551615;
+const USIZE_HEX: usize = 0xaaaaaaaaaaaaaaaa;
+const USIZE_SUFFIX: usize = 0b101_usize + 0o17_usize + 1_0usize;
+const USIZE_NEXT_TO_LOW: usize = 0 + 1;
+const USIZE_NEXT_TO_HIGH: usize = 18446744073709551615 - 1;
+const USIZE_ALL_BITS: usize = !0;
+const USIZE_TOP_BIT: usize = 1 << 63;
+const USIZE_HALF: usize = 18446744073709551615 / 2;
+const USIZE_SQUARE: usize = 4294967295 * 4294967295;
