@@ -1,5 +1,6 @@
 pub mod Aligned
 pub mod Blocks
+pub mod Building
 pub mod Drops
 pub mod Growing
 pub mod Holding

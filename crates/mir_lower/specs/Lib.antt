@@ -8,3 +8,4 @@ pub mod Literals
 pub mod Lowered
 pub mod Refusals
 pub mod Simulates
+pub mod Built

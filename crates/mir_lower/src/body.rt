@@ -4,6 +4,7 @@ ghost use Rattle.std.specs.Prelude.{◌≡◌, false, [], IfOk, IfErr, OnOk};
 ghost use Rattle.source_meaning.specs.Source.{Source};
 ghost use Rattle.world.specs.Checked.{IsChecked, IsCheckedBody};
 ghost use Rattle.source_meaning.specs.Source.{root};
+ghost use Rattle.mir_lower.specs.Built.{IsBuilt};
 ghost use Rattle.mir_lower.specs.Contexts.{source_of};
 ghost use Rattle.mir_lower.specs.Refusals.{Refuses, RefusesAt, RefusesInferred, are_some_dropped, needs_drops};
 ghost use Rattle.mir_lower.specs.Simulates.{Simulates};
@@ -33,6 +34,7 @@ pub fn lower_to_mir(
     ensures owner { IfOk result (λ lowered. lowered.owner ≡ owner) }
     ensures errors { OnOk result ((infer.now.erroneous ≡ false) × (infer.now.mismatches ≡ [])) }
     ensures dropless { IfOk result (λ lowered. needs_drops (record { world = db.now; body = body.now; infer = infer.now }) lowered.locals ≡ false) }
+    ensures built { OnOk result (IsBuilt (record { world = db.now; body = body.now; infer = infer.now }) body.now.body_expr.0) }
     ensures refused { IfErr result (Refuses (record { world = db.now; body = body.now; infer = infer.now })) }
 {
     if infer.erroneous || !infer.mismatches.as_slice().is_empty() {
@@ -68,6 +70,7 @@ fn lower_inferred(context: &Context<'_>, owner: DefWithBodyId) -> Result<MirBody
     ensures simulates { IfOk result (Simulates (source_of context.now)) }
     ensures owner { IfOk result (λ lowered. lowered.owner ≡ owner) }
     ensures dropless { IfOk result (λ lowered. needs_drops (source_of context.now) lowered.locals ≡ false) }
+    ensures built { OnOk result (IsBuilt (source_of context.now) (root (source_of context.now))) }
     ensures refused { IfErr result (RefusesInferred (source_of context.now)) }
 {
     let lowered = lower_body(context, owner)?;
@@ -83,6 +86,7 @@ fn lower_body(context: &Context<'_>, owner: DefWithBodyId) -> Result<MirBody, Mi
     requires checked { IsCheckedBody context.now.body.now context.now.infer.now }
     ensures simulates { IfOk result (Simulates (source_of context.now)) }
     ensures owner { IfOk result (λ lowered. lowered.owner ≡ owner) }
+    ensures built { OnOk result (IsBuilt (source_of context.now) (root (source_of context.now))) }
     ensures refused { IfErr result (RefusesAt (source_of context.now) (root (source_of context.now))) }
 {
     let start = context.body.body_expr;

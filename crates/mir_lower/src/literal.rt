@@ -1,6 +1,6 @@
 //! Literals as operands.
 
-ghost use Rattle.std.specs.Prelude.{◌≡◌, ◌∷◌, [], ◌<◌, ◌≤◌, ℕ, take, length, IfOk, IfErr, Some, pos};
+ghost use Rattle.std.specs.Prelude.{◌≡◌, ◌∷◌, [], ◌<◌, ◌≤◌, ℕ, take, length, IfOk, IfErr, OnOk, Some, pos};
 ghost use Rattle.std.specs.Option.{option_copied};
 ghost use Rattle.numbers.specs.Bytes.{low_bytes};
 ghost use Rattle.source_meaning.specs.Meaning.{truth_byte};
@@ -13,6 +13,7 @@ ghost use Rattle.mir.specs.Run.{constant_bytes};
 ghost use Rattle.types.specs.declared.ty.Const.{Const};
 ghost use Rattle.mir_lower.specs.Contexts.{source_of};
 ghost use Rattle.mir_lower.specs.Literals.{IsConstantOf, IsNumberOf, IsLiteral};
+ghost use Rattle.mir_lower.specs.Built.{HasNumberLayout, IsBuiltLiteral};
 ghost use Rattle.mir_lower.specs.Refusals.{IsNumber, RefusesNode};
 ghost use Rattle.std.specs.Prelude.{codes, ◌⊎◌};
 
@@ -89,6 +90,7 @@ fn lower_number(context: &Context<'_>, e: ExprId, bytes: [u8; 16]) -> Result<Ope
     requires checked { IsCheckedBody context.now.body.now context.now.infer.now }
     requires number { IsNumber (node (source_of context.now) e.0) }
     ensures lowered { IfOk result (λ operand. IsNumberOf (source_of context.now) e.0 bytes operand.kind) }
+    ensures built { OnOk result (HasNumberLayout (source_of context.now) e.0) }
     ensures refused { IfErr result (RefusesNode (source_of context.now) e.0) }
 {
     let Some(ty) = node_ty(context, e) else {
@@ -126,6 +128,7 @@ pub(crate) fn lower_literal(
     requires checked { IsCheckedBody context.now.body.now context.now.infer.now }
     requires literal { node (source_of context.now) e.0 ≡ Some (expr.Literal literal.now) }
     ensures lowered { IfOk result (λ operand. IsLiteral (source_of context.now) e.0 literal.now operand.kind) }
+    ensures built { OnOk result (IsBuiltLiteral (source_of context.now) e.0 literal.now) }
     ensures refused { IfErr result (RefusesNode (source_of context.now) e.0) }
 {
     match literal {

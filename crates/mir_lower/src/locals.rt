@@ -12,6 +12,7 @@ ghost use Rattle.mir_lower.specs.Does.{local_of};
 ghost use Rattle.mir_lower.specs.Graph.{shape, with_statement};
 ghost use Rattle.mir_lower.specs.Growth.{IsSound, IsOpen, IsReady};
 ghost use Rattle.mir_lower.specs.Lowered.{IsGiven, IsNamed, Binds};
+ghost use Rattle.mir_lower.specs.Built.{BindsBinding, NamesBinding};
 ghost use Rattle.mir_lower.specs.Refusals.{RefusesNode, RefusesPattern};
 
 use crate::context::Context;
@@ -72,6 +73,7 @@ pub(crate) fn place_named(
     requires sound { IsSound (source_of context.now) (shape graph.now) }
     requires path { node (source_of context.now) e.0 ≡ Some (expr.Path name.now) }
     ensures lowered { IfOk result (λ place. IsNamed (source_of context.now) (shape graph.now) e.0 place.local.0) }
+    ensures built { OnOk result (NamesBinding (source_of context.now) e.0) }
     ensures refused { IfErr result (RefusesNode (source_of context.now) e.0) }
 {
     match context.infer.value_res.get(&e) {
@@ -153,6 +155,7 @@ pub(crate) fn bind(
     requires opened { IsOpen (shape graph.old) }
     ensures lowered { OnOk result ((cell : Cell) → local_of (shape graph.old) cell ≡ Some from.local.0
         → Binds (source_of context.now) (shape graph.old) (shape graph.new) pat.0 cell) }
+    ensures built { OnOk result (BindsBinding (source_of context.now) pat.0) }
     ensures refused { IfErr result (RefusesPattern (source_of context.now) pat.0) }
 {
     let Some(binding) = name_bound(context, pat) else {

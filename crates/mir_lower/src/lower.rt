@@ -12,7 +12,10 @@ ghost use Rattle.mir_lower.specs.Form.{HasForm, unary_of};
 ghost use Rattle.mir_lower.specs.Graph.{shape};
 ghost use Rattle.mir_lower.specs.Growth.{IsReady};
 ghost use Rattle.mir_lower.specs.Lowered.{IsPlaced, LowersInto, LowersPlace, LowersOperand, LowersStatements, LowersTail, IsStatementOf};
+ghost use Rattle.mir_lower.specs.Built.{IsBuilt, IsBuiltThrough};
 ghost use Rattle.mir_lower.specs.Refusals.{RefusesAt};
+ghost use Rattle.std.specs.Prelude.{All};
+ghost use Rattle.world.specs.Nodes.{optional};
 
 use crate::context::Context;
 use crate::form::{Form, form_at};
@@ -45,6 +48,7 @@ fn literal_into(
     requires form { node (source_of context.now) e.0 ≡ Some (expr.Literal literal.now) }
     ensures lowered { OnOk result ((cell : Cell) → local_of (shape graph.old) cell ≡ Some place.local.0
         → LowersInto (source_of context.now) (shape graph.old) (shape graph.new) e.0 cell) }
+    ensures built { OnOk result (IsBuilt (source_of context.now) e.0) }
     ensures refused { IfErr result (RefusesAt (source_of context.now) e.0) }
 {
     let operand = lower_literal(context, e, literal)?;
@@ -63,6 +67,7 @@ fn name_into(
     requires form { node (source_of context.now) e.0 ≡ Some (expr.Path name.now) }
     ensures lowered { OnOk result ((cell : Cell) → local_of (shape graph.old) cell ≡ Some place.local.0
         → LowersInto (source_of context.now) (shape graph.old) (shape graph.new) e.0 cell) }
+    ensures built { OnOk result (IsBuilt (source_of context.now) e.0) }
     ensures refused { IfErr result (RefusesAt (source_of context.now) e.0) }
 {
     let from = place_named(context, graph, e, name)?;
@@ -84,6 +89,7 @@ fn name_place(
     requires ready { IsReady (source_of context.now) (shape graph.now) e.0 }
     requires form { node (source_of context.now) e.0 ≡ Some (expr.Path name.now) }
     ensures lowered { IfOk result (λ place. LowersPlace (source_of context.now) (shape graph.now) (shape graph.now) e.0 place.local.0) }
+    ensures built { OnOk result (IsBuilt (source_of context.now) e.0) }
     ensures refused { IfErr result (RefusesAt (source_of context.now) e.0) }
 {
     place_named(context, graph, e, name)
@@ -98,6 +104,7 @@ pub(crate) fn lower_operand(
 ) -> Result<Operand, MirLowerError>
     requires { IsReady (source_of context.now) (shape graph.old) e.0 }
     ensures lowered { IfOk result (λ operand. LowersOperand (source_of context.now) (shape graph.old) (shape graph.new) e.0 operand.kind) }
+    ensures built { OnOk result (IsBuilt (source_of context.now) e.0) }
     ensures refused { IfErr result (RefusesAt (source_of context.now) e.0) }
 {
     match form_at(context, e) {
@@ -114,6 +121,7 @@ pub(crate) fn lower_operand(
 fn lower_place(context: &Context<'_>, graph: &mut Graph, e: ExprId) -> Result<Place, MirLowerError>
     requires { IsReady (source_of context.now) (shape graph.old) e.0 }
     ensures lowered { IfOk result (λ place. LowersPlace (source_of context.now) (shape graph.old) (shape graph.new) e.0 place.local.0) }
+    ensures built { OnOk result (IsBuilt (source_of context.now) e.0) }
     ensures refused { IfErr result (RefusesAt (source_of context.now) e.0) }
 {
     match form_at(context, e) {
@@ -128,6 +136,7 @@ fn lower_temp(context: &Context<'_>, graph: &mut Graph, e: ExprId) -> Result<Pla
     requires ready { IsReady (source_of context.now) (shape graph.old) e.0 }
     requires form { is_path (node (source_of context.now) e.0) ≡ false }
     ensures lowered { IfOk result (λ place. LowersPlace (source_of context.now) (shape graph.old) (shape graph.new) e.0 place.local.0) }
+    ensures built { OnOk result (IsBuilt (source_of context.now) e.0) }
     ensures refused { IfErr result (RefusesAt (source_of context.now) e.0) }
 {
     let place = new_temp(context, graph, e)?;
@@ -147,6 +156,7 @@ pub(crate) fn lower_into(
     requires placed { IsPlaced (shape graph.old) place.local.0 }
     ensures lowered { OnOk result ((cell : Cell) → local_of (shape graph.old) cell ≡ Some place.local.0
         → LowersInto (source_of context.now) (shape graph.old) (shape graph.new) e.0 cell) }
+    ensures built { OnOk result (IsBuilt (source_of context.now) e.0) }
     ensures refused { IfErr result (RefusesAt (source_of context.now) e.0) }
 {
     match form_at(context, e) {
@@ -174,6 +184,7 @@ fn lower_unary(
     requires form { node (source_of context.now) e.0 ≡ Some (expr.UnaryOp operand (unary_of op)) }
     ensures lowered { OnOk result ((cell : Cell) → local_of (shape graph.old) cell ≡ Some place.local.0
         → LowersInto (source_of context.now) (shape graph.old) (shape graph.new) e.0 cell) }
+    ensures built { OnOk result (IsBuilt (source_of context.now) e.0) }
     ensures refused { IfErr result (RefusesAt (source_of context.now) e.0) }
 {
     let value = lower_operand(context, graph, operand)?;
@@ -195,6 +206,7 @@ fn lower_binary(
     requires form { HasForm (node (source_of context.now) e.0) (form.Binary op lhs rhs) }
     ensures lowered { OnOk result ((cell : Cell) → local_of (shape graph.old) cell ≡ Some place.local.0
         → LowersInto (source_of context.now) (shape graph.old) (shape graph.new) e.0 cell) }
+    ensures built { OnOk result (IsBuilt (source_of context.now) e.0) }
     ensures refused { IfErr result (RefusesAt (source_of context.now) e.0) }
 {
     let left = lower_operand(context, graph, lhs)?;
@@ -222,6 +234,7 @@ fn lower_block(
     requires placed { IsPlaced (shape graph.old) place.local.0 }
     ensures lowered { OnOk result ((cell : Cell) → local_of (shape graph.old) cell ≡ Some place.local.0
         → LowersInto (source_of context.now) (shape graph.old) (shape graph.new) e.0 cell) }
+    ensures built { OnOk result (IsBuilt (source_of context.now) e.0) }
     ensures refused { IfErr result (RefusesAt (source_of context.now) e.0) }
 {
     let outer = graph.push_drop_scope(context.alloc);
@@ -242,6 +255,7 @@ fn lower_statements(
     requires ready { IsReady (source_of context.now) (shape graph.old) e.0 }
     requires form { (tail : _) × (node (source_of context.now) e.0 ≡ Some (expr.Block statements.now tail)) }
     ensures lowered { OnOk result (LowersStatements (source_of context.now) (shape graph.old) (shape graph.new) statements.now) }
+    ensures built { OnOk result (All (IsBuiltThrough (source_of context.now)) statements.now) }
     ensures refused { IfErr result (RefusesAt (source_of context.now) e.0) }
 {
     for statement in statements {
@@ -264,6 +278,7 @@ fn lower_tail(
     requires placed { IsPlaced (shape graph.old) place.local.0 }
     ensures lowered { OnOk result ((cell : Cell) → local_of (shape graph.old) cell ≡ Some place.local.0
         → LowersTail (source_of context.now) (shape graph.old) (shape graph.new) tail cell) }
+    ensures built { OnOk result (All (IsBuilt (source_of context.now)) (optional tail)) }
     ensures refused { IfErr result (RefusesAt (source_of context.now) e.0) }
 {
     match tail {
@@ -283,6 +298,7 @@ fn lower_statement(
     requires ready { IsReady (source_of context.now) (shape graph.old) e.0 }
     requires stands { IsStatementOf (source_of context.now) e.0 statement }
     ensures lowered { OnOk result (LowersStatements (source_of context.now) (shape graph.old) (shape graph.new) (statement ∷ [])) }
+    ensures built { OnOk result (IsBuiltThrough (source_of context.now) statement) }
     ensures refused { IfErr result (RefusesAt (source_of context.now) e.0) }
 {
     match statement {
@@ -316,6 +332,7 @@ fn lower_let(
     requires ready { IsReady (source_of context.now) (shape graph.old) e.0 }
     requires stands { IsStatementOf (source_of context.now) e.0 (statement_kind.Let pat (Some initializer) None) }
     ensures lowered { OnOk result (LowersStatements (source_of context.now) (shape graph.old) (shape graph.new) (statement_kind.Let pat (Some initializer) None ∷ [])) }
+    ensures built { OnOk result (IsBuiltThrough (source_of context.now) (statement_kind.Let pat (Some initializer) None)) }
     ensures refused { IfErr result (RefusesAt (source_of context.now) e.0) }
 {
     let place = lower_place(context, graph, initializer)?;
@@ -335,6 +352,7 @@ fn lower_expr_statement(
     requires ready { IsReady (source_of context.now) (shape graph.old) e.0 }
     requires stands { IsStatementOf (source_of context.now) e.0 (statement_kind.Expr expr has_semi) }
     ensures lowered { OnOk result (LowersStatements (source_of context.now) (shape graph.old) (shape graph.new) (statement_kind.Expr expr has_semi ∷ [])) }
+    ensures built { OnOk result (IsBuiltThrough (source_of context.now) (statement_kind.Expr expr has_semi)) }
     ensures refused { IfErr result (RefusesAt (source_of context.now) e.0) }
 {
     let outer = graph.push_drop_scope(context.alloc);

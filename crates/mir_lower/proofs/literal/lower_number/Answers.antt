@@ -1,9 +1,11 @@
 -- A layout that was found is too large.
-use Rattle.std.proofs.Common.{⊎_elim, refl, sym, ap, ◌∙◌, subst}
+use Rattle.std.proofs.Common.{⊎_elim, refl, sym, ap, ◌∙◌, subst, arith}
 use Rattle.std.specs.Prelude.{option_and_then}
 use Rattle.world.specs.Lookups.{layout_of}
 use Rattle.mir_lower.specs.Contexts.{source_of}
+use Rattle.mir_lower.specs.Built.{HasNumberLayout}
 use Rattle.mir_lower.specs.Refusals.{RefusesNode}
+use Rattle.mir_lower.proofs.Building.{on-ok}
 use Rattle.mir_lower.proofs.literal.lower_number.Goals as goal
 
 pub returns-then-layout-gt16-clause-refused : goal.returns-then-layout-gt16-clause-refused
@@ -14,3 +16,13 @@ returns-then-layout-gt16-clause-refused c =
     (λ text. subst (RefusesNode source c.args.e.0) (sym text) (refl, c.requires.number, c.in-Some-layout_of.layout.now, layout, c.if-layout-gt16.true))
     (λ none. subst (RefusesNode source c.args.e.0) (sym none) tt)
     c.too_many_bytes.ensures
+
+pub returns-clause-built : goal.returns-clause-built
+returns-clause-built c =
+    let source = source_of c.args.context.now in
+    on-ok (HasNumberLayout source c.args.e.0) c.constant.result
+    (record {
+      layout = c.in-Some-layout_of.layout.now;
+      found = ap (option_and_then (layout_of source.world)) (sym c.in-Some.ensures) ∙ sym c.in-Some-layout_of.ensures;
+      narrow = omega (arith, c.if-layout-gt16.false);
+    })

@@ -4,6 +4,7 @@ use Rattle.std.proofs.lemmas.Result.{on_ok_weaker}
 use Rattle.mir.specs.declared.span.MirSpan.TheVariants.{PatId}
 use Rattle.mir_lower.specs.Contexts.{source_of}
 use Rattle.mir_lower.specs.Graph.{shape}
+use Rattle.mir_lower.proofs.Building.{has-binding}
 use Rattle.mir_lower.proofs.InUse.{lacks-binding}
 use Rattle.mir_lower.proofs.Blocks.{binds-name}
 use Rattle.mir_lower.proofs.locals.bind.Goals as goal
@@ -13,6 +14,16 @@ pub returns-in_default-binding_local-clause-refused :
 returns-in_default-binding_local-clause-refused c =
     let source = source_of c.args.context.now in
     (c.in-Some.binding, sym c.in-Some.ensures, lacks-binding source (shape c.args.graph.now) _ c.binding_local.result c.requires.sound c.binding_local.ensures c.in_default-binding_local.is)
+
+pub returns-clause-built : goal.returns-clause-built
+returns-clause-built c =
+    on_ok_weaker c.assign.result
+    (λ added. record {
+      binding = c.in-Some.binding;
+      bound = sym c.in-Some.ensures;
+      there = has-binding (source_of c.args.context.now) (shape c.args.graph.now) c.in-Some.binding c.binding_local.result c.in-Some-binding_local.local c.requires.sound c.binding_local.ensures c.in-Some-binding_local.is;
+    })
+    c.assign.ensures.added
 
 pub returns-clause-lowered : goal.returns-clause-lowered
 returns-clause-lowered c =

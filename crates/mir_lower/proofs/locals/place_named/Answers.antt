@@ -3,8 +3,17 @@ use Rattle.std.proofs.Common.{Some, sym, ap, ◌∙◌, subst}
 use Rattle.mir_lower.specs.Contexts.{source_of}
 use Rattle.mir_lower.specs.Graph.{shape}
 use Rattle.mir_lower.specs.Refusals.{LacksLocal}
+use Rattle.mir_lower.proofs.Building.{has-binding}
 use Rattle.mir_lower.proofs.InUse.{lacks-binding}
 use Rattle.mir_lower.proofs.locals.place_named.Goals as goal
+
+pub returns-in-Some-binding_local-clause-built : goal.returns-in-Some-binding_local-clause-built
+returns-in-Some-binding_local-clause-built c =
+    record {
+      binding = c.in-Some-binding_named.binding;
+      named = sym c.in-Some.ensures ∙ ap Some c.in-Some-binding_named.ensures.some;
+      there = has-binding (source_of c.args.context.now) (shape c.args.graph.now) c.in-Some-binding_named.binding c.binding_local.result c.in-Some-binding_local.local c.requires.sound c.binding_local.ensures c.in-Some-binding_local.is;
+    }
 
 pub returns-in-None-binding_local-clause-refused : goal.returns-in-None-binding_local-clause-refused
 returns-in-None-binding_local-clause-refused c =

@@ -15,6 +15,11 @@ use Rattle.mir.specs.declared.operand.OperandKind.{OperandKind}
 use Rattle.source_meaning.specs.Core.{Block}
 use Rattle.world.specs.declared.body.Statement.{Statement}
 use Rattle.mir_lower.specs.Refusals.{RefusesAt}
+use Rattle.std.specs.Prelude.{All}
+use Rattle.std.proofs.lemmas.List.Elements.{All-nil, All-more}
+use Rattle.world.specs.Nodes.{optional}
+use Rattle.mir_lower.specs.Built.{IsBuilt, IsBuiltThrough}
+use Rattle.mir_lower.proofs.Building.{built-literal, built-unary, built-binary, built-block, one-built}
 use Rattle.mir_lower.proofs.Blocks.{idles-read, lowers-none, lowers-more, lowers-let, lowers-expr-statement, lowers-block}
 use Rattle.mir_lower.proofs.Operands.{lowers-literal-operand, lowers-place-operand, lowers-temp}
 use Rattle.mir_lower.proofs.Operations.{unary-part, left-part, right-part, lowers-unary, lowers-binary}
@@ -33,6 +38,10 @@ lower_operand-returns-in-Literal-clause-lowered t c =
     (λ operand is. lowers-literal-operand source (shape c.args.graph.now) c.args.e.0 c.in-Literal.literal.now operand.kind c.requires.sound c.requires.«open» c.in-Literal.ensures is)
     c.lower_literal.ensures.lowered
 
+pub lower_operand-returns-in-Literal-clause-built : goal.lower_operand-returns-in-Literal-clause-built
+lower_operand-returns-in-Literal-clause-built t c =
+    on_ok_weaker c.lower_literal.result (λ built. built-literal (source_of c.args.context.now) c.args.e.0 c.in-Literal.literal.now c.in-Literal.ensures built) c.lower_literal.ensures.built
+
 pub lower_operand-returns-in-Literal-clause-refused : goal.lower_operand-returns-in-Literal-clause-refused
 lower_operand-returns-in-Literal-clause-refused t c =
     IfErr-weaker c.lower_literal.result _ _ (λ error refused. refuses-here (source_of c.args.context.now) c.args.e.0 error refused) c.lower_literal.ensures.refused
@@ -44,6 +53,7 @@ lower_operand-returns-in_ok-place-in_default t c =
       lowered = subst (λ (k : OperandKind). LowersOperand source (shape c.args.graph.now) (shape c.lower_place.new.graph) c.args.e.0 k) (sym c.copied.ensures)
           (lowers-place-operand source (shape c.args.graph.now) (shape c.lower_place.new.graph) c.args.e.0 c.in_ok-place-in_default.place c.in_ok-place-in_default.ensures.lowered
           (no-literal _ c.form_at.result c.form_at.ensures c.in_default.not-Literal));
+      built = c.in_ok-place-in_default.ensures.built;
       refused = tt;
     }
 
@@ -86,6 +96,10 @@ lower_unary-returns-clause-lowered t c =
     (λ added cell local. lowers-unary (source_of c.args.context.now) (shape c.args.graph.now) (shape c.lower_operand.new.graph) (shape c.assign.new.graph) c.args.e.0 c.args.op c.args.operand c.in_ok-value.value c.args.place (ExprId c.args.e) c.requires.ready c.requires.form c.in_ok-value.ensures.lowered added cell local)
     c.assign.ensures.added
 
+pub lower_unary-returns-clause-built : goal.lower_unary-returns-clause-built
+lower_unary-returns-clause-built t c =
+    on_ok_weaker c.assign.result (λ added. built-unary (source_of c.args.context.now) c.args.e.0 c.args.op c.args.operand c.requires.form c.in_ok-value.ensures.built) c.assign.ensures.added
+
 pub lower_unary-returns-clause-refused : goal.lower_unary-returns-clause-refused
 lower_unary-returns-clause-refused t c =
     IfErr-weaker c.assign.result _ _ (λ error none. refuses-no-memory (source_of c.args.context.now) c.args.e.0 error none) c.assign.ensures.refused
@@ -124,6 +138,12 @@ lower_binary-returns-clause-lowered t c =
     (λ added cell local. lowers-binary (source_of c.args.context.now) (shape c.args.graph.now) (shape c.lower_operand.new.graph) (shape c.lower_operand-2.new.graph) (shape c.assign.new.graph) c.args.e.0 c.requires.form.0 c.args.op c.args.lhs c.args.rhs c.in_ok-left.left c.in_ok-right.right c.args.place (ExprId c.args.e) c.requires.ready c.requires.form.1 c.requires.form.2 c.in_ok-left.ensures.lowered c.in_ok-right.ensures.lowered added cell local)
     c.assign.ensures.added
 
+pub lower_binary-returns-clause-built : goal.lower_binary-returns-clause-built
+lower_binary-returns-clause-built t c =
+    on_ok_weaker c.assign.result
+    (λ added. built-binary (source_of c.args.context.now) c.args.e.0 c.requires.form.0 c.args.op c.args.lhs c.args.rhs c.requires.form.1 c.requires.form.2 c.in_ok-left.ensures.built c.in_ok-right.ensures.built)
+    c.assign.ensures.added
+
 pub lower_binary-returns-clause-refused : goal.lower_binary-returns-clause-refused
 lower_binary-returns-clause-refused t c =
     IfErr-weaker c.assign.result _ _ (λ error none. refuses-no-memory (source_of c.args.context.now) c.args.e.0 error none) c.assign.ensures.refused
@@ -131,14 +151,17 @@ lower_binary-returns-clause-refused t c =
 -- statements in order
 
 pub lower_statements-loop-statement-init : goal.lower_statements-loop-statement-init
-lower_statements-loop-statement-init t c = lowers-none (source_of c.args.context.now) (shape c.args.graph.now) c.requires.ready.sound c.requires.ready.«open»
+lower_statements-loop-statement-init t c =
+    (lowers-none (source_of c.args.context.now) (shape c.args.graph.now) c.requires.ready.sound c.requires.ready.«open», All-nil (IsBuiltThrough (source_of c.args.context.now)))
 
 pub lower_statements-loop-statement-preserved : goal.lower_statements-loop-statement-preserved
 lower_statements-loop-statement-preserved t c =
     let source = source_of c.args.context.now in
-    let i = c.loop-statement.statement-index in
-    subst (λ (list : List Statement). LowersStatements source (shape c.args.graph.now) (shape c.lower_statement.new.graph) list) (sym (take_more c.args.statements.now i _ c.loop-statement-test.true))
-    (lowers-more source (shape c.args.graph.now) (shape c.loop-statement.graph) (shape c.lower_statement.new.graph) (take i c.args.statements.now) _ c.loop-statement.invariant c.in_ok-lower_statement.ensures.lowered)
+    let i = c.loop-statement.statement-index in (
+      subst (λ (list : List Statement). LowersStatements source (shape c.args.graph.now) (shape c.lower_statement.new.graph) list) (sym (take_more c.args.statements.now i _ c.loop-statement-test.true))
+          (lowers-more source (shape c.args.graph.now) (shape c.loop-statement.graph) (shape c.lower_statement.new.graph) (take i c.args.statements.now) _ c.loop-statement.invariant.0 c.in_ok-lower_statement.ensures.lowered),
+      All-more (IsBuiltThrough source) c.args.statements.now i _ c.loop-statement-test.true c.loop-statement.invariant.1 c.in_ok-lower_statement.ensures.built,
+    )
 
 -- the tail of a block
 
@@ -155,6 +178,13 @@ lower_tail-returns-in-Some-clause-refused t c =
     let source = source_of c.args.context.now in
     let form = c.requires.form.1 ∙ ap (λ (o : Option _). Some (Block c.requires.form.0 o)) c.in-Some.is in
     IfErr-weaker c.lower_into.result _ _ (λ error refused. refuses-part source c.args.e.0 c.in-Some.tail.0 error (tail_is_part source c.args.e.0 c.requires.form.0 c.in-Some.tail form) refused) c.lower_into.ensures.refused
+
+pub lower_tail-returns-in-Some-clause-built : goal.lower_tail-returns-in-Some-clause-built
+lower_tail-returns-in-Some-clause-built t c =
+    let source = source_of c.args.context.now in
+    on_ok_weaker c.lower_into.result
+    (λ built. subst (λ (o : Option _). All (IsBuilt source) (optional o)) (sym c.in-Some.is) (one-built source c.in-Some.tail.0 built))
+    c.lower_into.ensures.built
 
 -- a `let` without an initializer, and one with `else`
 
@@ -213,6 +243,10 @@ lower_let-returns-clause-lowered t c =
     (idles-read source (shape c.lower_place.new.graph) (shape c.fake_read.new.graph) c.in_ok-place.place (ExprId c.args.initializer) place.keeps.sound place.keeps.«open» c.in_ok-fake_read.ensures.added) binding)
     c.bind.ensures.lowered
 
+pub lower_let-returns-clause-built : goal.lower_let-returns-clause-built
+lower_let-returns-clause-built t c =
+    on_ok_weaker c.bind.result (λ binds. record { own = binds; parts = one-built (source_of c.args.context.now) c.args.initializer.0 c.in_ok-place.ensures.built }) c.bind.ensures.built
+
 pub lower_let-returns-clause-refused : goal.lower_let-returns-clause-refused
 lower_let-returns-clause-refused t c =
     IfErr-weaker c.bind.result _ _ (λ error refused. refuses-pattern (source_of c.args.context.now) c.args.e.0 error c.args.pat c.args.initializer c.requires.stands refused) c.bind.ensures.refused
@@ -254,6 +288,10 @@ lower_expr_statement-leave_scope-requires-clause-opened t c =
 pub lower_expr_statement-returns-in_err-leave_scope-clause-refused : goal.lower_expr_statement-returns-in_err-leave_scope-clause-refused
 lower_expr_statement-returns-in_err-leave_scope-clause-refused t c =
     refused-exit (RefusesAt (source_of c.args.context.now) c.args.e.0) _ c.from_residual-in_err-leave_scope.result c.from_residual-in_err-leave_scope.ensures.1 (refuses-no-memory (source_of c.args.context.now) c.args.e.0)
+
+pub lower_expr_statement-returns-clause-built : goal.lower_expr_statement-returns-clause-built
+lower_expr_statement-returns-clause-built t c =
+    record { own = tt; parts = one-built (source_of c.args.context.now) c.args.expr.0 c.in_ok-place.ensures.built }
 
 pub lower_expr_statement-returns-clause-lowered : goal.lower_expr_statement-returns-clause-lowered
 lower_expr_statement-returns-clause-lowered t c =
@@ -317,6 +355,13 @@ lower_block-leave_scope-requires-clause-opened t c =
 pub lower_block-returns-in_err-leave_scope-clause-refused : goal.lower_block-returns-in_err-leave_scope-clause-refused
 lower_block-returns-in_err-leave_scope-clause-refused t c =
     refused-exit (RefusesAt (source_of c.args.context.now) c.args.e.0) _ c.from_residual-in_err-leave_scope.result c.from_residual-in_err-leave_scope.ensures.1 (refuses-no-memory (source_of c.args.context.now) c.args.e.0)
+
+pub lower_block-returns-clause-built : goal.lower_block-returns-clause-built
+lower_block-returns-clause-built t c =
+    let source = source_of c.args.context.now in
+    built-block source c.args.e.0 c.args.statements.now c.args.tail c.requires.form
+    (subst (λ (list : List Statement). All (IsBuiltThrough source) list) c.as_slice.ensures c.in_ok-lower_statements.ensures.built)
+    c.in_ok-lower_tail.ensures.built
 
 pub lower_block-returns-clause-lowered : goal.lower_block-returns-clause-lowered
 lower_block-returns-clause-lowered t c =

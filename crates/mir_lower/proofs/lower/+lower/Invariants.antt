@@ -1,6 +1,8 @@
 -- A part has a lower number than its expression. At one expression the operand comes before the place, the place before
 -- its local, that before what is evaluated into it, then the forms, the statements of a block, one of them, and its kind.
 use Rattle.std.proofs.Common.{◌+◌, ◌*◌, take}
+use Rattle.std.specs.Prelude.{All}
+use Rattle.mir_lower.specs.Built.{IsBuiltThrough}
 use Rattle.mir_lower.specs.Contexts.{source_of}
 use Rattle.mir_lower.specs.Graph.{shape}
 use Rattle.mir_lower.specs.Lowered.{LowersStatements}
@@ -42,6 +44,8 @@ decreases-lower_let l = 10 * l.e.0 + 1
 abbrev pub decreases-lower_expr_statement : goal.decreases-lower_expr_statement
 decreases-lower_expr_statement l = 10 * l.e.0 + 1
 
--- the statements so far were lowered
+-- the statements so far were lowered, and are built
 abbrev pub invariant-lower_statements-loop-statement : goal.invariant-lower_statements-loop-statement
-invariant-lower_statements-loop-statement l = LowersStatements (source_of l.context) (shape l.initial.graph) (shape l.graph) (take l.statement-index l.statements)
+invariant-lower_statements-loop-statement l =
+    LowersStatements (source_of l.context) (shape l.initial.graph) (shape l.graph) (take l.statement-index l.statements)
+    × All (IsBuiltThrough (source_of l.context)) (take l.statement-index l.statements)

@@ -5,6 +5,7 @@ use Rattle.mir.specs.declared.span.MirSpan.TheVariants.{ExprId}
 use Rattle.mir_lower.specs.Contexts.{source_of}
 use Rattle.mir_lower.specs.Graph.{shape}
 use Rattle.mir_lower.specs.Refusals.{RefusesAt}
+use Rattle.mir_lower.proofs.Building.{built-literal}
 use Rattle.mir_lower.proofs.Operations.{lowers-literal}
 use Rattle.mir_lower.proofs.Refused.{refuses-here, refuses-no-memory, refused-exit}
 use Rattle.mir_lower.proofs.lower.literal_into.Goals as goal
@@ -20,6 +21,10 @@ returns-clause-lowered c =
     on_ok_weaker c.assign.result
     (λ added cell local. lowers-literal source (shape c.args.graph.now) (shape c.assign.new.graph) c.args.e.0 c.args.literal.now c.args.place c.in_ok-operand.operand (ExprId c.args.e) c.requires.ready c.requires.form c.in_ok-operand.ensures.lowered added cell local)
     c.assign.ensures.added
+
+pub returns-clause-built : goal.returns-clause-built
+returns-clause-built c =
+    on_ok_weaker c.assign.result (λ added. built-literal (source_of c.args.context.now) c.args.e.0 c.args.literal.now c.requires.form c.in_ok-operand.ensures.built) c.assign.ensures.added
 
 pub returns-clause-refused : goal.returns-clause-refused
 returns-clause-refused c =

@@ -5,6 +5,7 @@ use Rattle.mir.specs.declared.span.MirSpan.TheVariants.{ExprId}
 use Rattle.mir_lower.specs.Contexts.{source_of}
 use Rattle.mir_lower.specs.Graph.{shape}
 use Rattle.mir_lower.specs.Refusals.{RefusesAt}
+use Rattle.mir_lower.proofs.Building.{built-path}
 use Rattle.mir_lower.proofs.Operations.{lowers-named}
 use Rattle.mir_lower.proofs.Refused.{refuses-here, refuses-no-memory, refused-exit}
 use Rattle.mir_lower.proofs.lower.name_into.Goals as goal
@@ -20,6 +21,10 @@ returns-clause-lowered c =
     on_ok_weaker c.assign.result
     (λ added cell local. lowers-named source (shape c.args.graph.now) (shape c.assign.new.graph) c.args.e.0 c.args.name.now c.args.place c.in_ok-from.from c.copied.result (ExprId c.args.e) c.requires.ready c.requires.form c.in_ok-from.ensures.lowered c.copied.ensures added cell local)
     c.assign.ensures.added
+
+pub returns-clause-built : goal.returns-clause-built
+returns-clause-built c =
+    on_ok_weaker c.assign.result (λ added. built-path (source_of c.args.context.now) c.args.e.0 c.args.name.now c.requires.form c.in_ok-from.ensures.built) c.assign.ensures.added
 
 pub returns-clause-refused : goal.returns-clause-refused
 returns-clause-refused c =
