@@ -5,7 +5,7 @@ table!(T1, u8, 1, 2, 3);
 macro_rules! maxm { ($a:expr) => { $a }; ($a:expr, $($r:expr),+) => { { let a = $a; let b = maxm!($($r),+); if a > b { a } else { b } } } }
 const M1: i32 = maxm!(3, 9, -4, 7);
 const W: u32 = { let mut i = 0u32; let mut n = 0; while { i += 1; i < 20 } { if i == 3 { continue } if i == 15 { break } n += i; } n };
-const W2: u32 = { let mut n = 0; let mut i = 0; while i < 3 { let mut j = 0; while j < 3 { j += 1; if j == 2 { continue; } n += j * 10; } i += 1; if n > 70 { break; } } n };
+const NESTED_WHILE: u32 = { let mut n = 0; let mut i = 0; while i < 3 { let mut j = 0; while j < 3 { j += 1; if j == 2 { continue; } n += j * 10; } i += 1; if n > 70 { break; } } n };
 const L2: u8 = { let v = loop { let x = loop { break 3u8; }; break x + 1; }; v };
 const B2: i32 = { let x = 'a: { let y = 'b: { if false { break 'a 1 } if true { break 'b 2 } 3 }; y * 10 }; x };
 const IFE: u8 = { let mut a = 0; if a == 0 { a = 1 } else if a == 1 { a = 2 } a };
