@@ -1,4 +1,6 @@
 //! The machine by itself, without a source.
+ghost use Rattle.std.specs.Prelude.{IfOk, IsTrue};
+ghost use Rattle.mir_eval.specs.Evaluators.{is_going, machine_of};
 
 use mir::{
     BasicBlock, BasicBlockId, BinOp, Local, LocalId, MirBody, MirSpan, Operand, OperandKind, Place,
@@ -103,19 +105,33 @@ fn sum_statements(alloc: Global) -> Result<List<Statement>, NoMemory> {
     Ok(statements)
 }
 
-/// How a run of 2 + 2 went: how it ended, whether it is over, its turns, and how many bytes
-/// it wrote.
-fn sum_run(alloc: Global) -> Result<(Turned, bool, u64, usize), Fail> {
-    let db = world_of_one(alloc)?;
+/// A machine that is about to enter the first block of a body.
+fn begun(alloc: Global, db: &HirDatabase, body: Rc<MirBody>) -> Result<Evaluator<'_>, Fail>
+    ensures { IfOk result (λ evaluator. IsTrue (is_going (machine_of evaluator).state)) }
+{
     let limits = Limits::default_limits();
-    let mut evaluator = Evaluator::new(alloc, &db, OWNER, false, &limits)?;
-    let body = Rc::new(alloc, body_of(alloc, sum_statements(alloc)?)?)?;
+    let mut evaluator = Evaluator::new(alloc, db, OWNER, false, &limits)?;
     evaluator.begin(body)?;
+    Ok(evaluator)
+}
+
+/// How a run to its end went: how it ended, whether it is over, its turns, and how many bytes it wrote.
+fn ended(mut evaluator: Evaluator<'_>) -> (Turned, bool, u64, usize)
+    requires { IsTrue (is_going (machine_of evaluator).state) }
+{
     let turned = evaluator.run();
     let over = evaluator.is_over();
     let turns = evaluator.turns();
     let (_, output) = evaluator.finish();
-    Ok((turned, over, turns, output.stdout_bytes().len()))
+    (turned, over, turns, output.stdout_bytes().len())
+}
+
+/// How a run of 2 + 2 went.
+fn sum_run(alloc: Global) -> Result<(Turned, bool, u64, usize), Fail> {
+    let db = world_of_one(alloc)?;
+    let body = body_of(alloc, sum_statements(alloc)?)?;
+    let evaluator = begun(alloc, &db, Rc::new(alloc, body)?)?;
+    Ok(ended(evaluator))
 }
 
 #[test]
