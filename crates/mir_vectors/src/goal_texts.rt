@@ -89,13 +89,21 @@ fn param(id: u32) -> Const {
     })
 }
 
-/// Answers that are no values, one of which has no name in the world.
-fn no_values(alloc: Global) -> Result<(), Fail> {
-    says(alloc, 0, &Ok(param(0)), 0, "goal 0 value N\n  turns 0\n")?;
-    let unnamed = "goal 3 value {error}\n  turns 1\n";
-    says(alloc, 3, &Ok(param(1)), 1, unnamed)?;
-    let unknown = "goal 1 value {error}\n  turns 2\n";
-    says(alloc, 1, &Ok(Const::Error), 2, unknown)
+/// A constant that is a parameter.
+fn parameter(alloc: Global) -> Result<(), Fail> {
+    says(alloc, 0, &Ok(param(0)), 0, "goal 0 value N\n  turns 0\n")
+}
+
+/// A parameter that has no name in the world.
+fn unnamed_parameter(alloc: Global) -> Result<(), Fail> {
+    let lines = "goal 3 value {error}\n  turns 1\n";
+    says(alloc, 3, &Ok(param(1)), 1, lines)
+}
+
+/// A constant that could not be found.
+fn missing_constant(alloc: Global) -> Result<(), Fail> {
+    let lines = "goal 1 value {error}\n  turns 2\n";
+    says(alloc, 1, &Ok(Const::Error), 2, lines)
 }
 
 /// Two entries and two table ids.
@@ -119,22 +127,20 @@ fn referring(alloc: Global, memory_map: MemoryMap) -> Result<Const, NoMemory> {
     }))
 }
 
-/// Values that refer to memory: entries stand by rising addresses, and bytes alone at address 0.
+/// A value that refers to memory at several addresses: the entries stand by rising addresses.
 fn memory(alloc: Global) -> Result<(), Fail> {
-    let map = two_of_each(alloc)?;
-    let answer = referring(alloc, map)?;
+    let answer = Ok(referring(alloc, two_of_each(alloc)?)?);
     let lines =
         "goal 0 value &str 0020\n  turns 1\n  at 4096 -\n  at 8192 6869\n  table 1000 u8\n  table 1001 str\n";
-    says(alloc, 0, &Ok(answer), 1, lines)?;
+    says(alloc, 0, &answer, 1, lines)
+}
+
+/// A value that refers to bytes alone, which stand at address 0.
+fn memory_at_zero(alloc: Global) -> Result<(), Fail> {
     let bytes = Bytes::from_slice(alloc, &[255, 0])?;
-    let answer = referring(alloc, MemoryMap::Simple(bytes))?;
-    says(
-        alloc,
-        0,
-        &Ok(answer),
-        1,
-        "goal 0 value &str 0020\n  turns 1\n  at 0 ff00\n",
-    )
+    let answer = Ok(referring(alloc, MemoryMap::Simple(bytes))?);
+    let lines = "goal 0 value &str 0020\n  turns 1\n  at 0 ff00\n";
+    says(alloc, 0, &answer, 1, lines)
 }
 
 /// A fault that names a type and has a quoted text.
@@ -165,29 +171,38 @@ fn entry(span: MirSpan, caller: DefWithBodyId) -> TrailEntry {
     TrailEntry { span, caller }
 }
 
-/// Faults that passed through frames.
-fn frames(alloc: Global) -> Result<(), Fail> {
+/// A fault that passed through frames of a function and of a static.
+fn frames_of_a_function(alloc: Global) -> Result<(), Fail> {
     let function = DefWithBodyId::FunctionId(FunctionId(2));
     let of_static = DefWithBodyId::StaticId(StaticId(1));
     let first = entry(MirSpan::ExprId(ExprId(4)), function);
     let second = entry(MirSpan::Unknown, of_static);
-    let fault = framed(alloc, first, second)?;
+    let answer = Err(framed(alloc, first, second)?);
     let lines =
         "goal 2 error eval InFunction(TypeIsUnsized([T], \"a \\\"b\\\"\\n\\\\\"), [expr#4 of fn#2, unknown of static#1])\n  turns 5\n";
-    says(alloc, 2, &Err(fault), 5, lines)?;
+    says(alloc, 2, &answer, 5, lines)
+}
+
+/// A fault that passed through frames of a constant and of a variant.
+fn frames_of_a_constant(alloc: Global) -> Result<(), Fail> {
     let constant = DefWithBodyId::ConstId(ConstId(0));
     let variant = DefWithBodyId::VariantId(EnumVariantId(9));
     let first = entry(MirSpan::PatId(PatId(3)), constant);
     let second = entry(MirSpan::BindingId(BindingId(6)), variant);
-    let fault = framed(alloc, first, second)?;
+    let answer = Err(framed(alloc, first, second)?);
     let lines =
         "goal 0 error eval InFunction(TypeIsUnsized([T], \"a \\\"b\\\"\\n\\\\\"), [pat#3 of const#0, binding#6 of variant#9])\n  turns 1\n";
-    says(alloc, 0, &Err(fault), 1, lines)
+    says(alloc, 0, &answer, 1, lines)
 }
 
 #[test]
 fn answers_that_no_run_gives_have_lines(rt: HostRuntime) -> Result<(), Fail> {
-    no_values(rt.alloc())?;
-    memory(rt.alloc())?;
-    frames(rt.alloc())
+    let alloc = rt.alloc();
+    parameter(alloc)?;
+    unnamed_parameter(alloc)?;
+    missing_constant(alloc)?;
+    memory(alloc)?;
+    memory_at_zero(alloc)?;
+    frames_of_a_function(alloc)?;
+    frames_of_a_constant(alloc)
 }
