@@ -19,7 +19,8 @@ REFERENCE = "Rust Reference: "
 
 ENDS = {"exit", "report", "line"}
 ANSWERS = {"answer", "turns"}
-KEYS = {"name", "from", "words", "stdin", "stdout", "type", "copies", "blocks", "written", *ENDS, *ANSWERS, *INPUTS}
+UNPLACED = {"written", "layout_error"}
+KEYS = {"name", "from", "words", "stdin", "stdout", "type", "copies", "blocks", *UNPLACED, *ENDS, *ANSWERS, *INPUTS}
 
 
 def lines(texts):
@@ -30,7 +31,7 @@ def lines(texts):
 def answer_of(row):
     """The answer of a row's only goal, where it has one."""
     if "unplaced" in row:
-        return f"error eval LayoutError(Unknown, {row['written']})"
+        return f"error eval LayoutError({row.get('layout_error', 'Unknown')}, {row['written']})"
     return row.get("answer")
 
 

@@ -128,6 +128,12 @@ class Draft:
         rhs = self.expr(right, amount)
         return self.add({"BinaryOp": {"lhs": lhs, "rhs": rhs, "op": op}}, ty)
 
+    def between(self, op, left, left_type, right, right_type, ty):
+        """An operator on operands of these two types, which Rust has no such operator for."""
+        lhs = self.expr(left, left_type)
+        rhs = self.expr(right, right_type)
+        return self.add({"BinaryOp": {"lhs": lhs, "rhs": rhs, "op": op}}, ty)
+
     def assign(self, op, target, assigned, ty):
         same(ty, "()")
         inside = Unknown()

@@ -1,9 +1,15 @@
 //! Prints what Rust's own operators give at the ends of each integer type and on truth values, in the rows of
 //! `tests/cases/operators`: the type, the operator, the left operand, the right one, and the result's bytes, the lowest
-//! first, or `panic`. A shift's amount has its own type behind it, and an operator on one operand has `-` on the right.
+//! first, or `panic`, or `none` where the operator has no meaning there. A right operand of another type has that type
+//! behind it, and an operator on one operand has `-` on the right.
+//!
+//! Rust has no operator between a signed integer and an unsigned one of the same length, but for shifts. For these the
+//! rows follow "Operators" in `docs/MEANING.md`: the two whole numbers are compared, `&`, `|` and `^` go bit by bit, and
+//! arithmetic has no meaning.
 //!
 //! `tests/compare_rust.py` builds it with overflow checks and compares what it prints with the rows.
 
+use std::cmp::Ordering;
 use std::fmt::Write as _;
 use std::hint::black_box;
 use std::panic::{UnwindSafe, catch_unwind, set_hook};
@@ -150,9 +156,59 @@ macro_rules! unsigned {
     };
 }
 
+/// The order of two whole numbers. One that no `i128` is, is greater than each that is one.
+fn order(left: i128, right: u128) -> Ordering {
+    match i128::try_from(right) {
+        Ok(right) => left.cmp(&right),
+        Err(_) => Ordering::Less,
+    }
+}
+
+/// Prints a row of two operands, of which the right one has another type.
+fn between(ty: &str, name: &str, left: &str, right: &str, right_ty: &str, answer: &str) {
+    println!("{ty}\t{name}\t{left}\t{right}{right_ty}\t{answer}");
+}
+
+/// Prints the rows of two operands of one length and two signs, whose order is given.
+macro_rules! two_signs {
+    ($ty:ident $left:expr, $right_ty:ident $right:expr, $order:expr) => {{
+        let (left, right, order): ($ty, $right_ty, Ordering) = ($left, $right, $order);
+        let row = |name, answer: String| {
+            between(stringify!($ty), name, &left.to_string(), &right.to_string(), stringify!($right_ty), &answer);
+        };
+        for name in ["Add", "Sub", "Mul", "Div", "Rem"] {
+            row(name, "none".to_string());
+        }
+        row("BitAnd", result(move || left & right as $ty));
+        row("BitOr", result(move || left | right as $ty));
+        row("BitXor", result(move || left ^ right as $ty));
+        row("Eq", result(move || order.is_eq()));
+        row("Ne", result(move || order.is_ne()));
+        row("Lt", result(move || order.is_lt()));
+        row("Le", result(move || order.is_le()));
+        row("Gt", result(move || order.is_gt()));
+        row("Ge", result(move || order.is_ge()));
+    }};
+}
+
+/// Prints the rows of two signs at each pair of a signed type and the unsigned one of its length, the signed operand on
+/// the left and on the right: numbers of the same bits, and the same number.
+macro_rules! pairs {
+    ($($signed:ident $unsigned:ident)*) => {
+        $(for signed in [$signed::MIN, -1, $signed::MAX] {
+            for unsigned in [$signed::MAX as $unsigned, $signed::MIN as $unsigned, $unsigned::MAX] {
+                let order = order(signed as i128, unsigned as u128);
+                two_signs!($signed signed, $unsigned unsigned, order);
+                two_signs!($unsigned unsigned, $signed signed, order.reverse());
+            }
+        })*
+    };
+}
+
 fn main() {
     set_hook(Box::new(|_| {}));
     signed!(i8 i16 i32 i64 i128 isize);
     unsigned!(u8 u16 u32 u64 u128 usize);
     bits!(bool [false, true]);
+    pairs!(i8 u8 i16 u16 i32 u32 i64 u64 i128 u128 isize usize);
 }

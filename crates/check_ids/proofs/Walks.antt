@@ -1,4 +1,4 @@
--- Walks over lists that stop at the first element that fails a test.
+-- Loops over lists that stop at the first element that fails a test.
 use Rattle.std.proofs.Common.{◌≡◌, ℕ, suc, zero, ◌<◌, ◌≤◌, Bool, true, false, not, ◌&&◌, Some, None, List, [], ◌∷◌, length, get_or, take, refl, sym, ◌∙◌, ap, arith}
 use Rattle.std.proofs.lemmas.Bool.Decides.{nat_tests}
 use Rattle.std.proofs.lemmas.List.{take_all}
@@ -26,7 +26,7 @@ module _ {X : Type 0} (test : X → Bool) where
       let later = passing_all xs parts.1 in
       rw parts.0 (omega arith)
 
-  -- the element at which a walk stops, since it fails, is the first that does
+  -- the element at which the loop stops is the first that fails the test
   pub first_failing : (xs : List X) (i : ℕ) (x : X) (b : Bool) → i < length xs → list_all test (take i xs) ≡ true
       → x ≡ get_or xs i x → b ≡ test x → b ≡ false → Some i ≡ position (λ y. not (test y)) xs
   first_failing xs i x b h all at told fails =
@@ -34,7 +34,7 @@ module _ {X : Type 0} (test : X → Bool) where
       let place = passing xs i x h all here in
       rw place (grind (arith, nat_tests))
 
-  -- a walk over elements that all pass finds none that fails
+  -- a loop that reaches the end has met no element that fails the test
   pub none_failing : (xs : List X) (i : ℕ) → length xs ≤ i → list_all test (take i xs) ≡ true → None ≡ position (λ y. not (test y)) xs
   none_failing xs i h all =
       let whole : list_all test xs ≡ true = ap (list_all test) (sym (take_all i xs h)) ∙ all in

@@ -1,4 +1,4 @@
--- What inference found of a body, all of whose ids are in range.
+-- Inference results all of whose ids are in range.
 use Rattle.std.specs.Prelude.{ℕ, ◌==◌, ◌&&◌, Bool, true, List, length}
 use Rattle.std.specs.List.{list_all}
 use Rattle.either.specs.declared.Either.{Either}
@@ -20,11 +20,11 @@ use Rattle.world.specs.declared.infer.ValueNs.{ValueNs}
 use Rattle.world.specs.declared.infer.ValueNs.TheVariants as value
 use Rattle.check_names.specs.Known.{are_args_named, is_field_known, is_in_range, is_ty_named, is_variant_known}
 
--- entries of a map by expressions, whose values pass a test
+-- each key of a map is an expression of the body, and each value passes the test
 abbrev pub are_by_expr : {V : Type 0} → Body → (V → Bool) → List (ExprId × V) → Bool
 are_by_expr body test entries = list_all (λ entry. is_in_range body.exprs entry.0.0 && test entry.1) entries
 
--- entries of a map by patterns, whose values pass a test
+-- each key of a map is a pattern of the body, and each value passes the test
 abbrev pub are_by_pat : {V : Type 0} → Body → (V → Bool) → List (PatId × V) → Bool
 are_by_pat body test entries = list_all (λ entry. is_in_range body.pats entry.0.0 && test entry.1) entries
 
@@ -34,7 +34,7 @@ are_exprs_known body ids = list_all (λ (id : ExprId). is_in_range body.exprs id
 abbrev pub are_adjustments_named : HirDatabase → List Adjustment → Bool
 are_adjustments_named world steps = list_all (λ (step : Adjustment). is_ty_named world step.target) steps
 
--- what a path names
+-- the id in the resolution of a path is in range
 abbrev pub is_value_known : HirDatabase → Body → ValueNs → Bool
 is_value_known world body (value.LocalBinding id) = is_in_range body.bindings id.0
 is_value_known world body (value.FunctionId id) = is_in_range world.functions id.0
@@ -55,12 +55,12 @@ is_assoc_named world found = is_candidate_known world found.def && are_args_name
 abbrev pub is_method_named : HirDatabase → MethodRes → Bool
 is_method_named world found = is_in_range world.functions found.function.0 && are_args_named world found.args
 
--- a field of a row that is there, or any field of a tuple
+-- a field that its struct, union or variant has, or any field of a tuple
 abbrev pub is_field_named : HirDatabase → Either FieldId TupleFieldId → Bool
 is_field_named world (either.Left field) = is_field_known world field
 is_field_named world (either.Right field) = true
 
--- one type for each node
+-- one type for each expression, pattern and binding
 abbrev pub has_type_each : Body → InferenceResult → Bool
 has_type_each body infer =
     length infer.expr_types == length body.exprs
@@ -97,7 +97,7 @@ are_parts_named world body infer =
     && are_by_expr body (is_field_named world) infer.field_res
     && are_by_expr body (is_method_named world) infer.method_res
 
--- what inference found is of the body's nodes, and names what the world has
+-- an inference result has one type for each node of the body, and all its ids are in range
 abbrev pub is_inferred_right : HirDatabase → Body → InferenceResult → Bool
 is_inferred_right world body infer =
     has_type_each body infer

@@ -1,4 +1,4 @@
--- Nodes of a body all of whose ids are in range, and whose literals of type `char` are characters.
+-- Nodes of a body whose ids are in range and whose `char` literals are Unicode scalar values.
 use Rattle.std.specs.Prelude.{ℕ, ◌&&◌, ◌||◌, nat_lt, nat_le, Bool, true, List, length, Option, Some, None}
 use Rattle.std.specs.List.{list_all}
 use Rattle.types.specs.declared.ids.BindingId.{BindingId}
@@ -14,25 +14,25 @@ use Rattle.world.specs.declared.pat.Pat.TheVariants as pat
 use Rattle.world.specs.Nodes.{binding_of, children_of, inner_exprs_of, jump_label, patterns_of, scope_label, subpatterns_of}
 use Rattle.check_names.specs.Known.{is_in_range, is_nameable}
 
--- the numbers of expressions of a body
+-- each is the id of an expression of the body
 abbrev pub are_exprs : Body → List ℕ → Bool
 are_exprs body numbers = list_all (is_in_range body.exprs) numbers
 
--- the numbers of patterns of a body
+-- each is the id of a pattern of the body
 abbrev pub are_pats : Body → List ℕ → Bool
 are_pats body numbers = list_all (is_in_range body.pats) numbers
 
--- a label, where one is named, is one of the body's
+-- an optional label is none or one of the body's
 abbrev pub is_label_known : Body → Option LabelId → Bool
 is_label_known body None = true
 is_label_known body (Some label) = is_in_range body.labels label.0
 
--- a binding, where one is named, is one of the body's
+-- an optional binding is none or one of the body's
 abbrev pub is_binding_known : Body → Option BindingId → Bool
 is_binding_known body None = true
 is_binding_known body (Some id) = is_in_range body.bindings id.0
 
--- an expression, where one is named, is one of the body's
+-- an optional expression is none or one of the body's
 abbrev pub is_expr_known : Body → Option ExprId → Bool
 is_expr_known body None = true
 is_expr_known body (Some id) = is_in_range body.exprs id.0
@@ -41,7 +41,7 @@ is_expr_known body (Some id) = is_in_range body.exprs id.0
 abbrev pub is_scalar : ℕ → Bool
 is_scalar number = nat_lt number 55296 || (nat_le 57344 number && nat_lt number 1114112)
 
--- a literal of type `char` is a Unicode scalar value
+-- an expression is no `char` literal, or one that is a Unicode scalar value
 abbrev pub is_literal_right : Expr → Bool
 is_literal_right (expr.Literal (literal.Char number)) = is_scalar number
 is_literal_right _ = true
@@ -54,7 +54,7 @@ is_expr_in_range body node =
     && is_label_known body (scope_label node)
     && is_literal_right node
 
--- the places of parts are named, where the `..` of a pattern counts them
+-- a tuple pattern has few enough subpatterns for the position of its `..`, a number of 32 bits
 abbrev pub are_parts_named : Pat → Bool
 are_parts_named (pat.Tuple args ellipsis) = is_nameable (length args)
 are_parts_named (pat.TupleStruct args ellipsis) = is_nameable (length args)

@@ -1,18 +1,18 @@
-//! Whether the entries that inference found of nodes pass the tests of the check.
+//! Whether the ids in a map of an inference result, from nodes of the body to findings, are in range.
 ghost use Rattle.std.specs.Prelude.{◌≡◌, ◌&&◌};
 ghost use Rattle.std.specs.List.{list_all};
 
 use crate::findings::{Finding, NodeKey};
 use world::{Body, HirDatabase, Map};
 
-/// Whether an entry is of a node that the body has, and its value names what is there.
+/// Whether the node of an entry is the body's, and all ids in its value are in range.
 fn is_entry_named<K: NodeKey, V: Finding>(db: &HirDatabase, body: &Body, key: &K, value: &V) -> bool
     ensures { result ≡ (K.is_of body.now key.now && V.is_named db.now body.now value.now) }
 {
     key.is_of(body) && value.is_named(db, body)
 }
 
-/// Whether each entry is of a node that the body has, and its value names what is there.
+/// Whether the node of each entry is the body's, and all ids in its value are in range.
 pub(crate) fn are_entries_named<K: Ord + NodeKey, V: Finding>(
     db: &HirDatabase,
     body: &Body,

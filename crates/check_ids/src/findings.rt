@@ -1,4 +1,4 @@
-//! What inference found of nodes, and whether it names what is there.
+//! The keys and values of the maps in an inference result, and whether their ids are in range.
 ghost use Rattle.std.specs.Prelude.{◌≡◌};
 ghost use Rattle.check_ids.specs.Inferred.{are_adjustments_named, is_assoc_named, is_candidate_known, is_field_named, is_method_named, is_value_known};
 ghost use Rattle.check_names.specs.Known.{is_in_range, is_variant_known};
@@ -10,7 +10,7 @@ use world::{
     MethodRes, PatId, TupleFieldId, ValueNs, VariantId,
 };
 
-/// A node of a body, as the key of what inference found of it.
+/// A key of a map in an inference result: an expression or a pattern.
 pub(crate) trait NodeKey {
     ghost use Rattle.std.specs.Prelude.{Bool};
     ghost use Rattle.world.specs.declared.body.Body.{Body};
@@ -38,7 +38,7 @@ impl NodeKey for PatId {
     }
 }
 
-/// Something that inference found of a node.
+/// A value of a map in an inference result, as a node's adjustments or the resolution of its path.
 pub(crate) trait Finding {
     ghost use Rattle.std.specs.Prelude.{Bool};
     ghost use Rattle.world.specs.declared.body.Body.{Body};
@@ -46,7 +46,7 @@ pub(crate) trait Finding {
 
     ghost is_named: { HirDatabase → Body → Self → Bool };
 
-    /// Whether it names what the world and the body have.
+    /// Whether all ids in it are in range in the world and the body.
     fn is_named(&self, db: &HirDatabase, body: &Body) -> bool
         ensures { result ≡ is_named db.now body.now self.now };
 }
@@ -60,7 +60,7 @@ impl Finding for List<Adjustment> {
     }
 }
 
-/// How many dereferences there are names nothing.
+/// A count of dereferences, which has no id.
 impl Finding for u32 {
     ghost use Rattle.std.specs.Prelude.{true};
 
@@ -71,7 +71,7 @@ impl Finding for u32 {
     }
 }
 
-/// How a pattern binds names nothing.
+/// A binding mode, which has no id.
 impl Finding for BindingMode {
     ghost use Rattle.std.specs.Prelude.{true};
 
@@ -99,7 +99,7 @@ impl Finding for ValueNs {
     }
 }
 
-/// Whether the world has a row of an item.
+/// Whether the id of an associated item is in range.
 fn is_candidate_known(db: &HirDatabase, id: CandidateId) -> bool
     ensures { result ≡ is_candidate_known db.now id }
 {

@@ -1,4 +1,4 @@
-//! Whether what inference found of a body names what is there.
+//! Whether the ids in an inference result are in range.
 ghost use Rattle.std.specs.Prelude.{◌≡◌, ◌&&◌, true};
 ghost use Rattle.check_ids.specs.Inferred.{are_adjustments_named, are_by_expr, are_by_pat, are_exprs_known, are_parts_named, are_reworkings_named, are_types_named, are_values_named, has_type_each, is_inferred_right};
 
@@ -6,7 +6,7 @@ use crate::entries::are_entries_named;
 use check_names::are_tys_named;
 use world::{Body, ExprId, HirDatabase, InferenceResult};
 
-/// Whether there is one type for each node.
+/// Whether there is one type for each expression, pattern and binding.
 fn has_type_each(body: &Body, infer: &InferenceResult) -> bool
     ensures { result ≡ has_type_each body.now infer.now }
 {
@@ -15,7 +15,7 @@ fn has_type_each(body: &Body, infer: &InferenceResult) -> bool
         && infer.binding_types.len() == body.bindings.len()
 }
 
-/// Whether the types name what the world has.
+/// Whether all ids in the types are in range.
 fn are_types_named(db: &HirDatabase, infer: &InferenceResult) -> bool
     ensures { result ≡ are_types_named db.now infer.now }
 {
@@ -33,7 +33,8 @@ fn are_exprs_known(body: &Body, ids: &[ExprId]) -> bool
     ids.iter().all(|id| (id.0 as u64) < entries)
 }
 
-/// Whether the body has the nodes whose values are worked on, and the world the types that they get.
+/// Whether the nodes with adjustments or binding modes are the body's, and all ids in the types of the
+/// adjustments are in range.
 fn are_steps_named(db: &HirDatabase, body: &Body, infer: &InferenceResult) -> bool
     ensures { result ≡ (are_by_expr body.now (are_adjustments_named db.now) infer.now.expr_adjustments && are_by_pat body.now (λ count. true) infer.now.pat_adjustments && are_by_pat body.now (λ mode. true) infer.now.binding_modes) }
 {
@@ -42,7 +43,8 @@ fn are_steps_named(db: &HirDatabase, body: &Body, infer: &InferenceResult) -> bo
         && are_entries_named(db, body, &infer.binding_modes)
 }
 
-/// Whether what is done to values before they are used, and what is told of expressions, is right.
+/// Whether the nodes with adjustments, binding modes, coercion casts, divergence or type mismatches are
+/// the body's, and all ids in the types of the adjustments are in range.
 fn are_reworkings_named(db: &HirDatabase, body: &Body, infer: &InferenceResult) -> bool
     ensures { result ≡ are_reworkings_named db.now body.now infer.now }
 {
@@ -52,7 +54,7 @@ fn are_reworkings_named(db: &HirDatabase, body: &Body, infer: &InferenceResult) 
         && are_exprs_known(body, infer.mismatches.as_slice())
 }
 
-/// Whether what paths name is there.
+/// Whether all ids in the resolutions of paths are in range.
 fn are_values_named(db: &HirDatabase, body: &Body, infer: &InferenceResult) -> bool
     ensures { result ≡ are_values_named db.now body.now infer.now }
 {
@@ -62,7 +64,7 @@ fn are_values_named(db: &HirDatabase, body: &Body, infer: &InferenceResult) -> b
         && are_entries_named(db, body, &infer.pat_assoc_res)
 }
 
-/// Whether variants, fields and methods that nodes name are there.
+/// Whether all ids in the resolutions of variants, fields and methods are in range.
 fn are_parts_named(db: &HirDatabase, body: &Body, infer: &InferenceResult) -> bool
     ensures { result ≡ are_parts_named db.now body.now infer.now }
 {
@@ -72,7 +74,7 @@ fn are_parts_named(db: &HirDatabase, body: &Body, infer: &InferenceResult) -> bo
         && are_entries_named(db, body, &infer.method_res)
 }
 
-/// Whether what inference found is of the body's nodes, and names what the world has.
+/// Whether an inference result has one type for each node of the body, and all its ids are in range.
 pub(crate) fn is_inferred_right(db: &HirDatabase, body: &Body, infer: &InferenceResult) -> bool
     ensures { result ≡ is_inferred_right db.now body.now infer.now }
 {

@@ -9,7 +9,7 @@ use check_trees::{
 };
 use world::{Binding, BindingId, Body, Expr, ExprId, LabelId, Literal, NoMemory, Pat};
 
-/// Whether each number is one of an expression of the body.
+/// Whether each of these is the id of an expression of the body.
 fn are_exprs(body: &Body, numbers: &[u64]) -> bool
     ensures { result ≡ are_exprs body.now numbers.now }
 {
@@ -17,7 +17,7 @@ fn are_exprs(body: &Body, numbers: &[u64]) -> bool
     numbers.iter().all(|number| *number < entries)
 }
 
-/// Whether each number is one of a pattern of the body.
+/// Whether each of these is the id of a pattern of the body.
 fn are_pats(body: &Body, numbers: &[u64]) -> bool
     ensures { result ≡ are_pats body.now numbers.now }
 {
@@ -25,7 +25,7 @@ fn are_pats(body: &Body, numbers: &[u64]) -> bool
     numbers.iter().all(|number| *number < entries)
 }
 
-/// Whether a label, where one is named, is one of the body's.
+/// Whether an optional label is none or one of the body's.
 fn is_label_known(body: &Body, label: Option<LabelId>) -> bool
     ensures { result ≡ is_label_known body.now label }
 {
@@ -35,7 +35,7 @@ fn is_label_known(body: &Body, label: Option<LabelId>) -> bool
     }
 }
 
-/// Whether a binding, where one is named, is one of the body's.
+/// Whether an optional binding is none or one of the body's.
 pub(crate) fn is_binding_known(body: &Body, binding: Option<BindingId>) -> bool
     ensures { result ≡ is_binding_known body.now binding }
 {
@@ -45,7 +45,7 @@ pub(crate) fn is_binding_known(body: &Body, binding: Option<BindingId>) -> bool
     }
 }
 
-/// Whether an expression, where one is named, is one of the body's.
+/// Whether an optional expression is none or one of the body's.
 fn is_expr_known(body: &Body, expr: Option<ExprId>) -> bool
     ensures { result ≡ is_expr_known body.now expr }
 {
@@ -55,7 +55,7 @@ fn is_expr_known(body: &Body, expr: Option<ExprId>) -> bool
     }
 }
 
-/// The binding that a pattern is.
+/// The binding of a binding pattern.
 fn binding_of(node: &Pat) -> Option<BindingId>
     ensures { result ≡ binding_of node.now }
 {
@@ -72,7 +72,7 @@ fn is_scalar(number: u32) -> bool
     number < 0xD800 || (0xE000 <= number && number < 0x11_0000)
 }
 
-/// Whether a node that is a literal of type `char` is a Unicode scalar value.
+/// Whether an expression is no `char` literal, or one that is a Unicode scalar value.
 fn is_literal_right(node: &Expr) -> bool
     ensures { result ≡ is_literal_right node.now }
 {
@@ -82,8 +82,7 @@ fn is_literal_right(node: &Expr) -> bool
     }
 }
 
-/// Whether there are so few parts that numbers name their places, where the `..` of a pattern counts
-/// them.
+/// Whether a tuple pattern has few enough subpatterns for the position of its `..`, a number of 32 bits.
 fn are_parts_named(node: &Pat) -> bool
     ensures { result ≡ are_parts_named node.now }
 {
@@ -94,7 +93,7 @@ fn are_parts_named(node: &Pat) -> bool
     }
 }
 
-/// Whether the body has the expressions that an expression holds. What stood in `numbers` is lost.
+/// Whether the ids of an expression's child expressions are in range. `numbers` is overwritten.
 fn has_children(numbers: &mut Vec<u64>, body: &Body, node: &Expr) -> Result<bool, NoMemory>
     ensures { IfOk result (λ passes. passes ≡ are_exprs body.now (children_of node.now)) }
 {
@@ -103,7 +102,7 @@ fn has_children(numbers: &mut Vec<u64>, body: &Body, node: &Expr) -> Result<bool
     Ok(are_exprs(body, numbers.as_slice()))
 }
 
-/// Whether the body has the patterns that an expression holds. What stood in `numbers` is lost.
+/// Whether the ids of an expression's patterns are in range. `numbers` is overwritten.
 fn has_patterns(numbers: &mut Vec<u64>, body: &Body, node: &Expr) -> Result<bool, NoMemory>
     ensures { IfOk result (λ passes. passes ≡ are_pats body.now (patterns_of node.now)) }
 {
@@ -112,7 +111,7 @@ fn has_patterns(numbers: &mut Vec<u64>, body: &Body, node: &Expr) -> Result<bool
     Ok(are_pats(body, numbers.as_slice()))
 }
 
-/// Whether the body has the patterns that a pattern holds. What stood in `numbers` is lost.
+/// Whether the ids of a pattern's subpatterns are in range. `numbers` is overwritten.
 fn has_subpatterns(numbers: &mut Vec<u64>, body: &Body, node: &Pat) -> Result<bool, NoMemory>
     ensures { IfOk result (λ passes. passes ≡ are_pats body.now (subpatterns_of node.now)) }
 {
@@ -121,7 +120,7 @@ fn has_subpatterns(numbers: &mut Vec<u64>, body: &Body, node: &Pat) -> Result<bo
     Ok(are_pats(body, numbers.as_slice()))
 }
 
-/// Whether the body has the expressions that a pattern holds. What stood in `numbers` is lost.
+/// Whether the ids of the expressions in a pattern are in range. `numbers` is overwritten.
 fn has_inner_exprs(numbers: &mut Vec<u64>, body: &Body, node: &Pat) -> Result<bool, NoMemory>
     ensures { IfOk result (λ passes. passes ≡ are_exprs body.now (inner_exprs_of node.now)) }
 {
@@ -130,7 +129,7 @@ fn has_inner_exprs(numbers: &mut Vec<u64>, body: &Body, node: &Pat) -> Result<bo
     Ok(are_exprs(body, numbers.as_slice()))
 }
 
-/// Whether all ids in an expression are in range. What stood in `numbers` is lost.
+/// Whether all ids in an expression are in range. `numbers` is overwritten.
 pub(crate) fn is_expr_in_range(
     numbers: &mut Vec<u64>,
     body: &Body,
@@ -145,7 +144,7 @@ pub(crate) fn is_expr_in_range(
     Ok(children && patterns && jump && scope && is_literal_right(node))
 }
 
-/// Whether all ids in a pattern are in range. What stood in `numbers` is lost.
+/// Whether all ids in a pattern are in range. `numbers` is overwritten.
 pub(crate) fn is_pat_in_range(
     numbers: &mut Vec<u64>,
     body: &Body,
@@ -159,7 +158,7 @@ pub(crate) fn is_pat_in_range(
     Ok(subpatterns && exprs && binding && are_parts_named(node))
 }
 
-/// Whether the body has the closure that a binding is in.
+/// Whether the closure that a binding belongs to, if there is one, is an expression of the body.
 pub(crate) fn is_binding_in_range(body: &Body, binding: &Binding) -> bool
     ensures { result ≡ is_binding_in_range body.now binding.now }
 {

@@ -1,4 +1,4 @@
-//! The first part of a typed body where an id is out of range.
+//! The first part of a typed body that has an id out of range.
 ghost use Rattle.std.specs.Prelude.{◌≡◌, not, IfOk};
 ghost use Rattle.std.specs.List.{list_all, position};
 ghost use Rattle.std.specs.Option.{option_map};
@@ -14,14 +14,14 @@ use check_names::is_nameable;
 use std::alloc::Global;
 use world::{Binding, Body, Expr, HirDatabase, InferenceResult, NoMemory, Pat, PatId};
 
-/// A part, where a test fails.
+/// The part, unless the test passes.
 fn unless(passes: bool, found: BodyPart) -> Option<BodyPart>
     ensures { result ≡ unless passes found }
 {
     if passes { None } else { Some(found) }
 }
 
-/// The place of the first expression where an id is out of range.
+/// The index of the first expression that has an id out of range.
 fn first_wrong_expr(alloc: Global, body: &Body, nodes: &[Expr]) -> Result<Option<usize>, NoMemory>
     ensures { IfOk result (λ found. found ≡ position (λ node. not (is_expr_in_range body.now node)) nodes.now) }
 {
@@ -34,7 +34,7 @@ fn first_wrong_expr(alloc: Global, body: &Body, nodes: &[Expr]) -> Result<Option
     Ok(None)
 }
 
-/// The place of the first pattern where an id is out of range.
+/// The index of the first pattern that has an id out of range.
 fn first_wrong_pat(alloc: Global, body: &Body, nodes: &[Pat]) -> Result<Option<usize>, NoMemory>
     ensures { IfOk result (λ found. found ≡ position (λ node. not (is_pat_in_range body.now node)) nodes.now) }
 {
@@ -47,7 +47,7 @@ fn first_wrong_pat(alloc: Global, body: &Body, nodes: &[Pat]) -> Result<Option<u
     Ok(None)
 }
 
-/// The expressions, where there are too many, or the first where an id is out of range.
+/// The list of expressions if it is too long, else the first expression that has an id out of range.
 fn wrong_exprs(alloc: Global, body: &Body) -> Result<Option<BodyPart>, NoMemory>
     ensures { IfOk result (λ found. found ≡ wrong_in_list part.Exprs part.Expr (is_expr_in_range body.now) body.now.exprs) }
 {
@@ -60,7 +60,7 @@ fn wrong_exprs(alloc: Global, body: &Body) -> Result<Option<BodyPart>, NoMemory>
     }
 }
 
-/// The patterns, where there are too many, or the first where an id is out of range.
+/// The list of patterns if it is too long, else the first pattern that has an id out of range.
 fn wrong_pats(alloc: Global, body: &Body) -> Result<Option<BodyPart>, NoMemory>
     ensures { IfOk result (λ found. found ≡ wrong_in_list part.Pats part.Pat (is_pat_in_range body.now) body.now.pats) }
 {
@@ -73,7 +73,7 @@ fn wrong_pats(alloc: Global, body: &Body) -> Result<Option<BodyPart>, NoMemory>
     }
 }
 
-/// The place of the first binding whose closure the body has not.
+/// The index of the first binding whose closure is no expression of the body.
 fn first_wrong_binding(body: &Body, bindings: &[Binding]) -> Option<usize>
     ensures { result ≡ position (λ binding. not (is_binding_in_range body.now binding)) bindings.now }
 {
@@ -82,7 +82,7 @@ fn first_wrong_binding(body: &Body, bindings: &[Binding]) -> Option<usize>
         .position(|binding| !is_binding_in_range(body, binding))
 }
 
-/// The bindings, where there are too many, or the first whose closure the body has not.
+/// The list of bindings if it is too long, else the first whose closure is no expression of the body.
 fn wrong_bindings(body: &Body) -> Option<BodyPart>
     ensures { result ≡ wrong_in_list part.Bindings part.Binding (is_binding_in_range body.now) body.now.bindings }
 {
@@ -103,7 +103,7 @@ fn are_params_known(body: &Body, params: &[PatId]) -> bool
     params.iter().all(|id| (id.0 as u64) < entries)
 }
 
-/// Whether the body has its parameters and its root.
+/// Whether the ids of a body's parameters and of its root are in range.
 fn are_roots_known(body: &Body) -> bool
     ensures { result ≡ are_roots_known body.now }
 {
@@ -112,7 +112,7 @@ fn are_roots_known(body: &Body) -> bool
         && (body.body_expr.0 as u64) < body.exprs.len()
 }
 
-/// The first of the expressions and patterns that is wrong.
+/// The first wrong part among the expressions and patterns.
 fn wrong_node(alloc: Global, body: &Body) -> Result<Option<BodyPart>, NoMemory>
     ensures { IfOk result (λ found. found ≡ wrong_node body.now) }
 {
@@ -121,16 +121,16 @@ fn wrong_node(alloc: Global, body: &Body) -> Result<Option<BodyPart>, NoMemory>
     Ok(exprs.or(pats))
 }
 
-/// The first of the bindings and labels that is wrong.
+/// The first wrong part among the bindings and labels.
 fn wrong_name(body: &Body) -> Option<BodyPart>
     ensures { result ≡ wrong_name body.now }
 {
     wrong_bindings(body).or(unless(is_nameable(body.labels.len()), BodyPart::Labels))
 }
 
-/// The first part of a typed body where an id is out of range, a list is too long for its places to be
-/// named, a literal of type `char` is no character, or there isn't one type for each node. It errs only
-/// where there is no memory.
+/// The first part of a typed body that has an id out of range, a list too long for ids of 32 bits, a
+/// `char` literal that is no Unicode scalar value, or not one type for each node. It fails only for want
+/// of memory.
 pub fn wrong_part(
     alloc: Global,
     db: &HirDatabase,

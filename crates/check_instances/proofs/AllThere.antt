@@ -9,7 +9,7 @@ map_swap x y None = refl
 map_swap x y (Some done) = refl
 
 -- one value more, at the end
-all_there-push : {B : Type 0} (found : List (Option B)) (y : B) → all_there (found ++ Some y ∷ []) ≡ option_map (λ ys. ys ++ y ∷ []) (all_there found)
+pub all_there-push : {B : Type 0} (found : List (Option B)) (y : B) → all_there (found ++ Some y ∷ []) ≡ option_map (λ ys. ys ++ y ∷ []) (all_there found)
 all_there-push [] y = refl
 all_there-push (None ∷ found) y = refl
 all_there-push (Some x ∷ found) y = ap (option_map (λ ys. x ∷ ys)) (all_there-push found y) ∙ map_swap x y (all_there found)

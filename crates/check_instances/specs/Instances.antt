@@ -1,6 +1,6 @@
 -- Types, generic arguments and constants at generic arguments: each parameter is its argument, as it stands, and each alias, its own
 -- arguments done first, is its normal type. There is none where an argument or a normal type is missing.
-use Rattle.std.specs.Prelude.{ℕ, List, [], ◌∷◌, Option, Some, None, slice_get}
+use Rattle.std.specs.Prelude.{List, [], ◌∷◌, Option, Some, None, slice_get}
 use Rattle.std.specs.Option.{option_and_then, option_map}
 use Rattle.std.specs.Ordering.{ordering_then}
 use Rattle.types.specs.Orders.{args_cmp}

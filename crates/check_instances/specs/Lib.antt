@@ -1,2 +1,5 @@
 pub mod Instances
 pub mod Parts
+pub mod Variants
+pub mod Comparisons
+pub mod Made

@@ -1,4 +1,4 @@
--- Normal types, and the arguments of impls' rows, that hold no alias and no parameter.
+-- Normalized types, and generic arguments of resolved impl items, without an alias or a generic parameter in them.
 use Rattle.std.specs.Prelude.{◌&&◌, Bool}
 use Rattle.types.specs.declared.ids.AliasId.{AliasId}
 use Rattle.types.specs.declared.ty.GenericArgs.{GenericArgs}

@@ -1,4 +1,4 @@
--- Rows of the world all of whose ids are in range, and whose lists are short enough for their places to be named.
+-- Rows of the world all of whose ids are in range, and whose lists are short enough for indices of 32 bits.
 use Rattle.std.specs.Prelude.{ℕ, ◌&&◌, Bool, true, false, List, length, Option, Some, None}
 use Rattle.std.specs.List.{list_all}
 use Rattle.std.specs.Option.{option_map}
@@ -32,22 +32,22 @@ use Rattle.world.specs.declared.layout.Variants.TheVariants as variants
 use Rattle.world.specs.Lookups.{body_row}
 use Rattle.check_names.specs.Known.{are_args_named, is_def_known, is_field_known, is_in_range, is_nameable, is_param_known, is_ty_named}
 
--- the row of a body, where one is named, is there
+-- an optional body is none, or in range
 abbrev pub is_body_known : HirDatabase → Option ℕ → Bool
 is_body_known world None = true
 is_body_known world (Some place) = is_in_range world.bodies place
 
--- a function, where one is named, is there
+-- an optional function is none, or in range
 abbrev pub is_function_known : HirDatabase → Option FunctionId → Bool
 is_function_known world None = true
 is_function_known world (Some id) = is_in_range world.functions id.0
 
--- a trait, where one is named, is there
+-- an optional trait is none, or in range
 abbrev pub is_trait_known : HirDatabase → Option TraitId → Bool
 is_trait_known world None = true
 is_trait_known world (Some id) = is_in_range world.traits id.0
 
--- the places of generic parameters are named
+-- the ids of generic parameters are in range, and their list is short enough for indices of 32 bits
 abbrev pub are_params_named : HirDatabase → List GenericParamId → Bool
 are_params_named world params = is_nameable (length params) && list_all (is_param_known world) params
 
@@ -75,15 +75,15 @@ is_static_named world row =
     && is_ty_named world row.ty
     && is_body_known world row.body
 
--- the places of fields are named
+-- all ids in the types of fields are in range, and their list is short enough for indices of 32 bits
 abbrev pub are_fields_named : HirDatabase → List FieldRow → Bool
 are_fields_named world fields = is_nameable (length fields) && list_all (λ (field : FieldRow). is_ty_named world field.ty) fields
 
--- of a struct or a union
+-- all ids in the row of a struct or a union are in range, and its list of fields is short enough
 abbrev pub is_struct_named : HirDatabase → StructRow → Bool
 is_struct_named world row = are_fields_named world row.fields
 
--- the places of an enum's variants are named
+-- the ids of an enum's variants are in range, and their list is short enough for indices of 32 bits
 abbrev pub is_enum_named : HirDatabase → EnumRow → Bool
 is_enum_named world row = is_nameable (length row.variants) && list_all (λ (id : EnumVariantId). is_in_range world.variants id.0) row.variants
 
@@ -101,7 +101,7 @@ abbrev pub is_projection_known : HirDatabase → HirPlaceProjection → Bool
 is_projection_known world (projection.Field field) = is_field_known world field
 is_projection_known world _ = true
 
--- the captured binding and the expression that captures it are of the body
+-- the binding and the expression of a capture are the body's, and all other ids are in range
 abbrev pub is_capture_named : HirDatabase → Body → Capture → Bool
 is_capture_named world body capture =
     is_in_range body.bindings capture.local.0
@@ -109,12 +109,12 @@ is_capture_named world body capture =
     && is_ty_named world capture.ty
     && is_in_range body.exprs capture.span.0
 
--- the closure's expression and captures are of its owner's body, which there has to be
+-- the owner of the closure has a body, and the expression and the captures have ids in range for it
 abbrev pub is_in_body : HirDatabase → ClosureRow → Option Body → Bool
 is_in_body world row None = false
 is_in_body world row (Some body) = is_in_range body.exprs row.expr.0 && list_all (is_capture_named world body) row.captures
 
--- the places of captures are named
+-- all ids in a closure's row are in range, and its list of captures is short enough for indices of 32 bits
 abbrev pub is_closure_named : HirDatabase → ClosureRow → Bool
 is_closure_named world row =
     is_def_known world row.owner
@@ -122,12 +122,12 @@ is_closure_named world row =
     && is_nameable (length row.captures)
     && is_in_body world row (option_map (λ found. found.body) (body_row world row.owner))
 
--- the places of the lists of a tagged layout are named
+-- the lists of a layout with several variants are short enough for indices of 32 bits
 abbrev pub are_variants_named : Variants → Bool
 are_variants_named (variants.Multiple multiple) = is_nameable (length multiple.variants) && list_all (λ (offsets : List ℕ). is_nameable (length offsets)) multiple.variants
 are_variants_named _ = true
 
--- the places of a layout's offsets are named
+-- all ids in a layout's row are in range, and its lists are short enough for indices of 32 bits
 abbrev pub is_layout_named : HirDatabase → Ty × Layout → Bool
 is_layout_named world row = is_ty_named world row.0 && is_nameable (length row.1.offsets) && are_variants_named row.1.variants
 

@@ -1,4 +1,4 @@
-//! Whether rows of closures name what is there.
+//! Whether all ids in the rows of closures are in range.
 
 ghost use Rattle.std.specs.Prelude.{◌≡◌};
 ghost use Rattle.std.specs.List.{list_all};
@@ -9,7 +9,7 @@ use crate::parts::is_in_range;
 use check_names::{are_tys_named, is_def_known, is_field_known, is_nameable, is_ty_named};
 use world::{Body, Capture, ClosureRow, HirDatabase, HirPlaceProjection};
 
-/// Whether the world has the field that a step names, where it names one.
+/// Whether a projection is no field of a struct, union or variant, or one that is in range.
 fn is_projection_known(db: &HirDatabase, step: HirPlaceProjection) -> bool
     ensures { result ≡ is_projection_known db.now step }
 {
@@ -20,14 +20,14 @@ fn is_projection_known(db: &HirDatabase, step: HirPlaceProjection) -> bool
     }
 }
 
-/// Whether the world has the fields that steps name.
+/// Whether the fields of projections are in range.
 fn are_projections_known(db: &HirDatabase, steps: &[HirPlaceProjection]) -> bool
     ensures { result ≡ list_all (is_projection_known db.now) steps.now }
 {
     steps.iter().all(|step| is_projection_known(db, *step))
 }
 
-/// Whether a capture names a binding and an expression of the body, and types and fields of the world.
+/// Whether the binding and the expression of a capture are the body's, and all other ids are in range.
 fn is_capture_named(db: &HirDatabase, body: &Body, capture: &Capture) -> bool
     ensures { result ≡ is_capture_named db.now body.now capture.now }
 {
@@ -37,7 +37,7 @@ fn is_capture_named(db: &HirDatabase, body: &Body, capture: &Capture) -> bool
         && is_in_range(body.exprs.len(), capture.span.0)
 }
 
-/// Whether captures name bindings and expressions of the body, and types and fields of the world.
+/// Whether the bindings and the expressions of captures are the body's, and all other ids are in range.
 fn are_captures_named(db: &HirDatabase, body: &Body, captures: &[Capture]) -> bool
     ensures { result ≡ list_all (is_capture_named db.now body.now) captures.now }
 {
@@ -46,18 +46,15 @@ fn are_captures_named(db: &HirDatabase, body: &Body, captures: &[Capture]) -> bo
         .all(|capture| is_capture_named(db, body, capture))
 }
 
-/// Whether there is a body, which has the expression of a closure's row, and all that its captures
-/// name.
+/// Whether there is a body, and the expression and the captures of a closure's row have ids in range for
+/// it.
 fn is_in_body(db: &HirDatabase, row: &ClosureRow, body: Option<&Body>) -> bool
     ensures { result ≡ is_in_body db.now row.now (option_copied body.entry) }
 {
-    match body {
-        Some(body) => {
-            is_in_range(body.exprs.len(), row.expr.0)
-                && are_captures_named(db, body, row.captures.as_slice())
-        }
-        None => false,
-    }
+    body.is_some_and(|body| {
+        is_in_range(body.exprs.len(), row.expr.0)
+            && are_captures_named(db, body, row.captures.as_slice())
+    })
 }
 
 /// Whether all ids in a closure's row are in range, and its lists are short enough.

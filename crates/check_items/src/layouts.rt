@@ -1,4 +1,4 @@
-//! Whether rows of layouts name what is there.
+//! Whether all ids in the rows of layouts are in range.
 
 ghost use Rattle.std.specs.Prelude.{◌≡◌, ℕ, List as Listed, length};
 ghost use Rattle.std.specs.List.{list_all};
@@ -8,14 +8,14 @@ ghost use Rattle.check_items.specs.Names.{are_variants_named, is_layout_named};
 use check_names::{is_nameable, is_ty_named};
 use world::{HirDatabase, Layout, List, Ty, Variants};
 
-/// Whether lists of offsets are so short that their places have names.
+/// Whether lists of offsets are short enough for indices of 32 bits.
 fn are_offsets_nameable(lists: &[List<u64>]) -> bool
     ensures { result ≡ list_all (λ (offsets : Listed ℕ). is_nameable (length offsets)) lists.now }
 {
     lists.iter().all(|offsets| is_nameable(offsets.len()))
 }
 
-/// Whether the lists of a tagged layout are so short that their places have names.
+/// Whether the lists of a layout with several variants are short enough for indices of 32 bits.
 fn are_variants_named(shown: &Variants) -> bool
     ensures { result ≡ are_variants_named shown.now }
 {

@@ -1,4 +1,4 @@
-//! The tests that the check makes of items' rows, and of the rows of what stands for what.
+//! The check's tests of single rows: of items, closures, layouts, normalized types and resolved impl items.
 #![tactic(auto)]
 
 mod agree;
@@ -15,7 +15,7 @@ pub use closed::{is_const_impl_closed, is_impl_closed, is_normal_closed};
 pub use closures::is_closure_named;
 pub use impls::{is_const_impl_named, is_impl_named, is_normal_named};
 pub use layouts::is_layout_named;
-pub use listed::unlisted_variant;
+pub use listed::first_wrong_variant;
 pub use names::{
     is_const_named, is_const_param_named, is_enum_named, is_function_named, is_static_named,
     is_struct_named, is_variant_named,

@@ -1,45 +1,40 @@
-//! Whether variants and the lists of their enums agree, in both directions.
+//! Whether the variants' rows and their enums' lists of variants agree, in both directions.
 ghost use Rattle.std.specs.Prelude.{◌≡◌, ◌++◌, ◌<◌, [], length, slice_index_or, IfOk, OnOk};
 ghost use Rattle.std.specs.Option.{option_copied};
 ghost use Rattle.world.specs.Failing.{first_failing};
-ghost use Rattle.check_items.specs.Agree.{is_in_place, is_listed, is_own_place, is_variant, listed_places, places_of_enum, places_of_enums, unlisted_variant};
+ghost use Rattle.check_items.specs.Agree.{is_in_place, is_listed, is_own_place, is_variant, listed_places, places_of_enum, places_of_enums, first_wrong_variant};
 ghost use Rattle.check_items.specs.Marks.{is_elsewhere, is_misplaced, AreMarks};
 
 use std::alloc::Global;
 use world::{EnumRow, EnumVariantId, HirDatabase, NoMemory, VariantRow};
 
-/// A place in the list of an enum.
+/// A place in an enum's list of variants.
 #[derive(Clone, Copy)]
 struct ListedPlace {
-    /// The number of the variant that is named there.
+    /// The id of the variant that stands there.
     variant: u64,
-    /// The number of the enum.
+    /// The id of the enum.
     parent: u64,
-    /// The place in the enum's list.
+    /// The index in the enum's list.
     index: u64,
 }
 
-/// Whether a variant is told, and this one.
+/// Whether an optional variant is the one with the id `v`.
 fn is_variant(id: Option<&EnumVariantId>, v: u64) -> bool
     ensures { result ≡ is_variant (option_copied id.entry) v }
 {
-    match id {
-        Some(id) => id.0 as u64 == v,
-        None => false,
-    }
+    id.is_some_and(|id| id.0 as u64 == v)
 }
 
-/// Whether the variant of a number stands at its index in the list of its enum.
+/// Whether the variant with the id `v` stands at its index in the list of its enum.
 fn is_listed(db: &HirDatabase, v: u64, row: &VariantRow) -> bool
     ensures { result ≡ is_listed db.now v row.now }
 {
-    match db.enums.get(row.parent.0 as u64) {
-        Some(parent) => is_variant(parent.variants.get(row.index as u64), v),
-        None => false,
-    }
+    let parent = db.enums.get(row.parent.0 as u64);
+    parent.is_some_and(|parent| is_variant(parent.variants.get(row.index as u64), v))
 }
 
-/// Adds the places of an enum's list.
+/// Adds the places of one enum's list.
 fn add_places(
     places: &mut Vec<ListedPlace>,
     parent: u64,
@@ -57,7 +52,7 @@ fn add_places(
     Ok(())
 }
 
-/// Adds the places of the lists of enums.
+/// Adds the places of all these enums' lists.
 fn add_enums(places: &mut Vec<ListedPlace>, enums: &[EnumRow]) -> Result<(), NoMemory>
     ensures { OnOk result (places.new.items ≡ places.old.items ++ places_of_enums 0 enums.now) }
 {
@@ -76,31 +71,28 @@ fn listed_places(alloc: Global, db: &HirDatabase) -> Result<Vec<ListedPlace>, No
     Ok(places)
 }
 
-/// Whether a place is the one that a variant's row tells.
+/// Whether a place has the enum and the index of a variant's row.
 fn is_own_place(row: &VariantRow, place: ListedPlace) -> bool
     ensures { result ≡ is_own_place row.now place }
 {
     place.parent == row.parent.0 as u64 && place.index == row.index as u64
 }
 
-/// Whether a variant is told, and a place isn't its own.
+/// Whether there is a row, and the place has another enum or index than the row.
 fn is_elsewhere(row: Option<&VariantRow>, place: ListedPlace) -> bool
     ensures { result ≡ is_elsewhere (option_copied row.entry) place }
 {
-    match row {
-        Some(row) => !is_own_place(row, place),
-        None => false,
-    }
+    row.is_some_and(|row| !is_own_place(row, place))
 }
 
-/// Whether a place names a variant of the world, and isn't the variant's own.
+/// Whether the variant at a place is in the world, with another enum or index in its row.
 fn is_misplaced(db: &HirDatabase, place: ListedPlace) -> bool
     ensures { result ≡ is_misplaced db.now.variants place }
 {
     is_elsewhere(db.variants.get(place.variant), place)
 }
 
-/// Marks the variants that are named at another place than their own.
+/// Marks the variants that stand at a place with another enum or index than in their rows.
 fn mark_misplaced(db: &HirDatabase, marks: &mut [bool], places: &[ListedPlace])
     requires { AreMarks db.now.variants [] marks.old }
     ensures { AreMarks db.now.variants places.now marks.new }
@@ -113,7 +105,7 @@ fn mark_misplaced(db: &HirDatabase, marks: &mut [bool], places: &[ListedPlace])
     }
 }
 
-/// Which variants are named at another place than their own.
+/// The marks of all variants: whether each stands at a place with another enum or index than in its row.
 fn misplaced_marks(alloc: Global, db: &HirDatabase) -> Result<Vec<bool>, NoMemory>
     ensures len { IfOk result (λ marks. length marks.items ≡ length db.now.variants) }
     ensures marks { IfOk result (λ marks. AreMarks db.now.variants (listed_places db.now) marks.items) }
@@ -124,8 +116,8 @@ fn misplaced_marks(alloc: Global, db: &HirDatabase) -> Result<Vec<bool>, NoMemor
     Ok(marks)
 }
 
-/// Whether the variant of a number stands at its index in the list of its enum, and at no other
-/// place, by the marks.
+/// Whether the variant with the id `v` stands at its index in the list of its enum and, by the marks, at
+/// no other place.
 fn is_in_place(db: &HirDatabase, marks: &[bool], v: usize, row: &VariantRow) -> bool
     requires len { length marks.now ≡ length db.now.variants }
     requires marks { AreMarks db.now.variants (listed_places db.now) marks.now }
@@ -136,9 +128,9 @@ fn is_in_place(db: &HirDatabase, marks: &[bool], v: usize, row: &VariantRow) -> 
     is_listed(db, v as u64, row) && !marks[v]
 }
 
-/// The first of the world's variants that stands not at its index in the list of its enum, or at
-/// another place too.
-fn first_unlisted(db: &HirDatabase, marks: &[bool], rows: &[VariantRow]) -> Option<u64>
+/// The first of all variants that doesn't stand at its index in the list of its enum, or stands at another
+/// place too.
+fn first_wrong_variant_among(db: &HirDatabase, marks: &[bool], rows: &[VariantRow]) -> Option<u64>
     requires len { length marks.now ≡ length db.now.variants }
     requires marks { AreMarks db.now.variants (listed_places db.now) marks.now }
     requires all { rows.now ≡ db.now.variants }
@@ -152,11 +144,11 @@ fn first_unlisted(db: &HirDatabase, marks: &[bool], rows: &[VariantRow]) -> Opti
     None
 }
 
-/// The first variant, by its number, that doesn't stand at its index in the list of its enum, or stands
-/// at another place of an enum's list too. It errs only where there is no memory.
-pub fn unlisted_variant(alloc: Global, db: &HirDatabase) -> Result<Option<u64>, NoMemory>
-    ensures { IfOk result (λ found. found ≡ unlisted_variant db.now) }
+/// The id of the first variant that doesn't stand at its index in the list of its enum, or stands at
+/// another place of an enum's list too. It fails only for want of memory.
+pub fn first_wrong_variant(alloc: Global, db: &HirDatabase) -> Result<Option<u64>, NoMemory>
+    ensures { IfOk result (λ found. found ≡ first_wrong_variant db.now) }
 {
     let marks = misplaced_marks(alloc, db)?;
-    Ok(first_unlisted(db, marks.as_slice(), db.variants.as_slice()))
+    Ok(first_wrong_variant_among(db, marks.as_slice(), db.variants.as_slice()))
 }

@@ -1,4 +1,4 @@
-//! Whether rows of items name what is there.
+//! Whether all ids in the rows of items are in range.
 
 ghost use Rattle.std.specs.Prelude.{◌≡◌};
 ghost use Rattle.std.specs.List.{list_all};
@@ -52,14 +52,15 @@ pub fn is_struct_named(db: &HirDatabase, row: &StructRow) -> bool
     are_fields_named(db, &row.fields)
 }
 
-/// Whether the world has rows of variants.
+/// Whether the ids of variants are in range.
 fn are_variants_known(db: &HirDatabase, ids: &[EnumVariantId]) -> bool
     ensures { result ≡ list_all (λ (id : VariantName). is_in_range db.now.variants id.0) ids.now }
 {
     ids.iter().all(|id| is_in_range(db.variants.len(), id.0))
 }
 
-/// Whether the variants that an enum's row names are there, and so few that their places have names.
+/// Whether the ids of an enum's variants are in range, and their list is short enough for indices of 32
+/// bits.
 pub fn is_enum_named(db: &HirDatabase, row: &EnumRow) -> bool
     ensures { result ≡ is_enum_named db.now row.now }
 {
@@ -76,7 +77,7 @@ pub fn is_variant_named(db: &HirDatabase, row: &VariantRow) -> bool
         && is_body_known(db, row.body)
 }
 
-/// Whether the world has all that the type of a const parameter mentions.
+/// Whether all ids in the type of a const parameter are in range.
 pub fn is_const_param_named(db: &HirDatabase, row: &ConstParamRow) -> bool
     ensures { result ≡ is_const_param_named db.now row.now }
 {

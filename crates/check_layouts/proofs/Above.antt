@@ -1,6 +1,7 @@
 -- The first row of a key among the first rows of a table, by the place of the key in the whole table.
 use Rattle.std.proofs.Common.{◌≡◌, ℕ, zero, suc, ◌+◌, ◌<◌, ◌≤◌, Bool, true, false, cond, inl, inr, List, [], ◌∷◌, take, Option, None, Some, slice_get, refl, sym, ◌∙◌, ap, arith}
 use Rattle.std.proofs.lemmas.Bool.{cases_lt}
+use Rattle.std.proofs.lemmas.Option.{none-some}
 use Rattle.std.specs.BTreeMap.{is_at}
 use Rattle.std.specs.List.{find, position, position_or_len}
 use Rattle.std.specs.Option.{option_map}
@@ -11,6 +12,7 @@ use Rattle.types.specs.declared.ty.Ty.{Ty}
 use Rattle.world.specs.declared.database.HirDatabase.{HirDatabase}
 use Rattle.world.specs.declared.layout.Layout.{Layout}
 use Rattle.types.proofs.Places.{found_at, no_position}
+use Rattle.check_layouts.specs.Fields.{IsPlaceOf, field_layout}
 use Rattle.check_layouts.specs.Sizes.{layout_above}
 
 module _ {R : Type 0} (test : R → Bool) where
@@ -63,19 +65,37 @@ module _ (world : HirDatabase) (i : ℕ) (ty : Ty) where
       found_at {R = Ty × Layout} (λ row. row.0) (ty_cmp ty) world.layouts place is ∙ sym (find_below has_type world.layouts i (omega arith))
 
   -- the row of the type stands below i
-  pub layout_here : (place : ℕ) (row : Ty × Layout) → place_is (Some place) → place < i → Some row ≡ slice_get world.layouts place → Some row.1 ≡ layout_above world i ty
+  layout_here : (place : ℕ) (row : Ty × Layout) → place_is (Some place) → place < i → Some row ≡ slice_get world.layouts place → Some row.1 ≡ layout_above world i ty
   layout_here place row is below at = ap (option_map (λ (found : Ty × Layout). found.1)) (at ∙ above place is below)
 
   -- no row stands at the place
-  pub layout_missing : (place : ℕ) → place_is (Some place) → place < i → None ≡ slice_get world.layouts place → None ≡ layout_above world i ty
+  layout_missing : (place : ℕ) → place_is (Some place) → place < i → None ≡ slice_get world.layouts place → None ≡ layout_above world i ty
   layout_missing place is below at = ap (option_map (λ (found : Ty × Layout). found.1)) (at ∙ above place is below)
 
   -- the row of the type stands further down
-  pub layout_past : (place : ℕ) → place_is (Some place) → i ≤ place → None ≡ layout_above world i ty
+  layout_past : (place : ℕ) → place_is (Some place) → i ≤ place → None ≡ layout_above world i ty
   layout_past place is past =
       let first : place ≡ position_or_len has_type world.layouts = at_place has_type world.layouts place is in
       sym (ap (option_map (λ (found : Ty × Layout). found.1)) (find_past has_type world.layouts i (omega arith)))
 
   -- no row is of the type
-  pub layout_nowhere : place_is None → None ≡ layout_above world i ty
+  layout_nowhere : place_is None → None ≡ layout_above world i ty
   layout_nowhere is = sym (ap (option_map (λ (found : Ty × Layout). found.1)) (find_nowhere has_type world.layouts i is))
+
+-- the same of a type that there may be
+module _ (world : HirDatabase) (i : ℕ) where
+  pub found_here : (found : Option Ty) (place : ℕ) (row : Ty × Layout) → IsPlaceOf world found (Some place) → place < i → Some row ≡ slice_get world.layouts place → Some row.1 ≡ field_layout world i found
+  found_here None place row is below at = absurd (none-some place (sym is))
+  found_here (Some ty) place row is below at = layout_here world i ty place row is below at
+
+  pub found_missing : (found : Option Ty) (place : ℕ) → IsPlaceOf world found (Some place) → place < i → None ≡ slice_get world.layouts place → None ≡ field_layout world i found
+  found_missing None place is below at = absurd (none-some place (sym is))
+  found_missing (Some ty) place is below at = layout_missing world i ty place is below at
+
+  pub found_past : (found : Option Ty) (place : ℕ) → IsPlaceOf world found (Some place) → i ≤ place → None ≡ field_layout world i found
+  found_past None place is past = absurd (none-some place (sym is))
+  found_past (Some ty) place is past = layout_past world i ty place is past
+
+  pub found_nowhere : (found : Option Ty) → IsPlaceOf world found None → None ≡ field_layout world i found
+  found_nowhere None is = refl
+  found_nowhere (Some ty) is = layout_nowhere world i ty is

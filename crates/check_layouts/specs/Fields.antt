@@ -2,6 +2,8 @@
 use Rattle.std.specs.Prelude.{◌≡◌, ℕ, ◌+◌, ◌==◌, ◌&&◌, nat_le, Bool, true, false, List, [], ◌∷◌, ◌++◌, length, map, Option, Some, None, slice_get}
 use Rattle.std.specs.Option.{option_and_then, option_map, is_some}
 use Rattle.check_instances.specs.Instances.{ty_instance}
+use Rattle.types.specs.Orders.{ty_cmp}
+use Rattle.types.specs.Places.{place_at}
 use Rattle.types.specs.declared.ids.AdtId.TheVariants as adt
 use Rattle.types.specs.declared.ids.EnumVariantId.{EnumVariantId}
 use Rattle.types.specs.declared.ids.VariantId.TheVariants as variant
@@ -100,6 +102,10 @@ has_offset_each placed = length placed.offsets == length placed.types
 -- the layout of a field's type in one of the first i rows
 abbrev pub field_layout : HirDatabase → ℕ → Option Ty → Option Layout
 field_layout world i ty = option_and_then (layout_above world i) ty
+
+-- the place of a type's row, where there is a type
+abbrev pub IsPlaceOf : HirDatabase → Option Ty → Option ℕ → Type 0
+IsPlaceOf world found place = place ≡ option_and_then (λ ty. place_at {R = Ty × Layout} (λ row. row.0) (ty_cmp ty) world.layouts) found
 
 -- a field of a layout lies inside a size
 abbrev pub is_inside : ℕ → ℕ → Option Layout → Bool

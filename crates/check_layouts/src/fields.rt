@@ -4,8 +4,8 @@ ghost use Rattle.std.specs.Option.{option_and_then, option_copied};
 ghost use Rattle.check_instances.specs.Instances.{ty_instance};
 ghost use Rattle.check_layouts.specs.Fields.{AreSizesRight, are_inside, captures_at, field_size, fields_of_variant, is_part_inside, is_placed_right, types_at, variants_of};
 
-use crate::sizes::layout_above;
-use check_instances::{NoInstance, ty_instance};
+use crate::sizes::{layout_above, layout_at};
+use check_instances::instance_place;
 use std::alloc::Global;
 use world::{
     Capture, ClosureRow, EnumId, EnumVariantId, FieldRow, GenericArgs, HirDatabase, List, Map,
@@ -42,8 +42,9 @@ fn is_type_inside(db: &HirDatabase, i: u64, size: u64, offset: Option<u64>, ty: 
     is_part_inside(size, offset, size_above(db, i, ty))
 }
 
-/// The size of a type at generic arguments, by its layout in one of the first `i` rows.
-fn made_size(
+/// The size of a type at generic arguments, by its layout in one of the first `i` rows. The type is not
+/// made at the arguments, where it may be much larger than they and it are.
+fn instance_size(
     alloc: Global,
     db: &HirDatabase,
     i: u64,
@@ -52,10 +53,10 @@ fn made_size(
 ) -> Result<Option<u64>, NoMemory>
     ensures { IfOk result (λ size. size ≡ field_size db.now i (ty_instance db.now.normals args.now ty.now)) }
 {
-    match ty_instance(alloc, &db.normals, args, ty) {
-        Ok(made) => Ok(size_above(db, i, &made)),
-        Err(NoInstance::Missing) => Ok(None),
-        Err(NoInstance::NoMemory) => Err(NoMemory),
+    let place = instance_place(alloc, &db.layouts, &db.normals, args, ty)?;
+    match layout_at(db, i, place) {
+        Some(layout) => Ok(Some(layout.size)),
+        None => Ok(None),
     }
 }
 
@@ -72,15 +73,15 @@ fn first_size(
     ensures size { IfOk result (λ size. size ≡ field_size db.now i (ty_instance db.now.normals args.now ty.now)) }
     ensures sizes { OnOk result (AreSizesRight db.now i args.now sizes.new) }
 {
-    let made = made_size(alloc, db, i, args, ty)?;
-    if let Some(size) = made {
+    let found = instance_size(alloc, db, i, args, ty)?;
+    if let Some(size) = found {
         sizes.insert(ty.try_clone(alloc)?, size)?;
     }
-    Ok(made)
+    Ok(found)
 }
 
 /// The same of any type. Many fields of one type look up what was found at the first of them, so that
-/// a long argument is copied into a type once in a row, and not once for each field.
+/// a long argument is compared with the table's types once in a row, and not once for each field.
 fn field_size(
     alloc: Global,
     db: &HirDatabase,

@@ -1,7 +1,9 @@
 //! Sizes and alignments that every target has, and the layouts further up in the table.
-ghost use Rattle.std.specs.Prelude.{◌≡◌, ◌<◌};
+ghost use Rattle.std.specs.Prelude.{◌≡◌, ◌<◌, Option};
 ghost use Rattle.std.specs.Option.{option_copied};
+ghost use Rattle.check_layouts.specs.Fields.{IsPlaceOf, field_layout};
 ghost use Rattle.check_layouts.specs.Sizes.{is_alignment, is_fixed_size, is_multiple_of, is_unsized, is_wide, known_size, layout_above, pointer_size};
+ghost use Rattle.types.specs.declared.ty.Ty.{Ty};
 ghost use Rattle.world.specs.Checked.{int_bytes, uint_bytes};
 
 use world::{AdtId, HirDatabase, IntTy, Layout, Ty, UintTy};
@@ -110,11 +112,11 @@ pub(crate) fn is_fixed_size(told: Option<u64>, size: u64) -> bool
     }
 }
 
-/// The layout of a type, where it stands in one of the first `i` rows.
-pub(crate) fn layout_above<'a>(db: &'a HirDatabase, i: u64, ty: &Ty) -> Option<&'a Layout>
-    ensures { option_copied result ≡ layout_above db.now i ty.now }
+/// The layout of a type, by the place of its row, where that is one of the first `i` rows.
+pub(crate) fn layout_at<'a>(db: &'a HirDatabase, i: u64, place: Option<u64>) -> Option<&'a Layout>
+    ensures { (found : Option Ty) → IsPlaceOf db.now found place → option_copied result ≡ field_layout db.now i found }
 {
-    match db.layouts.place_of(ty) {
+    match place {
         Some(place) => {
             if place < i {
                 match db.layouts.at(place) {
@@ -127,4 +129,11 @@ pub(crate) fn layout_above<'a>(db: &'a HirDatabase, i: u64, ty: &Ty) -> Option<&
         }
         None => None,
     }
+}
+
+/// The layout of a type, where it stands in one of the first `i` rows.
+pub(crate) fn layout_above<'a>(db: &'a HirDatabase, i: u64, ty: &Ty) -> Option<&'a Layout>
+    ensures { option_copied result ≡ layout_above db.now i ty.now }
+{
+    layout_at(db, i, db.layouts.place_of(ty))
 }

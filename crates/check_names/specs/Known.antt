@@ -13,9 +13,9 @@ use Rattle.types.specs.declared.ty.Ty.{Ty}
 use Rattle.world.specs.declared.database.HirDatabase.{HirDatabase}
 use Rattle.world.specs.declared.items.FieldRow.{FieldRow}
 use Rattle.world.specs.Lookups.{fields_of}
-use Rattle.check_names.specs.Mentions.{ty_mentions, args_mentions}
-use Rattle.check_names.specs.declared.mention.Mention.{Mention}
-use Rattle.check_names.specs.declared.mention.Mention.TheVariants as mention
+use Rattle.mentions.specs.Mentions.{ty_mentions, args_mentions}
+use Rattle.mentions.specs.declared.mention.Mention.{Mention}
+use Rattle.mentions.specs.declared.mention.Mention.TheVariants as mention
 
 -- a place of a list
 abbrev pub is_in_range : {X : Type 0} → List X → ℕ → Bool

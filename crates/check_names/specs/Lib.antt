@@ -1,2 +1,1 @@
-pub mod Mentions
 pub mod Known

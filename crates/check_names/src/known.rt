@@ -3,7 +3,7 @@
 ghost use Rattle.std.specs.Prelude.{◌≡◌, length, nat_lt};
 ghost use Rattle.check_names.specs.Known.{is_nameable, is_known, is_named, is_def_known, is_variant_known, is_field_known, is_param_known};
 
-use crate::mention::Mention;
+use mentions::Mention;
 use world::{DefWithBodyId, FieldId, GenericParamId, HirDatabase, VariantId};
 
 /// Whether a list of this length has such a place.

@@ -1,17 +1,14 @@
-//! The names that types, generic arguments and constants mention, and the tests of the check over
-//! them.
+//! Whether a world has what types and generic arguments mention, and the other tests of the check over
+//! what they mention.
 #![tactic(auto)]
 
 mod known;
-mod mention;
 mod mentioned;
 mod test;
-mod walk;
 
 pub use known::{
     is_def_known, is_field_known, is_known, is_nameable, is_param_known, is_variant_known,
 };
-pub use mention::Mention;
 pub use mentioned::{
     are_args_closed, are_args_known, are_args_named, are_args_settled, are_tys_named, is_ty_closed,
     is_ty_named,

@@ -5,7 +5,7 @@ ghost use Rattle.std.specs.List.{list_all};
 ghost use Rattle.check_names.specs.Known.{are_args_known, is_ty_named, are_args_named, is_ty_closed, are_args_closed, are_args_settled};
 
 use crate::test::{Closed, Known, Named, Settled};
-use crate::walk::{all_in_args, all_in_ty};
+use mentions::{all_in_args, all_in_ty};
 use world::{GenericArgs, HirDatabase, Ty};
 
 /// Whether the world has a row of everything that generic arguments mention.

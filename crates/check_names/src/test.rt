@@ -4,19 +4,8 @@ ghost use Rattle.std.specs.Prelude.{◌≡◌, Bool};
 ghost use Rattle.check_names.specs.Known.{is_known, is_named, is_closed, is_settled};
 
 use crate::known::{is_known, is_named};
-use crate::mention::Mention;
+use mentions::{Mention, MentionTest};
 use world::HirDatabase;
-
-/// A test that a walk puts to everything that is mentioned.
-pub(crate) trait MentionTest {
-    ghost use Rattle.check_names.specs.declared.mention.Mention.{Mention};
-
-    ghost passes: { Self → Mention → Bool };
-
-    /// Whether a mention passes.
-    fn passes(&self, mention: Mention) -> bool
-        ensures { result ≡ passes self.now mention };
-}
 
 /// The world has a row of what is mentioned.
 #[derive(Drop)]

@@ -1,4 +1,4 @@
--- How a climb over holders goes on.
+-- The climb over parents stays among the nodes of a body.
 use Rattle.std.proofs.Common.{◌≡◌, ℕ, suc, ◌+◌, ◌-◌, ◌<◌, ◌≤◌, Bool, true, false, ◌&&◌, cond, ltb, Option, Some, List, [], ◌∷◌, length, refl, sym, ◌∙◌, ap, arith}
 use Rattle.std.proofs.lemmas.Bool.Decides.{nat_tests}
 use Rattle.std.proofs.lemmas.List.Folds.{list_all-append, list_all-map}
@@ -24,7 +24,7 @@ with_holder_inside body holder nodes e =
     list_all-map (held_inside body) (λ (node : BodyNode). (node, holder)) nodes
     ∙ all_same (is_node body holder) nodes e
 
--- a number below a length, as a test
+-- a number below another passes the test
 pub inside : (i n : ℕ) → i < n → ltb i n ≡ true
 inside i n h = grind (arith, nat_tests)
 
@@ -69,11 +69,11 @@ lookup_inside p test [] x h e = cc
 lookup_inside p test (f ∷ es) x h e =
     found_inside p (test f.0) x f.1 (lookup test es) e (and_left (p f.1) _ h) (λ g. lookup_inside p test es x (and_right (p f.1) _ h) g)
 
--- what holds a node of a body is a node of it
+-- the parent of a node is a node of the body
 pub holder_inside : (body : Body) (node holder : BodyNode) → holder_of body node ≡ Some holder → is_node body holder ≡ true
 holder_inside body node holder e = lookup_inside (is_node body) (same_node node) (held_pairs body) holder (pairs_inside body) e
 
--- the same of what a table tells
+-- the same for the parent that a table has
 pub kept_inside : (body : Body) (node holder : BodyNode) (found : Option BodyNode) → found ≡ holder_of body node → found ≡ Some holder → is_node body holder ≡ true
 kept_inside body node holder found e f = holder_inside body node holder (sym e ∙ f)
 

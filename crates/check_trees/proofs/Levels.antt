@@ -1,4 +1,4 @@
--- A node's height is one more than the greatest of those that it holds.
+-- A node's height is one more than the greatest height of its children.
 use Rattle.std.proofs.Common.{◌≡◌, ℕ, suc, zero, ◌+◌, ◌-◌, ◌<◌, ◌≤◌, Bool, true, false, ◌||◌, ◌&&◌, ◌⊎◌, inl, inr, cond, eqb, ltb, leb, max, List, [], ◌∷◌, length, get_or, drop, refl, sym, ◌∙◌, ap, add-one, drop-cons, arith, subst, Option, Some, None}
 use Rattle.std.proofs.lemmas.Bool.Decides.{nat_tests}
 use Rattle.std.specs.List.{list_any}
@@ -24,7 +24,7 @@ chosen : (same there : Bool) (old new : Known) (A : Type 0) → new ≡ cond (sa
 chosen true there old new A e is_open h = inr (h refl)
 chosen false there old new A e is_open h = inl (sym e ∙ is_open)
 
--- what is open after a node was opened
+-- the nodes that are open after one was opened: those before, and that one
 opened_from : (before opened : Heights) (node other : BodyNode) → known_of opened other ≡ noted_of before node Open other → known_of opened other ≡ Open → (known_of before other ≡ Open) ⊎ (other ≡ node)
 opened_from before opened node other noted is_open =
     chosen (same_node other node) (has_place before node) (known_of before other) (known_of opened other) (other ≡ node) noted is_open (same_node-eq other node)
@@ -37,7 +37,7 @@ and_first : (a b : Bool) → (a && b) ≡ true → a ≡ true
 and_first true b e = refl
 and_first false b e = e
 
--- heights after one more was noted
+-- a table of heights stays right when a node's height is stored
 pub heights_more : (body : Body) (before after : Heights) (node : BodyNode) (height : ℕ) → AreHeights body before → HasHeight body node height → ((other : BodyNode) → known_of after other ≡ noted_of before node (Height height) other) → AreHeights body after
 heights_more body before after node height are is_height noted other h told steps =
     by_choice (chosen_height (same_node other node && has_place before node) (known_of before other) (known_of after other) h height (noted other) told)
@@ -60,14 +60,14 @@ has_path-suc body n node = refl
 zero_only : (steps budget : ℕ) → budget ≡ 0 → steps ≤ budget → steps ≡ 0
 zero_only steps budget e h = omega arith
 
--- no step is to be made
+-- with budget 0 a walk finds no height
 pub path_of_none : (body : Body) (before : Heights) (budget : ℕ) (node : BodyNode) → budget ≡ 0 → IsHeight body before budget node None
 path_of_none body before budget node e steps h open_paths = ap (λ n. has_path body n node) (zero_only steps budget e h) ∙ has_path-zero body node
 
 reached : (n b h : ℕ) → n ≤ b → b ≤ h → leb n h ≡ true
 reached n b h e f = grind (arith, nat_tests)
 
--- a path of as many steps as a node's height, or fewer
+-- where the height is at least the budget, a walk finds no height
 pub path_within : (body : Body) (before : Heights) (budget : ℕ) (node : BodyNode) (height : ℕ) → HasHeight body node height → budget ≤ height → IsHeight body before budget node None
 path_within body before budget node height h e steps low open_paths = h steps ∙ reached steps budget height low e
 
@@ -80,7 +80,7 @@ any_mono p q h (x ∷ xs) e = either_mono (p x) (q x) (list_any p xs) (list_any 
     either_mono false true c d f g e = refl
     either_mono false false c d f g e = g e
 
--- where a path leads, one of fewer steps does
+-- where a path leads down, one that is a step shorter does
 shorter : (body : Body) (n : ℕ) (node : BodyNode) → has_path body (suc n) node ≡ true → has_path body n node ≡ true
 shorter body zero node e = has_path-zero body node
 shorter body (suc n) node e =
@@ -97,7 +97,7 @@ below_open : (body : Body) (before : Heights) (n : ℕ) (node other : BodyNode) 
 below_open body before n node other open_paths here (inl was) = shorter body n other (open_paths other was)
 below_open body before n node other open_paths here (inr same) = ap (has_path body n) same ∙ here
 
--- a path through one of the nodes that a node holds, which may lead back to the node itself
+-- a path through one of a node's children, which may lead back to the node itself
 pub path_through : (body : Body) (before opened : Heights) (budget : ℕ) (node : BodyNode) (nodes : List BodyNode) → nodes ≡ held_by body node → ((other : BodyNode) → known_of opened other ≡ noted_of before node Open other) → AreLevels body opened (budget - 1) nodes None → IsHeight body before budget node None
 path_through body before opened budget node nodes e noted through zero low open_paths = has_path-zero body node
 path_through body before opened budget node nodes e noted through (suc n) low open_paths =
@@ -115,7 +115,7 @@ zero_below h = grind (arith, nat_tests)
 ltb-leb : (n h : ℕ) → ltb n h ≡ leb (suc n) h
 ltb-leb n h = grind (arith, nat_tests)
 
--- a node's height is the number of levels that those that it holds make
+-- a node's height is the levels of its children: one more than their greatest height
 pub height_of_levels : (body : Body) (node : BodyNode) (nodes : List BodyNode) (levels : ℕ) → nodes ≡ held_by body node → ((steps : ℕ) → list_any (has_path body steps) nodes ≡ ltb steps levels) → HasHeight body node levels
 height_of_levels body node nodes levels e h zero = has_path-zero body node ∙ zero_below levels
 height_of_levels body node nodes levels e h (suc n) =
@@ -136,7 +136,7 @@ any_drop p xs i d h =
     ap (list_any p) (drop-cons xs i d h)
     ∙ ap (λ j. p (get_or xs i d) || list_any p (drop j xs)) (sym (add-one i))
 
--- the levels with one more node
+-- the levels after one more node was walked
 pub levels_more : (body : Body) (nodes : List BodyNode) (i : ℕ) (node d : BodyNode) (levels height : ℕ) → i < length nodes → node ≡ get_or nodes i d → HasHeight body node height → ((steps : ℕ) → (ltb steps levels || list_any (has_path body steps) (drop i nodes)) ≡ list_any (has_path body steps) nodes) → (steps : ℕ) → (ltb steps (max levels (height + 1)) || list_any (has_path body steps) (drop (i + 1) nodes)) ≡ list_any (has_path body steps) nodes
 levels_more body nodes i node d levels height h at is_height whole steps =
     let rest = list_any (has_path body steps) (drop (i + 1) nodes) in
@@ -146,18 +146,18 @@ levels_more body nodes i node d levels height h at is_height whole steps =
     ∙ ap (λ b. ltb steps levels || b) (sym (any_drop (has_path body steps) nodes i d h))
     ∙ whole steps
 
--- what is told where some levels were found
+-- `AreLevels` at the answer `Some levels`
 pub levels_told : (body : Body) (before : Heights) (budget : ℕ) (nodes : List BodyNode) (found : Option ℕ) (levels : ℕ) → AreLevels body before budget nodes found → found ≡ Some levels → AreLevels body before budget nodes (Some levels)
 levels_told body before budget nodes found levels h e = subst (AreLevels body before budget nodes) e h
 
--- what is told where none were found
+-- `AreLevels` at the answer `None`
 pub path_told : (body : Body) (before : Heights) (budget : ℕ) (nodes : List BodyNode) (found : Option ℕ) → AreLevels body before budget nodes found → found ≡ None → AreLevels body before budget nodes None
 path_told body before budget nodes found h e = subst (AreLevels body before budget nodes) e h
 
--- what is told where a height was found
+-- `IsHeight` at the answer `Some height`
 pub height_told : (body : Body) (before : Heights) (budget : ℕ) (node : BodyNode) (found : Option ℕ) (height : ℕ) → IsHeight body before budget node found → found ≡ Some height → IsHeight body before budget node (Some height)
 height_told body before budget node found height h e = subst (IsHeight body before budget node) e h
 
--- which nodes are left open where a height was found
+-- `LeavesNoneOpen` at the answer `Some height`
 pub closed_told : (before after : Heights) (found : Option ℕ) (height : ℕ) → LeavesNoneOpen before after found → found ≡ Some height → LeavesNoneOpen before after (Some height)
 closed_told before after found height h e = subst (LeavesNoneOpen before after) e h

@@ -1,4 +1,4 @@
--- How a look-up in pairs goes on with one more of them.
+-- Looking up in pairs, and in one more pair.
 use Rattle.std.proofs.Common.{◌≡◌, ℕ, ◌+◌, ◌<◌, Bool, true, false, cond, eqb, Option, Some, None, List, [], ◌∷◌, ◌++◌, length, get_or, take, refl, sym, ◌∙◌, ap, subst, arith}
 use Rattle.std.proofs.lemmas.List.{take_more}
 use Rattle.std.specs.Map.{lookup}
@@ -7,7 +7,7 @@ use Rattle.check_trees.specs.Holders.{noted, AreFirstHolders}
 use Rattle.check_trees.specs.Tree.{same_node}
 use Rattle.check_trees.specs.declared.node.BodyNode.{BodyNode}
 
--- what a look-up finds in a list that goes on: the first of both
+-- looking up in two lists joined: first in the one, then in the other
 pub lookup-append : {K X : Type 0} (test : K → Bool) (es fs : List (K × X)) → lookup test (es ++ fs) ≡ option_or (lookup test es) (lookup test fs)
 lookup-append test [] fs = refl
 lookup-append test (e ∷ es) fs = step (test e.0) e.1 (lookup test es) (lookup test (es ++ fs)) (lookup test fs) (lookup-append test es fs)
@@ -24,7 +24,7 @@ none_more : (o : Option BodyNode) → o ≡ option_or o None
 none_more None = refl
 none_more (Some x) = refl
 
--- slots where the next pair's node has none
+-- the next pair's child is no node of this table, so the table stays right
 pub holders_kept : (node_at : ℕ → BodyNode) (pairs : List (BodyNode × BodyNode)) (i : ℕ) (d : BodyNode × BodyNode) (slots new : List (Option BodyNode)) → i < length pairs → ((k : ℕ) → same_node (node_at k) (get_or pairs i d).0 ≡ false) → AreFirstHolders node_at (take i pairs) slots → new ≡ slots → AreFirstHolders node_at (take (i + 1) pairs) new
 holders_kept node_at pairs i d slots new h other first same k below =
     ap (λ xs. get_or xs k None) same
@@ -37,7 +37,7 @@ noted_is : (o : Option BodyNode) (b : Bool) (x : BodyNode) → cond b (option_or
 noted_is o true x = refl
 noted_is o false x = none_more o
 
--- slots after the next pair's holder was noted
+-- the table stays right when the next pair's parent is stored
 pub holders_more : (node_at : ℕ → BodyNode) (pairs : List (BodyNode × BodyNode)) (i : ℕ) (d : BodyNode × BodyNode) (slots new : List (Option BodyNode)) (place : ℕ) → i < length pairs → ((k : ℕ) → same_node (node_at k) (get_or pairs i d).0 ≡ eqb k place) → AreFirstHolders node_at (take i pairs) slots → length new ≡ length slots → ((k : ℕ) → k < length slots → get_or new k None ≡ noted place (get_or pairs i d).1 slots k) → AreFirstHolders node_at (take (i + 1) pairs) new
 holders_more node_at pairs i d slots new place h here first len notes k below =
     let inside : k < length slots = omega arith in

@@ -1,4 +1,4 @@
--- How far a pattern reaches, by how far its parts do.
+-- The greatest id inside a pattern, from those inside its parts.
 use Rattle.std.proofs.Common.{◌≡◌, ℕ, suc, zero, ◌-◌, ◌<◌, Bool, true, false, ◌&&◌, ◌||◌, not, ltb, List, [], ◌∷◌, ◌++◌, map, refl, sym, ◌∙◌, ap, arith, Option, Some, None}
 use Rattle.std.specs.List.{list_all, list_any, slice_get}
 use Rattle.world.specs.declared.body.Body.{Body}
@@ -23,7 +23,7 @@ stands_inside-suc : (body : Body) (e n p : ℕ) → stands_inside body e (suc n)
 unfolding stands_inside
 stands_inside-suc body e n p = refl
 
--- a path of no steps leads from each node
+-- a path of no steps leads down from each node, so a budget without paths is positive
 pub some_budget : (body : Body) (budget : ℕ) (node : BodyNode) → has_path body budget node ≡ false → 0 < budget
 some_budget body zero node none = let leads = has_path-zero body node in cc
 some_budget body (suc n) node none = omega arith
@@ -36,14 +36,14 @@ or_right : (a b : Bool) → (a || b) ≡ false → b ≡ false
 or_right true b e = cc
 or_right false b e = e
 
--- no path leads on from the patterns at the front of some nodes
+-- where no node of a list passes a test, none of the patterns at its front does
 front_none : (test : BodyNode → Bool) (ids : List ℕ) (nodes : List BodyNode) → list_any test (map Pat ids ++ nodes) ≡ false → list_any (λ p. test (Pat p)) ids ≡ false
 front_none test [] nodes none = refl
 front_none test (p ∷ ids) nodes none =
     ap (λ b. b || list_any (λ q. test (Pat q)) ids) (or_left (test (Pat p)) _ none)
     ∙ front_none test ids nodes (or_right (test (Pat p)) _ none)
 
--- nor from those at their end
+-- nor any of the patterns at its end
 end_none : (test : BodyNode → Bool) (ids es : List ℕ) → list_any test (map Expr es ++ map Pat ids) ≡ false → list_any (λ p. test (Pat p)) ids ≡ false
 end_none test [] [] none = refl
 end_none test (p ∷ ids) [] none =
@@ -55,14 +55,14 @@ parts_none : (test : BodyNode → Bool) (found : Option Pattern) → list_any te
 parts_none test None none = refl
 parts_none test (Some p) none = front_none test _ _ none
 
--- no path of one step less leads down from the parts of a pattern
+-- where no path of `n + 1` steps leads down from a pattern, none of `n` steps does from its subpatterns
 pub parts_shallow : (body : Body) (n p : ℕ) → has_path body (suc n) (Pat p) ≡ false → any_path body n (subpatterns_at body p) ≡ false
 parts_shallow body n p none = parts_none (has_path body n) (slice_get body.pats p) (sym (has_path-suc body n (Pat p)) ∙ none)
 
 pred_of : (n : ℕ) → 0 < n → n ≡ suc (n - 1)
 pred_of n h = omega arith
 
--- the same by a budget
+-- the same with a budget for `n + 1`
 pub parts_below : (body : Body) (budget p : ℕ) (parts : List ℕ) → parts ≡ subpatterns_at body p → has_path body budget (Pat p) ≡ false → any_path body (budget - 1) parts ≡ false
 parts_below body budget p parts e none =
     ap (any_path body (budget - 1)) e
@@ -72,7 +72,7 @@ not_true : (b : Bool) → not b ≡ true → b ≡ false
 not_true true e = cc
 not_true false e = refl
 
--- no path of 400 steps leads down from the patterns that a shallow expression holds
+-- no path of 400 steps leads down from the patterns of a shallow expression
 pub patterns_shallow : (body : Body) (e : ℕ) (node : Expression) → slice_get body.exprs e ≡ Some node → is_shallow body (Expr e) ≡ true → any_path body 400 (patterns_of node) ≡ false
 patterns_shallow body e node at shallow =
     end_none (has_path body 400) (patterns_of node) (children_of node)
@@ -80,7 +80,7 @@ patterns_shallow body e node at shallow =
     ∙ sym (has_path-suc body 400 (Expr e))
     ∙ not_true (has_path body 401 (Expr e)) shallow)
 
--- a pattern reaches as far as its expressions and its parts
+-- the reach of a pattern is the greater of those of its own expressions and of its subpatterns
 pub reach_of_parts : (body : Body) (p : ℕ) (parts inner : List ℕ) (here below reach : Reach) → parts ≡ subpatterns_at body p → inner ≡ inner_exprs_at body p → ((e : ℕ) → is_before here e ≡ list_all (λ i. ltb i e) inner) → HaveReach body parts below → ((e : ℕ) → is_before reach e ≡ (is_before here e && is_before below e)) → HasReach body p reach
 reach_of_parts body p parts inner here below reach parts_are inner_are is_here is_below both e zero none = let leads = has_path-zero body (Pat p) in cc
 reach_of_parts body p parts inner here below reach parts_are inner_are is_here is_below both e (suc n) none =

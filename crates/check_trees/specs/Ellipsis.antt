@@ -1,4 +1,4 @@
--- Which patterns have their `..` among or after their parts.
+-- Patterns whose `..` stands among their subpatterns or directly behind them.
 use Rattle.std.specs.Prelude.{ℕ, nat_le, Bool, true, not, List, length, Option, Some, None}
 use Rattle.std.specs.List.{position}
 use Rattle.types.specs.declared.ids.PatId.{PatId}
@@ -6,7 +6,7 @@ use Rattle.world.specs.declared.body.Body.{Body}
 use Rattle.world.specs.declared.pat.Pat.{Pat}
 use Rattle.world.specs.declared.pat.Pat.TheVariants as pat
 
--- at most as many parts stand before the `..` as there are
+-- the position of the `..`, if there is one, is at most the number of subpatterns
 abbrev pub is_within : Option ℕ → List PatId → Bool
 is_within None parts = true
 is_within (Some before) parts = nat_le before (length parts)
@@ -16,6 +16,6 @@ is_ellipsis_inside (pat.Tuple args ellipsis) = is_within ellipsis args
 is_ellipsis_inside (pat.TupleStruct args ellipsis) = is_within ellipsis args
 is_ellipsis_inside _ = true
 
--- the first pattern with its `..` past its parts
+-- the first pattern whose `..` stands past the end of its subpatterns
 abbrev pub wrong_ellipsis : Body → Option ℕ
 wrong_ellipsis body = position (λ pattern. not (is_ellipsis_inside pattern)) body.pats

@@ -1,4 +1,4 @@
-//! How often each node of a body is held.
+//! How often each node of a body occurs as a child of another node.
 ghost use Rattle.std.specs.Prelude.{◌≡◌, ℕ, ◌<◌, List, [], length, IfOk};
 ghost use Rattle.check_trees.specs.Holders.{kept_count, AreCounts, AreTimes};
 ghost use Rattle.check_trees.specs.Tree.{held_pairs};
@@ -7,14 +7,14 @@ use crate::BodyNode;
 use std::alloc::Global;
 use world::{Body, NoMemory};
 
-/// How often each expression, and each pattern, of a body is held.
+/// For each expression and each pattern of a body, how often it occurs as a child.
 #[derive(Drop)]
 pub(crate) struct NodeCounts {
     exprs: Vec<u64>,
     pats: Vec<u64>,
 }
 
-/// Counts how often each expression is held.
+/// Counts for each expression how often it is the child in a pair of child and parent.
 fn count_exprs(counts: &mut [u64], pairs: &[(BodyNode, BodyNode)])
     requires { AreTimes BodyNode.Expr [] counts.old }
     ensures { AreTimes BodyNode.Expr pairs.now counts.new }
@@ -29,7 +29,7 @@ fn count_exprs(counts: &mut [u64], pairs: &[(BodyNode, BodyNode)])
     }
 }
 
-/// Counts how often each pattern is held.
+/// Counts for each pattern how often it is the child in a pair of child and parent.
 fn count_pats(counts: &mut [u64], pairs: &[(BodyNode, BodyNode)])
     requires { AreTimes BodyNode.Pat [] counts.old }
     ensures { AreTimes BodyNode.Pat pairs.now counts.new }
@@ -44,7 +44,7 @@ fn count_pats(counts: &mut [u64], pairs: &[(BodyNode, BodyNode)])
     }
 }
 
-/// How often each of so many expressions is held.
+/// For each expression with an id below `nodes`, how often it is the child in a pair.
 fn expr_counts(
     alloc: Global,
     nodes: usize,
@@ -58,7 +58,7 @@ fn expr_counts(
     Ok(counts)
 }
 
-/// How often each of so many patterns is held.
+/// For each pattern with an id below `nodes`, how often it is the child in a pair.
 fn pat_counts(
     alloc: Global,
     nodes: usize,
@@ -73,7 +73,7 @@ fn pat_counts(
 }
 
 impl NodeCounts {
-    /// How often each node of a body is held, which holds its nodes by these pairs.
+    /// The counts of a body, from all its pairs of child and parent.
     pub(crate) fn of(
         alloc: Global,
         body: &Body,
@@ -87,7 +87,7 @@ impl NodeCounts {
         Ok(NodeCounts { exprs, pats })
     }
 
-    /// The number that the table tells of a node: 0 of one that the body has not.
+    /// How often a node occurs as a child; 0 for a node that the body doesn't have.
     pub(crate) fn count(&self, node: BodyNode) -> u64
         ensures { result ≡ kept_count self.now node }
     {

@@ -1,11 +1,11 @@
-//! Which patterns have their `..` past their parts.
+//! Patterns whose `..` stands past the end of their subpatterns.
 ghost use Rattle.std.specs.Prelude.{◌≡◌, not};
 ghost use Rattle.std.specs.List.{position};
 ghost use Rattle.check_trees.specs.Ellipsis.{is_ellipsis_inside, is_within, wrong_ellipsis};
 
 use world::{Body, Pat, PatId};
 
-/// Whether at most as many parts stand before the `..` as there are.
+/// Whether the position of the `..`, if there is one, is at most the number of subpatterns.
 fn is_within(ellipsis: Option<u32>, parts: &[PatId]) -> bool
     ensures { result ≡ is_within ellipsis parts.now }
 {
@@ -15,7 +15,7 @@ fn is_within(ellipsis: Option<u32>, parts: &[PatId]) -> bool
     }
 }
 
-/// Whether the `..` of a pattern stands among its parts, or at their end.
+/// Whether a pattern's `..` stands among its subpatterns or directly behind them.
 fn is_ellipsis_inside(pat: &Pat) -> bool
     ensures { result ≡ is_ellipsis_inside pat.now }
 {
@@ -26,14 +26,14 @@ fn is_ellipsis_inside(pat: &Pat) -> bool
     }
 }
 
-/// The first of these patterns with its `..` past its parts.
+/// The first of these patterns whose `..` stands past the end of its subpatterns.
 fn first_wrong_ellipsis(pats: &[Pat]) -> Option<usize>
     ensures { result ≡ position (λ pat. not (is_ellipsis_inside pat)) pats.now }
 {
     pats.iter().position(|pat| !is_ellipsis_inside(pat))
 }
 
-/// The first pattern of a body with its `..` past its parts.
+/// The first pattern of a body whose `..` stands past the end of its subpatterns.
 pub fn wrong_ellipsis(body: &Body) -> Option<u64>
     ensures { result ≡ wrong_ellipsis body.now }
 {

@@ -1,4 +1,4 @@
-//! What is told of the nodes of a body before they are walked.
+//! Facts about a body's nodes that are computed before the walk over its tree.
 ghost use Rattle.std.specs.Prelude.{◌≡◌, true, IfOk};
 ghost use Rattle.check_trees.specs.Facts.{AreFacts};
 ghost use Rattle.check_trees.specs.Holders.{is_node};
@@ -11,7 +11,7 @@ use crate::tops::{is_top, top_marks};
 use std::alloc::Global;
 use world::{Body, NoMemory};
 
-/// How often nodes are held, and which patterns are parameters.
+/// How often each node occurs as a child, and which patterns are parameters.
 #[derive(Drop)]
 pub(crate) struct Facts {
     counts: NodeCounts,
@@ -19,7 +19,7 @@ pub(crate) struct Facts {
 }
 
 impl Facts {
-    /// What is told of a body.
+    /// The facts about a body's nodes.
     pub(crate) fn of(alloc: Global, body: &Body) -> Result<Facts, NoMemory>
         ensures { IfOk result (λ facts. AreFacts body.now facts) }
     {
@@ -30,7 +30,7 @@ impl Facts {
         Ok(Facts { counts, tops })
     }
 
-    /// Whether a node is the root or a parameter, or is held at one place at most.
+    /// Whether a node is the root or a parameter, or occurs at most once as a child.
     pub(crate) fn has_one_holder(&self, body: &Body, node: BodyNode) -> bool
         requires facts { AreFacts body.now self.now }
         requires there { is_node body.now node ≡ true }

@@ -1,4 +1,4 @@
-//! How many levels stand below each node of a body.
+//! The height of each node of a body: the length of the longest path down from it.
 ghost use Rattle.std.specs.Prelude.{◌≡◌, ◌==◌, ◌&&◌, if◌then◌else◌, ℕ, length, nat_lt, slice_index_or, IfOk, OnOk};
 ghost use Rattle.check_trees.specs.Heights.{known_of, noted_of, AreHeights, AreLevels, AreSettled, IsHeight, LeavesNoneOpen};
 
@@ -11,7 +11,7 @@ use world::{Body, NoMemory};
 #[derive(Clone, Copy)]
 pub(crate) enum Known {
     Nothing,
-    /// The walk is below the node.
+    /// The walk is inside the node's subtree.
     Open,
     Height(u64),
 }
@@ -23,7 +23,7 @@ pub(crate) struct Heights {
     pats: Vec<Known>,
 }
 
-/// Notes what is known at a place, where there is one.
+/// Stores what is known at an index, if the index is in range.
 fn note_at(slots: &mut [Known], place: u64, known: Known)
     ensures { (k : ℕ) → slice_index_or slots.new k Known.Nothing ≡ (if k == place && nat_lt place (length slots.old) then known else slice_index_or slots.old k Known.Nothing) }
 {
@@ -34,7 +34,7 @@ fn note_at(slots: &mut [Known], place: u64, known: Known)
 }
 
 impl Heights {
-    /// The heights of a body of which nothing is known.
+    /// An empty table for a body: no height is known yet.
     pub(crate) fn new(alloc: Global, body: &Body) -> Result<Heights, NoMemory>
         ensures { IfOk result (λ heights. AreSettled body.now heights) }
     {
@@ -62,7 +62,7 @@ impl Heights {
         }
     }
 
-    /// Notes what is known of a node's height.
+    /// Stores what is known of a node's height.
     fn note(&mut self, node: BodyNode, known: Known)
         ensures { (other : BodyNode) → known_of self.new other ≡ noted_of self.old node known other }
     {
@@ -73,8 +73,8 @@ impl Heights {
     }
 }
 
-/// The height of a node, where it is below a budget. Each node on the way is walked once: below one
-/// that the walk is in already, a ring leads to paths of any length.
+/// The height of a node, if it is less than `budget`. Each node is walked once: a node whose subtree the
+/// walk is already inside lies on a cycle, so it has paths of any length.
 #[cycle(heights)]
 pub(crate) fn height(
     alloc: Global,
@@ -107,7 +107,7 @@ pub(crate) fn height(
     Ok(Some(height))
 }
 
-/// The levels that some nodes make: one more than the greatest of their heights.
+/// One more than the greatest height of some nodes, if it is at most `budget`; 0 for no nodes.
 #[cycle(heights)]
 fn levels_of(
     alloc: Global,

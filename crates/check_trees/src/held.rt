@@ -1,4 +1,4 @@
-//! What the nodes of a body hold, and what holds them.
+//! The children of a body's nodes, and its pairs of child and parent.
 ghost use Rattle.std.specs.Prelude.{◌≡◌, ◌++◌, map, IfOk, OnOk};
 ghost use Rattle.check_trees.specs.Tree.{held_by, held_by_expr, held_by_pat, held_pairs, pairs_of_exprs, pairs_of_pats, with_holder};
 
@@ -27,7 +27,7 @@ fn add_pats(nodes: &mut Vec<BodyNode>, ids: &[u64]) -> Result<(), NoMemory>
     Ok(())
 }
 
-/// The nodes that an expression holds.
+/// The children of an expression: expressions, then patterns.
 fn held_by_expr(alloc: Global, node: &Expr) -> Result<Vec<BodyNode>, NoMemory>
     ensures { IfOk result (λ nodes. nodes.items ≡ held_by_expr (Some node.now)) }
 {
@@ -41,7 +41,7 @@ fn held_by_expr(alloc: Global, node: &Expr) -> Result<Vec<BodyNode>, NoMemory>
     Ok(nodes)
 }
 
-/// The nodes that a pattern holds.
+/// The children of a pattern: subpatterns, then expressions.
 fn held_by_pat(alloc: Global, node: &Pat) -> Result<Vec<BodyNode>, NoMemory>
     ensures { IfOk result (λ nodes. nodes.items ≡ held_by_pat (Some node.now)) }
 {
@@ -55,7 +55,7 @@ fn held_by_pat(alloc: Global, node: &Pat) -> Result<Vec<BodyNode>, NoMemory>
     Ok(nodes)
 }
 
-/// The nodes that a node of a body holds: none where the body has no such node.
+/// The children of a node; none if the body doesn't have the node.
 pub(crate) fn held_by(alloc: Global, body: &Body, node: BodyNode) -> Result<Vec<BodyNode>, NoMemory>
     ensures { IfOk result (λ nodes. nodes.items ≡ held_by body.now node) }
 {
@@ -71,7 +71,7 @@ pub(crate) fn held_by(alloc: Global, body: &Body, node: BodyNode) -> Result<Vec<
     }
 }
 
-/// Adds nodes, each with the one that holds it.
+/// Adds pairs of a child and its parent.
 fn add_pairs(
     pairs: &mut Vec<(BodyNode, BodyNode)>,
     holder: BodyNode,
@@ -85,7 +85,7 @@ fn add_pairs(
     Ok(())
 }
 
-/// Adds what an expression holds.
+/// Adds the pairs of an expression and its children.
 fn add_expr(
     alloc: Global,
     pairs: &mut Vec<(BodyNode, BodyNode)>,
@@ -98,7 +98,7 @@ fn add_expr(
     add_pairs(pairs, BodyNode::Expr(e), nodes.as_slice())
 }
 
-/// Adds what a pattern holds.
+/// Adds the pairs of a pattern and its children.
 fn add_pat(
     alloc: Global,
     pairs: &mut Vec<(BodyNode, BodyNode)>,
@@ -111,7 +111,7 @@ fn add_pat(
     add_pairs(pairs, BodyNode::Pat(p), nodes.as_slice())
 }
 
-/// Adds what expressions hold.
+/// Adds the pairs of all expressions and their children.
 fn add_pairs_of_exprs(
     alloc: Global,
     pairs: &mut Vec<(BodyNode, BodyNode)>,
@@ -125,7 +125,7 @@ fn add_pairs_of_exprs(
     Ok(())
 }
 
-/// Adds what patterns hold.
+/// Adds the pairs of all patterns and their children.
 fn add_pairs_of_pats(
     alloc: Global,
     pairs: &mut Vec<(BodyNode, BodyNode)>,
@@ -139,7 +139,7 @@ fn add_pairs_of_pats(
     Ok(())
 }
 
-/// Each node that a body's nodes hold, as often as it is held, with the node that holds it.
+/// All pairs of a child and its parent in a body, one for each time that the child occurs.
 pub(crate) fn held_pairs(alloc: Global, body: &Body) -> Result<Vec<(BodyNode, BodyNode)>, NoMemory>
     ensures { IfOk result (λ pairs. pairs.items ≡ held_pairs body.now) }
 {

@@ -1,4 +1,4 @@
-//! The first holder of each node of a body.
+//! The first parent (holder) of each node of a body.
 ghost use Rattle.std.specs.Prelude.{◌≡◌, ℕ, ◌<◌, List, [], length, slice_index_or, IfOk};
 ghost use Rattle.check_trees.specs.Holders.{kept_holder, noted, AreFirstHolders, AreHolders};
 ghost use Rattle.check_trees.specs.Tree.{held_pairs};
@@ -7,14 +7,14 @@ use crate::BodyNode;
 use std::alloc::Global;
 use world::{Body, NoMemory};
 
-/// The node that first holds each expression, and each pattern, of a body.
+/// For each expression and each pattern of a body, the first node that has it as a child.
 #[derive(Drop)]
 pub(crate) struct Holders {
     exprs: Vec<Option<BodyNode>>,
     pats: Vec<Option<BodyNode>>,
 }
 
-/// Notes a holder at a place that has none.
+/// Stores a parent at an index that has none yet.
 fn note_holder(slots: &mut [Option<BodyNode>], place: usize, holder: BodyNode)
     ensures { (k : ℕ) → k < length slots.old → slice_index_or slots.new k None ≡ noted place holder slots.old k }
 {
@@ -23,7 +23,7 @@ fn note_holder(slots: &mut [Option<BodyNode>], place: usize, holder: BodyNode)
     }
 }
 
-/// Notes the first holder of each expression.
+/// Stores the first parent of each expression.
 fn note_expr_holders(slots: &mut [Option<BodyNode>], pairs: &[(BodyNode, BodyNode)])
     requires { AreFirstHolders BodyNode.Expr [] slots.old }
     ensures { AreFirstHolders BodyNode.Expr pairs.now slots.new }
@@ -35,7 +35,7 @@ fn note_expr_holders(slots: &mut [Option<BodyNode>], pairs: &[(BodyNode, BodyNod
     }
 }
 
-/// Notes the first holder of each pattern.
+/// Stores the first parent of each pattern.
 fn note_pat_holders(slots: &mut [Option<BodyNode>], pairs: &[(BodyNode, BodyNode)])
     requires { AreFirstHolders BodyNode.Pat [] slots.old }
     ensures { AreFirstHolders BodyNode.Pat pairs.now slots.new }
@@ -47,7 +47,7 @@ fn note_pat_holders(slots: &mut [Option<BodyNode>], pairs: &[(BodyNode, BodyNode
     }
 }
 
-/// The first holder of each of so many expressions.
+/// The first parent of each expression with an id below `nodes`.
 fn expr_holders(
     alloc: Global,
     nodes: usize,
@@ -61,7 +61,7 @@ fn expr_holders(
     Ok(slots)
 }
 
-/// The first holder of each of so many patterns.
+/// The first parent of each pattern with an id below `nodes`.
 fn pat_holders(
     alloc: Global,
     nodes: usize,
@@ -76,7 +76,7 @@ fn pat_holders(
 }
 
 impl Holders {
-    /// The first holder of each node of a body, which holds its nodes by these pairs.
+    /// The first parents of a body's nodes, from all its pairs of child and parent.
     pub(crate) fn of(
         alloc: Global,
         body: &Body,
@@ -90,7 +90,7 @@ impl Holders {
         Ok(Holders { exprs, pats })
     }
 
-    /// The holder that the table tells of a node: none of one that the body has not.
+    /// The first parent of a node; none for a node that the body doesn't have.
     pub(crate) fn holder(&self, node: BodyNode) -> Option<BodyNode>
         ensures { result ≡ kept_holder self.now node }
     {

@@ -1,4 +1,4 @@
-//! Which jumps name a label of a loop or a block that encloses them.
+//! Whether each jump names the label of an enclosing loop or block.
 ghost use Rattle.std.specs.Prelude.{◌≡◌, ◌<◌, length, true, IfOk};
 ghost use Rattle.world.specs.Nodes.{jump_label, scope_label};
 ghost use Rattle.check_trees.specs.Holders.{is_node, AreHolders};
@@ -14,7 +14,7 @@ use crate::tops::{is_top, top_marks};
 use std::alloc::Global;
 use world::{Body, Expr, LabelId, NoMemory};
 
-/// Whether a label is told, and this one.
+/// Whether an optional label is this one.
 fn is_label(told: Option<LabelId>, label: LabelId) -> bool
     ensures { result ≡ is_label told label }
 {
@@ -37,7 +37,7 @@ fn is_labelled(body: &Body, label: LabelId, node: BodyNode) -> bool
     }
 }
 
-/// Whether a loop or a block with the label holds an expression, below the root or a parameter.
+/// Whether a loop or a block with the label encloses an expression, at most 401 parents above it.
 fn is_enclosed(body: &Body, holders: &Holders, tops: &[bool], label: LabelId, e: u64) -> bool
     requires holders { AreHolders body.now holders.now }
     requires tops { AreTops body.now tops.now }
@@ -60,7 +60,7 @@ fn is_enclosed(body: &Body, holders: &Holders, tops: &[bool], label: LabelId, e:
     false
 }
 
-/// Whether an expression is no jump to a label, or one to a label that encloses it.
+/// Whether an expression is no jump to a label, or jumps to one that encloses it.
 fn is_jump_inside(body: &Body, holders: &Holders, tops: &[bool], e: u64, node: &Expr) -> bool
     requires holders { AreHolders body.now holders.now }
     requires tops { AreTops body.now tops.now }
@@ -73,7 +73,7 @@ fn is_jump_inside(body: &Body, holders: &Holders, tops: &[bool], e: u64, node: &
     }
 }
 
-/// The first jump whose label does not enclose it.
+/// The first of these expressions that jumps to a label which doesn't enclose it.
 fn first_loose_jump(body: &Body, holders: &Holders, tops: &[bool], exprs: &[Expr]) -> Option<u64>
     requires all { exprs.now ≡ body.now.exprs }
     requires holders { AreHolders body.now holders.now }
@@ -88,8 +88,8 @@ fn first_loose_jump(body: &Body, holders: &Holders, tops: &[bool], exprs: &[Expr
     None
 }
 
-/// The first jump of a body that names a label which no loop or block around it has. It errs only where
-/// there is no memory.
+/// The first jump of a body to a label that no enclosing loop or block has. It fails only for want of
+/// memory.
 pub fn loose_jump(alloc: Global, body: &Body) -> Result<Option<u64>, NoMemory>
     ensures { IfOk result (λ found. found ≡ loose_jump body.now) }
 {

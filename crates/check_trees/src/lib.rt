@@ -1,5 +1,5 @@
-//! What the nodes of a body hold: whether bodies are trees, whether jumps name enclosing labels, and
-//! whether the `..` of patterns stand inside them.
+//! Checks of a body's shape: it is a tree, its jumps name enclosing labels, and the `..` of its patterns
+//! stand within them.
 #![tactic(auto)]
 
 mod counts;

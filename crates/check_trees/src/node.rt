@@ -1,6 +1,6 @@
-//! Nodes of a body.
+//! Nodes of a body: expressions and patterns.
 
-/// A node of a body's tree, by its place among the nodes of its kind.
+/// An expression or a pattern of a body, by its id.
 #[derive(Clone, Copy, PartialEq, Eq, Debug)]
 pub enum BodyNode {
     Expr(u64),

@@ -1,4 +1,4 @@
-//! What the nodes of a body hold, added to a list, and the labels that they name.
+//! The children of a body's nodes, and the labels that nodes name.
 
 mod exprs;
 mod labels;

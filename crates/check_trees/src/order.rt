@@ -1,4 +1,4 @@
-//! The first node of a body that is not in order.
+//! The first node at which a body is not a tree.
 ghost use Rattle.std.specs.Prelude.{◌≡◌, ◌<◌, ◌&&◌, length, nat_lt, slice_get, true, IfOk, OnOk};
 ghost use Rattle.std.specs.List.{list_all};
 ghost use Rattle.world.specs.Nodes.{children_of, patterns_of, subpatterns_of};
@@ -16,7 +16,7 @@ use crate::reach::{Reaches, reach_of_pats};
 use std::alloc::Global;
 use world::{Body, Expr, NoMemory, Pat};
 
-/// Whether all of these numbers are below a limit.
+/// Whether all these ids are below a limit.
 fn are_below(ids: &[u64], limit: u64) -> bool
     ensures { result ≡ list_all (λ id. nat_lt id limit) ids.now }
 {
@@ -40,7 +40,7 @@ fn is_shallow(
     }
 }
 
-/// Whether the expressions that an expression holds stand before it.
+/// Whether the direct child expressions of an expression have lower ids than it.
 fn are_children_before(alloc: Global, e: u64, node: &Expr) -> Result<bool, NoMemory>
     ensures { IfOk result (λ before. before ≡ list_all (λ child. nat_lt child e) (children_of node.now)) }
 {
@@ -49,7 +49,7 @@ fn are_children_before(alloc: Global, e: u64, node: &Expr) -> Result<bool, NoMem
     Ok(are_below(children.as_slice(), e))
 }
 
-/// Whether the patterns that a pattern holds stand before it.
+/// Whether the direct subpatterns of a pattern have lower ids than it.
 fn are_parts_before(alloc: Global, p: u64, node: &Pat) -> Result<bool, NoMemory>
     ensures { IfOk result (λ before. before ≡ list_all (λ child. nat_lt child p) (subpatterns_of node.now)) }
 {
@@ -58,7 +58,7 @@ fn are_parts_before(alloc: Global, p: u64, node: &Pat) -> Result<bool, NoMemory>
     Ok(are_below(parts.as_slice(), p))
 }
 
-/// Whether the expressions inside the patterns that a shallow expression holds stand before it.
+/// Whether all expressions inside the patterns of a shallow expression have lower ids than it.
 fn are_inner_before(
     alloc: Global,
     body: &Body,
@@ -78,7 +78,7 @@ fn are_inner_before(
     Ok(reach.is_before(e))
 }
 
-/// Whether an expression of a body is in order. Only where it is shallow are its patterns walked.
+/// Whether an expression of a body is in order. Its patterns are walked only if it is shallow.
 fn is_expr_in_order(
     alloc: Global,
     body: &Body,
@@ -173,10 +173,10 @@ fn first_wrong_pat(
     Ok(None)
 }
 
-/// The first node of a body that is not in order, expressions first. A node is in order that stands
-/// after those that it holds, an expression also after those inside its patterns; that is held at one
-/// place at most, unless it is the root or a parameter; and from which no path of more than 400 steps
-/// leads down. It errs only where there is no memory.
+/// The first node of a body that is not in order, expressions first. A node is in order if its children
+/// of its own kind, and the expressions inside its patterns, have lower ids; if it occurs at most once as
+/// a child, or is the root or a parameter; and if no path of more than 400 steps leads down from it. It
+/// fails only for want of memory.
 pub fn wrong_node(alloc: Global, body: &Body) -> Result<Option<BodyNode>, NoMemory>
     ensures { IfOk result (λ found. found ≡ wrong_node body.now) }
 {

@@ -1,4 +1,4 @@
-//! Up to which expressions the patterns of a body reach.
+//! The greatest id of the expressions inside each pattern of a body.
 ghost use Rattle.std.specs.Prelude.{◌≡◌, ◌==◌, ◌&&◌, if◌then◌else◌, ℕ, false, length, nat_lt, slice_index_or, IfOk, OnOk};
 ghost use Rattle.std.specs.List.{list_all};
 ghost use Rattle.check_trees.specs.Reach.{any_path, is_before, kept_reach, AreReaches, HasReach, HaveReach};
@@ -9,7 +9,7 @@ use crate::nodes::{push_inner_exprs, push_subpatterns};
 use std::alloc::Global;
 use world::{Body, NoMemory};
 
-/// The last of some expressions, where there is one.
+/// The greatest id of some expressions; `Nothing` where there are none.
 #[derive(Clone, Copy)]
 pub(crate) enum Reach {
     Nothing,
@@ -17,7 +17,7 @@ pub(crate) enum Reach {
 }
 
 impl Reach {
-    /// Whether the expressions stand before one.
+    /// Whether all these expressions have ids below `e`.
     pub(crate) fn is_before(self, e: u64) -> bool
         ensures { result ≡ is_before self e }
     {
@@ -27,7 +27,7 @@ impl Reach {
         }
     }
 
-    /// The last of both.
+    /// The greater of two.
     fn max(self, other: Reach) -> Reach
         ensures { (e : ℕ) → is_before result e ≡ (is_before self e && is_before other e) }
     {
@@ -39,13 +39,13 @@ impl Reach {
     }
 }
 
-/// How far each pattern of a body that was walked reaches.
+/// The greatest ids inside the patterns that were walked already.
 #[derive(Drop)]
 pub(crate) struct Reaches {
     pats: Vec<Option<Reach>>,
 }
 
-/// Writes a reach at a place, where there is one.
+/// Stores a reach at an index, if the index is in range.
 fn keep_at(slots: &mut [Option<Reach>], place: u64, reach: Reach)
     ensures { (k : ℕ) → slice_index_or slots.new k None ≡ (if k == place && nat_lt place (length slots.old) then Some reach else slice_index_or slots.old k None) }
 {
@@ -56,7 +56,7 @@ fn keep_at(slots: &mut [Option<Reach>], place: u64, reach: Reach)
 }
 
 impl Reaches {
-    /// The reaches of a body of which no pattern was walked.
+    /// An empty table for a body: no pattern was walked yet.
     pub(crate) fn new(alloc: Global, body: &Body) -> Result<Reaches, NoMemory>
         ensures { IfOk result (λ reaches. AreReaches body.now reaches) }
     {
@@ -64,7 +64,7 @@ impl Reaches {
         Ok(Reaches { pats })
     }
 
-    /// The reach of a pattern, where it was walked.
+    /// The reach of a pattern that was walked already.
     fn kept(&self, p: u64) -> Option<Reach>
         ensures { result ≡ kept_reach self.now p }
     {
@@ -76,7 +76,7 @@ impl Reaches {
         }
     }
 
-    /// Keeps the reach of a pattern.
+    /// Stores the reach of a pattern.
     fn keep(&mut self, body: &Body, p: u64, reach: Reach)
         requires kept { AreReaches body.now self.old }
         requires reach { HasReach body.now p reach }
@@ -87,7 +87,7 @@ impl Reaches {
     }
 }
 
-/// The last of these expressions.
+/// The greatest of these ids.
 fn reach_of_exprs(ids: &[u64]) -> Reach
     ensures { (e : ℕ) → is_before result e ≡ list_all (λ inner. nat_lt inner e) ids.now }
 {
@@ -98,7 +98,7 @@ fn reach_of_exprs(ids: &[u64]) -> Reach
     reach
 }
 
-/// The patterns that the pattern of a number holds.
+/// The direct subpatterns of a pattern; none if the body doesn't have the pattern.
 fn subpatterns_at(alloc: Global, body: &Body, p: u64) -> Result<Vec<u64>, NoMemory>
     ensures { IfOk result (λ parts. parts.items ≡ subpatterns_at body.now p) }
 {
@@ -109,7 +109,7 @@ fn subpatterns_at(alloc: Global, body: &Body, p: u64) -> Result<Vec<u64>, NoMemo
     Ok(parts)
 }
 
-/// The expressions that the pattern of a number holds.
+/// The expressions that stand directly in a pattern; none if the body doesn't have the pattern.
 fn inner_exprs_at(alloc: Global, body: &Body, p: u64) -> Result<Vec<u64>, NoMemory>
     ensures { IfOk result (λ inner. inner.items ≡ inner_exprs_at body.now p) }
 {
@@ -120,8 +120,8 @@ fn inner_exprs_at(alloc: Global, body: &Body, p: u64) -> Result<Vec<u64>, NoMemo
     Ok(inner)
 }
 
-/// How far a pattern reaches from which no path of so many steps leads down. Each pattern on the
-/// way is walked once.
+/// The greatest id of the expressions inside a pattern that no path of `budget` steps leads down from.
+/// Each pattern is walked once.
 #[cycle(reaches)]
 fn reach_of_pat(
     alloc: Global,
@@ -146,7 +146,7 @@ fn reach_of_pat(
     Ok(reach)
 }
 
-/// How far some patterns reach from which no path of so many steps leads down.
+/// The greatest id of the expressions inside patterns that no path of `budget` steps leads down from.
 #[cycle(reaches)]
 pub(crate) fn reach_of_pats(
     alloc: Global,

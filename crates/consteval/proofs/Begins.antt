@@ -1,5 +1,5 @@
 -- When a run of a lowered body can begin.
-use Rattle.std.proofs.Common.{◌≡◌, ◌≢◌, ℕ, suc, Bool, true, false, cond, List, [], ◌∷◌, Option, Some, None, Result, Ok, Err, refl, sym, ap, ◌∙◌, subst}
+use Rattle.std.proofs.Common.{◌≡◌, ℕ, suc, Bool, true, false, cond, List, [], ◌∷◌, Option, Some, None, Result, Ok, Err, refl, sym, ap, ◌∙◌, subst}
 use Rattle.std.specs.Prelude.{slice_get, option_and_then, codes}
 use Rattle.world.specs.declared.database.HirDatabase.{HirDatabase}
 use Rattle.world.specs.declared.layout.Layout.{Layout}
@@ -10,7 +10,6 @@ use Rattle.mir.specs.declared.body.Local.{Local}
 use Rattle.mir.specs.declared.body.MirBody.{MirBody}
 use Rattle.mir.specs.declared.errors.MirEvalError.{MirEvalError}
 use Rattle.mir.specs.declared.errors.MirEvalError as error
-use Rattle.mir.specs.declared.errors.TrailEntry.{TrailEntry}
 use Rattle.mir.specs.Memory.{Interval, Memory, first_memory, with_cell, placed, cell_before, cells_of}
 use Rattle.mir.specs.Run.{Frame, begun}
 use Rattle.mir_lower.specs.Simulates.{Simulates}
@@ -19,6 +18,8 @@ use Rattle.mir_lower.proofs.Placing.{places-all}
 use Rattle.mir_lower.proofs.Whole.{begun-cells}
 use Rattle.source_meaning.specs.Source.{Source, Cell, Result as Slot, Node, Binding, cell_type, node_type, root}
 use Rattle.mir_lower.specs.Growth.{IsUsed}
+use Rattle.consteval.specs.Answers.{EndsEvaluation}
+use Rattle.consteval.proofs.Faults.{without-layout, without-size}
 use Rattle.source_meaning.specs.Valid.{itself, IsPlain, AreLaidOut, HasSizedLayout, HasDefinedCost}
 
 -- the types of a plain body that began have layouts
@@ -70,42 +71,42 @@ begins source body simulates cost =
       sized : (l : ℕ) (local : Local) → slice_get body.locals l ≡ Some local → HasLayout source.world local
       sized l local there = let cell = simulates.cells l local there in by-cell local cell.0 cell.1 cell.2
 
--- why a body can't begin, which is no end of a frame
-abbrev IsFrameless : MirEvalError → Type 0
-IsFrameless (error.InFunction' p inner trail) = ⊥
-IsFrameless _ = Unit {0}
+module _ (source : Source) (blocks : ℕ) where
+  abbrev World : HirDatabase
+  World = source.world
 
-abbrev FailsFrameless : {A : Type 0} → Result A MirEvalError → Type 0
-FailsFrameless (Ok a) = Unit {0}
-FailsFrameless (Err e) = IsFrameless e
+  -- a refusal is for a type without a layout or without a size
+  abbrev FailsForType : {A : Type 0} → Result A MirEvalError → Type 0
+  FailsForType (Ok a) = Unit {0}
+  FailsForType (Err e) = EndsEvaluation source blocks e
 
-placed-frameless : (ty : Ty) (found : Option Layout) (memory : Memory) → FailsFrameless (placed ty found memory)
-unfolding placed
-placed-frameless ty None memory = tt
-placed-frameless ty (Some layout) memory = by-size layout.sized where
-  by-size : (b : Bool) → FailsFrameless (cond b (Ok (with_cell layout memory)) (Err (error.TypeIsUnsized ty (codes "no unsized local in extending stack"))))
-  by-size true = tt
-  by-size false = tt
+  placed-fails : (ty : Ty) (found : Option Layout) (memory : Memory) → layout_of World ty ≡ found → FailsForType (placed ty found memory)
+  unfolding placed
+  placed-fails ty None memory is = without-layout source blocks ty is
+  placed-fails ty (Some layout) memory is = by-size layout.sized refl where
+    by-size : (b : Bool) → layout.sized ≡ b → FailsForType (cond b (Ok (with_cell layout memory)) (Err (error.TypeIsUnsized ty (codes "no unsized local in extending stack"))))
+    by-size true sized = tt
+    by-size false sized = without-size source blocks ty (codes "no unsized local in extending stack") (layout, is, sized)
 
-before-frameless : (cell : Interval) (rest : Result (List Interval × Memory) MirEvalError) → FailsFrameless rest → FailsFrameless (cell_before cell rest)
-before-frameless cell (Ok all) h = tt
-before-frameless cell (Err e) h = h
+  before-fails : (cell : Interval) (rest : Result (List Interval × Memory) MirEvalError) → FailsForType rest → FailsForType (cell_before cell rest)
+  before-fails cell (Ok all) h = tt
+  before-fails cell (Err e) h = h
 
-then-frameless : {A B : Type 0} (first : Result A MirEvalError) (next : A → Result B MirEvalError) → FailsFrameless first → ((a : A) → FailsFrameless (next a)) → FailsFrameless (elim first [ Ok a ↦ next a | Err e ↦ Err e ])
-then-frameless (Ok a) next h rest = rest a
-then-frameless (Err e) next h rest = h
+  then-fails : {A B : Type 0} (first : Result A MirEvalError) (next : A → Result B MirEvalError) → FailsForType first → ((a : A) → FailsForType (next a)) → FailsForType (elim first [ Ok a ↦ next a | Err e ↦ Err e ])
+  then-fails (Ok a) next h rest = rest a
+  then-fails (Err e) next h rest = h
 
-cells-frameless : (world : HirDatabase) (locals : List Local) (memory : Memory) → FailsFrameless (cells_of world locals memory)
-unfolding cells_of
-cells-frameless world [] memory = tt
-cells-frameless world (local ∷ locals) memory =
-    then-frameless (placed local.ty (layout_of world local.ty) memory) (λ first. cell_before first.0 (cells_of world locals first.1)) (placed-frameless local.ty (layout_of world local.ty) memory)
-    (λ first. before-frameless first.0 (cells_of world locals first.1) (cells-frameless world locals first.1))
+  cells-fail : (locals : List Local) (memory : Memory) → FailsForType (cells_of World locals memory)
+  unfolding cells_of
+  cells-fail [] memory = tt
+  cells-fail (local ∷ locals) memory =
+      then-fails (placed local.ty (layout_of World local.ty) memory) (λ first. cell_before first.0 (cells_of World locals first.1)) (placed-fails local.ty (layout_of World local.ty) memory refl)
+      (λ first. before-fails first.0 (cells_of World locals first.1) (cells-fail locals first.1))
 
-begun-frameless : (world : HirDatabase) (body : MirBody) → FailsFrameless (begun world body)
-unfolding begun
-begun-frameless world body = then-frameless (cells_of world body.locals first_memory) _ (cells-frameless world body.locals first_memory) (λ all. tt)
+  begun-fails : (body : MirBody) → FailsForType (begun World body)
+  unfolding begun
+  begun-fails body = then-fails (cells_of World body.locals first_memory) _ (cells-fail body.locals first_memory) (λ all. tt)
 
-pub begun-is-frameless : (world : HirDatabase) (body : MirBody) (e inner : MirEvalError) (trail : List TrailEntry) → begun world body ≡ Err e → e ≢ error.InFunction inner trail
-begun-is-frameless world body e inner trail is framed =
-    subst IsFrameless framed (subst (λ (r : Result (Frame × Memory) MirEvalError). FailsFrameless r) is (begun-frameless world body))
+  -- a body can't begin for a local whose type has no layout or no size
+  pub begun-refusal : (body : MirBody) (e : MirEvalError) → begun World body ≡ Err e → EndsEvaluation source blocks e
+  begun-refusal body e is = subst (λ (r : Result (Frame × Memory) MirEvalError). FailsForType r) is (begun-fails body)

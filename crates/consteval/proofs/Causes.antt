@@ -1,31 +1,84 @@
 -- The causes of answers, over what is kept.
-use Rattle.std.proofs.Common.{◌≡◌, ℕ, ◌⊎◌, ⊎_elim, inl, inr, [], Result, Err, refl, sym, ap, subst}
-use Rattle.std.specs.Prelude.{Contains}
+use Rattle.std.proofs.Common.{◌≡◌, ℕ, ◌⊎◌, ⊎_elim, inl, inr, [], Result, Ok, Err, refl, sym, ap, subst, arith}
+use Rattle.std.specs.Prelude.{Contains, IfOk}
 use Rattle.world.specs.declared.database.HirDatabase.{HirDatabase}
 use Rattle.types.specs.declared.ids.DefWithBodyId.{DefWithBodyId}
 use Rattle.types.specs.declared.ty.Const.{Const}
 use Rattle.types.specs.declared.ty.GenericArgs.{GenericArgs}
 use Rattle.mir.specs.declared.body.MirBody.{MirBody}
 use Rattle.mir.specs.declared.errors.ConstEvalError.{ConstEvalError}
+use Rattle.mir.specs.declared.errors.ConstEvalError.TheVariants as constant
+use Rattle.mir.specs.declared.errors.MirEvalError.{MirEvalError}
+use Rattle.mir.specs.declared.errors.MirEvalError as error
 use Rattle.mir.specs.declared.errors.MirLowerError.{MirLowerError}
 use Rattle.mir.specs.declared.errors.MirLowerError.TheVariants as refusal
 use Rattle.mir.specs.Errors.{from_lower_error}
-use Rattle.consteval.specs.Answers.{HasCause, AnswersBody, RefusesBody}
-use Rattle.consteval.specs.Kept.{Kept, Stays}
+use Rattle.consteval.specs.Answers.{AnswersBody, AnswersKept, HasCause, NeverLowered, RefusesBody, carried}
+use Rattle.consteval.specs.Kept.{IsValueOf, Kept, Lowered, Ran, Stays}
+use Rattle.consteval.proofs.Keeping.{contains-stays}
 
 -- a refusal to lower a body
 pub cause-refused : (kept : Kept) (world : HirDatabase) (def : DefWithBodyId) (args : GenericArgs) (blocks : ℕ) (e : MirLowerError) → kept.world ≡ world → (e ≡ refusal.NoMemory) ⊎ RefusesBody world def args e → HasCause kept def args blocks 0 (Err (from_lower_error e))
-cause-refused kept world def args blocks e same =
-    ⊎_elim (λ none. inr (inr (ap (λ (x : MirLowerError). Err (from_lower_error x)) none)))
-    (λ refuses. inr (inl (refl, e, refl, subst (λ w. RefusesBody w def args e) (sym same) refuses)))
+cause-refused kept world def args blocks e same refuses =
+    inr (record { none = refl; fault = e; is = refl; refuses = subst (λ w. (e ≡ refusal.NoMemory) ⊎ RefusesBody w def args e) (sym same) refuses })
 
 -- an answer of a kept body
-pub cause-answered : (kept : Kept) (world : HirDatabase) (def : DefWithBodyId) (args : GenericArgs) (blocks turns : ℕ) (body : MirBody) (answer : Result Const ConstEvalError) → kept.world ≡ world → args.0 ≡ [] → Contains kept.bodies (def, body) → AnswersBody world def body blocks turns answer → HasCause kept def args blocks turns answer
+pub cause-answered : (kept : Kept) (world : HirDatabase) (def : DefWithBodyId) (args : GenericArgs) (blocks turns : ℕ) (body : MirBody) (answer : Result Const ConstEvalError) → kept.world ≡ world → args.0 ≡ [] → Contains kept.entries (Lowered def body) → AnswersBody world def body blocks turns answer → HasCause kept def args blocks turns answer
 cause-answered kept world def args blocks turns body answer same given found answers =
-    inl (given, body, found, subst (λ w. AnswersBody w def body blocks turns answer) (sym same) answers)
+    inl (record { given = given; body = body; found = found; answers = subst (λ w. AnswersBody w def body blocks turns answer) (sym same) answers })
 
--- a cause stays one where more is kept
-pub cause-stays : (before after : Kept) (def : DefWithBodyId) (args : GenericArgs) (blocks turns : ℕ) (answer : Result Const ConstEvalError) → Stays before after → HasCause before def args blocks turns answer → HasCause after def args blocks turns answer
-cause-stays before after def args blocks turns answer stays =
-    ⊎_elim (λ answers. inl (answers.0, answers.1, stays.bodies def answers.1 answers.2, subst (λ w. AnswersBody w def answers.1 blocks turns answer) (sym stays.world) answers.3))
-    (⊎_elim (λ refused. inr (inl (refused.0, refused.1, refused.2, subst (λ w. RefusesBody w def args refused.1) (sym stays.world) refused.3))) (λ none. inr (inr none)))
+module _ (before after : Kept) (stays : Stays before after) (def : DefWithBodyId) (args : GenericArgs) (blocks turns : ℕ) where
+  answers-stay : (answer : Result Const ConstEvalError) → AnswersKept before def args blocks turns answer → AnswersKept after def args blocks turns answer
+  answers-stay answer answers =
+      record {
+        given = answers.given;
+        body = answers.body;
+        found = contains-stays before after stays (Lowered def answers.body) answers.found;
+        answers = subst (λ w. AnswersBody w def answers.body blocks turns answer) (sym stays.world) answers.answers;
+      }
+
+  -- a cause stays one where more is kept
+  pub cause-stays : (answer : Result Const ConstEvalError) → HasCause before def args blocks turns answer → HasCause after def args blocks turns answer
+  cause-stays answer =
+      ⊎_elim (λ answers. inl (answers-stay answer answers)) (λ refused. inr (subst (λ w. NeverLowered w def args turns answer) (sym stays.world) refused))
+
+  -- where memory runs out once an answer is there, no more blocks were entered
+  body-out : (body : MirBody) (answer : Result Const ConstEvalError) → AnswersBody before.world def body blocks turns answer → AnswersBody before.world def body blocks turns (Err constant.NoMemory)
+  body-out body answer =
+      ⊎_elim
+      (λ runs. inr (inr (record {
+        pointers = runs.pointers;
+        start = runs.ran.start;
+        began = runs.ran.began;
+        entered = (let is = runs.ran.entered in omega arith);
+        is = refl;
+      })))
+      (⊎_elim (λ never. inr (inl (record { none = never.none; fault = error.NoMemory; is = refl; refuses = inl refl })))
+      (λ out. inr (inr (record { pointers = out.pointers; start = out.start; began = out.began; entered = out.entered; is = refl }))))
+
+  pub cause-out : (answer : Result Const ConstEvalError) → HasCause before def args blocks turns answer → HasCause after def args blocks turns (Err constant.NoMemory)
+  cause-out answer cause =
+      cause-stays (Err constant.NoMemory)
+      (⊎_elim (λ answers. inl (record { given = answers.given; body = answers.body; found = answers.found; answers = body-out answers.body answer answers.answers }))
+      (λ refused. inr (record { none = refused.none; fault = refusal.NoMemory; is = refl; refuses = inl refl })) cause)
+
+-- a value that is carried is the outcome's
+pub carried-value : (outcome : Result Const MirEvalError) (konst : Const) → ◌≡◌ {A = Result Const ConstEvalError} (Ok konst) (carried outcome) → Ok konst ≡ outcome
+carried-value (Ok value) konst h = let same : konst ≡ value = cc in ap Ok same
+carried-value (Err e) konst h = absurd cc
+
+-- a value that is answered is what a run of the kept body returned
+pub cause-value : (kept : Kept) (def : DefWithBodyId) (args : GenericArgs) (blocks turns : ℕ) (answer : Result Const ConstEvalError) → HasCause kept def args blocks turns answer → IfOk answer (IsValueOf kept def)
+cause-value kept def args blocks turns (Err e) cause = tt
+cause-value kept def args blocks turns (Ok konst) cause = ⊎_elim (λ answers. by-body answers.body answers.found answers.answers) (λ refused. let is = refused.is in absurd cc) cause where
+  by-body : (body : MirBody) → Contains kept.entries (Lowered def body) → AnswersBody kept.world def body blocks turns (Ok konst) → IsValueOf kept def konst
+  by-body body found =
+      ⊎_elim
+      (λ runs. record {
+        body = body;
+        from = found;
+        blocks = blocks;
+        turns = turns;
+        ran = subst (Ran kept.world body blocks turns) (sym (carried-value runs.outcome konst runs.is)) runs.ran;
+      })
+      (⊎_elim (λ never. let is = never.is in absurd cc) (λ out. let is = out.is in absurd cc))

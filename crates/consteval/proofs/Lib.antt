@@ -1,8 +1,12 @@
 pub mod Begins
 pub mod Causes
+pub mod Elements
 pub mod Ends
+pub mod Faults
+pub mod Finding
 pub mod Headline
 pub mod Keeping
+pub mod Keys
 pub mod Refused
 pub mod Rows
 pub mod Starting

@@ -1,5 +1,5 @@
 -- What the answer to a definition says: the value or the panic that its source means, and the cause of any other.
-use Rattle.std.specs.Prelude.{◌≡◌, ◌≢◌, ℕ, ◌≤◌, Bool, true, false, not, List, [], ◌∷◌, ◌⊎◌, ◌||◌, Option, Some, None, Result, Ok, Err, Contains, codes, option_map, slice_get}
+use Rattle.std.specs.Prelude.{◌≡◌, ◌≢◌, ℕ, ◌-◌, ◌<◌, ◌≤◌, Bool, true, false, not, List, [], ◌∷◌, ◌⊎◌, ◌||◌, Option, Some, None, Result, Ok, Err, Contains, codes, option_map, slice_get}
 use Rattle.world.specs.declared.database.BodyRow.{BodyRow}
 use Rattle.world.specs.declared.items.ConstRow.{ConstRow}
 use Rattle.world.specs.declared.database.HirDatabase.{HirDatabase}
@@ -10,30 +10,33 @@ use Rattle.types.specs.declared.ty.Const.TheVariants.{Value}
 use Rattle.types.specs.declared.ty.GenericArgs.{GenericArgs}
 use Rattle.types.specs.declared.ty.MemoryMap.TheVariants.{Empty}
 use Rattle.types.specs.declared.ty.Ty.{Ty}
-use Rattle.world.specs.Lookups.{body_row}
+use Rattle.world.specs.Lookups.{body_row, layout_of}
+use Rattle.world.specs.declared.layout.Layout.{Layout}
 use Rattle.mir.specs.declared.body.MirBody.{MirBody}
 use Rattle.mir.specs.declared.errors.ConstEvalError.{ConstEvalError}
 use Rattle.mir.specs.declared.errors.ConstEvalError.TheVariants as constant
-use Rattle.mir.specs.declared.errors.MirEvalError.{MirEvalError}
+use Rattle.mir.specs.declared.errors.MirEvalError.{MirEvalError, MirEvalError-F, fold-MirEvalError, out-MirEvalError}
 use Rattle.mir.specs.declared.errors.MirEvalError as error
+use Rattle.mir.specs.declared.errors.MirEvalError.TheOpen as layer
 use Rattle.mir.specs.declared.errors.MirLowerError.{MirLowerError}
 use Rattle.mir.specs.declared.errors.MirLowerError.TheVariants as refusal
-use Rattle.mir.specs.Errors.{from_lower_error, from_eval_error}
-use Rattle.mir.specs.Run.{begun}
+use Rattle.mir.specs.Errors.{from_lower_error, from_eval_error, layout_error_of}
+use Rattle.mir.specs.Memory.{Memory}
+use Rattle.mir.specs.Run.{Frame, begun}
 use Rattle.mir_eval.specs.Evaluators.{crate_or_first}
 use Rattle.mir_eval.specs.Machine.{pointer_bytes}
-use Rattle.mir_lower.specs.Refusals.{RefusesInferred}
+use Rattle.mir_lower.specs.Refusals.{RefusesAt, RefusesInferred}
 use Rattle.world.specs.declared.infer.InferenceResult.{InferenceResult}
-use Rattle.source_meaning.specs.Ends.{Cost, Go, Panic}
-use Rattle.source_meaning.specs.Meaning.{Gives}
+use Rattle.source_meaning.specs.Ends.{Cost, End, Go, Jumps, Faults, Stuck, More, Panic, Undefined}
+use Rattle.source_meaning.specs.Meaning.{Gives, meaning_of}
 use Rattle.source_meaning.specs.Source.{Source, Store, node_type, root}
-use Rattle.consteval.specs.Kept.{Kept, Ran, source_of}
+use Rattle.consteval.specs.Kept.{Kept, Lowered, Ran, run_of, source_of}
 
 -- a constant of a type, with these bytes and no memory behind them
 abbrev pub constant_of : Ty → List ℕ → Const
 constant_of ty bytes = Value (record { ty = ty; memory = bytes; memory_map = Empty })
 
--- the error of a panic that says a word
+-- the error that a panic of a root ends in, which says a word
 abbrev pub panic_of : List ℕ → ConstEvalError
 panic_of word = constant.MirEvalError (error.InFunction (error.Panic word) [])
 
@@ -50,7 +53,69 @@ pub record GivesValue (source : Source) (konst : Const) : Type 0 where
 -- the source means a panic that says the word
 pub record GivesPanic (source : Source) (word : List ℕ) : Type 0 where
   pub cost : Cost
-  pub gives : Gives source (Panic word cost)
+  pub gives : Gives source (Faults (Panic word) cost)
+
+-- the source means undefined behavior that the text names
+pub record GivesUndefined (source : Source) (text : List ℕ) : Type 0 where
+  pub cost : Cost
+  pub gives : Gives source (Faults (Undefined text) cost)
+
+-- the word of a panic, by that of the error in it
+abbrev pub panic_layer : MirEvalError-F (Option (List ℕ)) → Option (List ℕ)
+panic_layer (layer.Panic word) = Some word
+panic_layer (layer.InFunction inner trail) = inner
+panic_layer _ = None
+
+-- the word of a panic, under any number of frames and any trail
+unfoldable pub panic_word : MirEvalError → Option (List ℕ)
+panic_word = fold-MirEvalError (Option (List ℕ)) panic_layer
+
+-- the blocks that a part of an evaluation counts
+abbrev pub turns_in : End (List ℕ) → ℕ
+turns_in (Go bytes store cost) = cost.turns
+turns_in (Jumps to store cost) = cost.turns
+turns_in (Faults fault cost) = cost.turns
+turns_in Stuck = 0
+turns_in (More cost) = cost.turns
+
+-- at some amount of fuel the source counts more blocks than a limit
+abbrev pub PassesBlocks : Source → ℕ → Type 0
+PassesBlocks source blocks = (fuel : ℕ) × (blocks < turns_in (meaning_of source fuel))
+
+-- a type has a layout without a size
+abbrev pub IsUnsized : HirDatabase → Ty → Type 0
+IsUnsized world ty = (layout : Layout) × (layout_of world ty ≡ Some layout) × (layout.sized ≡ false)
+
+-- how a frame of a valid definition can end: in a panic or in undefined behavior that its source means, or past the limit
+-- on blocks
+abbrev pub EndsFrame : Source → ℕ → MirEvalError → Type 0
+EndsFrame source blocks (error.Panic word) = GivesPanic source word
+EndsFrame source blocks (error.UndefinedBehavior text) = GivesUndefined source text
+EndsFrame source blocks error.ExecutionLimitExceeded = PassesBlocks source blocks
+EndsFrame source blocks _ = ⊥
+
+-- the outermost part of such an error
+abbrev pub EndsLayer : Source → ℕ → MirEvalError-F MirEvalError → Type 0
+EndsLayer source blocks (layer.InFunction inner trail) = EndsFrame source blocks inner
+EndsLayer source blocks (layer.LayoutError e ty) = (e ≡ layout_error_of ty) × (layout_of source.world ty ≡ None)
+EndsLayer source blocks (layer.TypeIsUnsized ty text) = IsUnsized source.world ty
+EndsLayer source blocks _ = ⊥
+
+-- how the evaluation of a valid definition's body can end without a value: with its frame, or for a local whose type has no
+-- layout or no size
+abbrev pub EndsEvaluation : Source → ℕ → MirEvalError → Type 0
+EndsEvaluation source blocks e = EndsLayer source blocks (out-MirEvalError e)
+
+-- how the lowering of a valid definition's body can end without a graph: for a number literal whose type has no layout
+abbrev pub EndsLowering : Source → MirLowerError → Type 0
+EndsLowering source (refusal.LayoutError e) = RefusesAt source (root source) (refusal.LayoutError e)
+EndsLowering source _ = ⊥
+
+-- Every error that a valid definition can end in. Want of memory needs no cause.
+abbrev pub EndsIn : Source → ℕ → ConstEvalError → Type 0
+EndsIn source blocks (constant.MirLowerError e) = EndsLowering source e
+EndsIn source blocks (constant.MirEvalError e) = EndsEvaluation source blocks e
+EndsIn source blocks constant.NoMemory = Unit {0}
 
 -- an answer is this one, or want of memory
 abbrev pub OrNoMemory : Result Const ConstEvalError → Result Const ConstEvalError → Type 0
@@ -60,15 +125,16 @@ OrNoMemory answer expected = (answer ≡ expected) ⊎ (answer ≡ Err constant.
 pub record AnswersWithin (source : Source) (blocks : ℕ) (answer : Result Const ConstEvalError) : Type 0 where
   pub value : (ty : Ty) (bytes : List ℕ) (store : Store) (cost : Cost) → node_type source (root source) ≡ Some ty →
       Gives source (Go bytes store cost) → cost.turns ≤ blocks → OrNoMemory answer (Ok (constant_of ty bytes))
-  pub panic : (word : List ℕ) (cost : Cost) → Gives source (Panic word cost) → cost.turns ≤ blocks → OrNoMemory answer (Err (panic_of word))
+  pub panic : (word : List ℕ) (cost : Cost) → Gives source (Faults (Panic word) cost) → cost.turns ≤ blocks → OrNoMemory answer (Err (panic_of word))
 
 -- a machine's outcome as an answer
 abbrev pub carried : Result Const MirEvalError → Result Const ConstEvalError
 carried (Ok konst) = Ok konst
 carried (Err e) = Err (from_eval_error e)
 
--- the body ran to the answer, over so many blocks
-pub record RunsTo (world : HirDatabase) (body : MirBody) (blocks turns : ℕ) (answer : Result Const ConstEvalError) : Type 0 where
+-- the body ran to the answer, over so many blocks, and the pointers of its definition's crate have 8 bytes
+pub record RunsTo (world : HirDatabase) (def : DefWithBodyId) (body : MirBody) (blocks turns : ℕ) (answer : Result Const ConstEvalError) : Type 0 where
+  pub pointers : pointer_bytes world def ≡ Some 8
   pub outcome : Result Const MirEvalError
   pub ran : Ran world body blocks turns outcome
   pub is : answer ≡ carried outcome
@@ -131,23 +197,49 @@ abbrev pub RefusesBody : HirDatabase → DefWithBodyId → GenericArgs → MirLo
 RefusesBody world def args e =
     RefusesErrors world def e ⊎ RefusesUnbuilt world def args e ⊎ RefusesMissing world def args e ⊎ RefusesLowering world def args e
 
--- a body could not begin: the crate's pointers, or a local that can have no cell
+-- A body could not begin: the size of the crate's pointers isn't known, or it is another than 8 bytes, or else a local
+-- can have no cell.
 abbrev pub RefusesRun : HirDatabase → DefWithBodyId → MirBody → MirEvalError → Type 0
 RefusesRun world def body e =
     ((e ≡ error.TargetDataLayoutNotAvailable (crate_or_first world def)) × (pointer_bytes world def ≡ None))
-    ⊎ ((e ≡ error.NotSupported (codes "targets with different pointer size from host")) × (pointer_bytes world def ≢ Some 8))
-    ⊎ (begun world body ≡ Err e)
+    ⊎ ((e ≡ error.NotSupported (codes "targets with different pointer size from host")) × (width : ℕ) × (pointer_bytes world def ≡ Some width) × (width ≢ 8))
+    ⊎ ((pointer_bytes world def ≡ Some 8) × (begun world body ≡ Err e))
+
+-- no run of a body began, for want of memory or for a cause that the answer tells
+pub record NeverBegins (world : HirDatabase) (def : DefWithBodyId) (body : MirBody) (turns : ℕ) (answer : Result Const ConstEvalError) : Type 0 where
+  pub none : turns ≡ 0
+  pub fault : MirEvalError
+  pub is : answer ≡ Err (from_eval_error fault)
+  pub refuses : (fault ≡ error.NoMemory) ⊎ RefusesRun world def body fault
+
+-- memory ran out in a run of a body or at its end: no more blocks are counted than the whole run enters
+pub record RunsOut (world : HirDatabase) (def : DefWithBodyId) (body : MirBody) (blocks turns : ℕ) (answer : Result Const ConstEvalError) : Type 0 where
+  pub pointers : pointer_bytes world def ≡ Some 8
+  pub start : Frame × Memory
+  pub began : begun world body ≡ Ok start
+  pub entered : turns ≤ blocks - (run_of body start blocks).left
+  pub is : answer ≡ Err constant.NoMemory
 
 -- the answer of a body: that of its run, or why none began, or want of memory
 abbrev pub AnswersBody : HirDatabase → DefWithBodyId → MirBody → ℕ → ℕ → Result Const ConstEvalError → Type 0
 AnswersBody world def body blocks turns answer =
-    RunsTo world body blocks turns answer
-    ⊎ ((turns ≡ 0) × (e : MirEvalError) × (answer ≡ Err (from_eval_error e)) × RefusesRun world def body e)
-    ⊎ (answer ≡ Err constant.NoMemory)
+    RunsTo world def body blocks turns answer ⊎ NeverBegins world def body turns answer ⊎ RunsOut world def body blocks turns answer
 
--- every answer but want of memory is that of the kept body, without arguments, or the refusal to lower one
+-- the answer is that of the definition's kept body, which is given no arguments
+pub record AnswersKept (kept : Kept) (def : DefWithBodyId) (args : GenericArgs) (blocks turns : ℕ) (answer : Result Const ConstEvalError) : Type 0 where
+  pub given : args.0 ≡ []
+  pub body : MirBody
+  pub found : Contains kept.entries (Lowered def body)
+  pub answers : AnswersBody kept.world def body blocks turns answer
+
+-- the definition's body could not be lowered, for want of memory or for a cause that the answer tells, and no run began
+pub record NeverLowered (world : HirDatabase) (def : DefWithBodyId) (args : GenericArgs) (turns : ℕ) (answer : Result Const ConstEvalError) : Type 0 where
+  pub none : turns ≡ 0
+  pub fault : MirLowerError
+  pub is : answer ≡ Err (from_lower_error fault)
+  pub refuses : (fault ≡ refusal.NoMemory) ⊎ RefusesBody world def args fault
+
+-- every answer is that of the kept body, without arguments, or the refusal to lower one
 abbrev pub HasCause : Kept → DefWithBodyId → GenericArgs → ℕ → ℕ → Result Const ConstEvalError → Type 0
 HasCause kept def args blocks turns answer =
-    ((args.0 ≡ []) × (body : MirBody) × Contains kept.bodies (def, body) × AnswersBody kept.world def body blocks turns answer)
-    ⊎ ((turns ≡ 0) × (e : MirLowerError) × (answer ≡ Err (from_lower_error e)) × RefusesBody kept.world def args e)
-    ⊎ (answer ≡ Err constant.NoMemory)
+    AnswersKept kept def args blocks turns answer ⊎ NeverLowered kept.world def args turns answer

@@ -1,6 +1,5 @@
 -- What is kept of finished evaluations, as its callers see it.
-use Rattle.std.specs.Prelude.{◌≡◌, ℕ, ◌-◌, List, Some, Result, Ok, Contains, map}
-use Rattle.std.specs.declared.rc.Rc.{Rc}
+use Rattle.std.specs.Prelude.{◌≡◌, ℕ, ◌-◌, List, [], ◌∷◌, ◌++◌, take, Some, Result, Ok, Contains, map, slice_get}
 use Rattle.world.specs.declared.database.HirDatabase.{HirDatabase}
 use Rattle.world.specs.declared.database.BodyRow.{BodyRow}
 use Rattle.types.specs.declared.ids.DefWithBodyId.{DefWithBodyId}
@@ -9,29 +8,50 @@ use Rattle.world.specs.Lookups.{body_row}
 use Rattle.mir.specs.declared.body.MirBody.{MirBody}
 use Rattle.mir.specs.Memory.{Memory}
 use Rattle.mir.specs.Run.{Frame, Ended, begun, entering}
-use Rattle.mir_eval.specs.Machine.{Machine, Going, outcome_of}
+use Rattle.mir_eval.specs.Machine.{Machine, Going, outcome_of, pointer_bytes}
 use Rattle.mir_lower.specs.Simulates.{Simulates}
 use Rattle.source_meaning.specs.Source.{Source}
+use Rattle.consteval.specs.declared.kept.Held.{Held}
+use Rattle.consteval.specs.declared.kept.Held.TheVariants as held
+use Rattle.consteval.specs.declared.kept.Key.{Key}
+use Rattle.consteval.specs.declared.kept.Key.TheVariants as key
 
--- the kept lowered bodies and the kept values, each with its definition, in the order of keeping
+-- a kept answer, with what it is kept for: the lowered body of a definition, or its value
+pub data Entry : Type 0 where
+  Lowered : (def : DefWithBodyId) (body : MirBody) → Entry
+  Value : (def : DefWithBodyId) (konst : Const) → Entry
+
+-- the kept answers of a world, in the order of keeping
 pub record Kept : Type 0 where
   pub world : HirDatabase
-  pub bodies : List (DefWithBodyId × MirBody)
-  pub values : List (DefWithBodyId × Const)
+  pub entries : List Entry
 
--- what is kept, from lists of shared bodies and of values
-abbrev pub kept_of : {Z : Type 0} → HirDatabase → List (DefWithBodyId × Rc MirBody Z) → List (DefWithBodyId × Const) → Kept
-kept_of world bodies values = record { world = world; bodies = map (λ kept. (kept.0, kept.1.value)) bodies; values = values }
+-- what an answer is kept for
+abbrev pub key_of : Entry → Key
+key_of (Lowered def body) = key.Lowered def
+key_of (Value def konst) = key.Value def
 
--- what was kept stays, over the same world
+-- an answer whose lowered body may be shared
+abbrev pub entry_of : Held → Entry
+entry_of (held.Lowered def body) = Lowered def body.value
+entry_of (held.Value def konst) = Value def konst
+
+abbrev pub kept_of : HirDatabase → List Held → Kept
+kept_of world answers = record { world = world; entries = map entry_of answers }
+
+-- something is kept for a key
+abbrev pub IsKept : Kept → Key → Type 0
+IsKept kept key = (entry : Entry) × Contains kept.entries entry × (key_of entry ≡ key)
+
+-- what is kept with one more answer
+abbrev pub with_entry : Entry → Kept → Kept
+with_entry entry kept = record kept { entries = kept.entries ++ entry ∷ [] }
+
+-- over the same world, what was kept stays, in its order, and stands before what is kept later
 pub record Stays (before after : Kept) : Type 0 where
   pub world : after.world ≡ before.world
-  pub bodies : (def : DefWithBodyId) (body : MirBody) → Contains before.bodies (def, body) → Contains after.bodies (def, body)
-  pub values : (def : DefWithBodyId) (konst : Const) → Contains before.values (def, konst) → Contains after.values (def, konst)
-
--- a value is kept for the definition
-abbrev pub IsKept : List (DefWithBodyId × Const) → DefWithBodyId → Type 0
-IsKept values def = (konst : Const) × Contains values (def, konst)
+  pub more : List Entry
+  pub entries : after.entries ≡ before.entries ++ more
 
 -- a row of bodies as a source
 abbrev pub source_of : HirDatabase → BodyRow → Source
@@ -47,8 +67,9 @@ pub record IsLowered (world : HirDatabase) (def : DefWithBodyId) (body : MirBody
 abbrev pub run_of : MirBody → Frame × Memory → ℕ → Ended
 run_of body start blocks = entering blocks start.0 start.1 body.start_block.0
 
--- a machine is about to enter the body's first block
+-- a machine is about to enter the body's first block, and the pointers of its owner's crate have 8 bytes
 pub record HasBegun (world : HirDatabase) (def : DefWithBodyId) (body : MirBody) (blocks : ℕ) (machine : Machine) : Type 0 where
+  pub pointers : pointer_bytes world def ≡ Some 8
   pub start : Frame × Memory
   pub began : begun world body ≡ Ok start
   pub limit : machine.blocks ≡ blocks
@@ -61,15 +82,25 @@ pub record Ran (world : HirDatabase) (body : MirBody) (blocks turns : ℕ) (outc
   pub ended : outcome ≡ outcome_of body (run_of body start blocks).ending
   pub entered : turns ≡ blocks - (run_of body start blocks).left
 
--- a kept value is what a run of a kept body of its definition returned
+-- a value is what a run of a kept body of its definition returned
 pub record IsValueOf (kept : Kept) (def : DefWithBodyId) (konst : Const) : Type 0 where
   pub body : MirBody
-  pub from : Contains kept.bodies (def, body)
+  pub from : Contains kept.entries (Lowered def body)
   pub blocks : ℕ
   pub turns : ℕ
   pub ran : Ran kept.world body blocks turns (Ok konst)
 
--- what is kept is right
+-- an answer is right by its world and by the answers that were kept before it
+abbrev pub RestsOn : Kept → Entry → Type 0
+RestsOn before (Lowered def body) = IsLowered before.world def body
+RestsOn before (Value def konst) = IsValueOf before def konst
+
+-- what was kept before the answer at a place
+abbrev pub kept_before : ℕ → Kept → Kept
+kept_before i kept = record kept { entries = take i kept.entries }
+
+-- What is kept is right: nothing is kept twice for one key, and each answer rests on those before it.
 pub record IsSound (kept : Kept) : Type 0 where
-  pub bodies : (def : DefWithBodyId) (body : MirBody) → Contains kept.bodies (def, body) → IsLowered kept.world def body
-  pub values : (def : DefWithBodyId) (konst : Const) → Contains kept.values (def, konst) → IsValueOf kept def konst
+  pub distinct : (i j : ℕ) (one other : Entry) → slice_get kept.entries i ≡ Some one → slice_get kept.entries j ≡ Some other →
+      key_of one ≡ key_of other → i ≡ j
+  pub rests : (i : ℕ) (entry : Entry) → slice_get kept.entries i ≡ Some entry → RestsOn (kept_before i kept) entry

@@ -3,7 +3,7 @@
 ghost use Rattle.std.specs.Prelude.{◌≡◌, IfOk};
 
 use crate::Evaluated;
-use crate::kept::{find, keep};
+use crate::kept::{Held, Key};
 use crate::lowering::{has_none, lower};
 use crate::running::{refused, run_body};
 use mir::{ConstEvalError, MirBody, MirLowerError};
@@ -11,17 +11,15 @@ use mir_eval::Limits;
 use std::alloc::Global;
 use std::marker::Model;
 use std::rc::Rc;
-use world::{Const, DefWithBodyId, GenericArgs, Map, NoMemory, TryClone};
+use world::{Const, DefWithBodyId, GenericArgs, NoMemory, Table, TryClone};
 use world_check::CheckedWorld;
 
-/// Evaluations over one checked world. They keep each lowered body and each value.
+/// Evaluations over one checked world. They keep each lowered body and each value, in the order of
+/// keeping.
 pub struct Evaluations<'w> {
     alloc: Global,
     world: &'w CheckedWorld,
-    bodies: Vec<(DefWithBodyId, Rc<MirBody>)>,
-    values: Vec<(DefWithBodyId, Const)>,
-    body_places: Map<DefWithBodyId, u64>,
-    value_places: Map<DefWithBodyId, u64>,
+    kept: Table<Key, Held>,
 }
 
 impl Drop for Evaluations<'_> {
@@ -29,10 +27,7 @@ impl Drop for Evaluations<'_> {
         let Evaluations {
             alloc: _alloc,
             world: _world,
-            bodies: _bodies,
-            values: _values,
-            body_places: _body_places,
-            value_places: _value_places,
+            kept: _kept,
         } = self;
     }
 }
@@ -48,9 +43,9 @@ impl<'w> Model for Evaluations<'w> {
 
     ghost coded = { Prim.hlevel (codes, database.the_row.coded, body.the_row.coded, konst.the_row.coded) };
 
-    ghost view = { λ e. kept_of e.world.now e.bodies.items e.values.items };
+    ghost view = { λ e. kept_of e.world.now e.kept };
 
-    ghost invariant = { λ e. IsSound (kept_of e.world.now e.bodies.items e.values.items) };
+    ghost invariant = { λ e. IsSound (kept_of e.world.now e.kept) };
 }
 
 /// A lowered body that can be shared.
@@ -68,27 +63,26 @@ fn share(body: &Rc<MirBody>) -> Result<Rc<MirBody>, NoMemory>
 }
 
 impl<'w> Evaluations<'w> {
-    ghost use Rattle.std.specs.Prelude.{◌≡◌, ◌⊎◌, ◌≤◌, [], Some, Ok, Err, IfOk, IfErr, IfSome, OnOk, IsOk, Contains};
+    ghost use Rattle.std.specs.Prelude.{◌≡◌, ◌⊎◌, ◌≤◌, [], Some, Ok, Err, IfOk, IfErr, IfSome, IfNone, OnOk, OnErr, IsOk, Contains};
+    ghost use Rattle.mir.specs.declared.errors.ConstEvalError.TheVariants as constant;
     ghost use Rattle.mir.specs.declared.errors.MirLowerError.TheVariants as refusal;
     ghost use Rattle.world.specs.Limits.{IsWithin};
     ghost use Rattle.source_meaning.specs.Valid.{HasDefinedCost};
     ghost use Rattle.world.specs.Checked.{IsChecked};
-    ghost use Rattle.consteval.specs.Kept.{IsKept, IsLowered, IsSound, IsValueOf, Stays, source_of};
+    ghost use Rattle.consteval.specs.declared.kept.Key.TheVariants as key;
+    ghost use Rattle.consteval.specs.Kept.{Lowered, Value, IsKept, IsLowered, IsSound, IsValueOf, RestsOn, Stays, entry_of, key_of, source_of, with_entry};
     ghost use Rattle.consteval.specs.Valid.{IsValid};
-    ghost use Rattle.consteval.specs.Answers.{GivesValue, GivesPanic, AnswersWithin, HasCause, RefusesBody, panic_of};
+    ghost use Rattle.consteval.specs.Answers.{GivesValue, GivesPanic, AnswersWithin, EndsIn, HasCause, RefusesBody, panic_word};
 
     /// Evaluations that have kept nothing yet. It takes no memory.
     pub fn new(alloc: Global, world: &'w CheckedWorld) -> Result<Evaluations<'w>, NoMemory>
-        ensures empty { IfOk result (λ e. e ≡ record { world = world.now; bodies = []; values = [] }) }
+        ensures empty { IfOk result (λ e. e ≡ record { world = world.now; entries = [] }) }
         ensures made { IsOk result }
     {
         Ok(Evaluations {
             alloc,
             world,
-            bodies: Vec::new(alloc),
-            values: Vec::new(alloc),
-            body_places: Map::new(alloc),
-            value_places: Map::new(alloc),
+            kept: Table::new(alloc),
         })
     }
 
@@ -99,25 +93,37 @@ impl<'w> Evaluations<'w> {
         self.world
     }
 
-    /// Keeps a lowered body.
-    fn keep_body(&mut self, def: DefWithBodyId, body: &Rc<MirBody>) -> Result<(), NoMemory>
-        requires { IsLowered self.old.world def body.now.value }
-        ensures found { OnOk result (Contains self.new.bodies (def, body.now.value)) }
-        ensures stays { Stays self.old self.new }
+    /// What is kept for a key.
+    fn find(&self, key: Key) -> Option<&Held>
+        ensures some { IfSome result (λ held. Contains self.now.entries (entry_of held.now) × (key_of (entry_of held.now) ≡ key)) }
+        ensures none { IfNone result (¬ IsKept self.now key) }
+    {
+        match self.kept.get(&key) {
+            Some(held) => Some(held),
+            None => None,
+        }
+    }
+
+    /// Keeps an answer for a key for which nothing is kept, after all that is.
+    fn keep(&mut self, held: Held) -> Result<(), NoMemory>
+        requires fresh { ¬ IsKept self.old (key_of (entry_of held)) }
+        requires right { RestsOn self.old (entry_of held) }
+        ensures kept { OnOk result (self.new ≡ with_entry (entry_of held) self.old) }
+        ensures unchanged { OnErr result (self.new ≡ self.old) }
         ensures sound { IsSound self.new }
     {
         let _ = &self.alloc;
-        let more = share(body)?;
-        keep(&mut self.body_places, &mut self.bodies, def, more)
+        self.kept.push(held)
     }
 
-    /// Lowers the body of a definition, and keeps it.
+    /// Lowers the body of a definition for which none is kept, and keeps it.
     fn new_body(
         &mut self,
         def: DefWithBodyId,
         args: &GenericArgs,
     ) -> Result<Rc<MirBody>, MirLowerError>
-        ensures found { IfOk result (λ body. Contains self.new.bodies (def, body.value)) }
+        requires { args.now.0 ≡ [] → ¬ IsKept self.old (key.Lowered def) }
+        ensures found { IfOk result (λ body. Contains self.new.entries (Lowered def body.value)) }
         ensures given { OnOk result (args.now.0 ≡ []) }
         ensures refused { IfErr result (λ e. (e ≡ refusal.NoMemory) ⊎ RefusesBody self.old.world def args.now e) }
         ensures stays { Stays self.old self.new }
@@ -130,7 +136,10 @@ impl<'w> Evaluations<'w> {
         let Ok(body) = shared(self.alloc, body) else {
             return Err(MirLowerError::NoMemory);
         };
-        match self.keep_body(def, &body) {
+        let Ok(more) = share(&body) else {
+            return Err(MirLowerError::NoMemory);
+        };
+        match self.keep(Held::Lowered(def, more)) {
             Ok(()) => Ok(body),
             Err(_) => Err(MirLowerError::NoMemory),
         }
@@ -138,14 +147,15 @@ impl<'w> Evaluations<'w> {
 
     /// The lowered body of a definition that is given no arguments, where it is kept.
     fn old_body(&self, def: DefWithBodyId, args: &GenericArgs) -> Option<&Rc<MirBody>>
-        ensures { IfSome result (λ body. Contains self.now.bodies (def, body.now.value) × (args.now.0 ≡ [])) }
+        ensures some { IfSome result (λ body. Contains self.now.entries (Lowered def body.now.value) × (args.now.0 ≡ [])) }
+        ensures none { IfNone result (args.now.0 ≡ [] → ¬ IsKept self.now (key.Lowered def)) }
     {
         if !has_none(args) {
             return None;
         }
-        match find(&self.body_places, self.bodies.as_slice(), def) {
-            Some(body) => Some(body),
-            None => None,
+        match self.find(Key::Lowered(def)) {
+            Some(Held::Lowered(_, body)) => Some(body),
+            _ => None,
         }
     }
 
@@ -155,7 +165,7 @@ impl<'w> Evaluations<'w> {
         def: DefWithBodyId,
         args: &GenericArgs,
     ) -> Result<Rc<MirBody>, MirLowerError>
-        ensures found { IfOk result (λ body. Contains self.new.bodies (def, body.value)) }
+        ensures found { IfOk result (λ body. Contains self.new.entries (Lowered def body.value)) }
         ensures given { OnOk result (args.now.0 ≡ []) }
         ensures refused { IfErr result (λ e. (e ≡ refusal.NoMemory) ⊎ RefusesBody self.old.world def args.now e) }
         ensures stays { Stays self.old self.new }
@@ -193,16 +203,16 @@ impl<'w> Evaluations<'w> {
     /// Keeps the value of a definition, unless one is kept.
     fn keep_value(&mut self, def: DefWithBodyId, konst: &Const) -> Result<(), NoMemory>
         requires { IsValueOf self.old def konst.now }
-        ensures kept { OnOk result (IsKept self.new.values def) }
+        ensures kept { OnOk result (IsKept self.new (key.Value def)) }
         ensures stays { Stays self.old self.new }
         ensures sound { IsSound self.new }
     {
         let _ = &self.alloc;
-        if let Some(_) = find(&self.value_places, self.values.as_slice(), def) {
+        if let Some(_) = self.find(Key::Value(def)) {
             return Ok(());
         }
         let konst = konst.try_clone(self.alloc)?;
-        keep(&mut self.value_places, &mut self.values, def, konst)
+        self.keep(Held::Value(def, konst))
     }
 
     /// Keeps what an answer is, where it is a value.
@@ -212,7 +222,7 @@ impl<'w> Evaluations<'w> {
         answer: &Result<Const, ConstEvalError>,
     ) -> Result<(), NoMemory>
         requires { IfOk answer.now (IsValueOf self.old def) }
-        ensures kept { OnOk result (IsOk answer.now → IsKept self.new.values def) }
+        ensures kept { OnOk result (IsOk answer.now → IsKept self.new (key.Value def)) }
         ensures stays { Stays self.old self.new }
         ensures sound { IsSound self.new }
     {
@@ -229,15 +239,15 @@ impl<'w> Evaluations<'w> {
         requires { IsWithin limits.now }
         ensures printed { result.output ≡ ([], []) }
         ensures value { (row : _) (konst : _) → IsValid self.old.world def args.now row → result.result ≡ Ok konst → GivesValue (source_of self.old.world row) konst }
-        ensures panic { (row : _) (word : _) → IsValid self.old.world def args.now row → result.result ≡ Err (panic_of word) → GivesPanic (source_of self.old.world row) word }
+        ensures panic { (row : _) (e : _) (word : _) → IsValid self.old.world def args.now row → result.result ≡ Err (constant.MirEvalError e) → panic_word e ≡ Some word
+            → GivesPanic (source_of self.old.world row) word }
+        ensures closed { (row : _) → IsValid self.old.world def args.now row → IfErr result.result (EndsIn (source_of self.old.world row) limits.now.blocks) }
         ensures complete { (row : _) → IsValid self.old.world def args.now row → HasDefinedCost (source_of self.old.world row)
             → AnswersWithin (source_of self.old.world row) limits.now.blocks result.result }
         ensures cause { HasCause self.new def args.now limits.now.blocks result.turns result.result }
         ensures turns { result.turns ≤ limits.now.blocks }
-        ensures world { self.new.world ≡ self.old.world }
-        ensures bodies_stay { (key : _) (body : _) → Contains self.old.bodies (key, body) → Contains self.new.bodies (key, body) }
-        ensures values_stay { (key : _) (konst : _) → Contains self.old.values (key, konst) → Contains self.new.values (key, konst) }
-        ensures kept { IsOk result.result → (konst : _) × Contains self.new.values (def, konst) }
+        ensures stays { Stays self.old self.new }
+        ensures kept { IsOk result.result → (konst : _) × Contains self.new.entries (Value def konst) }
         ensures sound { IsSound self.new }
     {
         let evaluated = self.answer(def, args, limits);

@@ -1,55 +1,37 @@
-//! Lists of what is kept, in the order of keeping, with a map of places that makes look-ups fast. A
-//! place is only a hint: the definition that stands there says whether it is right.
+//! What is kept of finished evaluations, and for what.
 
-ghost use Rattle.std.specs.Prelude.{◌≡◌, ◌∷◌, ◌++◌, [], IsTrue, IfSome, OnOk, OnErr, Contains};
+ghost use Rattle.std.specs.Prelude.{◌≡◌};
 
-use world::{DefWithBodyId, Map, NoMemory};
+use mir::MirBody;
+use std::alloc::Global;
+use std::rc::Rc;
+use world::{Const, DefWithBodyId, NoMemory, Row};
 
-/// Whether two definitions are the same.
-fn is_same(one: DefWithBodyId, other: DefWithBodyId) -> bool
-    ensures { IsTrue result → one ≡ other }
-{
-    match (one, other) {
-        (DefWithBodyId::FunctionId(one), DefWithBodyId::FunctionId(other)) => one.0 == other.0,
-        (DefWithBodyId::StaticId(one), DefWithBodyId::StaticId(other)) => one.0 == other.0,
-        (DefWithBodyId::ConstId(one), DefWithBodyId::ConstId(other)) => one.0 == other.0,
-        (DefWithBodyId::VariantId(one), DefWithBodyId::VariantId(other)) => one.0 == other.0,
-        _ => false,
-    }
+/// What an answer is kept for.
+#[derive(Clone, Copy, PartialEq, Eq, PartialOrd, Ord, Debug)]
+pub(crate) enum Key {
+    /// The lowered body of a definition.
+    Lowered(DefWithBodyId),
+    /// The value of a definition.
+    Value(DefWithBodyId),
 }
 
-/// What is kept of a definition.
-pub(crate) fn find<'a, V>(
-    places: &Map<DefWithBodyId, u64>,
-    kept: &'a [(DefWithBodyId, V)],
-    def: DefWithBodyId,
-) -> Option<&'a V>
-    ensures { IfSome result (λ value. Contains kept.now (def, value.now)) }
-{
-    let Some(place) = places.get(&def) else {
-        return None;
-    };
-    let Some(entry) = kept.get(*place as usize) else {
-        return None;
-    };
-    if is_same(entry.0, def) {
-        Some(&entry.1)
-    } else {
-        None
-    }
+/// A kept answer, with what it is kept for. A lowered body is shared with the runs of it.
+#[derive(Drop)]
+pub(crate) enum Held {
+    Lowered(DefWithBodyId, Rc<MirBody>),
+    Value(DefWithBodyId, Const),
 }
 
-/// Keeps a value for a definition, after those that are kept.
-pub(crate) fn keep<V: Drop>(
-    places: &mut Map<DefWithBodyId, u64>,
-    kept: &mut Vec<(DefWithBodyId, V)>,
-    def: DefWithBodyId,
-    value: V,
-) -> Result<(), NoMemory>
-    ensures kept { OnOk result (kept.new.items ≡ kept.old.items ++ (def, value) ∷ []) }
-    ensures unchanged { OnErr result (kept.new.items ≡ kept.old.items) }
-{
-    places.insert(def, kept.len() as u64)?;
-    kept.push((def, value))?;
-    Ok(())
+impl Row<Key> for Held {
+    ghost use Rattle.consteval.specs.Kept.{entry_of, key_of};
+
+    ghost key = { λ held. key_of (entry_of held) };
+
+    fn key(&self, _alloc: Global) -> Result<Key, NoMemory> {
+        match self {
+            Held::Lowered(def, _) => Ok(Key::Lowered(*def)),
+            Held::Value(def, _) => Ok(Key::Value(*def)),
+        }
+    }
 }

@@ -1,15 +1,15 @@
 //! From a definition to its lowered body.
 
-ghost use Rattle.std.specs.Prelude.{◌≡◌, ◌⊎◌, [], IsTrue, IfOk, IfErr, OnOk, codes};
+ghost use Rattle.std.specs.Prelude.{◌≡◌, ◌⊎◌, [], IsTrue, IfOk, IfErr, OnOk};
 ghost use Rattle.mir.specs.declared.errors.MirLowerError.TheVariants as refusal;
 ghost use Rattle.std.specs.Option.{option_copied};
 ghost use Rattle.consteval.specs.Answers.{RefusesBody, has_errors, has_generics, is_unbuilt, is_unbuilt_item};
 ghost use Rattle.consteval.specs.Kept.{IsLowered};
 
 use mir::{MirBody, MirLowerError};
-use mir_lower::lower_to_mir;
+use mir_lower::{form_not_built, lower_to_mir};
 use std::alloc::Global;
-use world::{ConstRow, DefWithBodyId, GenericArgs, HirDatabase, InferenceResult, Text};
+use world::{ConstRow, DefWithBodyId, GenericArgs, HirDatabase, InferenceResult};
 use world_check::CheckedWorld;
 
 /// Whether there are no arguments.
@@ -18,16 +18,6 @@ pub(crate) fn has_none(args: &GenericArgs) -> bool
     ensures only { args.now.0 ≡ [] → IsTrue result }
 {
     args.0.as_slice().is_empty()
-}
-
-/// The refusal of what can't be lowered yet.
-fn form_not_built(alloc: Global) -> MirLowerError
-    ensures { (result ≡ refusal.NoMemory) ⊎ (result ≡ refusal.NotSupported (codes "form not built")) }
-{
-    match Text::from_str(alloc, "form not built") {
-        Ok(text) => MirLowerError::NotSupported(text),
-        Err(_) => MirLowerError::NoMemory,
-    }
 }
 
 /// Whether a constant has generic parameters.

@@ -1,4 +1,4 @@
--- Readers of chosen impls.
+-- Readers of resolved impl items.
 use Rattle.std.specs.Prelude.{[], ◌∷◌, codes}
 use Rattle.serde_json.specs.Data.{Data}
 use Rattle.world.specs.declared.impls.ConstImplRow.{ConstImplRow}

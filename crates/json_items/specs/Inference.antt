@@ -1,4 +1,4 @@
--- Readers of what inference found.
+-- Readers of inference results.
 use Rattle.std.specs.Prelude.{ℕ, Bool, List, [], ◌∷◌, Option, Ok, codes, false}
 use Rattle.std.specs.Ordering.{nat_cmp}
 use Rattle.serde_json.specs.Data.{Data}
@@ -60,7 +60,7 @@ value_ns_of = enum_of (item_value_ns_of ∷ data_value_ns_of ∷ [])
 unfoldable pub binding_mode_of : Data → Fit BindingMode
 binding_mode_of = enum_of (unit (codes "Move") the_binding_mode.Move ∷ payload (codes "Ref") mutability_of the_binding_mode.Ref ∷ [])
 
--- the types of nodes
+-- the types of expressions, patterns and bindings
 unfoldable pub inference_result_node_types_of : Data → Fit ((List Ty) × (List Ty) × (List Ty))
 inference_result_node_types_of d = do
   expr_types ← optional [] (codes "expr_types") (list_of ty_of) d
@@ -68,14 +68,14 @@ inference_result_node_types_of d = do
   binding_types ← optional [] (codes "binding_types") (list_of ty_of) d
   Ok (expr_types, pat_types, binding_types)
 
--- what is done to values before they are used
+-- the adjustments of expressions and patterns
 unfoldable pub inference_result_adjustments_of : Data → Fit ((List (ExprId × (List Adjustment))) × (List (PatId × ℕ)))
 inference_result_adjustments_of d = do
   expr_adjustments ← optional [] (codes "expr_adjustments") (map_of (λ (x : ExprId) (y : ExprId). nat_cmp x.0 y.0) (pair_of expr_id_of (list_of adjustment_of))) d
   pat_adjustments ← optional [] (codes "pat_adjustments") (map_of (λ (x : PatId) (y : PatId). nat_cmp x.0 y.0) (pair_of pat_id_of u32_of)) d
   Ok (expr_adjustments, pat_adjustments)
 
--- what paths name
+-- the resolutions of paths
 unfoldable pub inference_result_values_of : Data → Fit ((List (ExprId × ValueNs)) × (List (PatId × ValueNs)) × (List (ExprId × AssocRes)) × (List (PatId × AssocRes)))
 inference_result_values_of d = do
   value_res ← optional [] (codes "value_res") (map_of (λ (x : ExprId) (y : ExprId). nat_cmp x.0 y.0) (pair_of expr_id_of value_ns_of)) d
@@ -84,7 +84,7 @@ inference_result_values_of d = do
   pat_assoc_res ← optional [] (codes "pat_assoc_res") (map_of (λ (x : PatId) (y : PatId). nat_cmp x.0 y.0) (pair_of pat_id_of assoc_res_of)) d
   Ok (value_res, pat_value_res, assoc_res, pat_assoc_res)
 
--- what names of variants, fields and methods stand for
+-- the resolutions of variants, fields and methods
 unfoldable pub inference_result_members_of : Data → Fit ((List (ExprId × VariantId)) × (List (PatId × VariantId)) × (List (ExprId × (Either FieldId TupleFieldId))) × (List (ExprId × MethodRes)))
 inference_result_members_of d = do
   variant_res ← optional [] (codes "variant_res") (map_of (λ (x : ExprId) (y : ExprId). nat_cmp x.0 y.0) (pair_of expr_id_of variant_id_of)) d
@@ -93,7 +93,7 @@ inference_result_members_of d = do
   method_res ← optional [] (codes "method_res") (map_of (λ (x : ExprId) (y : ExprId). nat_cmp x.0 y.0) (pair_of expr_id_of method_res_of)) d
   Ok (variant_res, pat_variant_res, field_res, method_res)
 
--- modes of bindings, casts and ends
+-- the binding modes, the casts that are coercions, and the expressions that diverge
 unfoldable pub inference_result_marks_of : Data → Fit ((List (PatId × BindingMode)) × (List ExprId) × (List ExprId))
 inference_result_marks_of d = do
   binding_modes ← optional [] (codes "binding_modes") (map_of (λ (x : PatId) (y : PatId). nat_cmp x.0 y.0) (pair_of pat_id_of binding_mode_of)) d
@@ -101,7 +101,7 @@ inference_result_marks_of d = do
   diverging ← optional [] (codes "diverging") (list_of expr_id_of) d
   Ok (binding_modes, coercion_casts, diverging)
 
--- types that are `Copy`, and errors
+-- the types that are `Copy`, and the errors of inference
 unfoldable pub inference_result_judgements_of : Data → Fit ((List Ty) × Bool × (List ExprId))
 inference_result_judgements_of d = do
   copy_types ← optional [] (codes "copy_types") (list_of ty_of) d

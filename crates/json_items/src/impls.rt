@@ -1,4 +1,4 @@
-//! Chosen impls.
+//! Resolved impl items.
 
 ghost use Rattle.json_items.specs.Impls.{impl_row_of, const_impl_row_of};
 

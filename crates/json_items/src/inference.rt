@@ -1,4 +1,4 @@
-//! What inference found.
+//! Inference results.
 
 ghost use Rattle.std.specs.Prelude.{option_map};
 ghost use Rattle.serde_json.specs.View.{view};
@@ -129,7 +129,7 @@ impl FromJson<JsonItems> for BindingMode {
     }
 }
 
-/// Reads the types of nodes.
+/// Reads the types of expressions, patterns and bindings.
 #[tactic(auto, unfolding(crate::specs::Inference::inference_result_node_types_of))]
 fn inference_result_node_types(
     alloc: Global,
@@ -143,7 +143,7 @@ fn inference_result_node_types(
     Ok((expr_types, pat_types, binding_types))
 }
 
-/// Reads what is done to values before they are used.
+/// Reads the adjustments of expressions and patterns.
 #[tactic(auto, unfolding(crate::specs::Inference::inference_result_adjustments_of))]
 fn inference_result_adjustments(
     alloc: Global,
@@ -156,7 +156,7 @@ fn inference_result_adjustments(
     Ok((expr_adjustments, pat_adjustments))
 }
 
-/// Reads what paths name.
+/// Reads the resolutions of paths.
 #[tactic(auto, unfolding(crate::specs::Inference::inference_result_values_of))]
 fn inference_result_values(
     alloc: Global,
@@ -179,7 +179,7 @@ fn inference_result_values(
     Ok((value_res, pat_value_res, assoc_res, pat_assoc_res))
 }
 
-/// Reads what names of variants, fields and methods stand for.
+/// Reads the resolutions of variants, fields and methods.
 #[tactic(auto, unfolding(crate::specs::Inference::inference_result_members_of))]
 fn inference_result_members(
     alloc: Global,
@@ -202,7 +202,7 @@ fn inference_result_members(
     Ok((variant_res, pat_variant_res, field_res, method_res))
 }
 
-/// Reads modes of bindings, casts and ends.
+/// Reads the binding modes, the casts that are coercions, and the expressions that diverge.
 #[tactic(auto, unfolding(crate::specs::Inference::inference_result_marks_of))]
 fn inference_result_marks(
     alloc: Global,
@@ -216,7 +216,7 @@ fn inference_result_marks(
     Ok((binding_modes, coercion_casts, diverging))
 }
 
-/// Reads types that are `Copy`, and errors.
+/// Reads the types that are `Copy`, and the errors of inference.
 #[tactic(auto, unfolding(crate::specs::Inference::inference_result_judgements_of))]
 fn inference_result_judgements(
     alloc: Global,

@@ -1,4 +1,4 @@
-//! Reads rows of items, impls, layouts and closures from trees, and what inference found.
+//! Reads rows of items, resolved impl items, layouts and closures, and inference results, from JSON trees.
 #![tactic(auto)]
 
 mod adjusts;

@@ -1,4 +1,4 @@
--- Reading the items of an array one after the other, as a loop does.
+-- Reading the items of an array in a loop.
 use Rattle.std.proofs.Common.{◌≡◌, ℕ, suc, ◌+◌, ◌≤◌, ◌<◌, List, [], ◌∷◌, ◌++◌, length, get_or, drop, Some, None, Ok, Err, refl, sym, ap, ◌∙◌, append_assoc, drop-cons, length-drop, arith}
 use Rattle.std.proofs.lemmas.List.{append-nil, nil_from_length}
 use Rattle.serde_json.specs.Data.{Data}
@@ -36,7 +36,7 @@ three_none (x ∷ y ∷ z ∷ []) other = absurd (other refl)
 three_none (x ∷ y ∷ z ∷ w ∷ vs) other = refl
 
 module _ {A : Type 0} (reads : Data → Fit A) where
-  -- what was read before, and what is still read
+  -- the values that were read so far, followed by those of the items that are left
   abbrev pub with_front : List A → Fit (List A) → Fit (List A)
   with_front front rest = rest >>= λ xs. Ok (front ++ xs)
 

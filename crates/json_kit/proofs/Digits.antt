@@ -1,4 +1,4 @@
--- What std's parsing of digits gives is what a numeral stands for.
+-- Parsing by std gives the number of a numeral.
 use Rattle.std.proofs.Common.{◌≡◌, ◌≢◌, ℕ, ◌^◌, ◌<◌, ◌≤◌, ◌==◌, ◌&&◌, ◌||◌, Bool, true, false, cond, not, List, length, get_or, drop, Option, Result, Ok, Err, nat_lt, nat_le, refl, ap, subst, arith}
 use Rattle.std.specs.Prelude.{OkIff, ℤ, pos, neg_ℤ, slice_index}
 use Rattle.std.specs.Int.{w128}
@@ -41,7 +41,7 @@ plain s e =
     let inner = both_true (nat_lt 0 (length s)) (not (slice_index s 0 == 43)) middle.0 in
     record { some = inner.0; no_plus = not_43 _ inner.1; no_minus = not_45 _ middle.1; no_zero = outer.1 }
 
--- what is parsed, where two tests say whether it is
+-- the result of parsing as an optional value, where two tests decide whether parsing succeeds
 decided : {A E : Type 0} (digits fits : Bool) (v : A) (r : Result A E) (P Q : Type 0) → (digits ≡ true → P) → (P → digits ≡ true) → (fits ≡ true → Q) → (Q → fits ≡ true) → (M : Type 0) → M
     → OkIff r (P × M × Q) v → found (result_ok r) ≡ cond (digits && true && fits) (Ok v) misfit
 decided true true v (Ok x) P Q a b c d M m h = ap Ok h.1

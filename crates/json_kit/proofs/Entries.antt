@@ -1,4 +1,4 @@
--- Reading the entries of a map one after the other, as a loop does.
+-- Reading the entries of a map in a loop.
 use Rattle.std.proofs.Common.{◌≡◌, ℕ, suc, ◌+◌, ◌≤◌, ◌<◌, List, [], ◌∷◌, ◌++◌, length, get_or, drop, Option, Some, None, Ok, Err, Bool, true, false, cond, Ordering, Less, Equal, Greater, refl, sym, ap, ◌∙◌, append_assoc, drop-cons, length-drop, arith}
 use Rattle.std.proofs.lemmas.List.{append-nil, nil_from_length}
 use Rattle.std.specs.BTreeMap.{insert_entry}
@@ -19,7 +19,7 @@ is_less Equal e = absurd cc
 is_less Greater e = absurd cc
 
 module _ {K V : Type 0} (cmp : K → K → Ordering) (reads : Data → Fit (K × V)) where
-  -- a key above the last one is above each
+  -- a key that is greater than the last one is greater than each one before
   pub record Stands (entries : List (K × V)) (last : Option K) : Type 0 where
     pub above : (key : K) → rises cmp last key ≡ true → AllByRecursion (λ (e : K × V). cmp key e.0 ≡ Greater) entries
 
@@ -58,7 +58,7 @@ module _ {K V : Type 0} (cmp : K → K → Ordering) (reads : Data → Fit (K ×
   abbrev pub rest_from : List Value → Option K → ℕ → Fit (List (K × V))
   rest_from vs last i = entries_from cmp reads last i (items_view (drop i vs))
 
-  -- what the loop keeps
+  -- the loop's invariant
   pub record Reading (front : List (K × V)) (vs : List Value) (last : Option K) (i : ℕ) : Type 0 where
     pub whole : with_front front (rest_from vs last i) ≡ entries_from cmp reads None 0 (items_view vs)
     pub stands : Stands front last

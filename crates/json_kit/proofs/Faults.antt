@@ -1,4 +1,4 @@
--- What a step further outside makes of an answer.
+-- Answers with the path from one step further outside.
 use Rattle.std.proofs.Common.{ℕ, List, Result, Ok, Err, refl}
 use Rattle.json_kit.specs.declared.misfit.NotAWorld.{NotAWorld}
 use Rattle.json_kit.specs.declared.misfit.NotAWorld.TheVariants.{At, NoMemory}

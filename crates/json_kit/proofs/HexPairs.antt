@@ -1,4 +1,4 @@
--- Reading pairs of digits one after the other, as a loop does.
+-- Reading pairs of hexadecimal digits in a loop.
 use Rattle.std.proofs.Common.{◌≡◌, ℕ, suc, ◌+◌, ◌*◌, ◌/◌, ◌%◌, ◌≤◌, ◌<◌, List, [], ◌∷◌, ◌++◌, length, get_or, drop, Option, Some, None, option_map, refl, sym, ap, ◌∙◌, append_assoc, drop-cons, length-drop, arith}
 use Rattle.std.specs.Prelude.{option_and_then}
 use Rattle.std.proofs.lemmas.List.{append-nil, nil_from_length}
@@ -21,7 +21,7 @@ odd [] other = absurd (other refl)
 odd (c ∷ []) other = refl
 odd (high ∷ low ∷ rest) other = nothing_after (hex_byte high low) (hex_bytes rest) (odd rest (λ even. other (omega (arith, even))))
 
--- what was read before, and what is still read
+-- the bytes that were read so far, followed by those of the digits that are left
 abbrev pub with_front : List ℕ → Option (List ℕ) → Option (List ℕ)
 with_front front rest = option_map (λ bytes. front ++ bytes) rest
 

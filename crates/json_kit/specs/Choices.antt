@@ -1,4 +1,4 @@
--- Readers of either of two values.
+-- Readers of `Either`.
 use Rattle.std.specs.Prelude.{[], ◌∷◌, codes}
 use Rattle.either.specs.declared.Either.{Either}
 use Rattle.either.specs.declared.Either.TheVariants.{Left, Right}

@@ -1,4 +1,4 @@
--- Readers of bytes that are written as pairs of hexadecimal digits in lower case.
+-- Readers of bytes as pairs of hexadecimal digits in lower case.
 use Rattle.std.specs.Prelude.{ℕ, ◌+◌, ◌*◌, ◌-◌, ◌&&◌, List, [], ◌∷◌, Option, Some, None, nat_le, option_and_then, option_map, if◌then◌else◌}
 use Rattle.serde_json.specs.Data.{Data}
 use Rattle.serde_json.specs.Find.{as_str}
@@ -8,11 +8,11 @@ use Rattle.json_kit.specs.Fit.{Fit, found}
 abbrev pub hex_digit : ℕ → Option ℕ
 hex_digit c = if nat_le 48 c && nat_le c 57 then Some (c - 48) else if nat_le 97 c && nat_le c 102 then Some (c - 87) else None
 
--- the byte of two digits
+-- the byte of two hexadecimal digits
 abbrev pub hex_byte : ℕ → ℕ → Option ℕ
 hex_byte high low = option_and_then (λ h. option_map (λ l. 16 * h + l) (hex_digit low)) (hex_digit high)
 
--- the bytes of pairs of digits
+-- the bytes of pairs of hexadecimal digits
 unfoldable pub hex_bytes : List ℕ → Option (List ℕ)
 hex_bytes [] = Some []
 hex_bytes (c ∷ []) = None

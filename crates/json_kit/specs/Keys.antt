@@ -22,11 +22,11 @@ required name reads d = below (key_step name) (value_or misfit reads (get name d
 abbrev pub optional : {A : Type 0} → A → List ℕ → (Data → Fit A) → Data → Fit A
 optional left_out name reads d = below (key_step name) (value_or (Ok left_out) reads (get name d))
 
--- whether a text is one of these
+-- whether a key is one of these names
 abbrev pub is_among : List (List ℕ) → List ℕ → Bool
 is_among names key = list_any (λ name. bytes_eq name key) names
 
--- the first key, in the order of their bytes, that isn't one of these
+-- the first key, in the order of their bytes, that isn't one of these names
 abbrev pub unknown_key : List (List ℕ) → Members → Option (List ℕ)
 unknown_key names no_members = None
 unknown_key names (member key d ms) = if is_among names key then unknown_key names ms else Some key
@@ -35,6 +35,6 @@ abbrev pub no_key : {A : Type 0} → A → Option (List ℕ) → Fit A
 no_key x None = Ok x
 no_key x (Some key) = Err (key_step key)
 
--- the value, where the object has no key but these
+-- a value, unless the object has a key that isn't one of these names
 abbrev pub with_no_other : {A : Type 0} → List (List ℕ) → Members → A → Fit A
 with_no_other names ms x = no_key x (unknown_key names ms)

@@ -1,20 +1,20 @@
--- Readers of maps: an array of pairs, whose keys rise.
+-- Readers of maps: an array of pairs with rising keys.
 use Rattle.std.specs.Prelude.{ℕ, ◌+◌, List, [], ◌∷◌, Option, Some, None, Ok, Bool, true, if◌then◌else◌}
 use Rattle.std.specs.declared.cmp.Ordering.{Ordering}
 use Rattle.std.specs.Ordering.{is_lt}
 use Rattle.serde_json.specs.Data.{Data, null, boolean, number, string, array, object, Items, no_items, item}
 use Rattle.json_kit.specs.Fit.{Fit, misfit, ◌>>=◌, below, item_step}
 
--- whether a key stands above the one before it
+-- whether a key is greater than the one before it, if there is one
 abbrev pub rises : {K : Type 0} → (K → K → Ordering) → Option K → K → Bool
 rises cmp None key = true
 rises cmp (Some last) key = is_lt (cmp last key)
 
--- an entry, whose key is above the one before it
+-- an entry, whose key has to be greater than the one before it
 unfoldable pub entry_after : {K V : Type 0} → (K → K → Ordering) → (Data → Fit (K × V)) → Option K → Data → Fit (K × V)
 entry_after cmp reads last d = reads d >>= λ entry. if rises cmp last entry.0 then Ok entry else misfit
 
--- the entries from place `i` on
+-- the entries of the items from index `i` on
 unfoldable pub entries_from : {K V : Type 0} → (K → K → Ordering) → (Data → Fit (K × V)) → Option K → ℕ → Items → Fit (List (K × V))
 entries_from cmp reads last i no_items = Ok []
 entries_from cmp reads last i (item d ds) = do

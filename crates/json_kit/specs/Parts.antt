@@ -3,7 +3,7 @@ use Rattle.std.specs.Prelude.{ℕ, ◌+◌, List, [], ◌∷◌, Option, Some, N
 use Rattle.serde_json.specs.Data.{Data, null, boolean, number, string, array, object, Items, no_items, item}
 use Rattle.json_kit.specs.Fit.{Fit, misfit, found, ◌>>=◌, below, item_step}
 
--- the items from place `i` on
+-- the values of the items from index `i` on
 unfoldable pub items_from : {A : Type 0} → (Data → Fit A) → ℕ → Items → Fit (List A)
 items_from reads i no_items = Ok []
 items_from reads i (item d ds) = do
@@ -11,7 +11,7 @@ items_from reads i (item d ds) = do
   xs ← items_from reads (i + 1) ds
   Ok (x ∷ xs)
 
--- an array, each of whose items is read
+-- the values of an array's items
 abbrev pub list_of : {A : Type 0} → (Data → Fit A) → Data → Fit (List A)
 list_of reads null = misfit
 list_of reads (boolean b) = misfit
@@ -20,7 +20,7 @@ list_of reads (string s) = misfit
 list_of reads (array ds) = items_from reads 0 ds
 list_of reads (object ms) = misfit
 
--- `null`, or the value
+-- `None` for `null`, else the value
 abbrev pub option_of : {A : Type 0} → (Data → Fit A) → Data → Fit (Option A)
 option_of reads null = Ok None
 option_of reads (boolean b) = reads (boolean b) >>= λ x. Ok (Some x)

@@ -1,4 +1,4 @@
--- Readers of numbers, texts and truth values.
+-- Readers of numbers, texts and booleans.
 use Rattle.std.specs.Prelude.{ℕ, ◌^◌, List, Some, None, Ok, Bool, nat_lt, if◌then◌else◌, option_and_then}
 use Rattle.serde_json.specs.Data.{Data}
 use Rattle.serde_json.specs.Find.{as_number, as_u64, as_str, as_bool}
@@ -20,6 +20,6 @@ u64_of d = number_below (2 ^ 64) d
 abbrev pub bool_of : Data → Fit Bool
 bool_of d = found (as_bool d)
 
--- a string, as the bytes of its text
+-- the bytes of a string
 abbrev pub text_of : Data → Fit (List ℕ)
 text_of d = found (as_str d)

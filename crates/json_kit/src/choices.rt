@@ -1,4 +1,4 @@
-//! Either of two values.
+//! Reading `Either`.
 
 ghost use Rattle.json_kit.specs.Choices.{either_of};
 

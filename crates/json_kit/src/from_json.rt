@@ -1,4 +1,4 @@
-//! Reading a type's values from a tree, and the paths of what doesn't fit.
+//! The trait of types that are read from a JSON tree, and the paths of parts that don't fit.
 
 ghost use Rattle.std.specs.Prelude.{◌≡◌};
 ghost use Rattle.serde_json.specs.Data.{Data};
@@ -10,41 +10,41 @@ use serde_json::Value;
 use std::alloc::{AllocError, Global};
 use types::Text;
 
-/// A type that is read from a tree. `By` is the mark of the crate that reads it, as `JsonKit`, and is
-/// inferred where a value is read.
+/// A type that is read from a JSON tree. `By` is the marker type of the crate with the impl, as
+/// `JsonKit`, and is inferred at each call.
 pub trait FromJson<By>: Sized {
-    // What a tree stands for.
+    // The value of a tree, or the path of the first part that doesn't fit.
     ghost reads: { Data → Fit Self };
 
-    /// The value that the tree stands for.
+    /// The value of the tree.
     fn from_json(alloc: Global, tree: &Value) -> Result<Self, NotAWorld>
         ensures { Gives result (reads (view tree.now)) };
 }
 
-/// The named fields of a variant, as they are read from an object.
+/// A variant with named fields, which is read from an object.
 pub trait Fields {
     /// The enum of the variant.
     type Whole;
 
-    // What a tree stands for.
+    // The variant of a tree, or the path of the first part that doesn't fit.
     ghost reads: { Data → Fit Self.Whole };
 
-    /// The variant with the fields that the tree has.
+    /// The variant with the fields of the object.
     fn read(alloc: Global, tree: &Value) -> Result<Self::Whole, NotAWorld>
         ensures { Gives result (reads (view tree.now)) };
 }
 
-/// A type whose value may be left out of an object. `By` is as in `FromJson`.
+/// A type with a default for a key that an object leaves out. `By` is as in `FromJson`.
 pub trait MayBeAbsent<By>: Sized {
-    // What stands for a value that is left out.
+    // The default value.
     ghost left_out: { Self };
 
-    /// What stands for a value that is left out.
+    /// The default value.
     fn absent(alloc: Global) -> Self
         ensures { result ≡ left_out };
 }
 
-/// The fault of a part that itself doesn't fit.
+/// The error for a part that itself doesn't fit: its path is empty.
 pub fn here(alloc: Global) -> NotAWorld
     ensures { IsHere result }
 {
@@ -54,7 +54,7 @@ pub fn here(alloc: Global) -> NotAWorld
     }
 }
 
-/// The fault, seen from an object that has the part at this key.
+/// The error of the value at a key, with the path from the object.
 pub fn below_key(alloc: Global, name: &str, inner: NotAWorld) -> NotAWorld
     ensures { IsBelow (key_step name.now) inner result }
 {
@@ -64,7 +64,7 @@ pub fn below_key(alloc: Global, name: &str, inner: NotAWorld) -> NotAWorld
     }
 }
 
-/// The fault, seen from an array that has the part at this place.
+/// The error of the item at an index, with the path from the array.
 pub fn below_item(alloc: Global, place: usize, inner: NotAWorld) -> NotAWorld
     ensures { IsBelow (item_step place) inner result }
 {
@@ -74,35 +74,25 @@ pub fn below_item(alloc: Global, place: usize, inner: NotAWorld) -> NotAWorld
     }
 }
 
-/// What reading an item gave, seen from the array that has it at this place.
-pub fn inside_item<T: Drop>(
+/// The result of reading the item at an index, with the path of an error from the array.
+pub fn inside_item<T>(
     alloc: Global,
     place: usize,
     read: Result<T, NotAWorld>,
 ) -> Result<T, NotAWorld>
     ensures { IsInside (item_step place) read result }
 {
-    match read {
-        Ok(x) => Ok(x),
-        Err(fault) => Err(below_item(alloc, place, fault)),
-    }
+    read.map_err(|fault| below_item(alloc, place, fault))
 }
 
-/// What reading a value gave, seen from the object that has it at this key.
-pub fn inside_key<T: Drop>(
-    alloc: Global,
-    name: &str,
-    read: Result<T, NotAWorld>,
-) -> Result<T, NotAWorld>
+/// The result of reading the value at a key, with the path of an error from the object.
+pub fn inside_key<T>(alloc: Global, name: &str, read: Result<T, NotAWorld>) -> Result<T, NotAWorld>
     ensures { IsInside (key_step name.now) read result }
 {
-    match read {
-        Ok(x) => Ok(x),
-        Err(fault) => Err(below_key(alloc, name, fault)),
-    }
+    read.map_err(|fault| below_key(alloc, name, fault))
 }
 
-/// The place with this path, or want of memory where the path has none.
+/// The error with this path; `NoMemory` where there was no memory for the path.
 fn at_text(alloc: Global, path: Result<String, AllocError>) -> NotAWorld
     ensures { IsAt path result }
 {

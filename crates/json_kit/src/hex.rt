@@ -1,4 +1,4 @@
-//! Bytes that are written as pairs of hexadecimal digits in lower case.
+//! Bytes as pairs of hexadecimal digits in lower case.
 
 ghost use Rattle.std.specs.Prelude.{◌≡◌};
 ghost use Rattle.json_kit.specs.Fit.{Gives, found};
@@ -10,7 +10,7 @@ use serde_json::Value;
 use std::alloc::Global;
 use types::Bytes;
 
-/// The value of a digit.
+/// The value of a hexadecimal digit.
 fn digit(c: u8) -> Option<u8>
     ensures { result ≡ hex_digit c }
 {
@@ -21,7 +21,7 @@ fn digit(c: u8) -> Option<u8>
     }
 }
 
-/// The byte of two digits.
+/// The byte of two hexadecimal digits.
 fn byte(high: u8, low: u8) -> Option<u8>
     ensures { result ≡ hex_byte high low }
 {
@@ -30,7 +30,7 @@ fn byte(high: u8, low: u8) -> Option<u8>
     Some(16 * high + low)
 }
 
-/// The bytes that pairs of digits stand for.
+/// The bytes of pairs of hexadecimal digits.
 fn pairs(alloc: Global, digits: &[u8]) -> Result<Bytes, NotAWorld>
     ensures { Gives result (found (hex_bytes digits.now)) }
 {
@@ -52,9 +52,7 @@ impl FromJson<JsonKit> for Bytes {
 
     #[tactic(auto, unfolding(crate::specs::Hex::bytes_of))]
     fn from_json(alloc: Global, tree: &Value) -> Result<Bytes, NotAWorld> {
-        match tree.as_str() {
-            Some(text) => pairs(alloc, text.as_bytes()),
-            None => Err(here(alloc)),
-        }
+        let text = tree.as_str().ok_or_else(|| here(alloc))?;
+        pairs(alloc, text.as_bytes())
     }
 }

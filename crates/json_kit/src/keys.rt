@@ -10,7 +10,7 @@ ghost use Rattle.json_kit.specs.Fit.{Gives, GivesBy, below, found, key_step};
 ghost use Rattle.json_kit.specs.Keys.{members_of, required, optional, unknown_key, no_key, with_no_other};
 
 use crate::NotAWorld;
-use crate::from_json::{FromJson, MayBeAbsent, below_key, here};
+use crate::from_json::{FromJson, MayBeAbsent, below_key, here, inside_key};
 use serde_json::{Map, Value};
 use std::alloc::Global;
 
@@ -18,10 +18,7 @@ use std::alloc::Global;
 pub fn members_of(alloc: Global, tree: &Value) -> Result<&Map<String, Value>, NotAWorld>
     ensures { GivesBy (λ members. members_view members.now.entries) result (members_of (view tree.now)) }
 {
-    match tree.as_object() {
-        Some(members) => Ok(members),
-        None => Err(here(alloc)),
-    }
+    tree.as_object().ok_or_else(|| here(alloc))
 }
 
 /// The value at a key that has to be there.
@@ -32,29 +29,20 @@ pub fn required<By, T: FromJson<By>>(
 ) -> Result<T, NotAWorld>
     ensures { Gives result (required name.now T.reads (view tree.now)) }
 {
-    match tree.get(name) {
-        Some(part) => match T::from_json(alloc, part) {
-            Ok(x) => Ok(x),
-            Err(fault) => Err(below_key(alloc, name, fault)),
-        },
-        None => Err(below_key(alloc, name, here(alloc))),
-    }
+    let part = part_at(alloc, tree, name)?;
+    T::from_json(alloc, part).map_err(|fault| below_key(alloc, name, fault))
 }
 
-/// What stands at a key that has to be there.
+/// The JSON value at a key that has to be there.
 pub fn part_at<'a>(alloc: Global, tree: &'a Value, name: &str) -> Result<&'a Value, NotAWorld>
     ensures { GivesBy (λ part. view part.now) result (below (key_step name.now) (found (get name.now (view tree.now)))) }
 {
-    match tree.get(name) {
-        Some(part) => Ok(part),
-        None => {
-            let fault = here(alloc);
-            Err(below_key(alloc, name, fault))
-        }
-    }
+    tree.get(name)
+        .ok_or_else(|| below_key(alloc, name, here(alloc)))
 }
 
 /// The value at a key that may be left out.
+#[tactic(auto, using(crate::proofs::Faults::inside_gives))]
 pub fn optional<By, T: FromJson<By> + MayBeAbsent<By>>(
     alloc: Global,
     tree: &Value,
@@ -63,22 +51,19 @@ pub fn optional<By, T: FromJson<By> + MayBeAbsent<By>>(
     ensures { Gives result (optional T.left_out name.now T.reads (view tree.now)) }
 {
     match tree.get(name) {
-        Some(part) => match T::from_json(alloc, part) {
-            Ok(x) => Ok(x),
-            Err(fault) => Err(below_key(alloc, name, fault)),
-        },
+        Some(part) => inside_key(alloc, name, T::from_json(alloc, part)),
         None => Ok(T::absent(alloc)),
     }
 }
 
-/// Whether a text is one of these.
+/// Whether a key is one of these names.
 fn is_among(names: &[&str], key: &str) -> bool
     ensures { result ≡ list_any (λ name. bytes_eq name.now key.now) names.now }
 {
     names.iter().any(|name| *name == key)
 }
 
-/// The first key that isn't one of these.
+/// The first key that isn't one of these names.
 fn other_key<'a>(members: &'a Map<String, Value>, names: &[&str]) -> Option<&'a String>
     ensures { option_map (λ key. key.now) result
         ≡ find (λ key. not (list_any (λ name. bytes_eq name.now (string_bytes key)) names.now)) (keys members.now) }
@@ -86,7 +71,7 @@ fn other_key<'a>(members: &'a Map<String, Value>, names: &[&str]) -> Option<&'a 
     members.keys().find(|key| !is_among(names, key.as_str()))
 }
 
-/// The first key that isn't one of these.
+/// The first key that isn't one of these names.
 fn unknown_key<'a>(members: &'a Map<String, Value>, names: &[&str]) -> Option<&'a String>
     ensures { option_map (λ key. string_bytes key.now) result
         ≡ unknown_key (map (λ name. name.now) names.now) (members_view members.now.entries) }
@@ -94,7 +79,7 @@ fn unknown_key<'a>(members: &'a Map<String, Value>, names: &[&str]) -> Option<&'
     other_key(members, names)
 }
 
-/// The value, where the object has no key but these.
+/// The value `value` of an object, unless the object has a key that isn't one of these names.
 pub fn with_no_other<T: Drop>(
     alloc: Global,
     members: &Map<String, Value>,

@@ -1,5 +1,5 @@
-//! What readers of trees are made from: objects, arrays, maps, variants, numbers and texts, and the
-//! path of the first place that doesn't fit.
+//! Reading values from JSON trees: objects, arrays, maps, variants, numbers and texts, and the path of
+//! the first part that doesn't fit.
 #![tactic(auto)]
 
 mod choices;

@@ -1,4 +1,4 @@
-//! Maps: an array of pairs, whose keys rise.
+//! Maps: an array of pairs with rising keys.
 
 ghost use Rattle.std.specs.Prelude.{◌≡◌, [], None};
 ghost use Rattle.serde_json.specs.View.{view, items_view};
@@ -8,12 +8,13 @@ ghost use Rattle.json_kit.specs.Parts.{pair_of};
 
 use crate::NotAWorld;
 use crate::from_json::{FromJson, MayBeAbsent, here, inside_item};
+use crate::parts::items_at;
 use serde_json::Value;
 use std::alloc::Global;
 use std::cmp::Ordering;
 use types::Map;
 
-/// Whether a key stands above the one before it.
+/// Whether a key is greater than the one before it, if there is one.
 fn rises<K: Ord + Copy>(last: Option<K>, key: K) -> bool
     ensures { result ≡ rises K.cmp last key }
 {
@@ -23,7 +24,7 @@ fn rises<K: Ord + Copy>(last: Option<K>, key: K) -> bool
     }
 }
 
-/// An entry, whose key is above the one before it.
+/// An entry, whose key has to be greater than the one before it.
 #[tactic(auto, unfolding(crate::specs::Maps::entry_after))]
 fn entry<A, B, K: FromJson<A> + Ord + Copy, V: FromJson<B> + Drop>(
     alloc: Global,
@@ -61,10 +62,7 @@ impl<A, B, K: FromJson<A> + Ord + Copy, V: FromJson<B> + Drop> FromJson<(A, B)> 
     ghost reads = { map_of K.cmp (pair_of K.reads V.reads) };
 
     fn from_json(alloc: Global, tree: &Value) -> Result<Map<K, V>, NotAWorld> {
-        match tree.as_array() {
-            Some(items) => entries(alloc, items.as_slice()),
-            None => Err(here(alloc)),
-        }
+        entries(alloc, items_at(alloc, tree)?)
     }
 }
 

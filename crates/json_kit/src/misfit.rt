@@ -1,4 +1,4 @@
-//! Why a tree is no world.
+//! The error of reading a JSON tree.
 
 ghost use Rattle.std.specs.Prelude.{◌≡◌, [], Some};
 ghost use Rattle.json_kit.specs.declared.misfit.NotAWorld.TheVariants.{NoMemory as no_memory};
@@ -6,10 +6,10 @@ ghost use Rattle.json_kit.specs.declared.misfit.NotAWorld.TheVariants.{NoMemory 
 use std::alloc::{AllocError, Global};
 use types::{NoMemory, Text};
 
-/// Why a tree is no world.
+/// Why a JSON tree is no world with goals.
 #[derive(PartialEq, Eq, Debug, Drop)]
 pub enum NotAWorld {
-    /// The path of the first place that doesn't fit, as `world.consts[0].ty`.
+    /// The path of the first part that doesn't fit, as `world.consts[0].ty`.
     At(Text),
     /// There was no memory.
     NoMemory,

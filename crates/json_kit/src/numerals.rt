@@ -1,4 +1,4 @@
-//! Numbers that are written as strings of decimal digits.
+//! Numbers of 128 bits as strings of decimal digits.
 
 ghost use Rattle.std.specs.Prelude.{◌≡◌, ◌≢◌, ◌≤◌, drop, length, slice_index, true};
 ghost use Rattle.json_kit.specs.Fit.{found};
@@ -9,7 +9,7 @@ use crate::{JsonKit, NotAWorld};
 use serde_json::Value;
 use std::alloc::Global;
 
-/// Whether the bytes begin as a numeral does: not by a sign, nor by a 0 before another byte.
+/// Whether the bytes are not empty and begin neither with a sign nor with a 0 before another byte.
 fn begins_plainly(bytes: &[u8]) -> bool
     ensures { result ≡ begins_plainly bytes.now }
 {
@@ -19,7 +19,7 @@ fn begins_plainly(bytes: &[u8]) -> bool
         && (bytes.len() == 1 || bytes[0] != b'0')
 }
 
-/// The number that a text of digits stands for.
+/// The `u128` of a text of digits.
 fn unsigned(text: &str) -> Option<u128>
     ensures { found result ≡ unsigned_of text.now }
 {
@@ -30,7 +30,7 @@ fn unsigned(text: &str) -> Option<u128>
     }
 }
 
-/// The number, where all is digits.
+/// The `u128` of a text, if all its bytes are digits.
 fn unsigned_digits(text: &str) -> Option<u128>
     requires { begins_plainly text.now ≡ true }
     ensures { found result ≡ unsigned_of text.now }
@@ -38,7 +38,7 @@ fn unsigned_digits(text: &str) -> Option<u128>
     text.parse::<u128>().ok()
 }
 
-/// The number that a text of digits stands for.
+/// The `i128` of a text of digits.
 fn nonnegative(text: &str) -> Option<i128>
     ensures { found result ≡ nonnegative_of text.now }
 {
@@ -49,7 +49,7 @@ fn nonnegative(text: &str) -> Option<i128>
     }
 }
 
-/// The number, where all is digits.
+/// The `i128` of a text, if all its bytes are digits.
 fn signed_digits(text: &str) -> Option<i128>
     requires { begins_plainly text.now ≡ true }
     ensures { found result ≡ nonnegative_of text.now }
@@ -57,7 +57,7 @@ fn signed_digits(text: &str) -> Option<i128>
     text.parse::<i128>().ok()
 }
 
-/// The number that a text of a minus and digits stands for.
+/// The `i128` of a text that is a minus and digits.
 fn negative(text: &str) -> Option<i128>
     requires { slice_index text.now 0 ≡ 45 }
     ensures { found result ≡ negative_of (drop 1 text.now) }
@@ -69,7 +69,7 @@ fn negative(text: &str) -> Option<i128>
     negative_digits(text)
 }
 
-/// The number, where all behind the minus is digits.
+/// The `i128` of a text, if all bytes behind the minus are digits.
 fn negative_digits(text: &str) -> Option<i128>
     requires minus { slice_index text.now 0 ≡ 45 }
     requires more { 2 ≤ length text.now }
@@ -79,7 +79,7 @@ fn negative_digits(text: &str) -> Option<i128>
     text.parse::<i128>().ok()
 }
 
-/// The number that a text stands for.
+/// The `i128` of a text of digits, perhaps with a minus before them.
 fn signed(text: &str) -> Option<i128>
     ensures { found result ≡ signed_of text.now }
 {
@@ -94,13 +94,7 @@ impl FromJson<JsonKit> for u128 {
     ghost reads = { u128_of };
 
     fn from_json(alloc: Global, tree: &Value) -> Result<u128, NotAWorld> {
-        match tree.as_str() {
-            Some(text) => match unsigned(text) {
-                Some(number) => Ok(number),
-                None => Err(here(alloc)),
-            },
-            None => Err(here(alloc)),
-        }
+        tree.as_str().and_then(unsigned).ok_or_else(|| here(alloc))
     }
 }
 

@@ -7,12 +7,12 @@ ghost use Rattle.json_kit.specs.Fit.{Gives, GivesBy, below, found, item_step};
 ghost use Rattle.json_kit.specs.Parts.{items_from, list_of, option_of, pair_of, three_items, three_of, triple_of, two_items, two_of};
 
 use crate::NotAWorld;
-use crate::from_json::{FromJson, MayBeAbsent, below_item, here};
+use crate::from_json::{FromJson, MayBeAbsent, here, inside_item};
 use serde_json::Value;
 use std::alloc::Global;
 use types::List;
 
-/// The items of an array.
+/// The values of an array's items.
 fn items_of<By, T: FromJson<By> + Drop>(
     alloc: Global,
     items: &[Value],
@@ -27,7 +27,8 @@ fn items_of<By, T: FromJson<By> + Drop>(
     Ok(list)
 }
 
-/// An item of an array, which stands at this place.
+/// The value of the item at an index of an array.
+#[tactic(auto, using(crate::proofs::Faults::inside_gives))]
 pub fn item_at<By, T: FromJson<By>>(
     alloc: Global,
     item: &Value,
@@ -35,20 +36,14 @@ pub fn item_at<By, T: FromJson<By>>(
 ) -> Result<T, NotAWorld>
     ensures { Gives result (below (item_step place) (T.reads (view item.now))) }
 {
-    match T::from_json(alloc, item) {
-        Ok(x) => Ok(x),
-        Err(fault) => Err(below_item(alloc, place, fault)),
-    }
+    inside_item(alloc, place, T::from_json(alloc, item))
 }
 
 impl<By, T: FromJson<By> + Drop> FromJson<By> for List<T> {
     ghost reads = { list_of T.reads };
 
     fn from_json(alloc: Global, tree: &Value) -> Result<List<T>, NotAWorld> {
-        match tree.as_array() {
-            Some(items) => items_of(alloc, items),
-            None => Err(here(alloc)),
-        }
+        items_of(alloc, items_at(alloc, tree)?)
     }
 }
 
@@ -81,27 +76,22 @@ impl<By, T> MayBeAbsent<By> for Option<T> {
     }
 }
 
-/// The items of an array.
+/// The items of a tree that has to be an array.
 pub fn items_at(alloc: Global, tree: &Value) -> Result<&[Value], NotAWorld>
     ensures { GivesBy (λ items. items_view items.now) result (found (as_array (view tree.now))) }
 {
-    match tree.as_array() {
-        Some(items) => Ok(items.as_slice()),
-        None => Err(here(alloc)),
-    }
+    let items = tree.as_array().ok_or_else(|| here(alloc))?;
+    Ok(items.as_slice())
 }
 
-/// The two items of an array of two.
+/// The items of a tree that has to be an array of two.
 pub fn two<'a>(alloc: Global, tree: &'a Value) -> Result<(&'a Value, &'a Value), NotAWorld>
     ensures { GivesBy (λ both. (view both.0.now, view both.1.now)) result (two_of (view tree.now)) }
 {
-    match tree.as_array() {
-        Some(items) => both(alloc, items.as_slice()),
-        None => Err(here(alloc)),
-    }
+    both(alloc, items_at(alloc, tree)?)
 }
 
-/// The items, where there are two.
+/// The two items, if there are exactly two.
 #[tactic(auto, using(crate::proofs::Arrays::two_some, crate::proofs::Arrays::two_none))]
 fn both(alloc: Global, items: &[Value]) -> Result<(&Value, &Value), NotAWorld>
     ensures { GivesBy (λ both. (view both.0.now, view both.1.now)) result (found (two_items (items_view items.now))) }
@@ -125,17 +115,14 @@ impl<F, G, A: FromJson<F> + Drop, B: FromJson<G> + Drop> FromJson<(F, G)> for (A
     }
 }
 
-/// The three items of an array of three.
+/// The items of a tree that has to be an array of three.
 fn three<'a>(alloc: Global, tree: &'a Value) -> Result<(&'a Value, &'a Value, &'a Value), NotAWorld>
     ensures { GivesBy (λ all. (view all.0.now, view all.1.now, view all.2.now)) result (three_of (view tree.now)) }
 {
-    match tree.as_array() {
-        Some(items) => all_three(alloc, items.as_slice()),
-        None => Err(here(alloc)),
-    }
+    all_three(alloc, items_at(alloc, tree)?)
 }
 
-/// The items, where there are three.
+/// The three items, if there are exactly three.
 #[tactic(auto, using(crate::proofs::Arrays::three_some, crate::proofs::Arrays::three_none))]
 fn all_three(alloc: Global, items: &[Value]) -> Result<(&Value, &Value, &Value), NotAWorld>
     ensures { GivesBy (λ all. (view all.0.now, view all.1.now, view all.2.now)) result (found (three_items (items_view items.now))) }

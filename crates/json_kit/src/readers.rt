@@ -1,5 +1,5 @@
-//! What stands for the readers of this crate.
+//! The marker type of this crate.
 
-/// Stands for this crate as the parameter of `FromJson`. Each crate that reads types of another one
-/// has such a mark, since an impl of another crate's trait has to name a type of its own crate.
+/// The parameter of `FromJson` in this crate's impls. Each crate that reads types of another crate has
+/// such a marker, since an impl of another crate's trait has to name a type of its own crate.
 pub struct JsonKit;

@@ -6,13 +6,13 @@ ghost use Rattle.json_kit.specs.Fit.{Gives};
 ghost use Rattle.json_kit.specs.Parts.{items_from, list_of};
 
 use crate::NotAWorld;
-use crate::from_json::{FromJson, MayBeAbsent, here};
-use crate::parts::item_at;
+use crate::from_json::{FromJson, MayBeAbsent};
+use crate::parts::{item_at, items_at};
 use serde_json::Value;
 use std::alloc::Global;
 use types::{Row, Table};
 
-/// The rows that are the items of an array.
+/// The table of an array's items.
 fn rows_of<By, K: Ord + Drop, R: Row<K> + FromJson<By> + Drop>(
     alloc: Global,
     items: &[Value],
@@ -31,10 +31,7 @@ impl<By, K: Ord + Drop, R: Row<K> + FromJson<By> + Drop> FromJson<By> for Table<
     ghost reads = { list_of R.reads };
 
     fn from_json(alloc: Global, tree: &Value) -> Result<Table<K, R>, NotAWorld> {
-        match tree.as_array() {
-            Some(items) => rows_of(alloc, items.as_slice()),
-            None => Err(here(alloc)),
-        }
+        rows_of(alloc, items_at(alloc, tree)?)
     }
 }
 

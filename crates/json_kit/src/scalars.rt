@@ -1,4 +1,4 @@
-//! Numbers, texts and truth values.
+//! Numbers, texts and booleans.
 
 ghost use Rattle.std.specs.Prelude.{false};
 
@@ -27,10 +27,7 @@ impl FromJson<JsonKit> for u64 {
     ghost reads = { u64_of };
 
     fn from_json(alloc: Global, tree: &Value) -> Result<u64, NotAWorld> {
-        match tree.as_u64() {
-            Some(n) => Ok(n),
-            None => Err(here(alloc)),
-        }
+        tree.as_u64().ok_or_else(|| here(alloc))
     }
 }
 
@@ -40,10 +37,7 @@ impl FromJson<JsonKit> for bool {
     ghost reads = { bool_of };
 
     fn from_json(alloc: Global, tree: &Value) -> Result<bool, NotAWorld> {
-        match tree.as_bool() {
-            Some(b) => Ok(b),
-            None => Err(here(alloc)),
-        }
+        tree.as_bool().ok_or_else(|| here(alloc))
     }
 }
 
@@ -61,9 +55,7 @@ impl FromJson<JsonKit> for Text {
     ghost reads = { text_of };
 
     fn from_json(alloc: Global, tree: &Value) -> Result<Text, NotAWorld> {
-        match tree.as_str() {
-            Some(text) => Ok(Text::from_str(alloc, text)?),
-            None => Err(here(alloc)),
-        }
+        let text = tree.as_str().ok_or_else(|| here(alloc))?;
+        Ok(Text::from_str(alloc, text)?)
     }
 }

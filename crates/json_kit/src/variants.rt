@@ -50,14 +50,14 @@ fn only_member<'a>(alloc: Global, members: &'a Map<String, Value>) -> Result<Var
 }
 
 impl<'a> Variant<'a> {
-    /// Whether it is the variant of this name, which has no payload.
+    /// Whether this is the variant with this name, without a payload.
     pub fn is(&self, name: &str) -> bool
         ensures { result ≡ is_unit name.now (self.now.name.now, option_map (λ part. view part.now) self.now.payload) }
     {
         self.name == name && self.payload.is_none()
     }
 
-    /// What stands as the payload, where the variant has this name.
+    /// The JSON value of the payload, if the variant has this name.
     pub fn part(&self, name: &str) -> Option<&'a Value>
         ensures { option_map (λ part. view part.now) result ≡ payload_part name.now (self.now.name.now, option_map (λ part. view part.now) self.now.payload) }
     {
@@ -68,7 +68,7 @@ impl<'a> Variant<'a> {
         }
     }
 
-    /// The payload of the variant of this name.
+    /// The payload, if the variant has this name.
     pub fn payload<By, T: FromJson<By>>(
         &self,
         alloc: Global,
@@ -76,16 +76,14 @@ impl<'a> Variant<'a> {
     ) -> Result<Option<T>, NotAWorld>
         ensures { Gives result (payload_at name.now T.reads (self.now.name.now, option_map (λ part. view part.now) self.now.payload)) }
     {
-        match self.part(name) {
-            None => Ok(None),
-            Some(part) => match T::from_json(alloc, part) {
-                Ok(x) => Ok(Some(x)),
-                Err(fault) => Err(below_key(alloc, name, fault)),
-            },
-        }
+        let Some(part) = self.part(name) else {
+            return Ok(None);
+        };
+        let x = T::from_json(alloc, part).map_err(|fault| below_key(alloc, name, fault))?;
+        Ok(Some(x))
     }
 
-    /// The whole variant of this name, whose payload has its fields.
+    /// The variant with named fields, if it has this name; its payload is the object of its fields.
     pub fn fields<F: Fields>(
         &self,
         alloc: Global,
@@ -93,12 +91,10 @@ impl<'a> Variant<'a> {
     ) -> Result<Option<F::Whole>, NotAWorld>
         ensures { Gives result (payload_at name.now F.reads (self.now.name.now, option_map (λ part. view part.now) self.now.payload)) }
     {
-        match self.part(name) {
-            None => Ok(None),
-            Some(part) => match F::read(alloc, part) {
-                Ok(x) => Ok(Some(x)),
-                Err(fault) => Err(below_key(alloc, name, fault)),
-            },
-        }
+        let Some(part) = self.part(name) else {
+            return Ok(None);
+        };
+        let x = F::read(alloc, part).map_err(|fault| below_key(alloc, name, fault))?;
+        Ok(Some(x))
     }
 }

@@ -1,4 +1,4 @@
--- Readers that agree on what nests less than so deep, and what is made from them.
+-- Readers that agree on all trees with fewer than k levels, and readers that are made from such ones.
 use Rattle.std.proofs.Common.{◌≡◌, ℕ, suc, ◌+◌, ◌<◌, ◌≤◌, max, List, Option, Some, None, Ok, Bool, true, false, cond, Ordering, Less, Equal, Greater, refl, ap, arith}
 use Rattle.std.specs.Cmp.Lexicographic.{slice_cmp}
 use Rattle.std.specs.Ordering.{nat_cmp, match_ordering}
@@ -10,16 +10,16 @@ use Rattle.json_kit.specs.Keys.{required, optional, value_or}
 use Rattle.json_kit.specs.Parts.{items_from, list_of, pair_of}
 use Rattle.json_kit.specs.Variants.{Named, variant_of, payload_of, payload_part, payload, or_else}
 
--- they agree on what nests less than k deep
+-- two readers agree on all trees with fewer than k levels
 pub record Alike {A : Type 0} (k : ℕ) (f g : Data → Fit A) : Type 0 where
   pub at : (d : Data) → depth d < k → f d ≡ g d
 
--- a part, where there is one, nests less than k deep
+-- an optional tree is none, or has fewer than k levels
 abbrev pub Within : ℕ → Option Data → Type 0
 Within k None = Unit {0}
 Within k (Some d) = depth d < k
 
--- rows that agree where the payload nests less than k deep
+-- two rows of an enum agree on all payloads with fewer than k levels
 pub record RowAlike {A : Type 0} (k : ℕ) (r s : Named → Fit (Option A)) : Type 0 where
   pub at : (v : Named) → Within k v.1 → r v ≡ s v
 
@@ -60,7 +60,7 @@ pair_at first second (object ms) h = refl
 pub pair_alike : {A B : Type 0} {k : ℕ} {f g : Data → Fit A} {p q : Data → Fit B} → Alike k f g → Alike k p q → Alike k (pair_of f p) (pair_of g q)
 pair_alike first second = record { at = pair_at first second }
 
--- the value at a key
+-- readers of the value at a key agree
 within_more : (j k : ℕ) (o : Option Data) → j ≤ k → Within j o → Within k o
 within_more j k None le h = tt
 within_more j k (Some d) le h = omega arith
@@ -94,7 +94,7 @@ required_at {k} alike name d h = ap (below (key_step name)) (value_alike alike _
 pub optional_at : {A : Type 0} {k : ℕ} {f g : Data → Fit A} → Alike k f g → (left_out : A) (name : List ℕ) (d : Data) → depth d < suc k → optional left_out name f d ≡ optional left_out name g d
 optional_at {k} alike left_out name d h = ap (below (key_step name)) (value_alike alike _ (get name d) (within_more (depth d) k (get name d) (omega arith) (get_within name d)))
 
--- variants
+-- readers of an enum agree
 part_within : (k : ℕ) (b : Bool) (o : Option Data) → Within k o → Within k (cond b o None)
 part_within k true o h = h
 part_within k false o h = tt
@@ -114,7 +114,7 @@ same_row k r = record { at = λ v h. refl }
 or_at : {A : Type 0} {k : ℕ} {r s p q : Named → Fit (Option A)} → RowAlike k r s → RowAlike k p q → (v : Named) → Within k v.1 → or_else (r v) (p v) ≡ or_else (s v) (q v)
 or_at first next v h = rw (first.at v h, next.at v h) refl
 
--- the first of two rows, or of a row and more of them
+-- the first of several rows agree
 pub or_alike : {A : Type 0} {k : ℕ} {r s p q : Named → Fit (Option A)} → RowAlike k r s → RowAlike k p q → RowAlike k (λ v. or_else (r v) (p v)) (λ v. or_else (s v) (q v))
 or_alike first next = record { at = or_at first next }
 

@@ -1,4 +1,4 @@
--- The parts of a tree nest less deep than it does: the measures of the readers of types.
+-- The parts of a tree have fewer levels than the tree: the measures of the readers of types.
 use Rattle.std.proofs.Common.{◌≡◌, ℕ, zero, suc, ◌+◌, ◌*◌, ◌<◌, ◌≤◌, List, [], ◌∷◌, length, get_or, Option, Some, None, Ok, Bool, true, false, cond, bytes_eq, refl, sym, subst, arith}
 use Rattle.serde_json.specs.Data.{Data, null, boolean, number, string, array, object, Items, no_members, member, depth, items_depth}
 use Rattle.serde_json.specs.Find.{get, as_array}
@@ -9,7 +9,7 @@ use Rattle.json_kit.specs.Parts.{items_from, list_of}
 use Rattle.json_kit.specs.Variants.{Named, variant_of, payload_part}
 use Rattle.json_types.proofs.Alike.{Within, get_within}
 
--- what reading a payload takes
+-- the measure of reading a payload
 abbrev pub payload_size : Option Data → ℕ
 payload_size None = 0
 payload_size (Some d) = 4 * depth d + 3
@@ -33,7 +33,7 @@ chosen : (b : Bool) (o : Option Data) (d : Data) → Some d ≡ cond b o None �
 chosen true o d e = rw (← e) (omega arith)
 chosen false o d e = absurd cc
 
--- the payload of a variant of one name
+-- the payload of a variant with this name has fewer levels than the tree
 pub part_size : (name : List ℕ) (v : Named) (d : Data) → Some d ≡ payload_part name v → 4 * depth d + 3 ≤ payload_size v.1
 part_size name v d e = chosen (bytes_eq v.0 name) v.1 d e
 
@@ -70,7 +70,7 @@ item_within (x ∷ vs) (suc i) v lt is = let h = item_within vs i v (omega (arit
 pub item_smaller : (d : Data) (vs : List Value) (i : ℕ) (v : Value) → found (as_array d) ≡ Ok (items_view vs) → i < length vs → v ≡ get_or vs i v → 4 * depth (view v) + 3 < 4 * depth d + 1
 item_smaller d vs i v e lt is = omega (arith, items_smaller d (items_view vs) e, item_within vs i v lt is)
 
--- the items of an array are what its list is read from
+-- the list of an array is read from its items
 pub list_of_items : {A : Type 0} (reads : Data → Fit A) (d : Data) (ds : Items) → found (as_array d) ≡ Ok ds → list_of reads d ≡ items_from reads 0 ds
 list_of_items reads null ds e = absurd cc
 list_of_items reads (boolean b) ds e = absurd cc

@@ -1,4 +1,4 @@
--- The readers of types and constants are what their layers make of them.
+-- The readers of types and constants are the fixed points of their layers.
 use Rattle.std.proofs.Common.{◌≡◌, ℕ, zero, suc, ◌≤◌, [], Result, refl, codes, arith}
 use Rattle.serde_json.specs.Data.{Data, depth}
 use Rattle.types.specs.declared.ty.Const.TheVariants as the_const
@@ -69,7 +69,7 @@ record BothAlike (k : ℕ) (L M : Readers) : Type 0 where
   types : Alike k L.ty M.ty
   consts : Alike k L.konst M.konst
 
--- layers agree on what both of them reach
+-- readers for different numbers of levels agree on the trees that both can read
 agree : (k n m : ℕ) → k ≤ n → k ≤ m → BothAlike k (readers_below n) (readers_below m)
 unfolding readers_below
 agree zero n m in_n in_m = record { types = record { at = λ d h. absurd (omega arith) }; consts = record { at = λ d h. absurd (omega arith) } }
@@ -79,7 +79,7 @@ agree (suc k) (suc n) (suc m) in_n in_m =
     let inner = agree k n m (omega arith) (omega arith) in
     record { types = tys_above inner.types inner.consts; consts = consts_above inner.types inner.consts }
 
--- a layer as deep as it has to be is the reader
+-- a reader for at least as many levels as the tree has is the reader of all
 tys_below : (k : ℕ) → Alike k (readers_below k).ty ty_of
 unfolding ty_of
 tys_below k = record { at = λ d h. (agree (suc (depth d)) k (suc (depth d)) (omega arith) (omega arith)).types.at d (omega arith) }
@@ -96,7 +96,7 @@ pub const_of_unrolled : (d : Data) → const_of d ≡ const_by ty_of const_of d
 unfolding const_of readers_below
 const_of_unrolled d = (consts_above (tys_below (depth d)) (consts_below (depth d))).at d (omega arith)
 
--- what a layer gives is what the reader gives
+-- the result of a layer is that of the reader
 pub gives_ty : (r : Result Ty NotAWorld) (d : Data) → Gives r (ty_by ty_of const_of d) → Gives r (ty_of d)
 gives_ty r d h = rw (ty_of_unrolled d) h
 

@@ -1,4 +1,4 @@
--- Readers of what names an item or a node: its number.
+-- Readers of ids of items and of nodes, which are numbers.
 use Rattle.std.specs.Prelude.{[], ◌∷◌, Ok, codes}
 use Rattle.serde_json.specs.Data.{Data}
 use Rattle.types.specs.declared.ids.AdtId.TheVariants as the_adt_id

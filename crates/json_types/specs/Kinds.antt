@@ -1,4 +1,4 @@
--- Readers of kinds of numbers, and parameters.
+-- Readers of integer and float types, mutabilities, and generic parameters.
 use Rattle.std.specs.Prelude.{[], ◌∷◌, codes}
 use Rattle.serde_json.specs.Data.{Data}
 use Rattle.types.specs.declared.scalars.FloatTy.TheVariants as the_float_ty

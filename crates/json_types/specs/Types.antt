@@ -1,4 +1,4 @@
--- Readers of types, generic arguments and constants, which hold one another.
+-- Readers of types, generic arguments and constants, which are defined by one another.
 use Rattle.std.specs.Prelude.{ℕ, zero, suc, [], ◌∷◌, Option, Ok, codes}
 use Rattle.std.specs.Ordering.{nat_cmp}
 use Rattle.serde_json.specs.Data.{Data, depth}
@@ -25,15 +25,15 @@ use Rattle.json_kit.specs.Parts.{list_of, pair_of}
 use Rattle.json_kit.specs.Scalars.{u64_of}
 use Rattle.json_kit.specs.Variants.{Named, enum_of, first_of, payload, unit}
 
--- the types that hold nothing
+-- types without parts
 unfoldable pub bare_ty_of : Named → Fit (Option Ty)
 bare_ty_of = first_of (unit (codes "Bool") the_ty.Bool ∷ unit (codes "Char") the_ty.Char ∷ unit (codes "Str") the_ty.Str ∷ unit (codes "Never") the_ty.Never ∷ unit (codes "Error") the_ty.Error ∷ [])
 
--- the types of numbers, and parameters
+-- integer and float types, and type parameters
 unfoldable pub plain_ty_of : Named → Fit (Option Ty)
 plain_ty_of = first_of (payload (codes "Int") int_ty_of the_ty.Int ∷ payload (codes "Uint") uint_ty_of the_ty.Uint ∷ payload (codes "Float") float_ty_of the_ty.Float ∷ payload (codes "Param") param_ty_of the_ty.Param ∷ [])
 
--- The readers below take readers of the types and constants that stand inside.
+-- The readers below take readers for the types and constants inside a tree.
 module _ (ty : Data → Fit Ty) (konst : Data → Fit Const) where
   unfoldable pub generic_arg_by : Data → Fit GenericArg
   generic_arg_by = enum_of (payload (codes "Ty") ty the_generic_arg.Ty ∷ payload (codes "Konst") konst the_generic_arg.Konst ∷ [])
@@ -48,15 +48,15 @@ module _ (ty : Data → Fit Ty) (konst : Data → Fit Const) where
     args ← optional (record { 0 = [] }) (codes "args") generic_args_by d
     with_no_other (codes "def" ∷ codes "args" ∷ []) ms (record { def = def; args = args })
 
-  -- the types that hold one other type
+  -- array, slice, reference and raw pointer types
   unfoldable pub pointing_ty_of : Named → Fit (Option Ty)
   pointing_ty_of = first_of (payload (codes "Array") (pair_of ty konst) (λ both. the_ty.Array both.0 both.1) ∷ payload (codes "Slice") ty the_ty.Slice ∷ payload (codes "Ref") (pair_of ty mutability_of) (λ both. the_ty.Ref both.0 both.1) ∷ payload (codes "RawPtr") (pair_of ty mutability_of) (λ both. the_ty.RawPtr both.0 both.1) ∷ [])
 
-  -- the types that are items with arguments
+  -- types that are items with generic arguments
   unfoldable pub item_ty_of : Named → Fit (Option Ty)
   item_ty_of = first_of (payload (codes "Adt") (pair_of adt_id_of generic_args_by) (λ both. the_ty.Adt both.0 both.1) ∷ payload (codes "FnDef") (pair_of callable_def_id_of generic_args_by) (λ both. the_ty.FnDef both.0 both.1) ∷ payload (codes "Closure") (pair_of interned_closure_id_of generic_args_by) (λ both. the_ty.Closure both.0 both.1) ∷ payload (codes "Alias") (pair_of alias_id_of generic_args_by) (λ both. the_ty.Alias both.0 both.1) ∷ [])
 
-  -- the types that hold lists
+  -- tuple, function pointer and trait object types
   unfoldable pub listing_ty_of : Named → Fit (Option Ty)
   listing_ty_of = first_of (payload (codes "Tuple") (list_of ty) the_ty.Tuple ∷ payload (codes "FnPtr") (pair_of (list_of ty) ty) (λ both. the_ty.FnPtr both.0 both.1) ∷ payload (codes "Dynamic") (list_of trait_ref_by) the_ty.Dynamic ∷ [])
 
@@ -96,12 +96,12 @@ pub record Readers : Type 0 where
   pub ty : Data → Fit Ty
   pub konst : Data → Fit Const
 
--- readers of what nests less than so many levels deep
+-- readers of trees with fewer than this many levels
 unfoldable pub readers_below : ℕ → Readers
 readers_below zero = record { ty = λ _. misfit; konst = λ _. misfit }
 readers_below (suc n) = let inner = readers_below n in record { ty = ty_by inner.ty inner.konst; konst = const_by inner.ty inner.konst }
 
--- a type, whose parts nest less deep than it does
+-- the reader of all types: it reads a tree by readers for fewer levels than the tree has
 unfoldable pub ty_of : Data → Fit Ty
 ty_of d = (readers_below (suc (depth d))).ty d
 

@@ -1,4 +1,4 @@
-//! What names an item or a node: its number.
+//! Ids of items and of nodes, which are numbers.
 
 ghost use Rattle.json_types.specs.Ids.{crate_of, function_id_of, const_id_of, static_id_of, struct_id_of, union_id_of, enum_id_of, enum_variant_id_of, trait_id_of, alias_id_of, type_param_id_of, const_param_id_of, interned_closure_id_of, expr_id_of, pat_id_of, binding_id_of, label_id_of, adt_id_of, variant_id_of, callable_def_id_of, def_with_body_id_of, generic_param_id_of, general_const_id_of, field_id_of, tuple_field_id_of};
 

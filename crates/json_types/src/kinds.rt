@@ -1,4 +1,4 @@
-//! Kinds of numbers, and parameters.
+//! Integer and float types, mutabilities, and generic parameters.
 
 ghost use Rattle.json_types.specs.Kinds.{int_ty_of, uint_ty_of, float_ty_of, mutability_of, param_ty_of, param_const_of};
 

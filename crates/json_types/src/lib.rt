@@ -1,4 +1,4 @@
-//! Reads the names of items and nodes, kinds of numbers, and types and constants from trees.
+//! Reads ids, types, generic arguments and constants from JSON trees.
 #![tactic(auto)]
 
 mod ids;

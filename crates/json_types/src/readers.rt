@@ -1,5 +1,5 @@
-//! What stands for the readers of this crate.
+//! The marker type of this crate.
 
-/// Stands for this crate as the parameter of `FromJson`: an impl of another crate's trait has to name
-/// a type of its own crate, and most types that are read are of another one too.
+/// The parameter of `FromJson` in this crate's impls: an impl of another crate's trait has to name a type
+/// of its own crate, and most types that are read are from another crate too.
 pub struct JsonTypes;

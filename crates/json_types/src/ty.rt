@@ -21,7 +21,7 @@ use types::{
     InternedClosureId, List, MemoryMap, Mutability, TraitRef, Ty, UnevaluatedConst, ValueConst,
 };
 
-/// A type that holds nothing.
+/// A type without parts, as `bool`; none if the variant is another type's.
 #[tactic(auto, unfolding(crate::specs::Types::bare_ty_of))]
 fn bare_ty(variant: &Variant) -> Option<Ty>
     ensures { bare_ty_of (variant.now.name.now, option_map (λ part. view part.now) variant.now.payload) ≡ Ok result }
@@ -44,7 +44,7 @@ fn bare_ty(variant: &Variant) -> Option<Ty>
     None
 }
 
-/// A type of numbers, or a parameter.
+/// An integer or float type or a type parameter; none if the variant is another type's.
 #[tactic(auto, unfolding(crate::specs::Types::plain_ty_of))]
 fn plain_ty(alloc: Global, variant: &Variant) -> Result<Option<Ty>, NotAWorld>
     ensures { Gives result (plain_ty_of (variant.now.name.now, option_map (λ part. view part.now) variant.now.payload)) }
@@ -81,7 +81,7 @@ fn ty(alloc: Global, tree: &Value) -> Result<Ty, NotAWorld>
     layer(alloc, tree)
 }
 
-/// A type, by its variant.
+/// A type, from the reader of its variant.
 #[cycle(types)]
 #[tactic(auto, unfolding(crate::specs::Types::ty_by))]
 fn layer(alloc: Global, tree: &Value) -> Result<Ty, NotAWorld>
@@ -106,7 +106,7 @@ fn layer(alloc: Global, tree: &Value) -> Result<Ty, NotAWorld>
     Err(here(alloc))
 }
 
-/// A type that holds one other type.
+/// An array, slice, reference or raw pointer type; none if the variant is another type's.
 #[cycle(types)]
 #[tactic(auto, unfolding(crate::specs::Types::pointing_ty_of))]
 fn pointing_ty(alloc: Global, variant: &Variant) -> Result<Option<Ty>, NotAWorld>
@@ -143,7 +143,7 @@ fn ty_and_const(alloc: Global, tree: &Value) -> Result<(Ty, Const), NotAWorld>
     Ok((x, y))
 }
 
-/// A type that is pointed to, and whether it may change.
+/// The target type and the mutability of a reference or a raw pointer.
 #[cycle(types)]
 #[tactic(auto, unfolding(json_kit::specs::Parts::pair_of))]
 fn target(alloc: Global, tree: &Value) -> Result<(Ty, Mutability), NotAWorld>
@@ -155,7 +155,7 @@ fn target(alloc: Global, tree: &Value) -> Result<(Ty, Mutability), NotAWorld>
     Ok((x, y))
 }
 
-/// A struct, union or enum, and its arguments.
+/// A struct, union or enum, and its generic arguments.
 #[cycle(types)]
 #[tactic(auto, unfolding(json_kit::specs::Parts::pair_of))]
 fn adt(alloc: Global, tree: &Value) -> Result<(AdtId, GenericArgs), NotAWorld>
@@ -167,7 +167,7 @@ fn adt(alloc: Global, tree: &Value) -> Result<(AdtId, GenericArgs), NotAWorld>
     Ok((x, y))
 }
 
-/// What can be called, and its arguments.
+/// A function or a constructor, and its generic arguments.
 #[cycle(types)]
 #[tactic(auto, unfolding(json_kit::specs::Parts::pair_of))]
 fn fn_def(alloc: Global, tree: &Value) -> Result<(CallableDefId, GenericArgs), NotAWorld>
@@ -179,7 +179,7 @@ fn fn_def(alloc: Global, tree: &Value) -> Result<(CallableDefId, GenericArgs), N
     Ok((x, y))
 }
 
-/// A closure, and its arguments.
+/// A closure, and its generic arguments.
 #[cycle(types)]
 #[tactic(auto, unfolding(json_kit::specs::Parts::pair_of))]
 fn closure(alloc: Global, tree: &Value) -> Result<(InternedClosureId, GenericArgs), NotAWorld>
@@ -191,7 +191,7 @@ fn closure(alloc: Global, tree: &Value) -> Result<(InternedClosureId, GenericArg
     Ok((x, y))
 }
 
-/// A type's other name, and its arguments.
+/// A type alias or an associated type, and its generic arguments.
 #[cycle(types)]
 #[tactic(auto, unfolding(json_kit::specs::Parts::pair_of))]
 fn alias(alloc: Global, tree: &Value) -> Result<(AliasId, GenericArgs), NotAWorld>
@@ -203,7 +203,7 @@ fn alias(alloc: Global, tree: &Value) -> Result<(AliasId, GenericArgs), NotAWorl
     Ok((x, y))
 }
 
-/// A type that is an item with arguments.
+/// A type that is an item with generic arguments; none if the variant is another type's.
 #[cycle(types)]
 #[tactic(auto, unfolding(crate::specs::Types::item_ty_of))]
 fn item_ty(alloc: Global, variant: &Variant) -> Result<Option<Ty>, NotAWorld>
@@ -228,7 +228,7 @@ fn item_ty(alloc: Global, variant: &Variant) -> Result<Option<Ty>, NotAWorld>
     Ok(None)
 }
 
-/// A type that holds lists.
+/// A tuple, function pointer or trait object type; none if the variant is another type's.
 #[cycle(types)]
 #[tactic(auto, unfolding(crate::specs::Types::listing_ty_of))]
 fn listing_ty(alloc: Global, variant: &Variant) -> Result<Option<Ty>, NotAWorld>
@@ -249,7 +249,7 @@ fn listing_ty(alloc: Global, variant: &Variant) -> Result<Option<Ty>, NotAWorld>
     Ok(None)
 }
 
-/// The types of parameters, and of a result.
+/// The parameter types and the result type of a function pointer.
 #[cycle(types)]
 #[tactic(auto, unfolding(json_kit::specs::Parts::pair_of))]
 fn signature(alloc: Global, tree: &Value) -> Result<(List<Ty>, Ty), NotAWorld>
@@ -275,7 +275,7 @@ fn tys(alloc: Global, tree: &Value) -> Result<List<Ty>, NotAWorld>
     Ok(list)
 }
 
-/// A list of traits.
+/// The bounds of a trait object.
 #[cycle(types)]
 fn trait_refs(alloc: Global, tree: &Value) -> Result<List<TraitRef>, NotAWorld>
     ensures { Gives result (list_of trait_ref_of (view tree.now)) }
@@ -331,7 +331,7 @@ fn generic_arg(alloc: Global, tree: &Value) -> Result<GenericArg, NotAWorld>
     Err(here(alloc))
 }
 
-/// The generic arguments at the key `args`, which may be left out.
+/// The generic arguments at the optional key `args`.
 #[cycle(types)]
 fn args(alloc: Global, tree: &Value) -> Result<GenericArgs, NotAWorld>
     ensures { Gives result (optional (record { 0 = [] }) (codes "args") generic_args_of (view tree.now)) }
@@ -342,7 +342,7 @@ fn args(alloc: Global, tree: &Value) -> Result<GenericArgs, NotAWorld>
     }
 }
 
-/// A trait with its arguments.
+/// A trait with its generic arguments.
 #[cycle(types)]
 #[tactic(auto, unfolding(crate::specs::Types::trait_ref_by))]
 fn trait_ref(alloc: Global, tree: &Value) -> Result<TraitRef, NotAWorld>
@@ -365,7 +365,7 @@ fn konst(alloc: Global, tree: &Value) -> Result<Const, NotAWorld>
     const_layer(alloc, tree)
 }
 
-/// A constant, by its variant.
+/// A constant, from the reader of its variant.
 #[cycle(types)]
 #[tactic(auto, unfolding(crate::specs::Types::const_by))]
 fn const_layer(alloc: Global, tree: &Value) -> Result<Const, NotAWorld>
@@ -409,7 +409,7 @@ fn value_const(alloc: Global, tree: &Value) -> Result<ValueConst, NotAWorld>
     with_no_other(alloc, members, &names, value)
 }
 
-/// A constant by its name.
+/// An unevaluated constant: an item with generic arguments.
 #[cycle(types)]
 #[tactic(auto, unfolding(crate::specs::Types::unevaluated_const_by))]
 fn unevaluated_const(alloc: Global, tree: &Value) -> Result<UnevaluatedConst, NotAWorld>
@@ -443,7 +443,7 @@ fn memory_map(alloc: Global, tree: &Value) -> Result<MemoryMap, NotAWorld>
     Err(here(alloc))
 }
 
-/// The types at the key `vtable`, which may be left out.
+/// The types at the optional key `vtable`.
 #[cycle(types)]
 fn vtable(alloc: Global, tree: &Value) -> Result<List<Ty>, NotAWorld>
     ensures { Gives result (optional [] (codes "vtable") (list_of ty_of) (view tree.now)) }
@@ -454,7 +454,7 @@ fn vtable(alloc: Global, tree: &Value) -> Result<List<Ty>, NotAWorld>
     }
 }
 
-/// Bytes at several addresses, and the types that vtable ids stand for.
+/// Bytes by address, and the types by vtable id.
 #[cycle(types)]
 #[tactic(auto, unfolding(crate::specs::Types::complex_memory_map_by))]
 fn complex_memory_map(alloc: Global, tree: &Value) -> Result<ComplexMemoryMap, NotAWorld>

@@ -1,3 +1,5 @@
+pub mod Addresses
+pub mod Areas
 pub mod Errors
 pub mod Memory
 pub mod Run

@@ -5,9 +5,9 @@ use Rattle.world.specs.declared.layout.Layout.{Layout}
 use Rattle.types.specs.declared.ty.Ty.{Ty}
 use Rattle.world.specs.Lookups.{layout_of}
 use Rattle.mir.specs.declared.body.Local.{Local}
-use Rattle.mir.specs.declared.errors.LayoutError.TheVariants.{Unknown}
 use Rattle.mir.specs.declared.errors.MirEvalError.{MirEvalError}
 use Rattle.mir.specs.declared.errors.MirEvalError as error
+use Rattle.mir.specs.Errors.{layout_error_of}
 
 -- where a cell lies on the stack: its first byte, and how many bytes it has
 pub record Interval : Type 0 where
@@ -48,7 +48,7 @@ with_cell layout memory =
 
 -- a local's cell, or why it can have none: its type has no layout, or no size
 unfoldable pub placed : Ty → Option Layout → Memory → Result (Interval × Memory) MirEvalError
-placed ty None memory = Err (error.LayoutError Unknown ty)
+placed ty None memory = Err (error.LayoutError (layout_error_of ty) ty)
 placed ty (Some layout) memory =
     if layout.sized then Ok (with_cell layout memory) else Err (error.TypeIsUnsized ty (codes "no unsized local in extending stack"))
 

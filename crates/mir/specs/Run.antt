@@ -12,7 +12,6 @@ use Rattle.types.specs.declared.ty.UnevaluatedConst.{UnevaluatedConst}
 use Rattle.types.specs.declared.ty.ValueConst.{ValueConst}
 use Rattle.types.specs.declared.ty.Ty.{Ty}
 use Rattle.numbers.specs.declared.operator.Operator.{Operator}
-use Rattle.numbers.specs.declared.operator.Operator.TheVariants as operator
 use Rattle.numbers.specs.declared.operator.Kind.{Kind}
 use Rattle.numbers.specs.Operators.{Answer, Computes, Panics, Undefined, computed, negated, inverted, kind_of}
 use Rattle.mir.specs.declared.body.BasicBlock.{BasicBlock}
@@ -21,8 +20,6 @@ use Rattle.mir.specs.declared.body.Terminator.{Terminator}
 use Rattle.mir.specs.declared.body.TerminatorKind.TheVariants.{Return, Drop}
 use Rattle.mir.specs.declared.errors.MirEvalError.{MirEvalError}
 use Rattle.mir.specs.declared.errors.MirEvalError as error
-use Rattle.mir.specs.declared.operand.BinOp.{BinOp}
-use Rattle.mir.specs.declared.operand.BinOp.TheVariants as op
 use Rattle.mir.specs.declared.operand.UnOp.{UnOp}
 use Rattle.mir.specs.declared.operand.UnOp.TheVariants as one
 use Rattle.mir.specs.declared.operand.OperandKind.{OperandKind}
@@ -61,25 +58,6 @@ unfoldable pub operand_type : MirBody → OperandKind → Option Ty
 operand_type body (Copy place) = option_map (λ local. local.ty) (slice_get body.locals place.local.0)
 operand_type body (Constant konst ty) = Some ty
 
--- the operator of numbers
-unfoldable pub operator_of : BinOp → Operator
-operator_of op.Add = operator.Add
-operator_of op.Sub = operator.Sub
-operator_of op.Mul = operator.Mul
-operator_of op.Div = operator.Div
-operator_of op.Rem = operator.Rem
-operator_of op.BitXor = operator.BitXor
-operator_of op.BitAnd = operator.BitAnd
-operator_of op.BitOr = operator.BitOr
-operator_of op.Shl = operator.Shl
-operator_of op.Shr = operator.Shr
-operator_of op.Eq = operator.Eq
-operator_of op.Lt = operator.Lt
-operator_of op.Le = operator.Le
-operator_of op.Ne = operator.Ne
-operator_of op.Ge = operator.Ge
-operator_of op.Gt = operator.Gt
-
 -- a read outside the memory, or of a local that the body lacks
 abbrev pub bad_read : MirEvalError
 bad_read = error.UndefinedBehavior (codes "out of bound memory read")
@@ -94,9 +72,9 @@ answered (Panics word) = Err (error.Panic word)
 answered Undefined = Err (error.NotSupported (codes "comparison of this type"))
 
 -- an operator on two operands, which are read left to right
-unfoldable pub operated : BinOp → Option Ty → Option Ty → Option (List ℕ) → Option (List ℕ) → Result (List ℕ) MirEvalError
+unfoldable pub operated : Operator → Option Ty → Option Ty → Option (List ℕ) → Option (List ℕ) → Result (List ℕ) MirEvalError
 operated op left_type right_type (Some left) (Some right) =
-    answered (computed (operator_of op) (option_and_then kind_of left_type) (option_and_then kind_of right_type) left right)
+    answered (computed op (option_and_then kind_of left_type) (option_and_then kind_of right_type) left right)
 operated op left_type right_type (Some left) None = Err bad_read
 operated op left_type right_type None right = Err bad_read
 

@@ -62,6 +62,8 @@ fn copy_eval_error(alloc: Global, error: &MirEvalError) -> Result<MirEvalError, 
             Ok(MirEvalError::InFunction(Box::new(alloc, inner)?, trail))
         }
         MirEvalError::ExecutionLimitExceeded => Ok(MirEvalError::ExecutionLimitExceeded),
+        MirEvalError::StackOverflow => Ok(MirEvalError::StackOverflow),
+        MirEvalError::MemoryLimitExceeded => Ok(MirEvalError::MemoryLimitExceeded),
         MirEvalError::NoMemory => Ok(MirEvalError::NoMemory),
     }
 }

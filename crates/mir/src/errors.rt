@@ -1,13 +1,31 @@
 //! Why a body could not be lowered, and how a run can end without a value.
 
+ghost use Rattle.std.specs.Prelude.{◌≡◌};
+ghost use Rattle.mir.specs.Errors.{layout_error_of};
+
 use crate::MirSpan;
+use mentions::holds_param;
 use world::{Box, Crate, DefWithBodyId, List, NoMemory, Text, Ty};
 
 /// Why a type has no layout.
 #[derive(Clone, Copy, PartialEq, Eq, Debug)]
 pub enum LayoutError {
-    /// The world's layouts have no entry for it.
+    /// It holds a generic parameter, and so has no entry in the world's layouts.
+    HasPlaceholder,
+    /// It holds none, and the world's layouts have no entry for it.
     Unknown,
+}
+
+/// Why a type that has no entry in the world's layouts has no layout.
+#[tactic(auto, unfolding(crate::specs::Errors::layout_error_of))]
+pub fn layout_error_of(ty: &Ty) -> LayoutError
+    ensures { result ≡ layout_error_of ty.now }
+{
+    if holds_param(ty) {
+        LayoutError::HasPlaceholder
+    } else {
+        LayoutError::Unknown
+    }
 }
 
 /// Why a body could not be lowered.
@@ -63,6 +81,8 @@ pub enum MirEvalError {
     NotSupported(Text),
     InFunction(Box<MirEvalError>, List<TrailEntry>),
     ExecutionLimitExceeded,
+    StackOverflow,
+    MemoryLimitExceeded,
     NoMemory,
 }
 

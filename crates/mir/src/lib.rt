@@ -4,17 +4,24 @@
 
 // Drops are written by hand: derived ones would be proved anew in each crate that drops such a value.
 
+mod address;
 mod body;
 mod copies;
 mod errors;
 mod ids;
+mod mem_fault;
 mod operand;
 mod span;
 mod statement;
 
+pub use address::{Address, CellSize, Interval};
 pub use body::{BasicBlock, Local, MirBody, Terminator, TerminatorKind};
-pub use errors::{ConstEvalError, LayoutError, MirEvalError, MirLowerError, TrailEntry};
+pub use errors::{
+    ConstEvalError, LayoutError, MirEvalError, MirLowerError, TrailEntry, layout_error_of,
+};
 pub use ids::{BasicBlockId, LocalId};
-pub use operand::{BinOp, Operand, OperandKind, Place, Rvalue, UnOp};
+pub use mem_fault::MemFault;
+pub use numbers::Operator as BinOp;
+pub use operand::{Operand, OperandKind, Place, Rvalue, UnOp};
 pub use span::MirSpan;
 pub use statement::{Statement, StatementKind};

@@ -1,5 +1,5 @@
 -- The machine that an evaluator is, and how its calls change it.
-use Rattle.std.specs.Prelude.{◌≡◌, ◌⊎◌, ℕ, Bool, true, false, Option, Some, None, Result, Ok, Err, unwrap_or}
+use Rattle.std.specs.Prelude.{◌≡◌, ◌⊎◌, ℕ, ◌≤◌, Bool, true, false, Option, Some, None, Result, Ok, Err, unwrap_or}
 use Rattle.world.specs.declared.database.HirDatabase.{HirDatabase}
 use Rattle.types.specs.declared.ids.Crate.{Crate}
 use Rattle.types.specs.declared.ids.DefWithBodyId.{DefWithBodyId}
@@ -11,7 +11,7 @@ use Rattle.mir_eval.specs.declared.evaluator.Turned.{Turned}
 use Rattle.mir_eval.specs.declared.evaluator.Turned.TheVariants as turns
 use Rattle.mir_eval.specs.declared.evaluator.Evaluator.{Evaluator}
 use Rattle.mir_eval.specs.Phases.{state_of}
-use Rattle.mir_eval.specs.Machine.{Machine, State, Fresh, Going, Over}
+use Rattle.mir_eval.specs.Machine.{Machine, State, Fresh, Going, Over, left_in}
 
 -- the machine that an evaluator is
 abbrev pub machine_of : Evaluator → Machine
@@ -53,7 +53,9 @@ turned_out None = turns.Fault
 abbrev pub turned : State → Turned
 turned state = turned_out (outcome state)
 
--- a machine came into a state, or its run ended for want of memory; the rest of it stayed
+-- a machine came into a state, or its run ended for want of memory before it came there, with no fewer blocks left; the rest
+-- of it stayed
 abbrev pub Became : Machine → Machine → State → Type 0
 Became before after state =
-    (after ≡ record before { state = state }) ⊎ ((left : ℕ) × (after ≡ record before { state = Over (Err error.NoMemory) left }))
+    (after ≡ record before { state = state })
+    ⊎ ((left : ℕ) × (left_in state ≤ left) × (after ≡ record before { state = Over (Err error.NoMemory) left }))

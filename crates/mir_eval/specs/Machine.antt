@@ -1,5 +1,5 @@
 -- The machine that runs a body, as its callers see it, and what its calls do.
-use Rattle.std.specs.Prelude.{◌≡◌, ℕ, zero, suc, ◌-◌, List, [], Option, Some, None, Result, Ok, Err, slice_get, option_and_then}
+use Rattle.std.specs.Prelude.{◌≡◌, ℕ, zero, suc, ◌-◌, ◌≤◌, List, [], Option, Some, None, Result, Ok, Err, slice_get, option_and_then}
 use Rattle.world.specs.declared.database.HirDatabase.{HirDatabase}
 use Rattle.types.specs.declared.ty.Const.{Const}
 use Rattle.types.specs.declared.ty.Const.TheVariants.{Value}
@@ -63,9 +63,15 @@ finished (Going frame memory block left) =
 finished Fresh = Fresh
 finished (Over result left) = Over result left
 
--- the run ended for want of memory
-abbrev pub RanOutOfMemory : State → Type 0
-RanOutOfMemory state = (left : ℕ) × (state ≡ Over (Err error.NoMemory) left)
+-- how many blocks a run that has begun may still enter
+abbrev pub left_in : State → ℕ
+left_in Fresh = 0
+left_in (Going frame memory block left) = left
+left_in (Over result left) = left
+
+-- the run ended for want of memory before it came into a state: no fewer blocks are left than there
+abbrev pub RanOutOfMemory : State → State → Type 0
+RanOutOfMemory state now = (left : ℕ) × (left_in state ≤ left) × (now ≡ Over (Err error.NoMemory) left)
 
 -- how many blocks may still be entered
 abbrev pub blocks_left : ℕ → State → ℕ

@@ -22,6 +22,6 @@ state_of phase.Fresh = Fresh
 state_of (phase.Going run) = going run
 state_of (phase.Over outcome left) = Over outcome left
 
--- a phase is in a state, or its run ended for want of memory
+-- a phase is in a state, or its run ended for want of memory before it came there
 abbrev pub Reached : Phase → State → Type 0
-Reached now state = (state_of now ≡ state) ⊎ RanOutOfMemory (state_of now)
+Reached now state = (state_of now ≡ state) ⊎ RanOutOfMemory state (state_of now)

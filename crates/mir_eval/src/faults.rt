@@ -3,8 +3,7 @@
 ghost use Rattle.std.specs.Prelude.{◌≡◌, IfOk};
 ghost use Rattle.mir_eval.specs.Steps.{error_of};
 
-use mir::MirEvalError;
-use numbers::Operator;
+use mir::{BinOp, MirEvalError};
 use std::alloc::Global;
 use world::{NoMemory, Text};
 
@@ -13,7 +12,7 @@ use world::{NoMemory, Text};
 pub(crate) enum Fault {
     BadRead,
     BadWrite,
-    Panic(Operator),
+    Panic(BinOp),
     Undefined,
     NoTerminator,
     OutOfBlocks,

@@ -3,13 +3,13 @@
 ghost use Rattle.std.specs.Prelude.{◌≡◌, ◌⊎◌, ◌-◌, ◌++◌, codes, length, replicate, Ok, Err, IfOk, IfErr, IfSome, OnOk};
 ghost use Rattle.world.specs.Lookups.{layout_of};
 ghost use Rattle.mir.specs.declared.errors.MirEvalError as error;
-ghost use Rattle.mir.specs.declared.errors.LayoutError.TheVariants.{Unknown};
+ghost use Rattle.mir.specs.Errors.{layout_error_of};
 ghost use Rattle.mir.specs.Memory.{first_memory, aligned, with_cell, placed, cells_of};
 ghost use Rattle.mir_eval.specs.Steps.{interval_of, memory};
 ghost use Rattle.mir_eval.specs.Phases.{cells_and_memory};
 
 use crate::cells::Cell;
-use mir::{LayoutError, Local, MirEvalError};
+use mir::{Local, MirEvalError, layout_error_of};
 use std::alloc::Global;
 use world::{HirDatabase, Layout, NoMemory, Text, TryClone, Ty};
 
@@ -64,10 +64,11 @@ fn add_cell(stack: &mut Vec<u8>, layout: &Layout) -> Result<Cell, NoMemory>
 
 /// The refusal of a local whose type has no layout.
 fn without_layout(alloc: Global, ty: &Ty) -> MirEvalError
-    ensures { (result ≡ error.NoMemory) ⊎ (result ≡ error.LayoutError Unknown ty.now) }
+    ensures { (result ≡ error.NoMemory) ⊎ (result ≡ error.LayoutError (layout_error_of ty.now) ty.now) }
 {
+    let error = layout_error_of(ty);
     match ty.try_clone(alloc) {
-        Ok(ty) => MirEvalError::LayoutError(LayoutError::Unknown, ty),
+        Ok(ty) => MirEvalError::LayoutError(error, ty),
         Err(_) => MirEvalError::NoMemory,
     }
 }

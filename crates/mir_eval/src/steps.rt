@@ -2,8 +2,8 @@
 
 ghost use Rattle.std.specs.Prelude.{◌≡◌, ◌≤◌, IfOk, Some, slice_get, option_and_then, option_copied};
 ghost use Rattle.numbers.specs.Operators.{kind_of};
-ghost use Rattle.mir.specs.Run.{constant_bytes, copied, read, operator_of, answered, operated, computed_of, operated_on, rvalue_bytes, operand_bytes, operand_type, after_statement, after_statements, terminated, next_from, entering};
-ghost use Rattle.mir_mem.specs.Computed.{answer_of, count_of};
+ghost use Rattle.mir.specs.Run.{constant_bytes, copied, read, answered, operated, computed_of, operated_on, rvalue_bytes, operand_bytes, operand_type, after_statement, after_statements, terminated, next_from, entering};
+ghost use Rattle.numbers.specs.Computed.{answer_of, count_of};
 ghost use Rattle.mir_eval.specs.Steps.{interval_of, operated_bytes, frame, memory, left_with, next_of, ended_of};
 
 use crate::cells::{Cell, cell_of, copy, read, write};
@@ -12,8 +12,7 @@ use mir::{
     BasicBlock, BasicBlockId, BinOp, MirBody, OperandKind, Place, Rvalue, Statement, StatementKind,
     Terminator, TerminatorKind, UnOp,
 };
-use mir_mem::{Computed, compute, invert, negate};
-use numbers::{Kind, Operator};
+use numbers::{Computed, Kind, compute, invert, negate};
 use world::Const;
 
 /// Where a block leads that doesn't fault.
@@ -97,31 +96,6 @@ fn assign_operand(
     }
 }
 
-/// The operator of numbers.
-#[tactic(auto, unfolding(mir::specs::Run::operator_of))]
-fn operator_of(op: BinOp) -> Operator
-    ensures { result ≡ operator_of op }
-{
-    match op {
-        BinOp::Add => Operator::Add,
-        BinOp::Sub => Operator::Sub,
-        BinOp::Mul => Operator::Mul,
-        BinOp::Div => Operator::Div,
-        BinOp::Rem => Operator::Rem,
-        BinOp::BitXor => Operator::BitXor,
-        BinOp::BitAnd => Operator::BitAnd,
-        BinOp::BitOr => Operator::BitOr,
-        BinOp::Shl => Operator::Shl,
-        BinOp::Shr => Operator::Shr,
-        BinOp::Eq => Operator::Eq,
-        BinOp::Lt => Operator::Lt,
-        BinOp::Le => Operator::Le,
-        BinOp::Ne => Operator::Ne,
-        BinOp::Ge => Operator::Ge,
-        BinOp::Gt => Operator::Gt,
-    }
-}
-
 /// The bytes that a computation gives, or its fault.
 #[tactic(auto, unfolding(mir::specs::Run::answered))]
 fn answered(computed: Computed) -> Result<([u8; 16], u8), Fault>
@@ -157,13 +131,7 @@ fn operate(
     };
     let left_kind = operand_kind(body, left);
     let right_kind = operand_kind(body, right);
-    answered(compute(
-        operator_of(op),
-        left_kind,
-        right_kind,
-        left_bytes,
-        right_bytes,
-    ))
+    answered(compute(op, left_kind, right_kind, left_bytes, right_bytes))
 }
 
 /// What an operator on one operand makes of it.

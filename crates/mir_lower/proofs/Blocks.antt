@@ -18,16 +18,20 @@ use Rattle.mir.specs.declared.statement.Statement.{Statement as MirStatement}
 use Rattle.mir.specs.declared.statement.StatementKind.TheVariants.{FakeRead}
 use Rattle.mir.specs.Memory.{Memory}
 use Rattle.mir.specs.Run.{Frame, after_statement}
-use Rattle.source_meaning.specs.Ends.{Cost, no_cost, plus, End, Go, Panic, Stuck, More, after, then_do}
+use Rattle.source_meaning.specs.Ends.{no_cost, End, Go, then_do}
+use Rattle.source_meaning.specs.Events.{marked_as_place, marked_by_statement, marked_by_tail, marked_in_block}
 use Rattle.source_meaning.specs.Meaning.{Level, level_at, put, bind, statement_of, statements_of, tail_into}
-use Rattle.source_meaning.specs.Source.{Source, node, node_type, pattern, Cell, Binding, Path, Store, marked, marked_by, marked_as_place, marked_by_statement, marked_by_tail, marked_in_block, bound_by, drops}
-use Rattle.source_meaning.specs.Valid.{Evaluates, itself, part, parts_of, statement_parts, HasPlainForm, IsPlainNode, IsPlainFrom, IsPlainTail, IsLaidOut}
-use Rattle.source_meaning.proofs.Depth.{marked_unrolls}
-use Rattle.mir_lower.specs.Does.{Point, here, local_of, IsFrameOf, Holds, Comes, Reaches, Performs, Nothing, LeadsTo, DoesStatements}
-use Rattle.mir_lower.specs.Graph.{Shape, with_statement, with_scope}
+use Rattle.source_meaning.specs.Source.{Source, node, node_type, pattern, Cell, Binding, Path, Store, bound_by, drops}
+use Rattle.source_meaning.specs.Steps.{parts_of, statement_parts}
+use Rattle.source_meaning.specs.Valid.{itself, HasPlainForm, IsPlainNode, IsPlainFrom, IsPlainTail, IsLaidOut, NeedsLayout, own, inside}
+use Rattle.source_meaning.proofs.Costs.{then-then, then-same, then-go}
+use Rattle.source_meaning.proofs.Marks.{let_marks, expression_marks, tail_marks, no_tail_marks, inner_marks, block_marks}
+use Rattle.source_meaning.proofs.Parts.{block_parts, sized_part_is_part}
+use Rattle.mir_lower.specs.Does.{Point, here, IsFrameOf, Holds, Comes, Reaches, Performs, Nothing, LeadsTo, DoesStatements}
+use Rattle.mir_lower.specs.Graph.{Shape, with_statement, with_scope, local_of}
 use Rattle.mir_lower.specs.Growth.{count_at, Grows, IsSound, IsOpen, IsReady}
 use Rattle.mir_lower.specs.Leaving.{Idles}
-use Rattle.mir_lower.specs.Lowered.{LaysOut, IsGiven, Binds, LowersInto, LowersPlace, LowersStatements, LowersTail}
+use Rattle.mir_lower.specs.Lowered.{Keeps, LaysOut, IsGiven, Binds, LowersInto, LowersPlace, LowersStatements, LowersTail}
 use Rattle.mir_lower.proofs.Growing.{grows-refl, grows-trans, with_statement-grows, with_scope-grows}
 use Rattle.mir_lower.proofs.Laid.{layouts-before, plain-part, one-of}
 use Rattle.mir_lower.proofs.Leaving.{here-scope}
@@ -35,7 +39,7 @@ use Rattle.mir_lower.proofs.Operations.{assignment, name-computes}
 use Rattle.mir_lower.proofs.Reaching.{comes-refl, comes-trans, reaches-then}
 use Rattle.mir_lower.proofs.Running.{comes-statement}
 use Rattle.mir_lower.proofs.Sound.{with_statement-sound, with_statement-open, with_statement-scope}
-use Rattle.mir_lower.proofs.Steps.{local_of-grows, Done, assigned-bytes, no-cost-before, reaches-from, does-form}
+use Rattle.mir_lower.proofs.Steps.{local_of-grows, Done, assigned-bytes, reaches-from, does-form}
 
 -- noting that a value was named leaves everything as it is
 read-does-nothing : (frame : Frame) (memory : Memory) (place : Place) → after_statement frame memory (FakeRead place) ≡ Ok memory
@@ -82,35 +86,6 @@ binds-name source s0 s1 new pat id place from operand span binds given copies sa
 
 -- Statements in order.
 
--- one end after another, taken together in two ways
-after-after : {A : Type 0} (first second : Cost) (end : End A) → after (plus first second) end ≡ after first (after second end)
-unfolding after
-after-after first second (Go value store cost) = let sum : first.turns + second.turns + cost.turns ≡ first.turns + (second.turns + cost.turns) = omega arith in ap (λ (n : ℕ). Go value store (record { turns = n })) sum
-after-after first second (Panic word cost) = let sum : first.turns + second.turns + cost.turns ≡ first.turns + (second.turns + cost.turns) = omega arith in ap (λ (n : ℕ). Panic word (record { turns = n })) sum
-after-after first second Stuck = refl
-after-after first second (More cost) = let sum : first.turns + second.turns + cost.turns ≡ first.turns + (second.turns + cost.turns) = omega arith in ap (λ (n : ℕ). More (record { turns = n })) sum
-
-after-then : {A B : Type 0} (cost : Cost) (end : End A) (next : A → Store → End B) → then_do (after cost end) next ≡ after cost (then_do end next)
-unfolding then_do after
-after-then cost (Go value store rest) next = after-after cost rest (next value store)
-after-then cost (Panic word rest) next = refl
-after-then cost Stuck next = refl
-after-then cost (More rest) next = refl
-
-then-then : {A B C : Type 0} (end : End A) (next : A → Store → End B) (last : B → Store → End C) → then_do (then_do end next) last ≡ then_do end (λ value store. then_do (next value store) last)
-unfolding then_do
-then-then (Go value store cost) next last = after-then cost (next value store) last
-then-then (Panic word cost) next last = refl
-then-then Stuck next last = refl
-then-then (More cost) next last = refl
-
-then-same : {A B : Type 0} (end : End A) (next other : A → Store → End B) → ((value : A) (store : Store) → next value store ≡ other value store) → then_do end next ≡ then_do end other
-unfolding then_do
-then-same (Go value store cost) next other same = ap (after cost) (same value store)
-then-same (Panic word cost) next other same = refl
-then-same Stuck next other same = refl
-then-same (More cost) next other same = refl
-
 no-statements : (source : Source) (below : Level) (store : Store) → statements_of source below [] store ≡ Go tt store no_cost
 unfolding statements_of
 no-statements source below store = refl
@@ -118,10 +93,6 @@ no-statements source below store = refl
 first-statement : (source : Source) (below : Level) (first : Statement) (rest : List Statement) (store : Store) → statements_of source below (first ∷ rest) store ≡ then_do (statement_of source below first store) (λ _ later. statements_of source below rest later)
 unfolding statements_of
 first-statement source below first rest store = refl
-
-then-go : {A : Type 0} (value : A) (store : Store) (next : A → Store → End (Unit {0})) → then_do (Go value store no_cost) next ≡ next value store
-unfolding then_do
-then-go value store next = no-cost-before (next value store)
 
 statements-append : (source : Source) (below : Level) (xs ys : List Statement) (store : Store) → statements_of source below (xs ++ ys) store ≡ then_do (statements_of source below xs store) (λ _ later. statements_of source below ys later)
 statements-append source below [] ys store =
@@ -197,8 +168,8 @@ lowers-let source s0 s1 s2 s3 pat e local place idles binding =
         «open» = binds.keeps.«open»;
         scope =
             binds.keeps.scope ∙ ap (λ scope. scope ++ bound_by (pattern source pat.0)) (idles.scope ∙ place.keeps.scope)
-            ∙ append_assoc s0.scope (marked_as_place source (marked source) e.0) (bound_by (pattern source pat.0))
-            ∙ ap (λ m. s0.scope ++ m) (sym (append-nil (marked_as_place source (marked source) e.0 ++ bound_by (pattern source pat.0))));
+            ∙ append_assoc s0.scope (marked_as_place source e.0) (bound_by (pattern source pat.0))
+            ∙ ap (λ m. s0.scope ++ m) (sym (append-nil (marked_by_statement source (statement.Let pat (Some e) None)) ∙ let_marks source pat e));
       };
       does = one-statement source s0 s3 (statement.Let pat (Some e) None) (record {
         reaches = λ whole frame grows sound is fuel store memory holds.
@@ -210,9 +181,9 @@ lowers-let source s0 s1 s2 s3 pat e local place idles binding =
             (reaches-from frame (here s1) (here s2) (here s3) memory1 (Done whole frame) (idles.comes whole frame grown is memory1) _
             (binds.does.reaches whole frame grows sound is fuel store1 memory1 claims.0)));
       });
-      laid = λ child within plain layouts f evaluates.
+      laid = λ child within plain layouts f needs.
           let same : e.0 ≡ child = one-of e.0 child within in
-          place.laid (subst (IsPlainFrom source) (sym same) plain) (layouts-before source s1 s3 later layouts) f (subst (λ x. Evaluates source x f) (sym same) evaluates);
+          place.laid (subst (IsPlainFrom source) (sym same) plain) (layouts-before source s1 s3 later layouts) f (subst (λ x. NeedsLayout source x f) (sym same) needs);
     }
 
 -- a scope that was opened inside another, and left: what idles behind it
@@ -224,14 +195,14 @@ scope-left s outer source new turns idles whole frame grows is memory =
 pub lowers-expr-statement : (source : Source) (s0 s1 s2 s3 : Shape) (e : ExprId) (has_semi : _) (local : ℕ) → LowersPlace source (with_scope [] s0) s1 e.0 local → Idles source s1 s2 0 → Idles source (with_scope s0.scope s2) s3 (drops source s2.scope) → LowersStatements source s0 s3 (statement.Expr e has_semi ∷ [])
 unfolding count_at
 lowers-expr-statement source s0 s1 s2 s3 e has_semi local place read left =
-    let inner : s2.scope ≡ marked_as_place source (marked source) e.0 = read.scope ∙ place.keeps.scope in
+    let inner : s2.scope ≡ marked_as_place source e.0 = read.scope ∙ place.keeps.scope in
     let into : Grows s1 s3 = grows-trans s1 s2 s3 read.grows (grows-trans s2 (with_scope s0.scope s2) s3 (with_scope-grows s0.scope s2) left.grows) in
     record {
       keeps = record {
         grows = grows-trans s0 (with_scope [] s0) s3 (with_scope-grows [] s0) (grows-trans (with_scope [] s0) s1 s3 place.keeps.grows into);
         sound = left.sound;
         «open» = left.«open»;
-        scope = left.scope ∙ sym (append-nil s0.scope);
+        scope = left.scope ∙ sym (append-nil s0.scope) ∙ ap (λ m. s0.scope ++ m) (sym (append-nil (marked_by_statement source (statement.Expr e has_semi)) ∙ expression_marks source e has_semi));
       };
       does = one-statement source s0 s3 (statement.Expr e has_semi) (record {
         reaches = λ whole frame grows sound is fuel store memory holds.
@@ -239,7 +210,7 @@ lowers-expr-statement source s0 s1 s2 s3 e has_semi local place read left =
             reaches-then frame (here s0) (here s1) (here s3) memory (λ path after later. Holds whole frame after later × LeadsTo place.does.cell whole frame path) (Done whole frame) ((level_at source fuel).place e.0 store) _
             (place.does.does.reaches whole frame (grows-trans s1 s2 whole read.grows grown2) sound is fuel store memory holds)
             (λ path store1 memory1 claims.
-            let turns : drops source s2.scope ≡ drops source (marked_as_place source (marked source) e.0) = ap (drops source) inner in (
+            let turns : drops source s2.scope ≡ drops source (marked_as_place source e.0) = ap (drops source) inner in (
               0 + drops source s2.scope,
               memory1,
               omega (arith, turns),
@@ -247,34 +218,52 @@ lowers-expr-statement source s0 s1 s2 s3 e has_semi local place read left =
               (claims.0, tt),
             ));
       });
-      laid = λ child within plain layouts f evaluates.
+      laid = λ child within plain layouts f needs.
           let same : e.0 ≡ child = one-of e.0 child within in
-          place.laid (subst (IsPlainFrom source) (sym same) plain) (layouts-before source s1 s3 into layouts) f (subst (λ x. Evaluates source x f) (sym same) evaluates);
+          place.laid (subst (IsPlainFrom source) (sym same) plain) (layouts-before source s1 s3 into layouts) f (subst (λ x. NeedsLayout source x f) (sym same) needs);
+    }
+
+-- the tail of a block, where it has one
+pub lowers-tail : (source : Source) (s0 s1 : Shape) (t : ExprId) (c : Cell) → LowersInto source s0 s1 t.0 c → LowersTail source s0 s1 (Some t) c
+lowers-tail source s0 s1 t c into =
+    record {
+      keeps = subst (λ (m : List Cell). Keeps source s0 s1 m) (sym (tail_marks source t)) into.keeps;
+      does = into.does;
+      laid = λ e same laid. (let is : t ≡ e = cc in subst (λ (x : ExprId). IsLaidOut source (node_type source x.0) → LaysOut source s1 x.0) is into.laid laid);
+    }
+
+pub lowers-no-tail : (source : Source) (s : Shape) (c : Cell) → IsSound source s → IsOpen s → LowersTail source s s None c
+lowers-no-tail source s c sound opened =
+    record {
+      keeps = record { grows = grows-refl s; sound = sound; «open» = opened; scope = sym (ap (λ m. s.scope ++ m) (no_tail_marks source) ∙ append-nil s.scope) };
+      does = record { reaches = λ whole frame grows whole-sound is fuel store memory holds. (0, memory, omega arith, comes-refl frame (here s) memory, (holds, tt)) };
+      laid = λ e same. absurd cc;
     }
 
 -- the types of what a block evaluates
 lays-block : (source : Source) (s0 s1 s2 new : Shape) (e : ℕ) (statements : List Statement) (tail : Option ExprId) (c : Cell) → node source e ≡ Some (expr.Block statements tail) → LowersStatements source s0 s1 statements → LowersTail source s1 s2 tail c → Grows s1 new → Grows s2 new → IsLaidOut source (node_type source e) → LaysOut source new e
-lays-block source s0 s1 s2 new e statements tail c form first last grows1 grows2 laid plain layouts f itself = laid
-lays-block source s0 s1 s2 new e statements tail c form first last grows1 grows2 laid plain layouts f (part {child = child} within rest) =
+lays-block source s0 s1 s2 new e statements tail c form first last grows1 grows2 laid plain layouts f own = laid
+lays-block source s0 s1 s2 new e statements tail c form first last grows1 grows2 laid plain layouts f (inside {child = child} within rest) =
+    let evaluated = sized_part_is_part source (node source e) child within in
     ⊎_elim
-    (λ one. first.laid child one (plain-part source e child within plain) (layouts-before source s1 new grows1 layouts) f rest)
+    (λ one. first.laid child one (plain-part source e child evaluated plain) (layouts-before source s1 new grows1 layouts) f rest)
     (λ other. by-tail tail refl other)
-    (Contains-append_cases (flat_map statement_parts statements) (optional tail) child (subst (λ (parts : List ℕ). Contains parts child) (ap parts_of form) within)) where
-      tail-type : (t : ExprId) → tail ≡ Some t → (own : IsPlainNode source e) → HasPlainForm source e (Some (expr.Block statements tail)) own.ty → node_type source t.0 ≡ node_type source e
-      tail-type t is own fits = subst (λ (o : Option ExprId). IsPlainTail source o own.ty) is fits.1 ∙ sym own.has_type
+    (Contains-append_cases (flat_map statement_parts statements) (optional tail) child (subst (λ (parts : List ℕ). Contains parts child) (ap parts_of form ∙ block_parts statements tail) evaluated)) where
+      tail-type : (t : ExprId) → tail ≡ Some t → (whole : IsPlainNode source e) → HasPlainForm source e (Some (expr.Block statements tail)) whole.ty → node_type source t.0 ≡ node_type source e
+      tail-type t is whole fits = subst (λ (o : Option ExprId). IsPlainTail source o whole.ty) is fits.1 ∙ sym whole.has_type
 
       by-tail : (o : Option ExprId) → tail ≡ o → Contains (optional o) child → IsLaidOut source (node_type source f)
       by-tail None is holds = absurd (let below = holds.1 in omega arith)
       by-tail (Some t) is holds =
           let same : t.0 ≡ child = one-of t.0 child holds in
           last.laid t is (subst (IsLaidOut source) (sym (tail-type t is (plain e itself) (subst (λ n. HasPlainForm source e n (plain e itself).ty) form (plain e itself).form))) laid)
-          (subst (IsPlainFrom source) (sym same) (plain-part source e child within plain)) (layouts-before source s2 new grows2 layouts) f (subst (λ x. Evaluates source x f) (sym same) rest)
+          (subst (IsPlainFrom source) (sym same) (plain-part source e child (sized_part_is_part source (node source e) child within) plain)) (layouts-before source s2 new grows2 layouts) f (subst (λ x. NeedsLayout source x f) (sym same) rest)
 
 -- a block: its statements and its tail, in a scope of their own, which is then left
 pub lowers-block : (source : Source) (s0 s1 s2 s3 : Shape) (e : ℕ) (statements : List Statement) (tail : Option ExprId) (c : Cell) → IsReady source s0 e → node source e ≡ Some (expr.Block statements tail) → LowersStatements source (with_scope [] s0) s1 statements → LowersTail source s1 s2 tail c → Idles source (with_scope s0.scope s2) s3 (drops source s2.scope) → LowersInto source s0 s3 e c
 unfolding count_at
 lowers-block source s0 s1 s2 s3 e statements tail c ready form first last left =
-    let inner : s2.scope ≡ marked_in_block source statements tail = last.keeps.scope ∙ ap (λ scope. scope ++ marked_by_tail source tail) first.keeps.scope in
+    let inner : s2.scope ≡ marked_in_block source statements tail = last.keeps.scope ∙ ap (λ scope. scope ++ marked_by_tail source tail) first.keeps.scope ∙ sym (inner_marks source statements tail) in
     let into2 : Grows s2 s3 = grows-trans s2 (with_scope s0.scope s2) s3 (with_scope-grows s0.scope s2) left.grows in
     let into1 : Grows s1 s3 = grows-trans s1 s2 s3 last.keeps.grows into2 in
     record {
@@ -282,7 +271,7 @@ lowers-block source s0 s1 s2 s3 e statements tail c ready form first last left =
         grows = grows-trans s0 (with_scope [] s0) s3 (with_scope-grows [] s0) (grows-trans (with_scope [] s0) s1 s3 first.keeps.grows into1);
         sound = left.sound;
         «open» = left.«open»;
-        scope = left.scope ∙ sym (append-nil s0.scope) ∙ ap (λ m. s0.scope ++ m) (sym (marked_unrolls source ready.checked e ready.within ∙ ap (marked_by source (marked source)) form));
+        scope = left.scope ∙ sym (append-nil s0.scope) ∙ ap (λ m. s0.scope ++ m) (sym (block_marks source ready.checked e ready.within statements tail form));
       };
       does = does-form source s0 s3 e c (Some (expr.Block statements tail)) form (record {
         reaches = λ whole frame grows sound is fuel store memory holds.

@@ -1,30 +1,22 @@
 -- What is lowered is built: an expression by its own form and by its parts.
-use Rattle.std.proofs.Common.{◌≡◌, ℕ, ◌<◌, List, [], ◌∷◌, ◌++◌, length, get_or, Option, Some, None, Result, Ok, Err, refl, sym, ap, ◌∙◌, subst, arith}
-use Rattle.std.specs.Prelude.{All, Contains, OnOk, flat_map, is_some, option_map}
+use Rattle.std.proofs.Common.{◌≡◌, ℕ, List, [], ◌∷◌, Option, Some, Result, Ok, Err, sym, ap, ◌∙◌, subst}
+use Rattle.std.specs.Prelude.{All, OnOk, flat_map, option_map}
 use Rattle.std.proofs.lemmas.List.Elements.{All-nil, All-cons, All-append, All-contains, All-weaker, All-head, All-tail}
-use Rattle.std.proofs.lemmas.Option.{slice_get-get_or}
 use Rattle.mir.specs.declared.ids.LocalId.{LocalId}
-use Rattle.mir.specs.declared.operand.BinOp.{BinOp}
-use Rattle.mir.specs.declared.operand.UnOp.{UnOp}
-use Rattle.mir.specs.declared.operand.UnOp.TheVariants as one
-use Rattle.mir.specs.Run.{operator_of}
-use Rattle.source_meaning.specs.Core.{CoreExpr}
+use Rattle.source_meaning.specs.Built.{IsBinding, NamesBinding, IsBuiltStatement}
+use Rattle.source_meaning.specs.Core.{CoreExpr, CoreLiteral, Operation}
 use Rattle.source_meaning.specs.Core as expr
-use Rattle.source_meaning.specs.Meaning.{eager_operator}
-use Rattle.source_meaning.specs.Source.{Source, node}
-use Rattle.source_meaning.specs.Valid.{Evaluates, itself, part, operands_of, parts_of, statement_parts}
+use Rattle.source_meaning.specs.Source.{Source, Binding, node}
+use Rattle.source_meaning.specs.Steps.{parts_of, statement_parts}
+use Rattle.source_meaning.specs.Valid.{Evaluates, itself, part}
+use Rattle.source_meaning.proofs.Parts.{strict_parts, block_parts}
 use Rattle.types.specs.declared.ids.BindingId.{BindingId}
 use Rattle.types.specs.declared.ids.ExprId.{ExprId}
-use Rattle.types.specs.declared.operators.BinaryOp.{BinaryOp}
-use Rattle.types.specs.declared.ty.Ty.{Bool as BoolTy}
 use Rattle.world.specs.Nodes.{optional}
 use Rattle.world.specs.declared.body.Statement.{Statement}
-use Rattle.world.specs.declared.literal.Literal.{Literal}
-use Rattle.mir_lower.specs.Built.{IsBinding, IsBuiltLiteral, NamesBinding, IsBuiltStatement, IsBuiltNode, IsBuilt, IsBuiltThrough}
-use Rattle.mir_lower.specs.Form.{unary_of}
+use Rattle.mir_lower.specs.Built.{IsBuiltLiteral, IsBuiltNode, IsBuilt, IsBuiltThrough}
 use Rattle.mir_lower.specs.Graph.{Shape, binding_local}
 use Rattle.mir_lower.specs.Growth.{IsSound}
-use Rattle.mir_lower.proofs.Sound.{binding-there}
 
 -- a fact that holds of any answer
 pub on-ok : {T E : Type 0} (P : Type 0) (r : Result T E) → P → OnOk r P
@@ -35,13 +27,8 @@ on-ok P (Err e) p = tt
 pub has-binding : (source : Source) (s : Shape) (binding : BindingId) (found : Option LocalId) (local : LocalId) → IsSound source s →
     option_map (λ (l : LocalId). l.0) found ≡ binding_local s binding.0 → found ≡ Some local → IsBinding source binding
 has-binding source s binding found local sound told some =
-    let there = binding-there s binding.0 local.0 (sym told ∙ ap (option_map (λ (l : LocalId). l.0)) some) in
-    let below = there.0 in
-    let many = sound.bindings in
-    record {
-      ty = get_or source.infer.binding_types binding.0 BoolTy;
-      typed = slice_get-get_or source.infer.binding_types binding.0 BoolTy (omega arith);
-    }
+    let there = sound.allotted.typed (Binding binding.0) local.0 (sym told ∙ ap (option_map (λ (l : LocalId). l.0)) some) in
+    record { ty = there.0.ty; typed = there.2 }
 
 -- what is evaluated where an expression is: itself, and what is evaluated where its parts are
 by-reach : (source : Source) {e f : ℕ} → Evaluates source e f → IsBuiltNode source e (node source e) → All (IsBuilt source) (parts_of (node source e)) →
@@ -56,7 +43,7 @@ built-node source e form is own parts =
     let parts' = subst (λ (n : Option CoreExpr). All (IsBuilt source) (parts_of n)) (sym is) parts in
     record { each = λ f reached. by-reach source reached own' parts' }
 
-pub built-literal : (source : Source) (e : ℕ) (l : Literal) → node source e ≡ Some (expr.Literal l) → IsBuiltLiteral source e l → IsBuilt source e
+pub built-literal : (source : Source) (e : ℕ) (l : CoreLiteral) → node source e ≡ Some (expr.Literal l) → IsBuiltLiteral source e l → IsBuilt source e
 built-literal source e l is built = built-node source e (Some (expr.Literal l)) is built (All-nil (IsBuilt source))
 
 pub built-path : (source : Source) (e : ℕ) (name : List ℕ) → node source e ≡ Some (expr.Path name) → NamesBinding source e → IsBuilt source e
@@ -65,16 +52,12 @@ built-path source e name is named = built-node source e (Some (expr.Path name)) 
 pub one-built : (source : Source) (e : ℕ) → IsBuilt source e → All (IsBuilt source) (e ∷ [])
 one-built source e built = All-cons (IsBuilt source) e [] built (All-nil (IsBuilt source))
 
-pub built-unary : (source : Source) (e : ℕ) (op : UnOp) (operand : ExprId) → node source e ≡ Some (expr.UnaryOp operand (unary_of op)) → IsBuilt source operand.0 → IsBuilt source e
-built-unary source e one.Neg operand is built = built-node source e (Some (expr.UnaryOp operand (unary_of one.Neg))) is (λ same. cc) (one-built source operand.0 built)
-built-unary source e one.Not operand is built = built-node source e (Some (expr.UnaryOp operand (unary_of one.Not))) is (λ same. cc) (one-built source operand.0 built)
+pub built-strict : (source : Source) (e : ℕ) (operation : Operation) (operands : List ℕ) → node source e ≡ Some (expr.Strict operation operands) → All (IsBuilt source) operands → IsBuilt source e
+built-strict source e operation operands is built =
+    built-node source e (Some (expr.Strict operation operands)) is tt (subst (All (IsBuilt source)) (sym (strict_parts operation operands)) built)
 
-pub built-binary : (source : Source) (e : ℕ) (written : BinaryOp) (op : BinOp) (lhs rhs : ExprId) → node source e ≡ Some (expr.BinaryOp lhs rhs (Some written)) →
-    eager_operator written ≡ Some (operator_of op) → IsBuilt source lhs.0 → IsBuilt source rhs.0 → IsBuilt source e
-built-binary source e written op lhs rhs is eager left right =
-    let both = All-cons (IsBuilt source) lhs.0 (rhs.0 ∷ []) left (one-built source rhs.0 right) in
-    built-node source e (Some (expr.BinaryOp lhs rhs (Some written))) is (ap is_some eager)
-    (subst (λ o. All (IsBuilt source) (operands_of o lhs.0 rhs.0)) (sym eager) both)
+pub two-built : (source : Source) (lhs rhs : ℕ) → IsBuilt source lhs → IsBuilt source rhs → All (IsBuilt source) (lhs ∷ rhs ∷ [])
+two-built source lhs rhs left right = All-cons (IsBuilt source) lhs (rhs ∷ []) left (one-built source rhs right)
 
 -- the expressions that statements evaluate
 through-parts : (source : Source) (statements : List Statement) → All (IsBuiltThrough source) statements → All (IsBuilt source) (flat_map statement_parts statements)
@@ -88,4 +71,5 @@ pub built-block : (source : Source) (e : ℕ) (statements : List Statement) (tai
 built-block source e statements tail is through last =
     built-node source e (Some (expr.Block statements tail)) is
     (All-weaker (IsBuiltThrough source) (IsBuiltStatement source) (λ one built. built.own) statements through)
-    (All-append (IsBuilt source) (flat_map statement_parts statements) (optional tail) (through-parts source statements through) last)
+    (subst (All (IsBuilt source)) (sym (block_parts statements tail))
+    (All-append (IsBuilt source) (flat_map statement_parts statements) (optional tail) (through-parts source statements through) last))

@@ -10,10 +10,9 @@ use Rattle.mir.specs.declared.statement.StatementKind.TheVariants.{Assign}
 use Rattle.mir.specs.Memory.{Interval, Memory, bytes_at, with_bytes}
 use Rattle.mir.specs.Run.{Frame, after_statement, copied, rvalue_bytes, bad_write}
 use Rattle.source_meaning.specs.Source.{Source, Cell, Result as Slot, Node, Binding, Store, same_cell, with_cell_bytes}
-use Rattle.mir_lower.specs.Does.{local_of, local_bytes, IsFrameOf, Holds}
-use Rattle.mir_lower.specs.Graph.{Shape}
+use Rattle.mir_lower.specs.Does.{local_bytes, IsFrameOf, Holds}
+use Rattle.mir_lower.specs.Graph.{Shape, local_of}
 use Rattle.mir_lower.specs.Growth.{IsSound}
-use Rattle.mir_lower.proofs.Sound.{binding-there}
 use Rattle.mir_lower.proofs.Stack.{length-bytes_at, can_write, read-written, read-apart}
 
 -- one cell or two, and where it is one, `same_cell` says so
@@ -39,18 +38,6 @@ cells (Node e) (Node f) =
 cells (Binding b) (Binding c) =
     ⊎_elim (λ same. inl (ap Binding same, ap (λ d. same_cell (Binding b) (Binding d)) (sym same) ∙ same_cell-refl (Binding b)))
     (λ differ. inr ((λ same. differ (let parts : b ≡ c = cc in parts)), unequal b c differ)) (cases_eq b c)
-
--- no two cells share a local
-local_of-own : (source : Source) (s : Shape) → IsSound source s → (c d : Cell) (l : ℕ) → local_of s c ≡ Some l → local_of s d ≡ Some l → c ≡ d
-local_of-own source s sound Slot Slot l h k = refl
-local_of-own source s sound Slot (Node f) l h k = let above = sound.above f l k in let zeroth : 0 ≡ l = cc in absurd (omega arith)
-local_of-own source s sound Slot (Binding b) l h k = let at = (binding-there s b l k).1 in let zeroth : 0 ≡ l = cc in absurd (omega arith)
-local_of-own source s sound (Node e) Slot l h k = let above = sound.above e l h in let zeroth : 0 ≡ l = cc in absurd (omega arith)
-local_of-own source s sound (Node e) (Node f) l h k = ap Node (sound.own e f l h k)
-local_of-own source s sound (Node e) (Binding b) l h k = let above = sound.above e l h in let at = binding-there s b l k in let less = at.0 in let is = at.1 in absurd (omega arith)
-local_of-own source s sound (Binding b) Slot l h k = let at = (binding-there s b l h).1 in let zeroth : 0 ≡ l = cc in absurd (omega arith)
-local_of-own source s sound (Binding b) (Node f) l h k = let above = sound.above f l k in let at = binding-there s b l h in let less = at.0 in let is = at.1 in absurd (omega arith)
-local_of-own source s sound (Binding b) (Binding c) l h k = ap Binding (let one = (binding-there s b l h).1 in let two = (binding-there s c l k).1 in let same : b ≡ c = omega arith in same)
 
 -- the interval of a local whose bytes are known
 pub interval-of : (frame : Frame) (memory : Memory) (l : ℕ) (bytes : List ℕ) → local_bytes frame memory l ≡ Some bytes → (cell : Interval) × (slice_get frame.cells l ≡ Some cell) × (bytes_at memory cell ≡ Some bytes)
@@ -88,7 +75,7 @@ assigns source s frame sound is store memory holds c place rvalue bytes local co
             ∙ local_bytes-at frame can.0 place.local.0 at.0 at.1
             ∙ read-written memory can.0 at.0 bytes can.1 size
             ∙ ap (λ b. Some (cond b bytes (store d))) (sym one.1))
-            (λ two. others-stay s frame is memory can.0 place.local.0 k at.0 bytes (store d) (λ same. two.0 (local_of-own source s sound c d place.local.0 local (h ∙ ap Some (sym same)))) at.1 can.1 size (holds.shows d k h)
+            (λ two. others-stay s frame is memory can.0 place.local.0 k at.0 bytes (store d) (λ same. two.0 (sound.allotted.own c d place.local.0 local (h ∙ ap Some (sym same)))) at.1 can.1 size (holds.shows d k h)
             ∙ ap (λ b. Some (cond b bytes (store d))) (sym two.1))
             (cells c d);
       },

@@ -9,15 +9,14 @@ use Rattle.mir.specs.declared.statement.StatementKind.TheVariants.{StorageLive}
 use Rattle.mir.specs.Memory.{Memory}
 use Rattle.mir.specs.Run.{Frame, after_statement}
 use Rattle.source_meaning.specs.Source.{Source, Cell, Node, node_type, binding_type}
-use Rattle.mir_lower.specs.Does.{Point, here, local_of, Comes}
-use Rattle.mir_lower.specs.Graph.{Shape, binding_local, with_statement, with_temp, with_mark, temp_of}
+use Rattle.mir_lower.specs.Does.{Point, here, Comes}
+use Rattle.mir_lower.specs.Graph.{Shape, binding_local, with_statement, with_temp, with_mark, temp_of, local_of}
 use Rattle.mir_lower.specs.Growth.{count_at, Grows, IsSound, IsOpen, IsReady}
 use Rattle.mir_lower.specs.Lowered.{IsGiven}
 use Rattle.mir_lower.proofs.Growing.{grows-trans, with_statement-grows, with_scope-grows, with_temp-grows, temp_of-with_temp_same}
 use Rattle.mir_lower.proofs.Leaving.{here-scope}
-use Rattle.mir_lower.proofs.Lists.{slice_get_below}
 use Rattle.mir_lower.proofs.Running.{comes-statement}
-use Rattle.mir_lower.proofs.Sound.{with_statement-sound, with_statement-open, with_statement-scope, with_temp-sound, with_temp-open, with_temp-scope, with_scope-sound, with_scope-open, binding-missing}
+use Rattle.mir_lower.proofs.Sound.{with_statement-sound, with_statement-open, with_statement-scope, with_temp-sound, with_temp-open, with_temp-scope, with_scope-sound, with_scope-open}
 use Rattle.mir_lower.proofs.Steps.{local_of-grows}
 
 -- a cell was marked in the open scope, and nothing else was done
@@ -91,13 +90,12 @@ given-marked source s0 s1 s2 c local span marked same =
           (comes-statement live s1 whole frame memory marked.«open» grows is memory (live-does-nothing frame memory local));
     })
 
--- where a binding has no local, the body has no such binding
+-- where a binding has no local, the body has no such binding, or a closure owns it
 pub lacks-binding : (source : Source) (s : Shape) (b : ℕ) (found : Option LocalId) → IsSound source s → option_map (λ (l : LocalId). l.0) found ≡ binding_local s b → found ≡ None → binding_type source b ≡ None
 lacks-binding source s b found sound told none = by-type (binding_type source b) refl where
   by-type : (ty : Option Ty) → binding_type source b ≡ ty → binding_type source b ≡ None
   by-type None is = is
   by-type (Some ty) is =
-      let missing = binding-missing s b (sym told ∙ ap (option_map (λ (l : LocalId). l.0)) none) in
-      let below = slice_get_below source.infer.binding_types b ty is in
-      let many = sound.bindings in
-      absurd (omega arith)
+      let missing : binding_local s b ≡ None = sym told ∙ ap (option_map (λ (l : LocalId). l.0)) none in
+      let there = (sound.bound b ty is).1 in
+      absurd cc

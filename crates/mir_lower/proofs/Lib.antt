@@ -1,7 +1,11 @@
 pub mod Aligned
+pub mod Beginning
 pub mod Blocks
 pub mod Building
+pub mod Causes
+pub mod Copies
 pub mod Drops
+pub mod Forms
 pub mod Growing
 pub mod Holding
 pub mod InUse
@@ -18,4 +22,5 @@ pub mod Running
 pub mod Sound
 pub mod Stack
 pub mod Steps
+pub mod Strict
 pub mod Whole

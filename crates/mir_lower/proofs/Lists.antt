@@ -1,5 +1,5 @@
 -- An element of a list by its place, after the list grew or was written.
-use Rattle.std.proofs.Common.{◌≡◌, ◌≢◌, ℕ, zero, suc, ◌<◌, List, [], ◌∷◌, ◌++◌, length, map, Some, refl, ap, arith, drop}
+use Rattle.std.proofs.Common.{◌≡◌, ◌≢◌, ℕ, zero, suc, ◌<◌, ◌⊎◌, ⊎_elim, inl, inr, List, [], ◌∷◌, ◌++◌, length, Some, refl, ap, ◌∙◌, arith, drop}
 use Rattle.std.specs.Prelude.{slice_get, slice_set}
 
 pub slice_get-front : {A : Type 0} (xs ys : List A) (i : ℕ) (x : A) → slice_get xs i ≡ Some x → slice_get (xs ++ ys) i ≡ Some x
@@ -39,13 +39,19 @@ drop-at [] i x found = cc
 drop-at (y ∷ xs) zero x found = let same : y ≡ x = cc in ap (λ z. z ∷ xs) same
 drop-at (y ∷ xs) (suc i) x found = drop-at xs i x found
 
--- an element of a list made from another, and where it comes from
-pub slice_get-map : {A B : Type 0} (f : A → B) (xs : List A) (i : ℕ) (x : A) → slice_get xs i ≡ Some x → slice_get (map f xs) i ≡ Some (f x)
-slice_get-map f [] i x found = cc
-slice_get-map f (y ∷ xs) zero x found = let same : y ≡ x = cc in ap (λ z. Some (f z)) same
-slice_get-map f (y ∷ xs) (suc i) x found = slice_get-map f xs i x found
+-- a list that has another's elements at their places begins with it
+pub front-of : {A : Type 0} (xs ys : List A) → ((i : ℕ) (x : A) → slice_get xs i ≡ Some x → slice_get ys i ≡ Some x) → (rest : List A) × (ys ≡ xs ++ rest)
+front-of [] ys has = (ys, refl)
+front-of (x ∷ xs) [] has = (let none = has 0 x refl in cc)
+front-of (x ∷ xs) (y ∷ ys) has =
+    let first = has 0 x refl in
+    let same : y ≡ x = cc in
+    let rest = front-of xs ys (λ i z found. has (suc i) z found) in
+    (rest.0, ap (λ z. z ∷ ys) same ∙ ap (λ zs. x ∷ zs) rest.1)
 
-pub slice_get-unmap : {A B : Type 0} (f : A → B) (xs : List A) (i : ℕ) (y : B) → slice_get (map f xs) i ≡ Some y → (x : A) × (slice_get xs i ≡ Some x) × (f x ≡ y)
-slice_get-unmap f [] i y found = cc
-slice_get-unmap f (x ∷ xs) zero y found = (x, refl, (let same : f x ≡ y = cc in same))
-slice_get-unmap f (x ∷ xs) (suc i) y found = slice_get-unmap f xs i y found
+-- an element of a list with one more is the last one, or one of the others
+pub slice_get-more : {A : Type 0} (xs : List A) (x y : A) (i : ℕ) → slice_get (xs ++ x ∷ []) i ≡ Some y → ((i ≡ length xs) × (x ≡ y)) ⊎ (slice_get xs i ≡ Some y)
+slice_get-more [] x y zero found = inl (refl, (let same : x ≡ y = cc in same))
+slice_get-more [] x y (suc i) found = cc
+slice_get-more (z ∷ xs) x y zero found = inr found
+slice_get-more (z ∷ xs) x y (suc i) found = ⊎_elim (λ is. inl (ap suc is.0, is.1)) (λ is. inr is) (slice_get-more xs x y i found)

@@ -1,9 +1,8 @@
 -- Literals, paths, and other expressions as operands and as places.
-use Rattle.std.proofs.Common.{◌≡◌, ℕ, zero, suc, false, cond, List, [], ◌∷◌, ◌++◌, Option, Some, None, refl, sym, ap, ◌∙◌, subst, arith, append_assoc, append-nil}
+use Rattle.std.proofs.Common.{◌≡◌, ℕ, zero, suc, false, List, [], ◌∷◌, ◌++◌, Option, Some, None, refl, sym, ap, ◌∙◌, subst, arith, append_assoc, append-nil}
 use Rattle.std.specs.Prelude.{slice_get, option_map}
-use Rattle.source_meaning.specs.Core.{CoreExpr}
+use Rattle.source_meaning.specs.Core.{CoreExpr, CoreLiteral, is_literal, is_path}
 use Rattle.source_meaning.specs.Core as expr
-use Rattle.world.specs.declared.literal.Literal.{Literal}
 use Rattle.world.specs.declared.infer.ValueNs.{ValueNs}
 use Rattle.mir.specs.declared.operand.OperandKind.{OperandKind}
 use Rattle.mir.specs.declared.operand.OperandKind.TheVariants.{Copy}
@@ -11,21 +10,22 @@ use Rattle.mir.specs.declared.operand.Place.{Place}
 use Rattle.mir.specs.Memory.{Memory}
 use Rattle.mir.specs.Run.{Frame, operand_bytes as mir_bytes, operand_type as mir_type}
 use Rattle.source_meaning.specs.Ends.{no_cost, Go, Stuck, then_do}
-use Rattle.source_meaning.specs.Meaning.{level_at, literal_operand, named_place, operand_of, place_of}
-use Rattle.source_meaning.specs.Source.{Source, node, Cell, Node, Binding, Path, Store, Literally, At, is_literal, is_path, marked, marked_as_place, marked_as_operand}
-use Rattle.mir_lower.specs.Does.{here, local_of, local_bytes, IsFrameOf, Holds, Comes, Reaches, LeadsTo, Fits, Does, DoesPlace}
-use Rattle.mir_lower.specs.Graph.{Shape}
+use Rattle.source_meaning.specs.Events.{marked, marked_as_operand}
+use Rattle.source_meaning.specs.Meaning.{constant_cost, level_at, literal_operand, named_place, operand_of, place_of}
+use Rattle.source_meaning.specs.Source.{Source, node, Cell, Node, Binding, Path, Store, Literally, At}
+use Rattle.source_meaning.proofs.Marks.{literal_operand_marks, operand_marks, place_marks, path_marks}
+use Rattle.mir_lower.specs.Does.{here, local_bytes, IsFrameOf, Holds, Comes, Reaches, LeadsTo, Fits, Does, DoesPlace}
+use Rattle.mir_lower.specs.Graph.{Shape, local_of}
 use Rattle.mir_lower.specs.Growth.{Grows, IsSound, IsOpen}
 use Rattle.mir_lower.specs.Literals.{IsLiteral}
 use Rattle.mir_lower.specs.Lowered.{IsGiven, IsNamed, LowersInto, LowersPlace, LowersOperand}
 use Rattle.mir_lower.proofs.Growing.{grows-refl, grows-trans}
 use Rattle.mir_lower.proofs.Laid.{lays-literal, lays-name, lays-temp}
 use Rattle.mir_lower.proofs.Reaching.{comes-refl, reaches-then}
-use Rattle.mir_lower.proofs.Sound.{local-there}
 use Rattle.mir_lower.proofs.Steps.{local_of-grows, reaches-from}
 
 -- a literal's operand
-pub literal-fits : (source : Source) (whole : Shape) (frame : Frame) (e : ℕ) (literal : Literal) (operand : OperandKind) (is : IsLiteral source e literal operand) → Fits source operand whole frame (Literally is.is_constant.ty is.bytes)
+pub literal-fits : (source : Source) (whole : Shape) (frame : Frame) (e : ℕ) (literal : CoreLiteral) (operand : OperandKind) (is : IsLiteral source e literal operand) → Fits source operand whole frame (Literally is.is_constant.ty is.bytes)
 unfolding mir_bytes mir_type
 literal-fits source whole frame e literal operand is =
     record {
@@ -34,24 +34,24 @@ literal-fits source whole frame e literal operand is =
     }
 
 -- what a literal means as an operand
-literal-means : (source : Source) (e : ℕ) (literal : Literal) (operand : OperandKind) (store : Store) (is : IsLiteral source e literal operand) (given : Option (List ℕ)) → given ≡ Some is.bytes → literal_operand source e store given ≡ Go (Literally is.is_constant.ty is.bytes) store no_cost
+literal-means : (source : Source) (e : ℕ) (literal : CoreLiteral) (operand : OperandKind) (store : Store) (is : IsLiteral source e literal operand) (given : Option (List ℕ)) → given ≡ Some is.bytes → literal_operand source e store given ≡ Go (Literally is.is_constant.ty is.bytes) store (constant_cost source e)
 literal-means source e literal operand store is given same =
-    ap (literal_operand source e store) same ∙ ap (λ (t : Option _). elim t [ Some ty ↦ Go (Literally ty is.bytes) store no_cost | None ↦ Stuck ]) is.is_constant.typed
+    ap (literal_operand source e store) same ∙ ap (λ (t : Option _). elim t [ Some ty ↦ Go (Literally ty is.bytes) store (constant_cost source e) | None ↦ Stuck ]) is.is_constant.typed
 
-literal-operand : (source : Source) (whole : Shape) (frame : Frame) (s : Shape) (e : ℕ) (literal : Literal) (operand : OperandKind) → node source e ≡ Some (expr.Literal literal) → IsLiteral source e literal operand → (fuel : ℕ) (store : Store) (memory : Memory) → Holds whole frame store memory → Reaches frame (here s) (here s) memory (λ value after later. Holds whole frame after later × Fits source operand whole frame value) ((level_at source fuel).operand e store)
+literal-operand : (source : Source) (whole : Shape) (frame : Frame) (s : Shape) (e : ℕ) (literal : CoreLiteral) (operand : OperandKind) → node source e ≡ Some (expr.Literal literal) → IsLiteral source e literal operand → (fuel : ℕ) (store : Store) (memory : Memory) → Holds whole frame store memory → Reaches frame (here s) (here s) memory (λ value after later. Holds whole frame after later × Fits source operand whole frame value) ((level_at source fuel).operand e store)
 unfolding level_at
 literal-operand source whole frame s e literal operand form is zero store memory holds = tt
 literal-operand source whole frame s e literal operand form is (suc fuel) store memory holds =
-    let gives : operand_of source (level_at source fuel) e (node source e) store ≡ Go (Literally is.is_constant.ty is.bytes) store no_cost =
+    let gives : operand_of source (level_at source fuel) e (node source e) store ≡ Go (Literally is.is_constant.ty is.bytes) store (constant_cost source e) =
     ap (λ f. operand_of source (level_at source fuel) e f store) form ∙ literal-means source e literal operand store is _ is.told in
     subst (Reaches frame (here s) (here s) memory (λ value after later. Holds whole frame after later × Fits source operand whole frame value)) (sym gives)
     (0, memory, omega arith, comes-refl frame (here s) memory, (holds, literal-fits source whole frame e literal operand is))
 
-literal-marks : (source : Source) (e : ℕ) (literal : Literal) → node source e ≡ Some (expr.Literal literal) → marked_as_operand source (marked source) e ≡ []
-literal-marks source e literal form = ap (λ f. cond (is_literal f) [] (marked_as_place source (marked source) e)) form
+literal-marks : (source : Source) (e : ℕ) (literal : CoreLiteral) → node source e ≡ Some (expr.Literal literal) → marked_as_operand source e ≡ []
+literal-marks source e literal form = literal_operand_marks source e (ap is_literal form)
 
 -- a literal is an operand as it stands
-pub lowers-literal-operand : (source : Source) (s : Shape) (e : ℕ) (literal : Literal) (operand : OperandKind) → IsSound source s → IsOpen s → node source e ≡ Some (expr.Literal literal) → IsLiteral source e literal operand → LowersOperand source s s e operand
+pub lowers-literal-operand : (source : Source) (s : Shape) (e : ℕ) (literal : CoreLiteral) (operand : OperandKind) → IsSound source s → IsOpen s → node source e ≡ Some (expr.Literal literal) → IsLiteral source e literal operand → LowersOperand source s s e operand
 lowers-literal-operand source s e literal operand sound opened form is =
     record {
       keeps = record {
@@ -71,7 +71,7 @@ place-fits source whole frame c place sound is found =
     record {
       bytes = λ store memory holds. holds.shows c place.local.0 found;
       ty =
-          let there = local-there source whole sound c place.local.0 found in
+          let there = sound.allotted.typed c place.local.0 found in
           ap (λ locals. option_map (λ l. l.ty) (slice_get locals place.local.0)) is.locals
           ∙ ap (option_map (λ l. l.ty)) there.1
           ∙ sym there.2;
@@ -107,7 +107,7 @@ lowers-place-operand source old new e place lowers form =
         grows = lowers.keeps.grows;
         sound = lowers.keeps.sound;
         «open» = lowers.keeps.«open»;
-        scope = lowers.keeps.scope ∙ ap (λ b. old.scope ++ cond b [] (marked_as_place source (marked source) e)) (sym form);
+        scope = lowers.keeps.scope ∙ ap (λ m. old.scope ++ m) (sym (operand_marks source e form));
       };
       does = record { reaches = λ whole frame grows sound is fuel store memory holds. place-operand source old new whole frame e place sound is grows lowers.does form fuel store memory holds };
       laid = λ truth. lowers.laid;
@@ -138,7 +138,7 @@ lowers-temp source s0 s1 s2 e local form given into =
         «open» = into.keeps.«open»;
         scope =
             into.keeps.scope ∙ ap (λ scope. scope ++ marked source e) given.keeps.scope ∙ append_assoc s0.scope (Node e ∷ []) (marked source e)
-            ∙ ap (λ b. s0.scope ++ cond b [] (Node e ∷ marked source e)) (sym form);
+            ∙ ap (λ m. s0.scope ++ m) (sym (place_marks source e form));
       };
       does = record {
         cell = Node e;
@@ -169,7 +169,7 @@ lowers-name source s e local name sound opened form named =
         grows = grows-refl s;
         sound = sound;
         «open» = opened;
-        scope = sym (ap (λ f. s.scope ++ cond (is_path f) [] (Node e ∷ marked source e)) form ∙ append-nil s.scope);
+        scope = sym (ap (λ m. s.scope ++ m) (path_marks source e (ap is_path form)) ∙ append-nil s.scope);
       };
       does = record {
         cell = Binding named.binding.0;

@@ -1,13 +1,12 @@
 -- Reaching a point through another.
 use Rattle.std.proofs.Common.{◌≡◌, ℕ, ◌+◌, ◌-◌, ◌<◌, ◌≤◌, ⊎_elim, ap, ◌∙◌, arith}
 use Rattle.std.proofs.lemmas.Bool.{cases_lt}
-use Rattle.mir.specs.declared.errors.MirEvalError as error
 use Rattle.mir.specs.Memory.{Memory}
 use Rattle.mir.specs.Run.{Frame, Ending, Faulted, Ended, out_of_blocks}
-use Rattle.source_meaning.specs.Ends.{Cost, End, Go, Panic, Stuck, More, after, then_do}
+use Rattle.source_meaning.specs.Ends.{Cost, End, Go, Jumps, Faults, Stuck, More, plus, after, then_do}
 use Rattle.source_meaning.specs.Source.{Store}
 use Rattle.mir_lower.specs.Does.{Point, run_from, Comes, Reaches}
-use Rattle.mir_lower.specs.Simulates.{EndsWithin}
+use Rattle.mir_lower.specs.Simulates.{EndsWithin, error_of}
 
 pub comes-refl : (frame : Frame) (at : Point) (memory : Memory) → Comes frame 0 at memory at memory
 comes-refl frame at memory =
@@ -47,12 +46,13 @@ ends-after frame first from at memory middle comes most most' ending bound next 
 
 -- what an end does from a point on, after the run came to that point
 pub reaches-after : {A : Type 0} (frame : Frame) (first : ℕ) (from at to : Point) (memory middle : Memory) (claim : A → Store → Memory → Type 0) (cost : Cost) → first ≤ cost.turns → Comes frame first from memory at middle → (end : End A) → Reaches frame at to middle claim end → Reaches frame from to memory claim (after cost end)
-unfolding after
+unfolding after plus
 reaches-after frame first from at to memory middle claim cost bound comes (Go value store then) does =
     let b = does.2 in
     (first + does.0, does.1, omega arith, comes-trans frame first does.0 from at memory middle comes to does.1 does.3, does.4)
-reaches-after frame first from at to memory middle claim cost bound comes (Panic word then) does =
-    ends-after frame first from at memory middle comes cost.turns then.turns (Faulted (error.Panic word)) bound does
+reaches-after frame first from at to memory middle claim cost bound comes (Jumps jump store then) does = tt
+reaches-after frame first from at to memory middle claim cost bound comes (Faults fault then) does =
+    ends-after frame first from at memory middle comes cost.turns then.turns (Faulted (error_of fault)) bound does
 reaches-after frame first from at to memory middle claim cost bound comes Stuck does = tt
 reaches-after frame first from at to memory middle claim cost bound comes (More then) does = tt
 
@@ -61,6 +61,7 @@ pub reaches-then : {A B : Type 0} (frame : Frame) (from at to : Point) (memory :
 unfolding then_do
 reaches-then frame from at to memory first claim (Go value store cost) next does rest =
     reaches-after frame does.0 from at to memory does.1 claim cost does.2 does.3 (next value store) (rest value store does.1 does.4)
-reaches-then frame from at to memory first claim (Panic word cost) next does rest = does
+reaches-then frame from at to memory first claim (Jumps jump store cost) next does rest = tt
+reaches-then frame from at to memory first claim (Faults fault cost) next does rest = does
 reaches-then frame from at to memory first claim Stuck next does rest = tt
 reaches-then frame from at to memory first claim (More cost) next does rest = tt

@@ -2,25 +2,25 @@
 use Rattle.std.proofs.Common.{◌≡◌, ℕ, ◌<◌, false, Contains, Option, Some, None, Result, refl, sym, ap, ◌∙◌, subst, ⊎_elim, ◌⊎◌, arith}
 use Rattle.std.specs.Prelude.{codes, IfErr, IsErrAnd}
 use Rattle.std.proofs.lemmas.Result.{err_from_is_err_and}
-use Rattle.source_meaning.specs.Core.{CoreExpr}
-use Rattle.source_meaning.specs.Core as expr
+use Rattle.source_meaning.specs.Core.{is_literal, is_path}
 use Rattle.world.specs.declared.body.Statement.{Statement}
 use Rattle.world.specs.declared.body.Statement.TheVariants as statement
 use Rattle.types.specs.declared.ids.ExprId.{ExprId}
 use Rattle.types.specs.declared.ids.PatId.{PatId}
 use Rattle.mir.specs.declared.errors.MirLowerError.{MirLowerError}
 use Rattle.mir.specs.declared.errors.MirLowerError.TheVariants as refusal
-use Rattle.source_meaning.specs.Source.{Source, node, is_literal, is_path}
-use Rattle.source_meaning.specs.Valid.{itself, part, parts_of, statement_parts}
+use Rattle.source_meaning.specs.Source.{Source, node}
+use Rattle.source_meaning.specs.Steps.{parts_of, statement_parts}
+use Rattle.source_meaning.specs.Valid.{itself, part}
+use Rattle.source_meaning.proofs.Core.{part_is_below}
 use Rattle.source_meaning.proofs.Depth.{evaluates_then, statement_part_is_part}
-use Rattle.source_meaning.proofs.Fuel.{part_is_below}
 use Rattle.mir_lower.specs.declared.form.Form.{Form}
 use Rattle.mir_lower.specs.declared.form.Form.TheVariants as form
-use Rattle.mir_lower.specs.Form.{HasForm}
+use Rattle.mir_lower.specs.Form.{core_form, HasForm}
 use Rattle.mir_lower.specs.Graph.{Shape}
 use Rattle.mir_lower.specs.Growth.{IsSound, IsOpen, IsReady}
 use Rattle.mir_lower.specs.Lowered.{IsStatementOf}
-use Rattle.mir_lower.specs.Refusals.{IsUnbuiltForm, IsUnbuiltStatement, IsUnbuilt, LacksLocal, RefusesNode, RefusesPattern, RefusesAt}
+use Rattle.mir_lower.specs.Refusals.{IsUnbuiltStatement, IsUnbuilt, LacksLocal, RefusesNode, RefusesPattern, RefusesAt}
 
 pub refuses-here : (source : Source) (e : ℕ) (error : MirLowerError) → RefusesNode source e error → RefusesAt source e error
 refuses-here source e error h = (e, itself, h)
@@ -36,16 +36,8 @@ pub refuses-unbuilt : (source : Source) (e : ℕ) (error : MirLowerError) → Is
 refuses-unbuilt source e error unbuilt cases =
     ⊎_elim (λ text. refuses-here source e error (subst (RefusesNode source e) (sym text) (refl, unbuilt))) (refuses-no-memory source e error) cases
 
-unbuilt-by-form : (source : Source) (e : ℕ) (n : Option CoreExpr) → IsUnbuiltForm n → IsUnbuilt source e n
-unbuilt-by-form source e (Some (expr.Block statements tail)) unbuilt = absurd unbuilt
-unbuilt-by-form source e (Some (expr.Literal l)) unbuilt = absurd unbuilt
-unbuilt-by-form source e (Some (expr.Path name)) unbuilt = absurd unbuilt
-unbuilt-by-form source e (Some (expr.UnaryOp operand op)) unbuilt = unbuilt
-unbuilt-by-form source e (Some (expr.BinaryOp lhs rhs op)) unbuilt = unbuilt
-unbuilt-by-form source e None unbuilt = unbuilt
-
-pub refuses-unbuilt-form : (source : Source) (e : ℕ) (error : MirLowerError) → IsUnbuiltForm (node source e) → (error ≡ refusal.NotSupported (codes "form not built")) ⊎ (error ≡ refusal.NoMemory) → RefusesAt source e error
-refuses-unbuilt-form source e error unbuilt cases = refuses-unbuilt source e error (unbuilt-by-form source e (node source e) unbuilt) cases
+pub refuses-unbuilt-form : (source : Source) (e : ℕ) (error : MirLowerError) → HasForm source e form.Unbuilt → (error ≡ refusal.NotSupported (codes "form not built")) ⊎ (error ≡ refusal.NoMemory) → RefusesAt source e error
+refuses-unbuilt-form source e error has cases = refuses-unbuilt source e error (subst (IsUnbuilt source e) (sym has.core) has.cause) cases
 
 -- the refusal of a statement that isn't built
 pub refuses-statement : (source : Source) (e : ℕ) (error : MirLowerError) (st : Statement) → IsStatementOf source e st → IsUnbuiltStatement source st → (error ≡ refusal.NotSupported (codes "form not built")) ⊎ (error ≡ refusal.NoMemory) → RefusesAt source e error
@@ -89,23 +81,19 @@ refused-exit P Q r returned carries =
     subst (λ (s : Result _ MirLowerError). IfErr s P) (sym p.1) (carries p.0 p.2)
 
 -- a form that is no literal's, and one that is no path's
-pub no-literal : (there : Option CoreExpr) (f : Form) → HasForm there f → ((l : _) → f ≡ form.Literal l → ⊥) → is_literal there ≡ false
-no-literal there (form.Literal l) has differ = absurd (differ l refl)
-no-literal there (form.Path name) has differ = ap is_literal has
-no-literal there (form.Unary op e) has differ = ap is_literal has
-no-literal there (form.Binary op lhs rhs) has differ = ap is_literal has.1
-no-literal there (form.Block statements tail) has differ = ap is_literal has
-no-literal there form.NoOperator has differ = has.1.0
-no-literal there form.Unbuilt has differ = has.1.0
+no-literal-form : (f : Form) → ((l : _) → f ≡ form.Literal l → ⊥) → is_literal (core_form f) ≡ false
+no-literal-form (form.Literal l) differ = absurd (differ l refl)
+no-literal-form _ differ = refl
 
-pub no-path : (there : Option CoreExpr) (f : Form) → HasForm there f → ((name : _) → f ≡ form.Path name → ⊥) → is_path there ≡ false
-no-path there (form.Literal l) has differ = ap is_path has
-no-path there (form.Path name) has differ = absurd (differ name refl)
-no-path there (form.Unary op e) has differ = ap is_path has
-no-path there (form.Binary op lhs rhs) has differ = ap is_path has.1
-no-path there (form.Block statements tail) has differ = ap is_path has
-no-path there form.NoOperator has differ = has.1.1
-no-path there form.Unbuilt has differ = has.1.1
+pub no-literal : (source : Source) (e : ℕ) (f : Form) → HasForm source e f → ((l : _) → f ≡ form.Literal l → ⊥) → is_literal (node source e) ≡ false
+no-literal source e f has differ = ap is_literal has.core ∙ no-literal-form f differ
+
+no-path-form : (f : Form) → ((name : _) → f ≡ form.Path name → ⊥) → is_path (core_form f) ≡ false
+no-path-form (form.Path name) differ = absurd (differ name refl)
+no-path-form _ differ = refl
+
+pub no-path : (source : Source) (e : ℕ) (f : Form) → HasForm source e f → ((name : _) → f ≡ form.Path name → ⊥) → is_path (node source e) ≡ false
+no-path source e f has differ = ap is_path has.core ∙ no-path-form f differ
 
 -- a part has a lower number
 pub part-below : (source : Source) {s : Shape} (e child : ℕ) → IsReady source s e → Contains (parts_of (node source e)) child → child < e

@@ -1,7 +1,6 @@
 -- Each step of the builder keeps a graph sound and open.
-use Rattle.std.proofs.lemmas.Bool.{lt-ltb}
-use Rattle.std.proofs.Common.{T, ltb→lt, Bool, true, false, None, suc, ◌≤◌, nat_lt, if◌then◌else◌, ◌≡◌, ◌≢◌, ℕ, ◌+◌, ◌<◌, ◌⊎◌, ⊎_elim, inl, inr, List, [], ◌∷◌, ◌++◌, length, Option, Some, refl, sym, ap, ◌∙◌, subst, arith, length-append}
-use Rattle.std.specs.Prelude.{slice_get, option_map, option_and_then}
+use Rattle.std.proofs.Common.{◌≡◌, ◌≢◌, ℕ, ◌+◌, ◌<◌, ◌⊎◌, ⊎_elim, inl, inr, List, [], ◌∷◌, ◌++◌, length, Option, Some, refl, sym, ap, ◌∙◌, subst, arith, length-append}
+use Rattle.std.specs.Prelude.{slice_get, option_and_then}
 use Rattle.std.proofs.Math.ListN.{length-set}
 use Rattle.std.proofs.lemmas.Bool.{cases_eq, cases_lt}
 use Rattle.types.specs.declared.ty.Ty.{Ty}
@@ -9,31 +8,69 @@ use Rattle.mir.specs.declared.body.Local.{Local}
 use Rattle.mir.specs.declared.body.Terminator.{Terminator}
 use Rattle.mir.specs.declared.ids.LocalId.{LocalId}
 use Rattle.mir.specs.declared.statement.Statement.{Statement}
-use Rattle.source_meaning.specs.Source.{Source, Cell, Result, Node, Binding, cell_type, node_type, root}
+use Rattle.source_meaning.specs.Source.{Source, Cell, Result, Node, Binding, binding_type, cell_type, node_type, root}
 use Rattle.source_meaning.specs.Valid.{Evaluates}
-use Rattle.mir_lower.specs.Graph.{Shape, no_statements, more_of, with_statement, with_terminator, with_block, temp_of, binding_local, local_of_type, with_temp, with_scope}
-use Rattle.mir_lower.specs.Does.{local_of}
-use Rattle.mir_lower.specs.Growth.{terminator_at, IsSound, IsOpen}
+use Rattle.mir_lower.specs.Graph.{Shape, no_statements, more_of, with_statement, with_terminator, with_block, temp_of, binding_local, local_at, local_of, local_of_type, with_temp, with_scope}
+use Rattle.mir_lower.specs.Growth.{terminator_at, IsUsed, IsAllotted, IsSound, IsOpen}
 use Rattle.mir_lower.proofs.Lists.{slice_get-front, slice_get-last, slice_get-set_same, slice_get_in, slice_get_below}
 use Rattle.mir_lower.proofs.Growing.{current_of, with_statement-is, with_terminator-is, temp_of-with_temp_same, temp_of-with_temp_other}
 
--- only locals, and which of them hold bindings and expressions, count
-pub sound_by : (source : Source) (old new : Shape) → new.locals ≡ old.locals → new.bindings ≡ old.bindings → new.temps ≡ old.temps → IsSound source old → IsSound source new
-unfolding temp_of
-sound_by source old new locals bindings temps sound =
-    let at : (e : ℕ) → temp_of new e ≡ temp_of old e = λ e. ap (λ (t : List (Option LocalId)). option_map (λ (l : LocalId). l.0) (option_and_then (λ temp. temp) (slice_get t e))) temps in
+-- a cell's local, where the tables stay
+same-local : (old new : Shape) → new.bindings ≡ old.bindings → new.temps ≡ old.temps → (c : Cell) → local_of new c ≡ local_of old c
+unfolding temp_of binding_local
+same-local old new bindings temps Result = refl
+same-local old new bindings temps (Node e) = ap (λ (t : List (Option LocalId)). local_at t e) temps
+same-local old new bindings temps (Binding b) = ap (λ (t : List (Option LocalId)). local_at t b) bindings
+
+-- no new local, and no cell with another local
+pub no-more-allotted : (source : Source) (old new : Shape) → new.locals ≡ old.locals → ((c : Cell) (l : ℕ) → local_of new c ≡ Some l → local_of old c ≡ Some l) → IsAllotted source old → IsAllotted source new
+no-more-allotted source old new locals before allotted =
     let local : (i : ℕ) → slice_get new.locals i ≡ slice_get old.locals i = λ i. ap (λ (l : List Local). slice_get l i) locals in
     record {
+      typed = λ c l h. let at = allotted.typed c l (before c l h) in (at.0, local l ∙ at.1, at.2);
+      own = λ c d l h k. allotted.own c d l (before c l h) (before d l k);
+      cells = λ l x h. allotted.cells l x (sym (local l) ∙ h);
+    }
+
+-- one new local, which a cell has that is used
+pub one-more-allotted : (source : Source) (old new : Shape) (cell : Cell) (ty : Ty) → new.locals ≡ old.locals ++ local_of_type ty ∷ [] → IsUsed source cell → cell_type source cell ≡ Some ty →
+    ((c : Cell) (l : ℕ) → local_of new c ≡ Some l → ((c ≡ cell) × (l ≡ length old.locals)) ⊎ (local_of old c ≡ Some l)) → IsAllotted source old → IsAllotted source new
+one-more-allotted source old new cell ty locals used has cases allotted =
+    let grown : (i : ℕ) (l : Local) → slice_get old.locals i ≡ Some l → slice_get new.locals i ≡ Some l =
+    λ i l h. ap (λ (ls : List Local). slice_get ls i) locals ∙ slice_get-front old.locals (local_of_type ty ∷ []) i l h in
+    let long : length new.locals ≡ length old.locals + 1 = ap length locals ∙ length-append old.locals (local_of_type ty ∷ []) in
+    let last : slice_get new.locals (length old.locals) ≡ Some (local_of_type ty) =
+    ap (λ (ls : List Local). slice_get ls (length old.locals)) locals ∙ slice_get-last old.locals (local_of_type ty) in
+    record {
+      typed = λ c l h. ⊎_elim
+          (λ new-one. (local_of_type ty, ap (slice_get new.locals) new-one.1 ∙ last, ap (cell_type source) new-one.0 ∙ has))
+          (λ old-one. let at = allotted.typed c l old-one in (at.0, grown l at.0 at.1, at.2))
+          (cases c l h);
+      own = λ c d l h k. ⊎_elim
+          (λ new-one. ⊎_elim (λ new-other. new-one.0 ∙ sym new-other.0) (λ old-other. absurd (past d l new-one.1 old-other)) (cases d l k))
+          (λ old-one. ⊎_elim (λ new-other. absurd (past c l new-other.1 old-one)) (λ old-other. allotted.own c d l old-one old-other) (cases d l k))
+          (cases c l h);
+      cells = λ l x h. ⊎_elim
+          (λ before. let found = slice_get_in old.locals l before in
+          let there = grown l found.0 found.1 in
+          let same : found.0 ≡ x = cc in allotted.cells l x (found.1 ∙ ap Some same))
+          (λ behind. let below = slice_get_below new.locals l x h in
+          let new-one : l ≡ length old.locals = omega arith in
+          let h' : slice_get new.locals (length old.locals) ≡ Some x = ap (slice_get new.locals) (sym new-one) ∙ h in
+          let same : local_of_type ty ≡ x = cc in (cell, used, has ∙ ap (λ (y : Local). Some y.ty) same))
+          (cases_lt l (length old.locals));
+    } where
+      past : (c : Cell) (l : ℕ) → l ≡ length old.locals → local_of old c ≡ Some l → ⊥
+      past c l is h = let at = allotted.typed c l h in let below = slice_get_below old.locals l at.0 at.1 in omega arith
+
+-- only locals, and which of them hold bindings and expressions, count
+pub sound_by : (source : Source) (old new : Shape) → new.locals ≡ old.locals → new.bindings ≡ old.bindings → new.temps ≡ old.temps → IsSound source old → IsSound source new
+sound_by source old new locals bindings temps sound =
+    let same : (c : Cell) → local_of new c ≡ local_of old c = same-local old new bindings temps in
+    record {
       nodes = ap length temps ∙ sound.nodes;
-      bindings = bindings ∙ sound.bindings;
-      slot = λ l h. sound.slot l (sym (local 0) ∙ h);
-      bound = λ b ty h. local (suc b) ∙ sound.bound b ty h;
-      first = let n = ap length locals in let r = sound.first in omega arith;
-      cells = λ l x h. sound.cells l x (sym (local l) ∙ h);
-      above = λ e l h. let r = sound.above e l (sym (at e) ∙ h) in omega arith;
-      within = λ e l h. let n = ap length locals in let r = sound.within e l (sym (at e) ∙ h) in omega arith;
-      own = λ e f l h k. sound.own e f l (sym (at e) ∙ h) (sym (at f) ∙ k);
-      typed = λ e i l h k. sound.typed e i l (sym (at e) ∙ h) (sym (local i) ∙ k);
+      bound = λ b ty h. let at = sound.bound b ty h in (at.0, same (Binding b) ∙ at.1);
+      allotted = no-more-allotted source old new locals (λ c l h. sym (same c) ∙ h) sound.allotted;
     }
 
 pub with_statement-locals : (statement : Statement) (s : Shape) → IsOpen s → (with_statement statement s).locals ≡ s.locals
@@ -109,6 +146,10 @@ pub with_temp-nodes : (e : ℕ) (ty : Ty) (s : Shape) → length (with_temp e ty
 unfolding with_temp
 with_temp-nodes e ty s = length-set s.temps e (Some (record { 0 = length s.locals }))
 
+pub with_temp-binding : (e : ℕ) (ty : Ty) (s : Shape) (b : ℕ) → binding_local (with_temp e ty s) b ≡ binding_local s b
+unfolding with_temp binding_local
+with_temp-binding e ty s b = refl
+
 -- an expression's local is the new one, or one that it had
 temp_cases : (e f l : ℕ) (ty : Ty) (s : Shape) → e < length s.temps → temp_of (with_temp e ty s) f ≡ Some l → ((f ≡ e) × (l ≡ length s.locals)) ⊎ ((f ≢ e) × (temp_of s f ≡ Some l))
 temp_cases e f l ty s within h =
@@ -117,88 +158,32 @@ temp_cases e f l ty s within h =
     (λ differ. inr (differ, sym (temp_of-with_temp_other e f ty s differ) ∙ h))
     (cases_eq f e)
 
-pub with_temp-bindings : (e : ℕ) (ty : Ty) (s : Shape) → (with_temp e ty s).bindings ≡ s.bindings
-unfolding with_temp
-with_temp-bindings e ty s = refl
+-- so is any cell's
+temp-cells : (e : ℕ) (ty : Ty) (s : Shape) → e < length s.temps → (c : Cell) (l : ℕ) → local_of (with_temp e ty s) c ≡ Some l → ((c ≡ Node e) × (l ≡ length s.locals)) ⊎ (local_of s c ≡ Some l)
+temp-cells e ty s within Result l h = inr h
+temp-cells e ty s within (Node f) l h = ⊎_elim (λ new. inl (ap Node new.0, new.1)) (λ old. inr old.1) (temp_cases e f l ty s within h)
+temp-cells e ty s within (Binding b) l h = inr (sym (with_temp-binding e ty s b) ∙ h)
 
 pub with_temp-sound : (source : Source) (e : ℕ) (ty : Ty) (s : Shape) → e < length s.temps → node_type source e ≡ Some ty → Evaluates source (root source) e → IsSound source s → IsSound source (with_temp e ty s)
 with_temp-sound source e ty s within has reached sound =
-    let grown : (i : ℕ) (l : Local) → slice_get s.locals i ≡ Some l → slice_get (with_temp e ty s).locals i ≡ Some l =
-    λ i l h. ap (λ (ls : List Local). slice_get ls i) (with_temp-locals e ty s) ∙ slice_get-front s.locals (local_of_type ty ∷ []) i l h in
-    let long : length (with_temp e ty s).locals ≡ length s.locals + 1 = ap length (with_temp-locals e ty s) ∙ length-append s.locals (local_of_type ty ∷ []) in
-    let last : slice_get (with_temp e ty s).locals (length s.locals) ≡ Some (local_of_type ty) =
-    ap (λ (ls : List Local). slice_get ls (length s.locals)) (with_temp-locals e ty s) ∙ slice_get-last s.locals (local_of_type ty) in
-    let many : (with_temp e ty s).bindings ≡ s.bindings = with_temp-bindings e ty s in
     record {
       nodes = with_temp-nodes e ty s ∙ sound.nodes;
-      bindings = many ∙ sound.bindings;
-      slot = λ l h. let first = slice_get_in s.locals 0 (let r = sound.first in omega arith) in
-          let there = grown 0 first.0 first.1 in
-          let same : first.0 ≡ l = cc in sound.slot l (first.1 ∙ ap Some same);
-      bound = λ b t h. grown (suc b) (local_of_type t) (sound.bound b t h);
-      first = let r = sound.first in omega arith;
-      cells = λ l x h. ⊎_elim
-          (λ old. let found = slice_get_in s.locals l old in
-          let there = grown l found.0 found.1 in
-          let same : found.0 ≡ x = cc in sound.cells l x (found.1 ∙ ap Some same))
-          (λ past. let below = slice_get_below (with_temp e ty s).locals l x h in
-          let new : l ≡ length s.locals = omega arith in
-          let h' : slice_get (with_temp e ty s).locals (length s.locals) ≡ Some x = ap (slice_get (with_temp e ty s).locals) (sym new) ∙ h in
-          let same : local_of_type ty ≡ x = cc in (Node e, reached, has ∙ ap (λ (y : Local). Some y.ty) same))
-          (cases_lt l (length s.locals));
-      above = λ f l h. ⊎_elim (λ new. let r = sound.first in let n = new.1 in omega arith) (λ old. let r = sound.above f l old.1 in omega arith) (temp_cases e f l ty s within h);
-      within = λ f l h. ⊎_elim (λ new. let n = new.1 in omega arith) (λ old. let r = sound.within f l old.1 in omega arith) (temp_cases e f l ty s within h);
-      own = λ f g l h k. ⊎_elim
-          (λ new. ⊎_elim (λ new'. new.0 ∙ sym new'.0) (λ old'. let r = sound.within g l old'.1 in let n = new.1 in absurd (omega arith)) (temp_cases e g l ty s within k))
-          (λ old. ⊎_elim (λ new'. let r = sound.within f l old.1 in let n = new'.1 in absurd (omega arith)) (λ old'. sound.own f g l old.1 old'.1) (temp_cases e g l ty s within k))
-          (temp_cases e f l ty s within h);
-      typed = λ f i l h k. ⊎_elim
-          (λ new. let k' : slice_get (with_temp e ty s).locals (length s.locals) ≡ Some l = ap (slice_get (with_temp e ty s).locals) (sym new.1) ∙ k in
-          let same : local_of_type ty ≡ l = cc in ap (node_type source) new.0 ∙ has ∙ ap (λ (x : Local). Some x.ty) same)
-          (λ old. let found = slice_get_in s.locals i (sound.within f i old.1) in
-          let there = grown i found.0 found.1 in
-          let same : found.0 ≡ l = cc in sound.typed f i l old.1 (found.1 ∙ ap Some same))
-          (temp_cases e f i ty s within h);
+      bound = λ b t h. let at = sound.bound b t h in (at.0, with_temp-binding e ty s b ∙ at.1);
+      allotted = one-more-allotted source s (with_temp e ty s) (Node e) ty (with_temp-locals e ty s) reached has (temp-cells e ty s within) sound.allotted;
     }
-
--- a binding's local, where there is such a binding
-below-by : (b n : ℕ) → nat_lt b n ≡ true → b < n
-below-by b n is = ltb→lt b n (subst T (sym is) tt)
-
-not-below-by : (b n : ℕ) → nat_lt b n ≡ false → n ≤ b
-not-below-by b n is = ⊎_elim (λ less. let both : true ≡ false = sym (lt-ltb b n less) ∙ is in absurd cc) (λ le. le) (cases_lt b n)
-
-by-count : (b n l : ℕ) (t : Bool) → nat_lt b n ≡ t → ◌≡◌ {A = Option ℕ} (if t then Some (suc b) else None) (Some l) → (b < n) × (l ≡ suc b)
-by-count b n l true is h = (below-by b n is, (let same : suc b ≡ l = cc in sym same))
-by-count b n l false is h = absurd cc
-
-pub binding-there : (s : Shape) (b l : ℕ) → binding_local s b ≡ Some l → (b < s.bindings) × (l ≡ suc b)
-unfolding binding_local
-binding-there s b l h = by-count b s.bindings l (nat_lt b s.bindings) refl h
-
-none-by-count : (b n : ℕ) (t : Bool) → nat_lt b n ≡ t → ◌≡◌ {A = Option ℕ} (if t then Some (suc b) else None) None → n ≤ b
-none-by-count b n true is h = absurd cc
-none-by-count b n false is h = not-below-by b n is
-
-pub binding-missing : (s : Shape) (b : ℕ) → binding_local s b ≡ None → s.bindings ≤ b
-unfolding binding_local
-binding-missing s b h = none-by-count b s.bindings (nat_lt b s.bindings) refl h
 
 pub binding_local-grows : (old new : Shape) (b l : ℕ) → new.bindings ≡ old.bindings → binding_local old b ≡ Some l → binding_local new b ≡ Some l
 unfolding binding_local
-binding_local-grows old new b l same h = ap (λ (n : ℕ). if nat_lt b n then Some (suc b) else None) same ∙ h
+binding_local-grows old new b l same h = ap (λ (t : List (Option LocalId)). local_at t b) same ∙ h
 
--- each cell's local is a local of the graph, and has the cell's type
-pub local-there : (source : Source) (s : Shape) → IsSound source s → (c : Cell) (l : ℕ) → local_of s c ≡ Some l → (local : Local) × (slice_get s.locals l ≡ Some local) × (cell_type source c ≡ Some local.ty)
-local-there source s sound Result l h =
-    let zeroth : 0 ≡ l = cc in
-    let first = slice_get_in s.locals 0 (let r = sound.first in omega arith) in
-    (first.0, ap (slice_get s.locals) (sym zeroth) ∙ first.1, sound.slot first.0 first.1)
-local-there source s sound (Node e) l h =
-    let there = slice_get_in s.locals l (sound.within e l h) in
-    (there.0, there.1, sound.typed e l there.0 h there.1)
-local-there source s sound (Binding b) l h =
-    let at = binding-there s b l h in
-    let inside : b < length source.infer.binding_types = (let n = sound.bindings in let less = at.0 in omega arith) in
-    let ty = slice_get_in source.infer.binding_types b inside in
-    (local_of_type ty.0, ap (slice_get s.locals) at.1 ∙ sound.bound b ty.0 ty.1, ty.1)
+-- the return slot has the type of the body's root
+pub slot-there : (source : Source) (s : Shape) → IsSound source s → (local : Local) × (slice_get s.locals 0 ≡ Some local) × (node_type source (root source) ≡ Some local.ty)
+slot-there source s sound = sound.allotted.typed Result 0 refl
+
+-- each binding that no closure owns has a local of its type
+pub binding-there : (source : Source) (s : Shape) → IsSound source s → (b : ℕ) (ty : Ty) → binding_type source b ≡ Some ty → (l : ℕ) × (slice_get s.locals l ≡ Some (local_of_type ty))
+binding-there source s sound b ty typed =
+    let at = sound.bound b ty typed in
+    let there = sound.allotted.typed (Binding b) at.0 at.1 in
+    let same : ty ≡ there.0.ty = (let is = there.2 in cc) in
+    (at.0, there.1 ∙ ap (λ (t : Ty). Some (local_of_type t)) (sym same))

@@ -1,5 +1,5 @@
 -- One assignment: what the source writes is written to the local of its cell.
-use Rattle.std.proofs.Common.{◌≡◌, ℕ, zero, suc, ◌⊎◌, ⊎_elim, inl, inr, Bool, true, false, cond, List, length, Option, Some, Ok, Err, refl, sym, ap, ◌∙◌, subst, arith, eqb, ◌+◌}
+use Rattle.std.proofs.Common.{◌≡◌, ℕ, zero, suc, ◌⊎◌, ⊎_elim, inl, inr, Bool, true, false, cond, List, length, Option, Some, Ok, Err, refl, sym, ap, ◌∙◌, subst, arith, eqb}
 use borrow.Author.Tests.{eqb-true}
 use Rattle.source_meaning.specs.Core.{CoreExpr}
 use Rattle.numbers.specs.Operators.{Answer, Computes, Panics, Undefined}
@@ -12,11 +12,12 @@ use Rattle.mir.specs.declared.statement.Statement.{Statement}
 use Rattle.mir.specs.declared.statement.StatementKind.TheVariants.{Assign}
 use Rattle.mir.specs.Memory.{Memory}
 use Rattle.mir.specs.Run.{Frame, after_statement, copied, rvalue_bytes, answered}
-use Rattle.source_meaning.specs.Ends.{no_cost, End, Go, Panic, Stuck, More, after}
+use Rattle.source_meaning.specs.Ends.{no_cost, End, Go, Stuck}
 use Rattle.source_meaning.specs.Meaning.{level_at, put, put_answer, into_of}
 use Rattle.source_meaning.specs.Source.{Source, node, Cell, Result as Slot, Node, Binding, Path, Store, with_cell_bytes}
-use Rattle.mir_lower.specs.Does.{Point, here, local_of, IsFrameOf, Holds, Comes, Reaches, Performs, Nothing, Does}
-use Rattle.mir_lower.specs.Graph.{Shape, with_statement}
+use Rattle.source_meaning.proofs.Costs.{after-none}
+use Rattle.mir_lower.specs.Does.{Point, here, IsFrameOf, Holds, Comes, Reaches, Performs, Nothing, Does}
+use Rattle.mir_lower.specs.Graph.{Shape, with_statement, local_of}
 use Rattle.mir_lower.specs.Growth.{Grows, IsSound, IsOpen}
 use Rattle.mir_lower.proofs.Holding.{assigns, interval-of}
 use Rattle.mir_lower.proofs.Reaching.{reaches-after}
@@ -68,18 +69,10 @@ module _ (source : Source) (s whole : Shape) (frame : Frame) (place : Place) (rv
   assigned-answer (Panics word) computes = ends-statement added s whole frame memory opened grows is 0 (error.Panic word) (faults (error.Panic word) computes)
   assigned-answer Undefined computes = tt
 
--- no cost before an end leaves it as it is
-pub no-cost-before : {A : Type 0} (end : End A) → after no_cost end ≡ end
-unfolding after
-no-cost-before (Go value store cost) = let plain : 0 + cost.turns ≡ cost.turns = omega arith in ap (λ (n : ℕ). Go value store (record { turns = n })) plain
-no-cost-before (Panic word cost) = let plain : 0 + cost.turns ≡ cost.turns = omega arith in ap (λ (n : ℕ). Panic word (record { turns = n })) plain
-no-cost-before Stuck = refl
-no-cost-before (More cost) = let plain : 0 + cost.turns ≡ cost.turns = omega arith in ap (λ (n : ℕ). More (record { turns = n })) plain
-
 -- what an end does from a point on, it does from one that leads there over no block
 pub reaches-from : {A : Type 0} (frame : Frame) (p q to : Point) (memory : Memory) (claim : A → Store → Memory → Type 0) → Comes frame 0 p memory q memory → (end : End A) → Reaches frame q to memory claim end → Reaches frame p to memory claim end
 reaches-from frame p q to memory claim comes end reaches =
-    subst (Reaches frame p to memory claim) (no-cost-before end)
+    subst (Reaches frame p to memory claim) (after-none end)
     (reaches-after frame 0 p q to memory memory claim no_cost (omega arith) comes end reaches)
 
 -- an expression does what its form does with one unit of fuel less

@@ -1,43 +1,41 @@
 -- A whole body: its root, leaving it, and returning.
-use Rattle.std.proofs.lemmas.List.{length-map}
-use Rattle.std.proofs.Common.{[], map, ◌≡◌, ℕ, zero, suc, ◌+◌, ◌<◌, ◌≤◌, List, length, Option, Some, None, Ok, refl, sym, ap, ◌∙◌, subst, arith}
+use Rattle.std.proofs.Common.{[], ◌∷◌, ◌++◌, ◌≡◌, ℕ, zero, suc, ◌+◌, ◌<◌, ◌≤◌, List, length, Option, Some, Ok, refl, sym, ap, ◌∙◌, subst, arith}
 use Rattle.std.specs.Prelude.{slice_get, replicate, option_map, option_and_then, unwrap_or}
 use Rattle.world.specs.declared.database.HirDatabase.{HirDatabase}
 use Rattle.world.specs.declared.layout.Layout.{Layout}
-use Rattle.types.specs.declared.ty.Ty.{Ty}
 use Rattle.world.specs.Lookups.{layout_of}
+use Rattle.mir.specs.declared.body.BasicBlock.{BasicBlock}
 use Rattle.mir.specs.declared.body.Local.{Local}
 use Rattle.mir.specs.declared.body.MirBody.{MirBody}
 use Rattle.mir.specs.declared.body.TerminatorKind.TheVariants.{Return}
-use Rattle.mir.specs.declared.errors.MirEvalError.{MirEvalError}
-use Rattle.mir.specs.declared.errors.MirEvalError as error
 use Rattle.mir.specs.declared.span.MirSpan.{MirSpan}
 use Rattle.mir.specs.Memory.{Interval, Memory, first_memory, bytes_at, cells_of}
 use Rattle.mir.specs.Run.{Frame, Ending, Returned, Faulted, out_of_blocks, entering, begun}
-use Rattle.source_meaning.specs.Ends.{Cost, so_many_turns, End, Go, Panic, Stuck, More, after, then_do}
+use Rattle.source_meaning.specs.Ends.{Cost, turns_alone, plus, End, Go, Jumps, Faults, Stuck, More, after, then_do}
+use Rattle.source_meaning.specs.Entering.{entering as entering_cost}
+use Rattle.source_meaning.specs.Events.{marked}
 use Rattle.source_meaning.specs.Meaning.{level_at, meaning_of}
-use Rattle.source_meaning.specs.Source.{Source, node_type, root, Cell, Result as Slot, Binding, cell_type, cell_layout, marked, drops, Store, zeroed}
+use Rattle.source_meaning.specs.Source.{Source, node_type, root, Cell, Result as Slot, cell_type, cell_layout, drops, Store, zeroed}
 use Rattle.source_meaning.specs.Valid.{IsPlain, IsLaidOut, AreLaidOut}
 use Rattle.mir_lower.specs.Does.{Point, here, run_from, local_bytes, IsFrameOf, Holds, Comes, Reaches}
-use Rattle.mir_lower.specs.Graph.{Shape, first_shape, local_of_type, with_terminator, with_scope, temp_of}
-use Rattle.mir_lower.specs.Growth.{Grows, IsUsed, IsSound, IsOpen, count_at, terminator_at}
+use Rattle.mir_lower.specs.Graph.{Shape, no_statements, local_of_type, with_terminator, with_scope}
+use Rattle.mir_lower.specs.Growth.{Grows, IsSound, count_at}
 use Rattle.mir_lower.specs.Leaving.{Idles}
 use Rattle.mir_lower.specs.Lowered.{HasLayouts, LowersInto}
-use Rattle.mir_lower.specs.Simulates.{EndsWithin, EndsAs, Simulates}
-use Rattle.mir.specs.declared.ids.LocalId.{LocalId}
-use Rattle.std.proofs.Math.ListN.{length-replicate}
+use Rattle.mir_lower.specs.Simulates.{EndsWithin, EndsAs, Simulates, error_of}
 use Rattle.mir_lower.proofs.Growing.{grows-refl, grows-trans, with_terminator-grows, with_scope-grows}
 use Rattle.mir_lower.proofs.Leaving.{entering-suc, entering-none, ends-return, here-scope}
-use Rattle.mir_lower.proofs.Lists.{slice_get_in, slice_get-map, slice_get-unmap}
+use Rattle.mir_lower.proofs.Lists.{front-of}
 use Rattle.mir_lower.proofs.Placing.{AreAligned, Placing, places-all, first-ok}
 use Rattle.mir_lower.proofs.Reaching.{ends-after}
-use Rattle.mir_lower.proofs.Sound.{with_terminator-sound, local-there}
+use Rattle.mir_lower.proofs.Sound.{with_terminator-sound, slot-there, binding-there}
 
 -- what a cost before an end allows
 ends-as-after : (frame : Frame) (first : ℕ) (from at : Point) (memory middle : Memory) (cost : Cost) → first ≤ cost.turns → Comes frame first from memory at middle → (end : End (List ℕ)) → EndsAs end (run_from frame middle at) → EndsAs (after cost end) (run_from frame memory from)
-unfolding after
+unfolding after plus
 ends-as-after frame first from at memory middle cost bound comes (Go bytes store then) ends = ends-after frame first from at memory middle comes cost.turns then.turns (Returned bytes) bound ends
-ends-as-after frame first from at memory middle cost bound comes (Panic word then) ends = ends-after frame first from at memory middle comes cost.turns then.turns (Faulted (error.Panic word)) bound ends
+ends-as-after frame first from at memory middle cost bound comes (Jumps to store then) ends = tt
+ends-as-after frame first from at memory middle cost bound comes (Faults fault then) ends = ends-after frame first from at memory middle comes cost.turns then.turns (Faulted (error_of fault)) bound ends
 ends-as-after frame first from at memory middle cost bound comes Stuck ends = tt
 ends-as-after frame first from at memory middle cost bound comes (More then) ends = tt
 
@@ -45,7 +43,8 @@ ends-as-after frame first from at memory middle cost bound comes (More then) end
 ends-as-then : {A : Type 0} (frame : Frame) (from at : Point) (memory : Memory) (claim : A → Store → Memory → Type 0) (end : End A) (next : A → Store → End (List ℕ)) → Reaches frame from at memory claim end → ((value : A) (store : Store) (middle : Memory) → claim value store middle → EndsAs (next value store) (run_from frame middle at)) → EndsAs (then_do end next) (run_from frame memory from)
 unfolding then_do
 ends-as-then frame from at memory claim (Go value store cost) next does rest = ends-as-after frame does.0 from at memory does.1 cost does.2 does.3 (next value store) (rest value store does.1 does.4)
-ends-as-then frame from at memory claim (Panic word cost) next does rest = does
+ends-as-then frame from at memory claim (Jumps to store cost) next does rest = tt
+ends-as-then frame from at memory claim (Faults fault cost) next does rest = does
 ends-as-then frame from at memory claim Stuck next does rest = tt
 ends-as-then frame from at memory claim (More cost) next does rest = tt
 
@@ -64,12 +63,13 @@ entered frame memory block most ending ends =
       fewer-blocks turns rest zero less = entering-none frame memory block
       fewer-blocks turns rest (suc fewer) less = entering-suc fewer frame memory block ∙ rest fewer (omega arith)
 
-ends-as-entered : (frame : Frame) (memory : Memory) (block : ℕ) (end : End (List ℕ)) → EndsAs end (run_from frame memory (record { block = block; index = 0 })) → EndsAs (after (so_many_turns 1) end) (λ budget. entering budget frame memory block)
-unfolding after
-ends-as-entered frame memory block (Go bytes store cost) ends = entered frame memory block cost.turns (Returned bytes) ends
-ends-as-entered frame memory block (Panic word cost) ends = entered frame memory block cost.turns (Faulted (error.Panic word)) ends
-ends-as-entered frame memory block Stuck ends = tt
-ends-as-entered frame memory block (More cost) ends = tt
+ends-as-entered : (source : Source) (frame : Frame) (memory : Memory) (block : ℕ) (end : End (List ℕ)) → EndsAs end (run_from frame memory (record { block = block; index = 0 })) → EndsAs (after (entering_cost source) end) (λ budget. entering budget frame memory block)
+unfolding after plus entering_cost
+ends-as-entered source frame memory block (Go bytes store cost) ends = entered frame memory block cost.turns (Returned bytes) ends
+ends-as-entered source frame memory block (Jumps to store cost) ends = tt
+ends-as-entered source frame memory block (Faults fault cost) ends = entered frame memory block cost.turns (Faulted (error_of fault)) ends
+ends-as-entered source frame memory block Stuck ends = tt
+ends-as-entered source frame memory block (More cost) ends = tt
 
 -- the frame in which a body begins
 pub begun-cells : (world : HirDatabase) (body : MirBody) (start : Frame × Memory) → begun world body ≡ Ok start → (all : List Interval × Memory) × (cells_of world body.locals first_memory ≡ Ok all) × ◌≡◌ {A = Frame × Memory} start (record { body = body; cells = all.0 }, all.1)
@@ -82,7 +82,7 @@ begun-cells world body start h =
 starts-zeroed : (source : Source) (s : Shape) (frame : Frame) (memory : Memory) → IsSound source s → Placing source.world s.locals first_memory frame.cells memory → Holds s frame (zeroed source) memory
 unfolding local_bytes
 starts-zeroed source s frame memory sound placing =
-    record { shows = λ cell l found. shows-cell cell l (local-there source s sound cell l found) } where
+    record { shows = λ cell l found. shows-cell cell l (sound.allotted.typed cell l found) } where
       shows-cell : (cell : Cell) (l : ℕ) → (local : Local) × (slice_get s.locals l ≡ Some local) × (cell_type source cell ≡ Some local.ty) → option_and_then (bytes_at memory) (slice_get frame.cells l) ≡ Some (zeroed source cell)
       shows-cell cell l local =
           let placed = placing.each l local.0 local.1 in
@@ -90,16 +90,19 @@ starts-zeroed source s frame memory sound placing =
           ap (option_and_then (bytes_at memory)) placed.there ∙ placed.zeroed
           ∙ ap (λ (o : Option Layout). Some (replicate (unwrap_or (option_map (λ (layout : Layout). layout.size) o) 0) 0)) (sym layout)
 
-here-first : (ty : Ty) (bindings : List Ty) (nodes : ℕ) → here (first_shape ty bindings nodes) ≡ record { block = 0; index = 0 }
+-- the point before the first statement of a graph of one empty block
+pub here-first : (s : Shape) → s.blocks ≡ no_statements ∷ [] → s.current ≡ 0 → here s ≡ record { block = 0; index = 0 }
 unfolding count_at
-here-first ty bindings nodes = refl
+here-first s blocks current =
+    let at : List BasicBlock → ℕ → Point = λ bs n. record { block = n; index = unwrap_or (option_map (λ (b : BasicBlock). length b.statements) (slice_get bs n)) 0 } in
+    ap (λ (bs : List BasicBlock). at bs s.current) blocks ∙ ap (λ (n : ℕ). at (no_statements ∷ []) n) current
 
 -- what leaving the body costs
 abbrev pub leaving : Source → ℕ
 leaving source = drops source (marked source (root source))
 
 -- the root was lowered, its scope left, and the block ended by a return
-module _ (source : Source) (ty : Ty) (bindings : List Ty) (nodes : ℕ) (s1 s2 : Shape) (span : MirSpan) (into : LowersInto source (first_shape ty bindings nodes) s1 (root source) Slot) (idles : Idles source (with_scope [] s1) s2 (leaving source)) where
+module _ (source : Source) (s0 s1 s2 : Shape) (span : MirSpan) (begins : here s0 ≡ record { block = 0; index = 0 }) (into : LowersInto source s0 s1 (root source) Slot) (idles : Idles source (with_scope [] s1) s2 (leaving source)) where
   abbrev Whole : Shape
   Whole = with_terminator (record { span = span; kind = Return }) s2
 
@@ -127,10 +130,10 @@ module _ (source : Source) (ty : Ty) (bindings : List Ty) (nodes : ℕ) (s1 s2 :
   unfolding meaning_of
   runs-whole frame memory is holds fuel =
       let evaluates : End (Unit {0}) = (level_at source fuel).into (root source) (record { cell = Slot }) (zeroed source) in
-      let next : Unit {0} → Store → End (List ℕ) = λ _ store. Go (store Slot) store (so_many_turns (leaving source)) in
-      ends-as-entered frame memory 0 (then_do evaluates next)
-      (subst (λ (p : Point). EndsAs (then_do evaluates next) (run_from frame memory p)) (here-first ty bindings nodes)
-      (ends-as-then frame (here (first_shape ty bindings nodes)) (here s1) memory (λ _ store later. Holds Whole frame store later × Unit {0}) evaluates next
+      let next : Unit {0} → Store → End (List ℕ) = λ _ store. Go (store Slot) store (turns_alone (leaving source)) in
+      ends-as-entered source frame memory 0 (then_do evaluates next)
+      (subst (λ (p : Point). EndsAs (then_do evaluates next) (run_from frame memory p)) begins
+      (ends-as-then frame (here s0) (here s1) memory (λ _ store later. Holds Whole frame store later × Unit {0}) evaluates next
       (into.does.reaches Whole frame first-grows whole-sound is fuel (zeroed source) memory holds)
       (λ value store middle claims. returns-after frame is store middle claims.0)))
 
@@ -138,21 +141,21 @@ module _ (source : Source) (ty : Ty) (bindings : List Ty) (nodes : ℕ) (s1 s2 :
   lays-out : (locals : List Local) → locals ≡ Whole.locals → IsPlain source → ((l : ℕ) (local : Local) → slice_get locals l ≡ Some local → IsLaidOut source (Some local.ty)) → AreLaidOut source
   lays-out locals same plain laid =
       let all : HasLayouts source Whole = λ l local h. laid l local (ap (λ (ls : List Local). slice_get ls l) same ∙ h) in
-      let first = slice_get_in Whole.locals 0 (let r = whole-sound.first in omega arith) in
+      let first = slot-there source Whole whole-sound in
       let root-laid : IsLaidOut source (node_type source (root source)) =
-      subst (IsLaidOut source) (sym (whole-sound.slot first.0 first.1)) (all 0 first.0 first.1) in
+      subst (IsLaidOut source) (sym first.2) (all 0 first.0 first.1) in
       record {
         nodes = λ e evaluates. into.laid root-laid plain (λ l local h. all l local (first-grows.locals l local h)) e evaluates;
-        bindings = λ b t h. all (suc b) (local_of_type t) (whole-sound.bound b t h);
+        bindings = λ b t h. let there = binding-there source Whole whole-sound b t h in all there.0 (local_of_type t) there.1;
       }
 
   -- the graph of a body does what the body means
   pub whole-simulates : (body : MirBody) → AreAligned source.world → body.basic_blocks ≡ Whole.blocks → body.locals ≡ Whole.locals → body.start_block.0 ≡ 0 → Simulates source body
   whole-simulates body aligned blocks locals start =
-      let first = slice_get_in Whole.locals 0 (let r = whole-sound.first in omega arith) in
+      let first = slot-there source Whole whole-sound in
       record {
-        slot = (first.0, ap (λ (l : List Local). slice_get l 0) locals ∙ first.1, whole-sound.slot first.0 first.1);
-        cells = λ l local h. whole-sound.cells l local (ap (λ (ls : List Local). slice_get ls l) (sym locals) ∙ h);
+        slot = (first.0, ap (λ (l : List Local). slice_get l 0) locals ∙ first.1, first.2);
+        cells = λ l local h. whole-sound.allotted.cells l local (ap (λ (ls : List Local). slice_get ls l) (sym locals) ∙ h);
         laid_out = lays-out body.locals locals;
         runs = λ fuel begin h.
             let all = begun-cells source.world body begin h in
@@ -165,33 +168,9 @@ module _ (source : Source) (ty : Ty) (bindings : List Ty) (nodes : ℕ) (s1 s2 :
             (runs-whole frame all.0.1 is (starts-zeroed source Whole frame all.0.1 whole-sound placing') fuel));
       }
 
--- what lowering begins with
-pub first-sound : (source : Source) (ty : Ty) (nodes : ℕ) → nodes ≡ length source.body.exprs → node_type source (root source) ≡ Some ty → IsSound source (first_shape ty source.infer.binding_types nodes)
-unfolding temp_of
-first-sound source ty nodes many typed =
-    record {
-      nodes = length-replicate nodes None ∙ many;
-      bindings = refl;
-      slot = λ local h. (let same : local_of_type ty ≡ local = cc in typed ∙ ap (λ (l : Local). Some l.ty) same);
-      bound = λ b t h. slice_get-map local_of_type source.infer.binding_types b t h;
-      first = let n : length (map local_of_type source.infer.binding_types) ≡ length source.infer.binding_types = length-map source.infer.binding_types local_of_type in omega arith;
-      cells = λ l local h. first-local l local h;
-      above = λ e l h. absurd (no-temp nodes e l h);
-      within = λ e l h. absurd (no-temp nodes e l h);
-      own = λ e f l h k. absurd (no-temp nodes e l h);
-      typed = λ e i l h k. absurd (no-temp nodes e i h);
-    } where
-      first-local : (l : ℕ) (local : Local) → slice_get (first_shape ty source.infer.binding_types nodes).locals l ≡ Some local → (cell : Cell) × IsUsed source cell × (cell_type source cell ≡ Some local.ty)
-      first-local zero local h = (let same : local_of_type ty ≡ local = cc in (Slot, tt, typed ∙ ap (λ (l : Local). Some l.ty) same))
-      first-local (suc b) local h =
-          let at = slice_get-unmap local_of_type source.infer.binding_types b local h in
-          (Binding b, tt, at.1 ∙ ap (λ (l : Local). Some l.ty) at.2)
-
-      no-temp : (n e l : ℕ) → option_map (λ (local : LocalId). local.0) (option_and_then (λ temp. temp) (slice_get (replicate n None) e)) ≡ Some l → ⊥
-      no-temp zero e l h = cc
-      no-temp (suc n) zero l h = cc
-      no-temp (suc n) (suc e) l h = no-temp n e l h
-
-pub first-open : (ty : Ty) (bindings : List Ty) (nodes : ℕ) → IsOpen (first_shape ty bindings nodes)
-unfolding terminator_at
-first-open ty bindings nodes = record { there = omega arith; unended = refl }
+  -- the locals that there were at first come first
+  pub whole-front : (locals : List Local) → locals ≡ Whole.locals → (rest : List Local) × (locals ≡ s0.locals ++ rest)
+  whole-front locals same =
+      let grown = grows-trans s0 s1 Whole into.keeps.grows first-grows in
+      let front = front-of s0.locals Whole.locals (λ i l h. grown.locals i l h) in
+      (front.0, same ∙ front.1)

@@ -1,17 +1,16 @@
 -- What the code of a graph does: from a point of it to another, or to the end of the run.
-use Rattle.std.specs.Prelude.{◌≡◌, ◌≢◌, ℕ, zero, ◌+◌, ◌<◌, ◌≤◌, List, Option, Some, slice_get, option_and_then, unwrap_or, ◌⊎◌}
-use Rattle.mir.specs.declared.errors.MirEvalError as error
+use Rattle.std.specs.Prelude.{◌≡◌, ◌≢◌, ℕ, ◌+◌, ◌<◌, ◌≤◌, List, ◌∷◌, [], Option, Some, slice_get, option_and_then, unwrap_or, ◌⊎◌}
 use Rattle.mir.specs.declared.operand.OperandKind.{OperandKind}
 use Rattle.mir.specs.Memory.{Interval, Memory, bytes_at}
 use Rattle.mir.specs.Run.{Frame, Faulted, Ended, out_of_blocks, running, operand_bytes as mir_bytes, operand_type as mir_type}
-use Rattle.source_meaning.specs.Ends.{End, Go, Panic, Stuck, More}
-use Rattle.source_meaning.specs.Meaning.{level_at, statements_of, tail_into, bind}
-use Rattle.source_meaning.specs.Source.{Source, pattern, Cell, Result, Node, Binding, Path, Store, Operand, operand_bytes, operand_type}
+use Rattle.source_meaning.specs.Ends.{End, Go, Jumps, Faults, Stuck, More}
+use Rattle.source_meaning.specs.Meaning.{level_at, operands_of, statements_of, tail_into, bind}
+use Rattle.source_meaning.specs.Source.{Source, pattern, Cell, Path, Store, Operand, operand_bytes, operand_type}
 use Rattle.world.specs.declared.body.Statement.{Statement}
 use Rattle.types.specs.declared.ids.ExprId.{ExprId}
-use Rattle.mir_lower.specs.Graph.{Shape, temp_of, binding_local}
+use Rattle.mir_lower.specs.Graph.{Shape, local_of}
 use Rattle.mir_lower.specs.Growth.{Grows, IsSound, count_at}
-use Rattle.mir_lower.specs.Simulates.{EndsWithin}
+use Rattle.mir_lower.specs.Simulates.{EndsWithin, error_of}
 
 -- a point of the code: before a statement of a block, or before its terminator
 pub record Point : Type 0 where
@@ -25,12 +24,6 @@ here s = record { block = s.current; index = unwrap_or (count_at s s.current) 0 
 -- the run from a point on
 abbrev pub run_from : Frame → Memory → Point → ℕ → Ended
 run_from frame memory point budget = running budget frame memory point.block point.index
-
--- the local that holds a cell's value
-abbrev pub local_of : Shape → Cell → Option ℕ
-local_of s Result = Some zero
-local_of s (Node e) = temp_of s e
-local_of s (Binding b) = binding_local s b
 
 -- the bytes of a local
 unfoldable pub local_bytes : Frame → Memory → ℕ → Option (List ℕ)
@@ -56,12 +49,13 @@ pub record Comes (frame : Frame) (turns : ℕ) (from : Point) (memory : Memory) 
   pub with_more : (more : ℕ) → run_from frame memory from (turns + more) ≡ run_from frame later to more
   pub with_fewer : (fewer : ℕ) → fewer < turns → run_from frame memory from fewer ≡ out_of_blocks
 
--- from a point the run does what an end says: it comes to another point with a memory of which the claim holds, or
--- it ends
+-- From a point the run does what an end says: it comes to another point with a memory of which the claim holds, or
+-- it ends. Nothing is said of jumps, which no form that is lowered makes.
 abbrev pub Reaches : {A : Type 0} → Frame → Point → Point → Memory → (A → Store → Memory → Type 0) → End A → Type 0
 Reaches frame from to memory claim (Go value store cost) =
     (turns : ℕ) × (later : Memory) × (turns ≤ cost.turns) × Comes frame turns from memory to later × claim value store later
-Reaches frame from to memory claim (Panic word cost) = EndsWithin cost.turns (Faulted (error.Panic word)) (run_from frame memory from)
+Reaches frame from to memory claim (Jumps jump store cost) = Unit {0}
+Reaches frame from to memory claim (Faults fault cost) = EndsWithin cost.turns (Faulted (error_of fault)) (run_from frame memory from)
 Reaches frame from to memory claim Stuck = Unit {0}
 Reaches frame from to memory claim (More cost) = Unit {0}
 
@@ -85,6 +79,12 @@ pub record Fits (source : Source) (operand : OperandKind) (whole : Shape) (frame
   pub bytes : (store : Store) (memory : Memory) → Holds whole frame store memory → mir_bytes frame memory operand ≡ Some (operand_bytes store value)
   pub ty : mir_type frame.body operand ≡ operand_type source value
 
+-- operands of the graph have the bytes and types of the source's, one each
+abbrev pub FitAll : Source → List OperandKind → Shape → Frame → List Operand → Type 0
+FitAll source [] whole frame [] = Unit {0}
+FitAll source (operand ∷ operands) whole frame (value ∷ values) = Fits source operand whole frame value × FitAll source operands whole frame values
+FitAll source _ whole frame _ = ⊥
+
 -- the code evaluates an expression into a cell
 abbrev pub Does : Source → Shape → Shape → ℕ → Cell → Type 0
 Does source old new e cell = Performs source old new Nothing (λ fuel store. (level_at source fuel).into e (record { cell = cell }) store)
@@ -92,6 +92,10 @@ Does source old new e cell = Performs source old new Nothing (λ fuel store. (le
 -- or as an operand
 abbrev pub DoesOperand : Source → Shape → Shape → ℕ → OperandKind → Type 0
 DoesOperand source old new e operand = Performs source old new (Fits source operand) (λ fuel store. (level_at source fuel).operand e store)
+
+-- or several, from left to right
+abbrev pub DoesOperands : Source → Shape → Shape → List ℕ → List OperandKind → Type 0
+DoesOperands source old new es operands = Performs source old new (FitAll source operands) (λ fuel store. operands_of (level_at source fuel) es store)
 
 -- or as a place, which is that of a cell
 pub record DoesPlace (source : Source) (old new : Shape) (e local : ℕ) : Type 0 where

@@ -1,34 +1,56 @@
 -- The form of an expression, as far as forms are built.
-use Rattle.std.specs.Prelude.{◌≡◌, false, Option, Some}
-use Rattle.types.specs.declared.operators.BinaryOp.{BinaryOp}
-use Rattle.source_meaning.specs.Core.{CoreExpr}
+use Rattle.std.specs.Prelude.{◌≡◌, ℕ, Bool, [], ◌∷◌, Option, Some, None, pos}
+use Rattle.source_meaning.specs.Core.{CoreExpr, CoreLiteral, Truth, Number, Operation, Negate, Invert, Combine, core_of}
 use Rattle.source_meaning.specs.Core as expr
-use Rattle.types.specs.declared.operators.UnaryOp.{UnaryOp}
-use Rattle.types.specs.declared.operators.UnaryOp.TheVariants as unary
+use Rattle.source_meaning.specs.Source.{Source, node}
+use Rattle.world.specs.declared.expr.Expr.{Expr}
 use Rattle.mir.specs.declared.operand.UnOp.{UnOp}
 use Rattle.mir.specs.declared.operand.UnOp.TheVariants as one
-use Rattle.mir.specs.Run.{operator_of}
-use Rattle.source_meaning.specs.Meaning.{eager_operator}
-use Rattle.source_meaning.specs.Source.{is_literal, is_path}
 use Rattle.mir_lower.specs.declared.form.Form.{Form}
 use Rattle.mir_lower.specs.declared.form.Form.TheVariants as form
-use Rattle.mir_lower.specs.Refusals.{LacksOperator, IsUnbuiltForm}
+use Rattle.mir_lower.specs.declared.literal.LiteralValue.{LiteralValue}
+use Rattle.mir_lower.specs.declared.literal.LiteralValue.TheVariants as literal
+use Rattle.mir_lower.specs.Refusals.{IsIncomplete, LacksPart, IsUnbuiltForm}
 
--- the operator of the source on one operand
-abbrev pub unary_of : UnOp → UnaryOp
-unary_of one.Not = unary.Not
-unary_of one.Neg = unary.Neg
+-- the literal that a value of the code is
+abbrev pub core_value : LiteralValue → CoreLiteral
+core_value (literal.Truth test) = Truth test
+core_value (literal.Signed number) = Number number
+core_value (literal.Unsigned number) = Number (pos number)
 
--- neither a literal nor a path
-abbrev pub IsNoLeaf : Option CoreExpr → Type 0
-IsNoLeaf node = (is_literal node ≡ false) × (is_path node ≡ false)
+-- the operation of an operator on one operand
+abbrev pub operation_of : UnOp → Operation
+operation_of one.Not = Invert
+operation_of one.Neg = Negate
 
--- what is known of an expression by its form
-abbrev pub HasForm : Option CoreExpr → Form → Type 0
-HasForm node (form.Literal literal) = node ≡ Some (expr.Literal literal.now)
-HasForm node (form.Path name) = node ≡ Some (expr.Path name.now)
-HasForm node (form.Unary op e) = node ≡ Some (expr.UnaryOp e (unary_of op))
-HasForm node (form.Binary op lhs rhs) = (written : BinaryOp) × (node ≡ Some (expr.BinaryOp lhs rhs (Some written))) × (eager_operator written ≡ Some (operator_of op))
-HasForm node (form.Block statements tail) = node ≡ Some (expr.Block statements.now tail)
-HasForm node form.NoOperator = LacksOperator node × IsNoLeaf node
-HasForm node form.Unbuilt = IsUnbuiltForm node × IsNoLeaf node
+-- the form with a meaning that a form of the code is, where it is one
+abbrev pub core_form : Form → Option CoreExpr
+core_form (form.Literal value) = Some (expr.Literal (core_value value))
+core_form (form.Path name) = Some (expr.Path name.now)
+core_form (form.Unary op e) = Some (expr.Strict (operation_of op) (e.0 ∷ []))
+core_form (form.Binary op lhs rhs) = Some (expr.Strict (Combine op) (lhs.0 ∷ rhs.0 ∷ []))
+core_form (form.Block statements tail) = Some (expr.Block statements.now tail)
+core_form form.Incomplete = None
+core_form form.Unbuilt = None
+
+-- why an expression has no form with a meaning
+abbrev pub IsCause : Expr → Form → Type 0
+IsCause e form.Incomplete = IsIncomplete e
+IsCause e form.Unbuilt = IsIncomplete e → ⊥
+IsCause e _ = Unit {0}
+
+-- the form of an expression whose value isn't adjusted, by whether its path is resolved to an item
+pub record IsFormOf (names_item : Bool) (e : Expr) (f : Form) : Type 0 where
+  pub core : core_of names_item e ≡ core_form f
+  pub cause : IsCause e f
+
+-- why an expression of a source has no form with a meaning
+abbrev pub IsCauseAt : Source → ℕ → Form → Type 0
+IsCauseAt source e form.Incomplete = LacksPart source e
+IsCauseAt source e form.Unbuilt = IsUnbuiltForm source e
+IsCauseAt source e _ = Unit {0}
+
+-- the form of an expression of a source
+pub record HasForm (source : Source) (e : ℕ) (f : Form) : Type 0 where
+  pub core : node source e ≡ core_form f
+  pub cause : IsCauseAt source e f

@@ -1,13 +1,13 @@
 -- The graph that lowering builds, as data: its blocks, which of them is the current one, to which statements are added,
 -- its locals, which of them holds which value, and which cells came into use in the scope that is open.
-use Rattle.std.specs.Prelude.{ℕ, suc, false, List, [], ◌∷◌, ◌++◌, length, replicate, map, if◌then◌else◌, nat_lt, Option, Some, None, slice_get, slice_set, option_map, option_and_then}
+use Rattle.std.specs.Prelude.{ℕ, zero, false, List, [], ◌∷◌, ◌++◌, length, replicate, map, Option, Some, None, slice_get, slice_set, option_map, option_and_then}
 use Rattle.types.specs.declared.ty.Ty.{Ty}
 use Rattle.mir.specs.declared.body.BasicBlock.{BasicBlock}
 use Rattle.mir.specs.declared.body.Local.{Local}
 use Rattle.mir.specs.declared.body.Terminator.{Terminator}
 use Rattle.mir.specs.declared.ids.LocalId.{LocalId}
 use Rattle.mir.specs.declared.statement.Statement.{Statement}
-use Rattle.source_meaning.specs.Source.{Cell, Node, Binding}
+use Rattle.source_meaning.specs.Source.{Cell, Result, Node, Binding}
 use Rattle.mir_lower.specs.declared.graph.Graph.{Graph}
 use Rattle.mir_lower.specs.declared.graph.Held.{Held}
 use Rattle.mir_lower.specs.declared.graph.Held.TheVariants as held
@@ -17,8 +17,8 @@ pub record Shape : Type 0 where
   pub blocks : List BasicBlock
   pub current : ℕ
   pub locals : List Local
-  -- how many bindings there are: their locals stand behind the return slot
-  pub bindings : ℕ
+  -- for each binding its local, where no closure owns it
+  pub bindings : List (Option LocalId)
   -- for each expression the local that holds its value
   pub temps : List (Option LocalId)
   pub scope : List Cell
@@ -39,7 +39,7 @@ shape graph =
       blocks = graph.blocks.items;
       current = graph.current.0;
       locals = graph.locals;
-      bindings = graph.bindings;
+      bindings = graph.bindings.items;
       temps = graph.temps.items;
       scope = cells_of graph.scope.items;
     }
@@ -50,14 +50,14 @@ no_statements = record { statements = []; terminator = None; is_cleanup = false 
 abbrev pub local_of_type : Ty → Local
 local_of_type ty = record { ty = ty }
 
--- one current block, the return slot, a local for each binding, and no expression with a local yet
-abbrev pub first_shape : Ty → List Ty → ℕ → Shape
-first_shape ty bindings nodes =
+-- one current block, the return slot, no binding, and no expression with a local yet
+abbrev pub first_shape : Ty → ℕ → Shape
+first_shape ty nodes =
     record {
       blocks = no_statements ∷ [];
       current = 0;
-      locals = local_of_type ty ∷ map local_of_type bindings;
-      bindings = length bindings;
+      locals = local_of_type ty ∷ [];
+      bindings = [];
       temps = replicate nodes None;
       scope = [];
     }
@@ -87,13 +87,28 @@ with_terminator terminator s = with_current (ended terminator) s (slice_get s.bl
 unfoldable pub with_block : Shape → Shape
 with_block s = record s { blocks = s.blocks ++ no_statements ∷ []; current = length s.blocks }
 
+-- the local at a place of a table, where there is one
+abbrev pub local_at : List (Option LocalId) → ℕ → Option ℕ
+local_at table i = option_map (λ local. local.0) (option_and_then (λ local. local) (slice_get table i))
+
 -- the local that holds an expression's value, where it has one
 unfoldable pub temp_of : Shape → ℕ → Option ℕ
-temp_of s e = option_map (λ local. local.0) (option_and_then (λ temp. temp) (slice_get s.temps e))
+temp_of s e = local_at s.temps e
 
--- the local of a binding, where there is such a binding
+-- the local of a binding, where it has one
 unfoldable pub binding_local : Shape → ℕ → Option ℕ
-binding_local s b = if nat_lt b s.bindings then Some (suc b) else None
+binding_local s b = local_at s.bindings b
+
+-- the local that holds a cell's value
+abbrev pub local_of : Shape → Cell → Option ℕ
+local_of s Result = Some zero
+local_of s (Node e) = temp_of s e
+local_of s (Binding b) = binding_local s b
+
+-- one more binding: where it has a type, a new local of that type is its own
+unfoldable pub with_binding : Option Ty → Shape → Shape
+with_binding (Some ty) s = record s { locals = s.locals ++ local_of_type ty ∷ []; bindings = s.bindings ++ Some (record { 0 = length s.locals }) ∷ [] }
+with_binding None s = record s { bindings = s.bindings ++ None ∷ [] }
 
 -- a new local for an expression
 unfoldable pub with_temp : ℕ → Ty → Shape → Shape

@@ -1,14 +1,15 @@
 -- How the graph grows while an expression is lowered, and what stands in it at a point of its code.
-use Rattle.std.specs.Prelude.{◌≡◌, ℕ, suc, ◌<◌, length, Option, Some, None, slice_get, option_map, option_and_then}
+use Rattle.std.specs.Prelude.{◌≡◌, ℕ, ◌<◌, [], ◌∷◌, length, Option, Some, None, slice_get, option_map, option_and_then}
 use Rattle.mir.specs.declared.body.BasicBlock.{BasicBlock}
 use Rattle.mir.specs.declared.body.Local.{Local}
 use Rattle.mir.specs.declared.body.Terminator.{Terminator}
 use Rattle.mir.specs.declared.statement.Statement.{Statement}
 use Rattle.types.specs.declared.ty.Ty.{Ty}
 use Rattle.world.specs.Checked.{IsCheckedBody}
-use Rattle.source_meaning.specs.Source.{Source, Cell, Result, Node, Binding, cell_type, node_type, binding_type, root}
+use Rattle.source_meaning.specs.Source.{Source, Cell, Result, Node, Binding, cell_type, binding_type, root}
 use Rattle.source_meaning.specs.Valid.{Evaluates}
-use Rattle.mir_lower.specs.Graph.{Shape, temp_of, local_of_type}
+use Rattle.mir_lower.specs.Graph.{Shape, no_statements, temp_of, binding_local, local_of}
+use Rattle.mir_lower.specs.Order.{first_locals}
 
 -- the statement at a place of a block, and a block's terminator
 unfoldable pub statement_at : Shape → ℕ → ℕ → Option Statement
@@ -36,20 +37,31 @@ IsUsed source Result = Unit {0}
 IsUsed source (Node e) = Evaluates source (root source) e
 IsUsed source (Binding b) = Unit {0}
 
--- A graph that lowering can go on with: its current block isn't ended, its locals are the result, one of its type for
--- each binding, and others, each of which holds the value of an expression; each cell's local has the cell's type, no
--- two cells share one, and each local is of the type of a cell that is used.
+-- The locals of cells: each has its cell's type, no two cells share one, and each local of the graph is of the type of
+-- a cell that is used.
+pub record IsAllotted (source : Source) (s : Shape) : Type 0 where
+  pub typed : (cell : Cell) (l : ℕ) → local_of s cell ≡ Some l → (local : Local) × (slice_get s.locals l ≡ Some local) × (cell_type source cell ≡ Some local.ty)
+  pub own : (c d : Cell) (l : ℕ) → local_of s c ≡ Some l → local_of s d ≡ Some l → c ≡ d
+  pub cells : (l : ℕ) (local : Local) → slice_get s.locals l ≡ Some local → (cell : Cell) × IsUsed source cell × (cell_type source cell ≡ Some local.ty)
+
+-- A graph before anything is lowered: one open block, no expression with a local yet, and a place for each of the first
+-- bindings of the body, with a local for those that no closure owns; there are no other locals but the return slot.
+pub record IsFirst (source : Source) (count : ℕ) (s : Shape) : Type 0 where
+  pub blocks : s.blocks ≡ no_statements ∷ []
+  pub current : s.current ≡ 0
+  pub scope : s.scope ≡ []
+  pub locals : s.locals ≡ first_locals source count
+  pub nodes : length s.temps ≡ length source.body.exprs
+  pub bindings : length s.bindings ≡ count
+  pub bound : (b : ℕ) (ty : Ty) → b < count → binding_type source b ≡ Some ty → (l : ℕ) × (binding_local s b ≡ Some l)
+  pub allotted : IsAllotted source s
+
+-- A graph that lowering can go on with: it has a place for the local of each expression, each binding that no closure
+-- owns has a local, and so have the result and some expressions.
 pub record IsSound (source : Source) (s : Shape) : Type 0 where
   pub nodes : length s.temps ≡ length source.body.exprs
-  pub bindings : s.bindings ≡ length source.infer.binding_types
-  pub slot : (local : Local) → slice_get s.locals 0 ≡ Some local → node_type source (root source) ≡ Some local.ty
-  pub bound : (b : ℕ) (ty : Ty) → binding_type source b ≡ Some ty → slice_get s.locals (suc b) ≡ Some (local_of_type ty)
-  pub first : s.bindings < length s.locals
-  pub cells : (l : ℕ) (local : Local) → slice_get s.locals l ≡ Some local → (cell : Cell) × IsUsed source cell × (cell_type source cell ≡ Some local.ty)
-  pub above : (e local : ℕ) → temp_of s e ≡ Some local → s.bindings < local
-  pub within : (e local : ℕ) → temp_of s e ≡ Some local → local < length s.locals
-  pub own : (e f local : ℕ) → temp_of s e ≡ Some local → temp_of s f ≡ Some local → e ≡ f
-  pub typed : (e index : ℕ) (local : Local) → temp_of s e ≡ Some index → slice_get s.locals index ≡ Some local → node_type source e ≡ Some local.ty
+  pub bound : (b : ℕ) (ty : Ty) → binding_type source b ≡ Some ty → (l : ℕ) × (binding_local s b ≡ Some l)
+  pub allotted : IsAllotted source s
 
 -- the current block is there, and has no terminator yet
 pub record IsOpen (s : Shape) : Type 0 where

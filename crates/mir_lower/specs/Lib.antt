@@ -1,4 +1,5 @@
 pub mod Contexts
+pub mod Copies
 pub mod Does
 pub mod Form
 pub mod Graph
@@ -6,6 +7,7 @@ pub mod Growth
 pub mod Leaving
 pub mod Literals
 pub mod Lowered
+pub mod Order
 pub mod Refusals
 pub mod Simulates
 pub mod Built

@@ -1,6 +1,6 @@
 -- A literal as an operand of the graph.
 use Rattle.std.specs.Prelude.{◌≡◌, ℕ, ◌≤◌, List, take, Some}
-use Rattle.world.specs.declared.literal.Literal.{Literal}
+use Rattle.source_meaning.specs.Core.{CoreLiteral}
 use Rattle.world.specs.declared.layout.Layout.{Layout}
 use Rattle.types.specs.declared.ty.Const.{Const}
 use Rattle.types.specs.declared.ty.Ty.{Ty}
@@ -26,7 +26,7 @@ pub record IsNumberOf (source : Source) (e : ℕ) (bytes : List ℕ) (operand : 
   pub is_constant : IsConstantOf source e (take layout.size bytes) operand
 
 -- an operand is a constant with a literal's bytes and type
-pub record IsLiteral (source : Source) (e : ℕ) (literal : Literal) (operand : OperandKind) : Type 0 where
+pub record IsLiteral (source : Source) (e : ℕ) (literal : CoreLiteral) (operand : OperandKind) : Type 0 where
   pub bytes : List ℕ
   pub told : literal_bytes source e literal ≡ Some bytes
   pub is_constant : IsConstantOf source e bytes operand

@@ -1,21 +1,21 @@
 -- What lowering does to the graph.
-use Rattle.std.specs.Prelude.{◌≡◌, ℕ, List, ◌++◌, ◌∷◌, [], Contains, flat_map, Option, Some, slice_get}
+use Rattle.std.specs.Prelude.{◌≡◌, ℕ, false, List, ◌++◌, ◌∷◌, [], Contains, flat_map, Option, Some, slice_get}
 use Rattle.mir.specs.declared.body.Local.{Local}
 use Rattle.mir.specs.declared.operand.OperandKind.{OperandKind}
-use Rattle.source_meaning.specs.Core.{CoreExpr}
-use Rattle.source_meaning.specs.Core.{Block, Literal}
-use Rattle.world.specs.declared.literal.Literal.TheVariants.{Bool}
+use Rattle.source_meaning.specs.Core.{Block, is_truth}
 use Rattle.world.specs.declared.body.Statement.{Statement}
 use Rattle.types.specs.declared.ids.BindingId.{BindingId}
 use Rattle.types.specs.declared.ids.ExprId.{ExprId}
 use Rattle.world.specs.declared.infer.ValueNs.TheVariants.{LocalBinding}
-use Rattle.source_meaning.specs.Source.{Source, Cell, node, node_type, named_by, pattern, marked, marked_as_place, marked_as_operand, marked_by_statement, marked_by_tail, bound_by}
-use Rattle.source_meaning.specs.Valid.{Evaluates, IsPlainFrom, IsLaidOut, statement_parts}
-use Rattle.mir_lower.specs.Graph.{Shape, binding_local}
+use Rattle.source_meaning.specs.Events.{marked, marked_as_place, marked_as_operand, marked_by_statement, marked_by_tail}
+use Rattle.source_meaning.specs.Source.{Source, Cell, node, node_type, named_by, pattern, bound_by}
+use Rattle.source_meaning.specs.Steps.{statement_parts}
+use Rattle.source_meaning.specs.Valid.{IsPlainFrom, IsLaidOut, NeedsLayout}
+use Rattle.mir_lower.specs.Graph.{Shape, binding_local, local_of}
 use Rattle.mir_lower.specs.Growth.{Grows, IsSound, IsOpen}
 use Rattle.mir.specs.Memory.{Memory}
 use Rattle.mir.specs.Run.{Frame}
-use Rattle.mir_lower.specs.Does.{here, local_of, Comes, IsFrameOf, Does, DoesOperand, DoesPlace, DoesStatements, DoesTail, DoesBind}
+use Rattle.mir_lower.specs.Does.{here, Comes, IsFrameOf, Does, DoesOperand, DoesOperands, DoesPlace, DoesStatements, DoesTail, DoesBind}
 
 -- the graph is as sound as before, has what it had, and these cells more came into use in the scope
 pub record Keeps (source : Source) (old new : Shape) (marked : List Cell) : Type 0 where
@@ -28,15 +28,9 @@ pub record Keeps (source : Source) (old new : Shape) (marked : List Cell) : Type
 abbrev pub HasLayouts : Source → Shape → Type 0
 HasLayouts source s = (l : ℕ) (local : Local) → slice_get s.locals l ≡ Some local → IsLaidOut source (Some local.ty)
 
--- where the graph's locals have layouts, and an expression is plain, what is evaluated where it is has types with
--- layouts
+-- where the graph's locals have layouts, and an expression is plain, what needs a layout there has one
 abbrev pub LaysOut : Source → Shape → ℕ → Type 0
-LaysOut source s e = IsPlainFrom source e → HasLayouts source s → (f : ℕ) → Evaluates source e f → IsLaidOut source (node_type source f)
-
--- an expression is a truth value as it stands, for whose byte no layout is asked
-abbrev pub IsTruthLiteral : Option CoreExpr → Type 0
-IsTruthLiteral (Some (Literal (Bool test))) = Unit {0}
-IsTruthLiteral _ = ⊥
+LaysOut source s e = IsPlainFrom source e → HasLayouts source s → (f : ℕ) → NeedsLayout source e f → IsLaidOut source (node_type source f)
 
 -- an expression was lowered into a cell
 pub record LowersInto (source : Source) (old new : Shape) (e : ℕ) (cell : Cell) : Type 0 where
@@ -46,15 +40,21 @@ pub record LowersInto (source : Source) (old new : Shape) (e : ℕ) (cell : Cell
 
 -- an expression was lowered to a place
 pub record LowersPlace (source : Source) (old new : Shape) (e local : ℕ) : Type 0 where
-  pub keeps : Keeps source old new (marked_as_place source (marked source) e)
+  pub keeps : Keeps source old new (marked_as_place source e)
   pub does : DoesPlace source old new e local
   pub laid : LaysOut source new e
 
 -- an expression was lowered to an operand
 pub record LowersOperand (source : Source) (old new : Shape) (e : ℕ) (operand : OperandKind) : Type 0 where
-  pub keeps : Keeps source old new (marked_as_operand source (marked source) e)
+  pub keeps : Keeps source old new (marked_as_operand source e)
   pub does : DoesOperand source old new e operand
-  pub laid : (IsTruthLiteral (node source e) → IsLaidOut source (node_type source e)) → LaysOut source new e
+  pub laid : is_truth (node source e) ≡ false → LaysOut source new e
+
+-- operands were lowered, from left to right
+pub record LowersOperands (source : Source) (old new : Shape) (es : List ℕ) (operands : List OperandKind) : Type 0 where
+  pub keeps : Keeps source old new (flat_map (marked_as_operand source) es)
+  pub does : DoesOperands source old new es operands
+  pub laid : (e : ℕ) → Contains es e → is_truth (node source e) ≡ false → LaysOut source new e
 
 -- a local holds the value of a cell
 pub record IsPlaced (s : Shape) (local : ℕ) : Type 0 where

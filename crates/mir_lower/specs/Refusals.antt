@@ -3,16 +3,15 @@ use Rattle.std.specs.Prelude.{◌≡◌, ◌≢◌, ℕ, ◌<◌, Bool, true, fa
 use Rattle.std.specs.List.{list_any}
 use Rattle.mir.specs.declared.body.Local.{Local}
 use Rattle.types.specs.declared.ty.Ty.{Ty}
-use Rattle.world.specs.Lookups.{is_copy}
+use Rattle.world.specs.Lookups.{expr_of, is_copy}
 use Rattle.mir_lower.specs.Growth.{IsUsed}
-use Rattle.source_meaning.specs.Core.{CoreExpr}
+use Rattle.source_meaning.specs.Core.{CoreExpr, Number, core_of, is_adjusted, names_item}
 use Rattle.source_meaning.specs.Core as expr
 use Rattle.source_meaning.specs.Core.{local_named}
-use Rattle.world.specs.declared.literal.Literal.{Literal}
-use Rattle.world.specs.declared.literal.Literal.TheVariants as literal
+use Rattle.world.specs.declared.expr.Expr.{Expr}
+use Rattle.world.specs.declared.expr.Expr.TheVariants as whole
 use Rattle.world.specs.declared.body.Statement.{Statement}
 use Rattle.world.specs.declared.body.Statement.TheVariants as statement
-use Rattle.types.specs.declared.operators.UnaryOp.TheVariants as unary
 use Rattle.types.specs.declared.ids.BindingId.{BindingId}
 use Rattle.world.specs.declared.infer.InferenceResult.{InferenceResult}
 use Rattle.world.specs.declared.infer.ValueNs.TheVariants.{LocalBinding}
@@ -20,43 +19,44 @@ use Rattle.world.specs.declared.infer.ValueNs.{ValueNs}
 use Rattle.world.specs.declared.layout.Layout.{Layout}
 use Rattle.mir.specs.declared.errors.MirLowerError.{MirLowerError}
 use Rattle.mir.specs.declared.errors.MirLowerError.TheVariants as refusal
-use Rattle.source_meaning.specs.Meaning.{eager_operator}
-use Rattle.source_meaning.specs.Source.{Source, Cell, cell_type, node, node_layout, named_by, pattern, binding_type, root}
+use Rattle.mir.specs.Errors.{layout_error_of}
+use Rattle.source_meaning.specs.Source.{Source, Cell, cell_type, node, node_layout, named_by, node_type, pattern, binding_type, root}
 use Rattle.source_meaning.specs.Valid.{Evaluates}
 
 -- inference met an error in the body
 abbrev pub HasTypingErrors : InferenceResult → Type 0
 HasTypingErrors infer = IsTrue infer.erroneous ⊎ (infer.mismatches ≢ [])
 
-abbrev pub IsNumberLiteral : Literal → Type 0
-IsNumberLiteral (literal.Int number suffix) = Unit {0}
-IsNumberLiteral (literal.Uint number suffix) = Unit {0}
-IsNumberLiteral _ = ⊥
-
--- a literal of a kind that isn't built yet: a text, bytes, a character or a number with a point
-abbrev pub IsUnbuiltLiteral : Literal → Type 0
-IsUnbuiltLiteral (literal.Bool test) = ⊥
-IsUnbuiltLiteral (literal.Int number suffix) = ⊥
-IsUnbuiltLiteral (literal.Uint number suffix) = ⊥
-IsUnbuiltLiteral _ = Unit {0}
-
 -- an expression is a number literal
 abbrev pub IsNumber : Option CoreExpr → Type 0
-IsNumber (Some (expr.Literal l)) = IsNumberLiteral l
+IsNumber (Some (expr.Literal (Number number))) = Unit {0}
 IsNumber _ = ⊥
 
--- an expression whose operator is missing
-abbrev pub LacksOperator : Option CoreExpr → Type 0
-LacksOperator (Some (expr.BinaryOp lhs rhs None)) = Unit {0}
-LacksOperator _ = ⊥
+-- an expression that is missing, or whose operator is
+abbrev pub IsIncomplete : Expr → Type 0
+IsIncomplete whole.Missing = Unit {0}
+IsIncomplete (whole.BinaryOp lhs rhs None) = Unit {0}
+IsIncomplete _ = ⊥
 
--- an expression of a form that isn't built yet, whatever its parts are: `*`, `&&`, `||`, an assignment, and those that
--- have no meaning yet
-abbrev pub IsUnbuiltForm : Option CoreExpr → Type 0
-IsUnbuiltForm (Some (expr.UnaryOp e unary.Deref)) = Unit {0}
-IsUnbuiltForm (Some (expr.BinaryOp lhs rhs (Some op))) = eager_operator op ≡ None
-IsUnbuiltForm None = Unit {0}
-IsUnbuiltForm _ = ⊥
+-- an expression that isn't adjusted is missing, or its operator is
+pub record LacksPart (source : Source) (e : ℕ) : Type 0 where
+  pub expr : Expr
+  pub stands : expr_of source.body e ≡ Some expr
+  pub plain : is_adjusted source.infer (record { 0 = e }) ≡ false
+  pub lacks : IsIncomplete expr
+
+-- an expression of a form that has no meaning yet, and isn't incomplete
+pub record IsUnbuiltExpr (source : Source) (e : ℕ) : Type 0 where
+  pub expr : Expr
+  pub stands : expr_of source.body e ≡ Some expr
+  pub no_form : core_of (names_item source.infer (record { 0 = e })) expr ≡ None
+  pub complete : IsIncomplete expr → ⊥
+
+-- An expression of a form that isn't built yet, whatever its parts are: one that is adjusted, whatever its form is, and
+-- one whose form has no meaning yet, as `*`, `&&`, `||`, an assignment and a literal that is neither a truth value nor a
+-- whole number.
+abbrev pub IsUnbuiltForm : Source → ℕ → Type 0
+IsUnbuiltForm source e = (is_adjusted source.infer (record { 0 = e }) ≡ true) ⊎ IsUnbuiltExpr source e
 
 -- a statement that isn't built yet: an item, and a `let` without an initializer, with `else`, or of more than a name
 abbrev pub IsUnbuiltStatement : Source → Statement → Type 0
@@ -68,21 +68,21 @@ IsUnbuiltStatement source _ = Unit {0}
 abbrev pub NamesNoBinding : Source → ℕ → Type 0
 NamesNoBinding source e = (named : ValueNs) × (named_by source e ≡ Some named) × (local_named named ≡ None)
 
--- an expression that isn't built yet: by its form, as a literal by its kind, as a path by what it names, or as a block
--- by one of its statements
+-- an expression that isn't built yet: by its form, as a path by what it names, or as a block by one of its statements
 abbrev pub IsUnbuilt : Source → ℕ → Option CoreExpr → Type 0
-IsUnbuilt source e (Some (expr.Block statements tail)) = (one : Statement) × Contains statements one × IsUnbuiltStatement source one
-IsUnbuilt source e (Some (expr.Literal l)) = IsUnbuiltLiteral l
+IsUnbuilt source e (Some (expr.Literal l)) = ⊥
 IsUnbuilt source e (Some (expr.Path name)) = NamesNoBinding source e
-IsUnbuilt source e form = IsUnbuiltForm form
+IsUnbuilt source e (Some (expr.Strict operation operands)) = ⊥
+IsUnbuilt source e (Some (expr.Block statements tail)) = (one : Statement) × Contains statements one × IsUnbuiltStatement source one
+IsUnbuilt source e None = IsUnbuiltForm source e
 
 -- a name pattern of a binding that the body lacks
 abbrev pub BindsNone : Source → ℕ → Type 0
 BindsNone source pat = (binding : BindingId) × (pattern source pat ≡ Some binding) × (binding_type source binding.0 ≡ None)
 
--- a `let` of a binding that the body lacks
+-- a `let` that is built, of a binding that the body lacks
 abbrev pub LetBindsNone : Source → Statement → Type 0
-LetBindsNone source (statement.Let pat initializer else_branch) = BindsNone source pat.0
+LetBindsNone source (statement.Let pat (Some e) None) = BindsNone source pat.0
 LetBindsNone source _ = ⊥
 
 -- an expression that names, or as a block binds, a binding that the body lacks
@@ -93,8 +93,9 @@ LacksLocal source e _ = ⊥
 
 -- the refusal of an expression has its cause there; want of memory needs none
 abbrev pub RefusesNode : Source → ℕ → MirLowerError → Type 0
-RefusesNode source e (refusal.LayoutError layout_error) = IsNumber (node source e) × (node_layout source e ≡ None)
-RefusesNode source e refusal.IncompleteExpr = LacksOperator (node source e)
+RefusesNode source e (refusal.LayoutError layout_error) =
+    IsNumber (node source e) × (node_layout source e ≡ None) × (ty : Ty) × (node_type source e ≡ Some ty) × (layout_error ≡ layout_error_of ty)
+RefusesNode source e refusal.IncompleteExpr = LacksPart source e
 RefusesNode source e (refusal.UnresolvedName name) = (node source e ≡ Some (expr.Path name)) × (named_by source e ≡ None)
 RefusesNode source e refusal.HasErrors = ⊥
 RefusesNode source e (refusal.TypeError text) =

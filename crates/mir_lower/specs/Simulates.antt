@@ -6,7 +6,7 @@ use Rattle.mir.specs.declared.errors.MirEvalError.{MirEvalError}
 use Rattle.mir.specs.declared.errors.MirEvalError as error
 use Rattle.mir.specs.Memory.{Memory}
 use Rattle.mir.specs.Run.{Frame, Ending, Returned, Faulted, Ended, out_of_blocks, entering, begun}
-use Rattle.source_meaning.specs.Ends.{End, Go, Panic, Stuck, More}
+use Rattle.source_meaning.specs.Ends.{End, Go, Jumps, Faults, Stuck, More, Fault, Panic, Undefined}
 use Rattle.source_meaning.specs.Meaning.{meaning_of}
 use Rattle.source_meaning.specs.Source.{Source, Cell, cell_type, node_type, root}
 use Rattle.source_meaning.specs.Valid.{IsPlain, IsLaidOut, AreLaidOut}
@@ -20,10 +20,17 @@ pub record EndsWithin (most : ℕ) (ending : Ending) (run : ℕ → Ended) : Typ
   pub with_more : (more : ℕ) → run (turns + more) ≡ record { ending = ending; left = more }
   pub with_fewer : (fewer : ℕ) → fewer < turns → run fewer ≡ out_of_blocks
 
--- a run ends as the meaning does, within as many blocks as that counts
+-- the error in which a run ends where the meaning ends in a fault
+abbrev pub error_of : Fault → MirEvalError
+error_of (Panic word) = error.Panic word
+error_of (Undefined text) = error.UndefinedBehavior text
+
+-- A run ends as the meaning does, within as many blocks as that counts. Of a meaning that ends in a jump nothing is said:
+-- that of a plain body doesn't.
 abbrev pub EndsAs : End (List ℕ) → (ℕ → Ended) → Type 0
 EndsAs (Go bytes store cost) run = EndsWithin cost.turns (Returned bytes) run
-EndsAs (Panic word cost) run = EndsWithin cost.turns (Faulted (error.Panic word)) run
+EndsAs (Jumps to store cost) run = Unit {0}
+EndsAs (Faults fault cost) run = EndsWithin cost.turns (Faulted (error_of fault)) run
 EndsAs Stuck run = Unit {0}
 EndsAs (More cost) run = Unit {0}
 

@@ -6,21 +6,25 @@ ghost use Rattle.world.specs.Checked.{IsChecked, IsCheckedBody};
 ghost use Rattle.source_meaning.specs.Source.{root};
 ghost use Rattle.mir_lower.specs.Built.{IsBuilt};
 ghost use Rattle.mir_lower.specs.Contexts.{source_of};
+ghost use Rattle.mir_lower.specs.Order.{AreInOrder};
 ghost use Rattle.mir_lower.specs.Refusals.{Refuses, RefusesAt, RefusesInferred, are_some_dropped, needs_drops};
 ghost use Rattle.mir_lower.specs.Simulates.{Simulates};
 
 use crate::context::Context;
-use crate::graph::Graph;
-use crate::leave::{is_copy, leave_scope};
-use crate::literal::{form_not_built, node_ty};
+use crate::first::first_graph;
+use crate::inferred::{copy_types, is_copy};
+use crate::leave::leave_scope;
 use crate::lower::lower_into;
+use crate::unbuilt::form_not_built;
 use mir::{Local, LocalId, MirBody, MirLowerError, MirSpan, Place, Terminator, TerminatorKind};
 use std::alloc::Global;
-use world::{Body, DefWithBodyId, HirDatabase, InferenceResult, TryClone};
+use world::{Body, DefWithBodyId, HirDatabase, InferenceResult};
 
-/// The graph of a typed body: a run of it does what the body means. The refusals are `HasErrors` where
+/// The graph of a typed body: a run of it does what the body means. Its locals are the return slot, one for each binding
+/// that no closure owns, by rising id, and then the temporaries. The refusals are `HasErrors` where
 /// inference met an error, that of an expression, `NotSupported` where the world has a drop function and
-/// a local's type isn't listed as `Copy`, and `NoMemory`.
+/// a local's type isn't listed as `Copy`, and `NoMemory`: also where a block or a local would be the 2^32nd of its
+/// kind, since the room for ids is used up then.
 pub fn lower_to_mir(
     alloc: Global,
     db: &HirDatabase,
@@ -31,6 +35,7 @@ pub fn lower_to_mir(
     requires world { IsChecked db.now }
     requires checked { IsCheckedBody body.now infer.now }
     ensures simulates { IfOk result (Simulates (record { world = db.now; body = body.now; infer = infer.now })) }
+    ensures order { IfOk result (λ lowered. AreInOrder (record { world = db.now; body = body.now; infer = infer.now }) lowered.locals) }
     ensures owner { IfOk result (λ lowered. lowered.owner ≡ owner) }
     ensures errors { OnOk result ((infer.now.erroneous ≡ false) × (infer.now.mismatches ≡ [])) }
     ensures dropless { IfOk result (λ lowered. needs_drops (record { world = db.now; body = body.now; infer = infer.now }) lowered.locals ≡ false) }
@@ -45,6 +50,7 @@ pub fn lower_to_mir(
         db,
         body,
         infer,
+        copy_types: copy_types(alloc, infer)?,
     };
     lower_inferred(&context, owner)
 }
@@ -68,6 +74,7 @@ fn lower_inferred(context: &Context<'_>, owner: DefWithBodyId) -> Result<MirBody
     requires world { IsChecked context.now.db.now }
     requires checked { IsCheckedBody context.now.body.now context.now.infer.now }
     ensures simulates { IfOk result (Simulates (source_of context.now)) }
+    ensures order { IfOk result (λ lowered. AreInOrder (source_of context.now) lowered.locals) }
     ensures owner { IfOk result (λ lowered. lowered.owner ≡ owner) }
     ensures dropless { IfOk result (λ lowered. needs_drops (source_of context.now) lowered.locals ≡ false) }
     ensures built { OnOk result (IsBuilt (source_of context.now) (root (source_of context.now))) }
@@ -85,17 +92,13 @@ fn lower_body(context: &Context<'_>, owner: DefWithBodyId) -> Result<MirBody, Mi
     requires world { IsChecked context.now.db.now }
     requires checked { IsCheckedBody context.now.body.now context.now.infer.now }
     ensures simulates { IfOk result (Simulates (source_of context.now)) }
+    ensures order { IfOk result (λ lowered. AreInOrder (source_of context.now) lowered.locals) }
     ensures owner { IfOk result (λ lowered. lowered.owner ≡ owner) }
     ensures built { OnOk result (IsBuilt (source_of context.now) (root (source_of context.now))) }
     ensures refused { IfErr result (RefusesAt (source_of context.now) (root (source_of context.now))) }
 {
     let start = context.body.body_expr;
-    let Some(ty) = node_ty(context, start) else {
-        return Err(MirLowerError::NoMemory);
-    };
-    let ty = ty.try_clone(context.alloc)?;
-    let bindings = context.infer.binding_types.as_slice();
-    let mut graph = Graph::new(context.alloc, ty, bindings, context.body.exprs.len())?;
+    let mut graph = first_graph(context)?;
     let outer = graph.push_drop_scope(context.alloc);
     let slot = Place { local: LocalId(0) };
     lower_into(context, &mut graph, start, slot)?;

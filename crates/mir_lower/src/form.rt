@@ -1,37 +1,48 @@
 //! The form of an expression, as far as forms are built.
 
-ghost use Rattle.std.specs.Prelude.{◌≡◌, Some};
+ghost use Rattle.std.specs.Prelude.{◌≡◌, ◌<◌, false, length, Some};
 ghost use Rattle.std.specs.Option.{option_and_then, option_copied};
-ghost use Rattle.types.specs.declared.operators.BinaryOp.TheVariants as binary;
-ghost use Rattle.source_meaning.specs.Core as expr;
-ghost use Rattle.source_meaning.specs.Core.{core_of, is_adjusted, is_adjusted_pattern, is_any_step, is_by_reference, is_positive, name_of, names_item};
-ghost use Rattle.source_meaning.specs.Source.{node, pattern};
+ghost use Rattle.source_meaning.specs.Core.{is_adjusted, is_adjusted_pattern, is_any_step, is_by_reference, is_positive, name_of, names_item};
+ghost use Rattle.source_meaning.specs.Source.{pattern};
 ghost use Rattle.world.specs.declared.expr.Expr.TheVariants as whole;
+ghost use Rattle.world.specs.Lookups.{expr_of};
 ghost use Rattle.mir_lower.specs.Contexts.{source_of};
-ghost use Rattle.mir_lower.specs.Form.{HasForm};
+ghost use Rattle.mir_lower.specs.Form.{IsFormOf, HasForm};
 
 use crate::context::Context;
+use crate::literal::LiteralValue;
 use mir::{BinOp, UnOp};
 use world::{
-    Adjustment, BinaryOp, BindingId, BindingMode, Expr, ExprId, List, Literal, Pat, PatId,
+    Adjustment, BinaryOp, BindingId, BindingMode, Expr, ExprId, LabelId, List, Literal, Pat, PatId,
     Statement, Text, UnaryOp,
 };
 
-/// What lowering does with an expression. Its variants are the forms that are built.
+/// What lowering does with an expression. Its variants are the forms that are built, and two for the others.
 #[derive(Clone, Copy)]
 pub enum Form<'a> {
-    Literal(&'a Literal),
+    Literal(LiteralValue),
     Path(&'a Text),
     Unary(UnOp, ExprId),
     Binary(BinOp, ExprId, ExprId),
     Block(&'a List<Statement>, Option<ExprId>),
-    /// An operator on two operands that is missing.
-    NoOperator,
+    /// An expression that is missing, or whose operator is.
+    Incomplete,
     Unbuilt,
 }
 
+fn literal_form<'a>(literal: &Literal) -> Form<'a>
+    ensures { IsFormOf false (whole.Literal literal.now) result }
+{
+    match literal {
+        Literal::Bool(test) => Form::Literal(LiteralValue::Truth(*test)),
+        Literal::Int(number, _) => Form::Literal(LiteralValue::Signed(*number)),
+        Literal::Uint(number, _) => Form::Literal(LiteralValue::Unsigned(*number)),
+        _ => Form::Unbuilt,
+    }
+}
+
 fn unary_form<'a>(e: ExprId, op: UnaryOp) -> Form<'a>
-    ensures { HasForm (Some (expr.UnaryOp e op)) result }
+    ensures { IsFormOf false (whole.UnaryOp e op) result }
 {
     match op {
         UnaryOp::Neg => Form::Unary(UnOp::Neg, e),
@@ -40,21 +51,22 @@ fn unary_form<'a>(e: ExprId, op: UnaryOp) -> Form<'a>
     }
 }
 
-#[tactic(auto, unfolding(source_meaning::specs::Meaning::eager_operator))]
-fn binary_form<'a>(lhs: ExprId, rhs: ExprId, op: BinaryOp) -> Form<'a>
-    ensures { HasForm (Some (expr.BinaryOp lhs rhs (Some op))) result }
+#[tactic(auto, unfolding(source_meaning::specs::Core::eager_operator))]
+fn binary_form<'a>(lhs: ExprId, rhs: ExprId, op: Option<BinaryOp>) -> Form<'a>
+    ensures { IsFormOf false (whole.BinaryOp lhs rhs op) result }
 {
     match op {
-        BinaryOp::ArithOp(op) => Form::Binary(BinOp::from(op), lhs, rhs),
-        BinaryOp::CmpOp(op) => Form::Binary(BinOp::from(op), lhs, rhs),
-        BinaryOp::LogicOp(_) => Form::Unbuilt,
-        BinaryOp::Assignment { .. } => Form::Unbuilt,
+        Some(BinaryOp::ArithOp(op)) => Form::Binary(BinOp::from(op), lhs, rhs),
+        Some(BinaryOp::CmpOp(op)) => Form::Binary(BinOp::from(op), lhs, rhs),
+        Some(BinaryOp::LogicOp(_)) => Form::Unbuilt,
+        Some(BinaryOp::Assignment { .. }) => Form::Unbuilt,
+        None => Form::Incomplete,
     }
 }
 
 /// The form of a path, which is resolved to an item or not.
 fn path_form<'a>(names_item: bool, name: &'a Text) -> Form<'a>
-    ensures { HasForm (core_of names_item (whole.Path name.now)) result }
+    ensures { IsFormOf names_item (whole.Path name.now) result }
 {
     if names_item {
         Form::Unbuilt
@@ -63,25 +75,35 @@ fn path_form<'a>(names_item: bool, name: &'a Text) -> Form<'a>
     }
 }
 
+/// The form of a block, which has a label or none.
+fn block_form<'a>(
+    statements: &'a List<Statement>,
+    tail: Option<ExprId>,
+    label: Option<LabelId>,
+) -> Form<'a>
+    ensures { IsFormOf false (whole.Block statements.now tail label) result }
+{
+    match label {
+        None => Form::Block(statements, tail),
+        Some(_) => Form::Unbuilt,
+    }
+}
+
 /// The form of an expression whose value isn't adjusted.
-fn form_of<'a>(context: &Context<'_>, e: ExprId, expr: Option<&'a Expr>) -> Form<'a>
-    ensures { HasForm (option_and_then (core_of (names_item context.now.infer.now e)) (option_copied expr.entry)) result }
+fn form_of<'a>(names_item: bool, expr: &'a Expr) -> Form<'a>
+    ensures { IsFormOf names_item expr.now result }
 {
     match expr {
-        Some(Expr::Literal(literal)) => Form::Literal(literal),
-        Some(Expr::Path(name)) => path_form(names_item(context, e), name),
-        Some(Expr::UnaryOp { expr, op }) => unary_form(*expr, *op),
-        Some(Expr::BinaryOp { lhs, rhs, op }) => match op {
-            Some(op) => binary_form(*lhs, *rhs, *op),
-            None => Form::NoOperator,
-        },
-        Some(
-            Expr::Block {
-                statements,
-                tail,
-                label: None,
-            },
-        ) => Form::Block(statements, *tail),
+        Expr::Literal(literal) => literal_form(literal),
+        Expr::Path(name) => path_form(names_item, name),
+        Expr::UnaryOp { expr, op } => unary_form(*expr, *op),
+        Expr::BinaryOp { lhs, rhs, op } => binary_form(*lhs, *rhs, *op),
+        Expr::Block {
+            statements,
+            tail,
+            label,
+        } => block_form(statements, *tail, *label),
+        Expr::Missing => Form::Incomplete,
         _ => Form::Unbuilt,
     }
 }
@@ -111,15 +133,23 @@ fn names_item(context: &Context<'_>, e: ExprId) -> bool
     context.infer.assoc_res.get(&e).is_some() || context.infer.variant_res.get(&e).is_some()
 }
 
+/// An expression of the body.
+fn expr_at<'a>(context: &Context<'a>, e: ExprId) -> &'a Expr
+    requires { e.0 < length context.now.body.now.exprs }
+    ensures { expr_of context.now.body.now e.0 ≡ Some result.now }
+{
+    &context.body.exprs.as_slice()[e.0 as usize]
+}
+
 /// The form of an expression of the body.
-#[tactic(auto, unfolding(source_meaning::specs::Source::node))]
 pub(crate) fn form_at<'a>(context: &Context<'a>, e: ExprId) -> Form<'a>
-    ensures { HasForm (node (source_of context.now) e.0) result }
+    requires { e.0 < length context.now.body.now.exprs }
+    ensures { HasForm (source_of context.now) e.0 result }
 {
     if is_adjusted(context, e) {
         Form::Unbuilt
     } else {
-        form_of(context, e, context.body.exprs.get(e.0 as u64))
+        form_of(names_item(context, e), expr_at(context, e))
     }
 }
 

@@ -1,14 +1,14 @@
 //! The graph that lowering builds: blocks, one of which is open, and locals.
 
-ghost use Rattle.std.specs.Prelude.{◌≡◌, ◌∷◌, ◌<◌, ◌^◌, ℕ, [], length, map, IfOk, OnOk, Some, None, slice_get};
+ghost use Rattle.std.specs.Prelude.{◌≡◌, ◌<◌, ◌^◌, ℕ, [], length, IfOk, OnOk, Some, None, slice_get};
 ghost use Rattle.std.specs.Option.{option_map};
-ghost use Rattle.mir_lower.specs.Graph.{shape, first_shape, with_statement, with_terminator, with_block, with_temp, with_mark, with_scope, temp_of, binding_local, no_statements, cell_of, cells_of, local_of_type};
+ghost use Rattle.mir_lower.specs.Graph.{shape, first_shape, with_statement, with_terminator, with_block, with_binding, with_temp, with_mark, with_scope, temp_of, binding_local, no_statements, cell_of, cells_of};
 ghost use Rattle.source_meaning.specs.Source.{Node};
 
 use mir::{BasicBlock, BasicBlockId, Local, LocalId, MirBody, Statement, Terminator};
 use std::alloc::Global;
 use std::mem;
-use world::{BindingId, DefWithBodyId, ExprId, List, NoMemory, TryClone, Ty};
+use world::{BindingId, DefWithBodyId, ExprId, List, NoMemory, Ty};
 
 /// What a local holds the value of.
 #[derive(Clone, Copy)]
@@ -36,10 +36,10 @@ pub struct Graph {
     pub blocks: Vec<BasicBlock>,
     /// The block that statements are added to.
     pub current: BasicBlockId,
-    /// Local 0 is the return slot, and local `b + 1` that of binding `b`.
+    /// Local 0 is the return slot.
     pub locals: List<Local>,
-    /// How many bindings there are.
-    pub bindings: u32,
+    /// For each binding its local, where no closure owns it.
+    pub bindings: Vec<Option<LocalId>>,
     /// For each expression the local that holds its value.
     pub temps: Vec<Option<LocalId>>,
     pub scope: Vec<Marked>,
@@ -55,41 +55,48 @@ fn empty_block(alloc: Global) -> BasicBlock
     }
 }
 
-/// The return slot, and a local for each binding, by their types.
-fn first_locals(alloc: Global, ty: Ty, bindings: &[Ty]) -> Result<List<Local>, NoMemory>
-    ensures { IfOk result (λ locals. locals ≡ local_of_type ty ∷ map local_of_type bindings.now) }
-{
-    let mut locals = List::new(alloc);
-    locals.push(Local { ty })?;
-    for binding in bindings {
-        let ty = binding.try_clone(alloc)?;
-        locals.push(Local { ty })?;
-    }
-    Ok(locals)
-}
-
 impl Graph {
-    /// One open block, the return slot, and a local for each binding, for a body of so many expressions.
-    /// The room for ids ends at 2^32 - 1.
-    pub fn new(alloc: Global, ty: Ty, bindings: &[Ty], nodes: u64) -> Result<Graph, NoMemory>
-        ensures { IfOk result (λ graph. shape graph ≡ first_shape ty bindings.now nodes) }
+    /// One open block and the return slot, for a body of so many expressions.
+    pub fn new(alloc: Global, ty: Ty, nodes: u64) -> Result<Graph, NoMemory>
+        ensures { IfOk result (λ graph. shape graph ≡ first_shape ty nodes) }
     {
-        if bindings.len() >= u32::MAX as usize {
-            return Err(NoMemory);
-        }
         let mut blocks = Vec::new(alloc);
         blocks.push(empty_block(alloc))?;
-        let locals = first_locals(alloc, ty, bindings)?;
+        let mut locals = List::new(alloc);
+        locals.push(Local { ty })?;
         let none: Option<LocalId> = None;
         let temps = vec![in alloc; none; nodes as usize]?;
         Ok(Graph {
             blocks,
             current: BasicBlockId(0),
             locals,
-            bindings: bindings.len() as u32,
+            bindings: Vec::new(alloc),
             temps,
             scope: Vec::new(alloc),
         })
+    }
+
+    /// Adds a binding, with a new local of its type. A local that would be the 2^32nd has no id: `NoMemory`.
+    #[tactic(auto, unfolding(crate::specs::Graph::with_binding))]
+    pub fn push_bound(&mut self, ty: Ty) -> Result<(), NoMemory>
+        ensures { OnOk result (shape self.new ≡ with_binding (Some ty) (shape self.old)) }
+    {
+        let count = self.locals.len();
+        if count >= u32::MAX as u64 {
+            return Err(NoMemory);
+        }
+        self.locals.push(Local { ty })?;
+        self.bindings.push(Some(LocalId(count as u32)))?;
+        Ok(())
+    }
+
+    /// Adds a binding that has no local.
+    #[tactic(auto, unfolding(crate::specs::Graph::with_binding))]
+    pub fn push_unbound(&mut self) -> Result<(), NoMemory>
+        ensures { OnOk result (shape self.new ≡ with_binding None (shape self.old)) }
+    {
+        self.bindings.push(None)?;
+        Ok(())
     }
 
     /// Adds a statement to the open block.
@@ -113,7 +120,7 @@ impl Graph {
         block.terminator = Some(terminator);
     }
 
-    /// Adds a block and opens it. The room for ids ends at 2^32 - 1.
+    /// Adds a block and opens it. A block that would be the 2^32nd has no id: `NoMemory`.
     #[tactic(auto, unfolding(crate::specs::Graph::with_block))]
     pub fn open_block(&mut self, alloc: Global) -> Result<(), NoMemory>
         ensures { OnOk result (shape self.new ≡ with_block (shape self.old)) }
@@ -127,7 +134,7 @@ impl Graph {
         Ok(())
     }
 
-    /// A new local for an expression that has none yet. The room for ids ends at 2^32 - 1.
+    /// A new local for an expression that has none yet. A local that would be the 2^32nd has no id: `NoMemory`.
     #[tactic(auto, unfolding(crate::specs::Graph::with_temp))]
     fn new_temp(&mut self, node: ExprId, ty: Ty) -> Result<LocalId, NoMemory>
         requires { node.0 < length self.old.temps.items }
@@ -169,15 +176,14 @@ impl Graph {
         Ok(local)
     }
 
-    /// The local of a binding, where there is such a binding.
+    /// The local of a binding, where it has one.
     #[tactic(auto, unfolding(crate::specs::Graph::binding_local))]
     pub fn binding_local(&self, binding: BindingId) -> Option<LocalId>
         ensures { option_map (λ local. local.0) result ≡ binding_local (shape self.now) binding.0 }
     {
-        if binding.0 < self.bindings {
-            Some(LocalId(binding.0 + 1))
-        } else {
-            None
+        match self.bindings.get(binding.0 as usize) {
+            Some(local) => *local,
+            None => None,
         }
     }
 

@@ -5,7 +5,6 @@ ghost use Rattle.mir.specs.declared.statement.StatementKind.TheVariants.{Storage
 ghost use Rattle.mir.specs.declared.body.TerminatorKind.TheVariants.{Drop as Dropping};
 ghost use Rattle.std.specs.Option.{option_copied};
 ghost use Rattle.source_meaning.specs.Source.{cell_type, is_dropped, drops};
-ghost use Rattle.world.specs.Lookups.{is_copy as is_copy_type};
 ghost use Rattle.mir_lower.specs.Contexts.{source_of};
 ghost use Rattle.mir_lower.specs.Graph.{shape, with_statement, with_block, with_terminator, with_scope, cell_of, cells_of};
 ghost use Rattle.mir_lower.specs.Growth.{IsSound, IsOpen};
@@ -13,31 +12,21 @@ ghost use Rattle.mir_lower.specs.Leaving.{Idles, one_if};
 
 use crate::context::Context;
 use crate::graph::{DropScopeToken, Graph, Held, Marked};
+use crate::inferred::{binding_ty, is_copy};
 use mir::{
     BasicBlockId, LocalId, MirSpan, Place, Statement, StatementKind, Terminator, TerminatorKind,
 };
 use std::alloc::Global;
 use world::{ExprId, NoMemory, Ty};
 
-/// Whether a type is listed as `Copy`.
-pub(crate) fn is_copy(context: &Context<'_>, ty: &Ty) -> bool
-    ensures { result ≡ is_copy_type context.now.infer.now ty.now }
-{
-    context
-        .infer
-        .copy_types
-        .as_slice()
-        .iter()
-        .any(|copy| *ty == *copy)
-}
-
 /// The type of what a local holds.
+#[tactic(auto, unfolding(source_meaning::specs::Source::node_type))]
 fn held_type<'a>(context: &Context<'a>, held: Held) -> Option<&'a Ty>
     ensures { option_copied result ≡ cell_type (source_of context.now) (cell_of held) }
 {
     match held {
         Held::Expr(e) => context.infer.expr_types.get(e.0 as u64),
-        Held::Binding(binding) => context.infer.binding_types.get(binding.0 as u64),
+        Held::Binding(binding) => binding_ty(context, binding.0 as u64),
     }
 }
 
@@ -51,7 +40,7 @@ fn is_dropped(context: &Context<'_>, held: Held) -> bool
     }
 }
 
-/// Ends the current block by a drop, and goes on in a new one. The room for ids ends at 2^32 - 1.
+/// Ends the current block by a drop, and goes on in a new one. A block that would be the 2^32nd has no id: `NoMemory`.
 fn drop_local(alloc: Global, graph: &mut Graph, local: LocalId, at: ExprId) -> Result<(), NoMemory>
     requires { IsOpen (shape graph.old) }
     ensures { OnOk result ((target : _) × (target.0 ≡ length (shape graph.old).blocks)

@@ -3,11 +3,15 @@
 
 mod body;
 mod context;
+mod first;
 mod form;
 mod graph;
+mod inferred;
 mod leave;
 mod literal;
 mod locals;
 mod lower;
+mod unbuilt;
 
 pub use body::lower_to_mir;
+pub use unbuilt::form_not_built;

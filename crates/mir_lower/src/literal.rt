@@ -1,7 +1,6 @@
 //! Literals as operands.
 
 ghost use Rattle.std.specs.Prelude.{◌≡◌, ◌∷◌, [], ◌<◌, ◌≤◌, ℕ, take, length, IfOk, IfErr, OnOk, Some, pos};
-ghost use Rattle.std.specs.Option.{option_copied};
 ghost use Rattle.numbers.specs.Bytes.{low_bytes};
 ghost use Rattle.source_meaning.specs.Meaning.{truth_byte};
 ghost use Rattle.source_meaning.specs.Source.{node, node_type};
@@ -12,24 +11,24 @@ ghost use Rattle.mir.specs.declared.operand.OperandKind.TheVariants.{Constant};
 ghost use Rattle.mir.specs.Run.{constant_bytes};
 ghost use Rattle.types.specs.declared.ty.Const.{Const};
 ghost use Rattle.mir_lower.specs.Contexts.{source_of};
+ghost use Rattle.mir_lower.specs.Form.{core_value};
 ghost use Rattle.mir_lower.specs.Literals.{IsConstantOf, IsNumberOf, IsLiteral};
 ghost use Rattle.mir_lower.specs.Built.{HasNumberLayout, IsBuiltLiteral};
 ghost use Rattle.mir_lower.specs.Refusals.{IsNumber, RefusesNode};
 ghost use Rattle.std.specs.Prelude.{codes, ◌⊎◌};
 
 use crate::context::Context;
-use mir::{LayoutError, MirLowerError, MirSpan, Operand, OperandKind};
+use crate::inferred::node_ty;
+use mir::{MirLowerError, MirSpan, Operand, OperandKind, layout_error_of};
 use std::alloc::Global;
-use world::{Bytes, Const, ExprId, Literal, MemoryMap, Text, TryClone, Ty, ValueConst};
+use world::{Bytes, Const, ExprId, MemoryMap, Text, TryClone, Ty, ValueConst};
 
-/// The refusal of a form that isn't built yet.
-pub(crate) fn form_not_built(alloc: Global) -> MirLowerError
-    ensures { (result ≡ refusal.NotSupported (codes "form not built")) ⊎ (result ≡ refusal.NoMemory) }
-{
-    match Text::from_str(alloc, "form not built") {
-        Ok(text) => MirLowerError::NotSupported(text),
-        Err(error) => MirLowerError::from(error),
-    }
+/// A literal of a kind that is built: a truth value, or a whole number.
+#[derive(Clone, Copy)]
+pub enum LiteralValue {
+    Truth(bool),
+    Signed(i128),
+    Unsigned(u128),
 }
 
 fn too_many_bytes(alloc: Global) -> MirLowerError
@@ -53,13 +52,6 @@ fn signed_bytes(number: i128) -> [u8; 16]
     ensures { (size : ℕ) → size ≤ 16 → low_bytes size number ≡ take size result }
 {
     number.cast_unsigned().to_le_bytes()
-}
-
-/// The type of an expression of the body.
-pub(crate) fn node_ty<'a>(context: &Context<'a>, e: ExprId) -> Option<&'a Ty>
-    ensures { option_copied result ≡ node_type (source_of context.now) e.0 }
-{
-    context.infer.expr_types.get(e.0 as u64)
 }
 
 /// A constant of a type, as an operand.
@@ -88,16 +80,15 @@ fn constant(
 /// A number literal with these lowest bytes as a constant: as many of them as its type has.
 fn lower_number(context: &Context<'_>, e: ExprId, bytes: [u8; 16]) -> Result<Operand, MirLowerError>
     requires checked { IsCheckedBody context.now.body.now context.now.infer.now }
+    requires within { e.0 < length context.now.body.now.exprs }
     requires number { IsNumber (node (source_of context.now) e.0) }
     ensures lowered { IfOk result (λ operand. IsNumberOf (source_of context.now) e.0 bytes operand.kind) }
     ensures built { OnOk result (HasNumberLayout (source_of context.now) e.0) }
     ensures refused { IfErr result (RefusesNode (source_of context.now) e.0) }
 {
-    let Some(ty) = node_ty(context, e) else {
-        return Err(MirLowerError::NoMemory);
-    };
+    let ty = node_ty(context, e);
     let Some(layout) = context.db.layout_of(ty) else {
-        return Err(MirLowerError::LayoutError(LayoutError::Unknown));
+        return Err(MirLowerError::LayoutError(layout_error_of(ty)));
     };
     if layout.size > 16 {
         return Err(too_many_bytes(context.alloc));
@@ -108,12 +99,12 @@ fn lower_number(context: &Context<'_>, e: ExprId, bytes: [u8; 16]) -> Result<Ope
 
 /// A truth value as a constant: one byte.
 fn lower_truth(context: &Context<'_>, e: ExprId, test: bool) -> Result<Operand, MirLowerError>
+    requires checked { IsCheckedBody context.now.body.now context.now.infer.now }
+    requires within { e.0 < length context.now.body.now.exprs }
     ensures lowered { IfOk result (λ operand. IsConstantOf (source_of context.now) e.0 (truth_byte test ∷ []) operand.kind) }
     ensures refused { IfErr result (λ error. error ≡ refusal.NoMemory) }
 {
-    let Some(ty) = node_ty(context, e) else {
-        return Err(MirLowerError::NoMemory);
-    };
+    let ty = node_ty(context, e);
     let memory = Bytes::from_slice(context.alloc, &[test as u8])?;
     constant(context, e, ty, memory)
 }
@@ -123,18 +114,18 @@ fn lower_truth(context: &Context<'_>, e: ExprId, test: bool) -> Result<Operand, 
 pub(crate) fn lower_literal(
     context: &Context<'_>,
     e: ExprId,
-    literal: &Literal,
+    literal: LiteralValue,
 ) -> Result<Operand, MirLowerError>
     requires checked { IsCheckedBody context.now.body.now context.now.infer.now }
-    requires literal { node (source_of context.now) e.0 ≡ Some (expr.Literal literal.now) }
-    ensures lowered { IfOk result (λ operand. IsLiteral (source_of context.now) e.0 literal.now operand.kind) }
-    ensures built { OnOk result (IsBuiltLiteral (source_of context.now) e.0 literal.now) }
+    requires within { e.0 < length context.now.body.now.exprs }
+    requires literal { node (source_of context.now) e.0 ≡ Some (expr.Literal (core_value literal)) }
+    ensures lowered { IfOk result (λ operand. IsLiteral (source_of context.now) e.0 (core_value literal) operand.kind) }
+    ensures built { OnOk result (IsBuiltLiteral (source_of context.now) e.0 (core_value literal)) }
     ensures refused { IfErr result (RefusesNode (source_of context.now) e.0) }
 {
     match literal {
-        Literal::Bool(test) => lower_truth(context, e, *test),
-        Literal::Int(number, _) => lower_number(context, e, signed_bytes(*number)),
-        Literal::Uint(number, _) => lower_number(context, e, unsigned_bytes(*number)),
-        _ => Err(form_not_built(context.alloc)),
+        LiteralValue::Truth(test) => lower_truth(context, e, test),
+        LiteralValue::Signed(number) => lower_number(context, e, signed_bytes(number)),
+        LiteralValue::Unsigned(number) => lower_number(context, e, unsigned_bytes(number)),
     }
 }

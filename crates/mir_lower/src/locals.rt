@@ -8,17 +8,17 @@ ghost use Rattle.source_meaning.specs.Core as expr;
 ghost use Rattle.source_meaning.specs.Core.{local_named};
 ghost use Rattle.world.specs.declared.infer.ValueNs.TheVariants.{LocalBinding};
 ghost use Rattle.mir_lower.specs.Contexts.{source_of};
-ghost use Rattle.mir_lower.specs.Does.{local_of};
-ghost use Rattle.mir_lower.specs.Graph.{shape, with_statement};
+ghost use Rattle.mir_lower.specs.Graph.{shape, with_statement, local_of};
 ghost use Rattle.mir_lower.specs.Growth.{IsSound, IsOpen, IsReady};
 ghost use Rattle.mir_lower.specs.Lowered.{IsGiven, IsNamed, Binds};
-ghost use Rattle.mir_lower.specs.Built.{BindsBinding, NamesBinding};
+ghost use Rattle.source_meaning.specs.Built.{BindsBinding, NamesBinding};
 ghost use Rattle.mir_lower.specs.Refusals.{RefusesNode, RefusesPattern};
 
 use crate::context::Context;
 use crate::form::name_bound;
 use crate::graph::{Graph, Held};
-use crate::literal::{form_not_built, node_ty};
+use crate::inferred::node_ty;
+use crate::unbuilt::form_not_built;
 use mir::{
     LocalId, MirLowerError, MirSpan, Operand, OperandKind, Place, Rvalue, Statement, StatementKind,
 };
@@ -119,10 +119,7 @@ pub(crate) fn new_temp(
     ensures given { IfOk result (λ place. IsGiven (source_of context.now) (shape graph.old) (shape graph.new) (Node e.0) place.local.0) }
     ensures refused { IfErr result (λ error. error ≡ refusal.NoMemory) }
 {
-    let Some(ty) = node_ty(context, e) else {
-        return Err(MirLowerError::NoMemory);
-    };
-    let ty = ty.try_clone(context.alloc)?;
+    let ty = node_ty(context, e).try_clone(context.alloc)?;
     let local = graph.temp_for(e, ty)?;
     graph.push_statement(Statement {
         kind: StatementKind::StorageLive(local),

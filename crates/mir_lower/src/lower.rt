@@ -2,14 +2,13 @@
 
 ghost use Rattle.std.specs.Prelude.{◌≡◌, ◌∷◌, false, [], IfOk, IfErr, OnOk, Some, None};
 ghost use Rattle.mir.specs.declared.operand.OperandKind.TheVariants.{Copy};
-ghost use Rattle.source_meaning.specs.Source.{Cell, node, is_path};
+ghost use Rattle.source_meaning.specs.Source.{Cell, node};
+ghost use Rattle.source_meaning.specs.Core.{Combine, is_path};
 ghost use Rattle.source_meaning.specs.Core as expr;
 ghost use Rattle.world.specs.declared.body.Statement.TheVariants as statement_kind;
 ghost use Rattle.mir_lower.specs.Contexts.{source_of};
-ghost use Rattle.mir_lower.specs.Does.{local_of};
-ghost use Rattle.mir_lower.specs.declared.form.Form.TheVariants as form;
-ghost use Rattle.mir_lower.specs.Form.{HasForm, unary_of};
-ghost use Rattle.mir_lower.specs.Graph.{shape};
+ghost use Rattle.mir_lower.specs.Form.{core_value, operation_of};
+ghost use Rattle.mir_lower.specs.Graph.{shape, local_of};
 ghost use Rattle.mir_lower.specs.Growth.{IsReady};
 ghost use Rattle.mir_lower.specs.Lowered.{IsPlaced, LowersInto, LowersPlace, LowersOperand, LowersStatements, LowersTail, IsStatementOf};
 ghost use Rattle.mir_lower.specs.Built.{IsBuilt, IsBuiltThrough};
@@ -21,10 +20,11 @@ use crate::context::Context;
 use crate::form::{Form, form_at};
 use crate::graph::Graph;
 use crate::leave::leave_scope;
-use crate::literal::{form_not_built, lower_literal};
+use crate::literal::{LiteralValue, lower_literal};
 use crate::locals::{assign, bind, fake_read, new_temp, place_named};
+use crate::unbuilt::form_not_built;
 use mir::{BinOp, MirLowerError, MirSpan, Operand, OperandKind, Place, Rvalue, UnOp};
-use world::{ExprId, List, Literal, PatId, Statement, Text};
+use world::{ExprId, List, PatId, Statement, Text};
 
 /// A place as an operand.
 fn copied(place: Place, e: ExprId) -> Operand
@@ -41,11 +41,11 @@ fn literal_into(
     context: &Context<'_>,
     graph: &mut Graph,
     e: ExprId,
-    literal: &Literal,
+    literal: LiteralValue,
     place: Place,
 ) -> Result<(), MirLowerError>
     requires ready { IsReady (source_of context.now) (shape graph.old) e.0 }
-    requires form { node (source_of context.now) e.0 ≡ Some (expr.Literal literal.now) }
+    requires form { node (source_of context.now) e.0 ≡ Some (expr.Literal (core_value literal)) }
     ensures lowered { OnOk result ((cell : Cell) → local_of (shape graph.old) cell ≡ Some place.local.0
         → LowersInto (source_of context.now) (shape graph.old) (shape graph.new) e.0 cell) }
     ensures built { OnOk result (IsBuilt (source_of context.now) e.0) }
@@ -165,7 +165,7 @@ pub(crate) fn lower_into(
         Form::Unary(op, operand) => lower_unary(context, graph, e, op, operand, place),
         Form::Binary(op, lhs, rhs) => lower_binary(context, graph, e, op, lhs, rhs, place),
         Form::Block(statements, tail) => lower_block(context, graph, e, statements, tail, place),
-        Form::NoOperator => Err(MirLowerError::IncompleteExpr),
+        Form::Incomplete => Err(MirLowerError::IncompleteExpr),
         Form::Unbuilt => Err(form_not_built(context.alloc)),
     }
 }
@@ -181,7 +181,7 @@ fn lower_unary(
     place: Place,
 ) -> Result<(), MirLowerError>
     requires ready { IsReady (source_of context.now) (shape graph.old) e.0 }
-    requires form { node (source_of context.now) e.0 ≡ Some (expr.UnaryOp operand (unary_of op)) }
+    requires form { node (source_of context.now) e.0 ≡ Some (expr.Strict (operation_of op) (operand.0 ∷ [])) }
     ensures lowered { OnOk result ((cell : Cell) → local_of (shape graph.old) cell ≡ Some place.local.0
         → LowersInto (source_of context.now) (shape graph.old) (shape graph.new) e.0 cell) }
     ensures built { OnOk result (IsBuilt (source_of context.now) e.0) }
@@ -203,7 +203,7 @@ fn lower_binary(
     place: Place,
 ) -> Result<(), MirLowerError>
     requires ready { IsReady (source_of context.now) (shape graph.old) e.0 }
-    requires form { HasForm (node (source_of context.now) e.0) (form.Binary op lhs rhs) }
+    requires form { node (source_of context.now) e.0 ≡ Some (expr.Strict (Combine op) (lhs.0 ∷ rhs.0 ∷ [])) }
     ensures lowered { OnOk result ((cell : Cell) → local_of (shape graph.old) cell ≡ Some place.local.0
         → LowersInto (source_of context.now) (shape graph.old) (shape graph.new) e.0 cell) }
     ensures built { OnOk result (IsBuilt (source_of context.now) e.0) }

@@ -1,5 +1,6 @@
-pub mod Reading
-pub mod Keeping
-pub mod Dispatch
-pub mod Negation
+pub mod Bounds
+pub mod Growing
+pub mod IntParts
 pub mod Padding
+pub mod Parts
+pub mod Writing

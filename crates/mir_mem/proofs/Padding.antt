@@ -10,9 +10,9 @@ use mir.Val.{Fits}
 use mir.Syntax.{w8}
 use Rattle.numbers.specs.Bytes.{value_of, signed_reading, number_of}
 use Rattle.numbers.proofs.Digits.{value_of-append, value_of_below, next_values}
-use Rattle.mir_mem.proofs.Reading.{value_of-drop, value_of-dropped}
-use Rattle.mir_mem.proofs.Keeping.{values_mono}
-use Rattle.mir_mem.proofs.Negation.{value_in_range}
+use Rattle.numbers.proofs.Reading.{value_of-drop, value_of-dropped}
+use Rattle.numbers.proofs.Keeping.{values_mono}
+use Rattle.numbers.proofs.Negation.{value_in_range}
 
 value_of-zeros : (k : ℕ) → value_of (replicate k 0) ≡ 0
 unfolding value_of

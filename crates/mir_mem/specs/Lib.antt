@@ -1,2 +1,4 @@
-pub mod Computed
+pub mod Flat
 pub mod IntValue
+pub mod MemoryLaws
+pub mod Views

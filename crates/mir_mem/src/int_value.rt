@@ -4,7 +4,7 @@ ghost use Rattle.std.specs.Prelude.{◌≡◌, IsTrue, IsFalse, IsSome, IfSome, 
 ghost use Rattle.numbers.specs.Bytes.{is_width, number_of};
 ghost use Rattle.mir_mem.specs.IntValue.{Reads};
 
-use crate::read::{is_width, word2, word4, word8, word16};
+use numbers::{is_width, word2, word4, word8, word16};
 
 /// A number of an integer type.
 #[derive(Clone, Copy, PartialEq, Eq, Debug)]

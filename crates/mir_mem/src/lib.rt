@@ -1,17 +1,27 @@
-//! The machine's memory: numbers as the bytes that it holds, and what operators make of them.
+//! The memory of a run, and the numbers of the integer types as the bytes that it holds.
 #![tactic(auto)]
 
-mod arithmetic;
+mod area;
+mod faults;
+mod flat;
+mod int_arithmetic;
+mod int_parts;
 mod int_value;
-mod kept;
+mod interval;
+mod memory;
+mod memory_laws;
 mod pad;
-mod read;
-mod shifts;
-mod table;
-mod unary;
+mod placing;
+mod view;
 
+pub use flat::FlatMemory;
 pub use int_value::IntValue;
-pub use kept::Computed;
+pub use interval::IntervalOrOwned;
+pub use memory::Memory;
+pub use memory_laws::{
+    addresses_come_back, blocks_are_new, cells_are_apart, cells_are_new, copies_give_the_source,
+    growth_keeps_old_bytes, reads_give_what_was_written, writes_keep_the_rest,
+};
+pub use mir::{Address, CellSize, Interval, MemFault};
 pub use pad::pad16;
-pub use table::compute;
-pub use unary::{invert, negate};
+pub use view::View;

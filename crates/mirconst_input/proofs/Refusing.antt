@@ -1,4 +1,4 @@
--- With which status a part of a run refuses, from what its callees say.
+-- The causes of the statuses, from those of the callees.
 use Rattle.std.proofs.Common.{◌≡◌, ℕ, ◌≤◌, List, Option, None, Some, Ok, inl, inr, subst, arith}
 use Rattle.std.specs.Prelude.{IsUtf8, position}
 use Rattle.serde_json.specs.Data.{Data}
@@ -14,12 +14,12 @@ use Rattle.mirconst_input.specs.Refusals.{IsOfRead, IsOfReading, IsOfInput, IsOf
 use Rattle.mirconst_input.specs.declared.status.Status.{Status}
 use Rattle.mirconst_input.specs.declared.status.Status.TheVariants.{Values, Errors, BadWords, NotJson, NotAWorld, BadWorld, TooLong, ReadFault, WriteFault, NoMemory}
 
--- a fault since then is one since before
+-- a failure after a later count is one after an earlier count too
 since_before : (before between after : ℕ) → before ≤ between → HasCause between after → HasCause before after
 since_before before between after rising (inl rose) = inl (omega arith)
 since_before before between after rising (inr full) = inr full
 
--- a read in the middle of the input failed
+-- the status of one read is that of reading the input
 pub read_refused : (left left' : Option (List ℕ)) (before between after : ℕ) (status : Status) → before ≤ between → IsOfRead between after status →
     IsOfReading left left' before after status
 read_refused left left' before between after Values rising is = absurd is
@@ -33,14 +33,14 @@ read_refused left left' before between after ReadFault rising is = since_before 
 read_refused left left' before between after WriteFault rising is = absurd is
 read_refused left left' before between after NoMemory rising is = tt
 
--- bytes of which no tree is read are no JSON
+-- bytes that aren't parsed are no JSON
 pub no_json : (bytes : List ℕ) → (IsUtf8 bytes → read bytes ≡ None) → IsNoJson bytes
 no_json bytes none tree is =
     let nothing : read bytes ≡ None = none is.utf8 in
     let something : read bytes ≡ Some tree = is.json in
     absurd cc
 
--- bytes are the JSON of a tree that stands for no world
+-- the status of a JSON tree is that of the bytes
 pub tree_refused : (bytes : List ℕ) (tree : Data) (status : Status) → IsUtf8 bytes → read bytes ≡ Some tree → IsOfTree tree status → IsOfInput bytes status
 tree_refused bytes tree Values utf8 json is = absurd is
 tree_refused bytes tree Errors utf8 json is = absurd is
@@ -53,7 +53,7 @@ tree_refused bytes tree ReadFault utf8 json is = absurd is
 tree_refused bytes tree WriteFault utf8 json is = absurd is
 tree_refused bytes tree NoMemory utf8 json is = tt
 
--- bytes are the JSON of a world that fails the check
+-- the status of a world that fails the check is that of the bytes
 pub check_refused : (bytes : List ℕ) (tree : Data) (world : HirDatabase) (goals : List Goal) (status : Status) → IsUtf8 bytes → read bytes ≡ Some tree →
     world_of tree ≡ Ok (world, goals) → IsOfCheck world status → IsOfInput bytes status
 check_refused bytes tree world goals Values utf8 json stands is = absurd is
@@ -68,7 +68,7 @@ check_refused bytes tree world goals ReadFault utf8 json stands is = absurd is
 check_refused bytes tree world goals WriteFault utf8 json stands is = absurd is
 check_refused bytes tree world goals NoMemory utf8 json stands is = tt
 
--- bytes are the JSON of a world that passes the check, and a goal is not in it
+-- the status of a wrong goal is that of the bytes
 pub goal_refused : (bytes : List ℕ) (tree : Data) (passed world : HirDatabase) (goals : List Goal) (place : ℕ) (status : Status) → IsUtf8 bytes → read bytes ≡ Some tree →
     world_of tree ≡ Ok (world, goals) → passed ≡ world → first_failure world ≡ None → position (is_misfit passed) goals ≡ Some place → IsOfGoal place status →
     IsOfInput bytes status

@@ -1,4 +1,4 @@
--- What the input stands for, and what is wrong with one that stands for nothing.
+-- The checked world and the goals in the bytes of the input, or what is wrong with them.
 use Rattle.std.specs.Prelude.{◌≡◌, ℕ, ◌≤◌, List, [], ◌++◌, length, drop, Option, None, Some, Ok, Err, IsUtf8, IfSome, codes, decimal, option_map, position}
 use Rattle.serde_json.specs.Data.{Data}
 use Rattle.serde_json.specs.Read.{read}
@@ -9,7 +9,7 @@ use Rattle.world_json.specs.declared.goal.Goal.{Goal}
 use Rattle.world_json.specs.Input.{world_of}
 use Rattle.mirconst_input.specs.Goals.{is_misfit}
 
--- Bytes went over from what is left to what was taken: both in a row are the same as before.
+-- Bytes moved from the source to those that were read: joined, the bytes that were read and those that are left are the same as before.
 abbrev pub Moves : List ℕ → Option (List ℕ) → List ℕ → Option (List ℕ) → Type 0
 Moves taken left taken' left' = option_map (λ rest. taken ++ rest) left ≡ option_map (λ rest. taken' ++ rest) left'
 
@@ -17,23 +17,23 @@ Moves taken left taken' left' = option_map (λ rest. taken ++ rest) left ≡ opt
 abbrev pub most_bytes : ℕ
 most_bytes = 67108864
 
--- These bytes were read to the end of the input. Where the source tells its bytes, they are these, and none is left.
+-- These bytes were read to the end of the input. If the source's bytes are known, they are all of them, and none is left.
 pub record IsReadToEnd (left left' : Option (List ℕ)) (bytes : List ℕ) : Type 0 where
   pub told : IfSome left (λ all. all ≡ bytes)
   pub ended : IfSome left (λ all. left' ≡ Some [])
   pub few : length bytes ≤ most_bytes
 
--- some bytes of the front were taken, and no more than so many
+-- at most `most` bytes were taken from the front
 pub record Takes (most : ℕ) (left left' : Option (List ℕ)) : Type 0 where
   pub count : ℕ
   pub few : count ≤ most
   pub taken : left' ≡ option_map (drop count) left
 
--- never more than one byte too many was taken
+-- at most one byte above the greatest length was taken
 abbrev pub TakesFew : Option (List ℕ) → Option (List ℕ) → Type 0
 TakesFew left left' = Takes 67108865 left left'
 
--- bytes are JSON that stands for a world and goals; the world passes the check, and the goals are in it
+-- bytes are the JSON of a world and goals; the world passes the check, and no goal is wrong
 pub record StandsFor (bytes : List ℕ) (world : HirDatabase) (goals : List Goal) : Type 0 where
   pub tree : Data
   pub utf8 : IsUtf8 bytes
@@ -51,17 +51,17 @@ pub record IsJson (bytes : List ℕ) (tree : Data) : Type 0 where
 abbrev pub IsNoJson : List ℕ → Type 0
 IsNoJson bytes = (tree : Data) → ¬ IsJson bytes tree
 
--- bytes are the JSON of a tree that stands for no world; the first place in it that doesn't fit has the path
+-- bytes are the JSON of a tree that is no world with goals; the path is that of the first part that doesn't fit
 pub record HasMisfit (bytes path : List ℕ) : Type 0 where
   pub tree : Data
   pub json : IsJson bytes tree
   pub misfit : world_of tree ≡ Err path
 
--- the path of a goal
+-- the path of a goal in the input, as `goals[3]`
 abbrev pub goal_path : ℕ → List ℕ
 goal_path place = codes "goals[" ++ (decimal place ++ codes "]")
 
--- bytes are the JSON of a tree that stands for a world and goals; the world passes the check, and the path is that of the first goal that is not in it
+-- bytes are the JSON of a world and goals; the world passes the check, and the path is that of the first wrong goal
 pub record HasMisfitGoal (bytes path : List ℕ) : Type 0 where
   pub tree : Data
   pub world : HirDatabase
@@ -73,7 +73,7 @@ pub record HasMisfitGoal (bytes path : List ℕ) : Type 0 where
   pub first : position (is_misfit world) goals ≡ Some place
   pub named : path ≡ goal_path place
 
--- bytes are the JSON of a tree that stands for a world; the check fails at the row and the place, and at none before
+-- bytes are the JSON of a world and goals; the row and the place are the first at which the check of the world fails
 pub record HasFailure (bytes : List ℕ) (invalid : InvalidWorld) : Type 0 where
   pub tree : Data
   pub world : HirDatabase

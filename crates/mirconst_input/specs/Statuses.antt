@@ -1,4 +1,4 @@
--- How a run ends, and what is printed of it.
+-- Exit codes and the lines that are printed for statuses.
 use Rattle.std.specs.Prelude.{ℕ, List, [], ◌++◌, codes}
 use Rattle.mirconst_input.specs.declared.status.Status.{Status}
 use Rattle.mirconst_input.specs.declared.status.Status.TheVariants.{Values, Errors, BadWords, NotJson, NotAWorld, BadWorld, TooLong, ReadFault, WriteFault, NoMemory}
@@ -26,7 +26,7 @@ row_text C5 = codes "C5"
 row_text C6 = codes "C6"
 row_text C7 = codes "C7"
 
--- the line that is printed of a status, which is empty where the run was answered
+-- the line that is printed for a status; empty if all goals were answered
 abbrev pub line_of : Status → List ℕ
 line_of Values = []
 line_of Errors = []

@@ -1,4 +1,4 @@
--- The words after the program's name.
+-- The command line, without the program's name.
 use Rattle.std.specs.Prelude.{Bool, true, false, List, [], ◌∷◌, String, string_bytes, bytes_eq, codes}
 use Rattle.std.specs.declared.alloc.Global.{Global}
 

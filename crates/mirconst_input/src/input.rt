@@ -1,4 +1,4 @@
-//! What the input stands for.
+//! The checked world and the goals in the bytes of the input.
 
 ghost use Rattle.std.specs.Prelude.{◌≡◌, IfOk, IfErr, OnOk, IsUtf8, position};
 ghost use Rattle.serde_json.specs.Read.{read};
@@ -16,7 +16,7 @@ use world::{DefWithBodyId, HirDatabase, Limits, List, NoMemory, Text};
 use world_check::{CheckFault, CheckedWorld};
 use world_json::{Goal, NotAWorld, read_world};
 
-/// The tree that bytes are in JSON.
+/// Parses bytes as JSON.
 #[tactic(auto, using(crate::proofs::Refusing::no_json))]
 fn tree(alloc: Global, bytes: &[u8]) -> Result<Value, Status>
     ensures utf8 { OnOk result (IsUtf8 bytes.now) }
@@ -35,19 +35,20 @@ fn tree(alloc: Global, bytes: &[u8]) -> Result<Value, Status>
     }
 }
 
-/// The world and the goals that a tree stands for.
-fn world_and_goals(alloc: Global, tree: &Value) -> Result<(HirDatabase, List<Goal>), Status>
-    ensures stands { IfOk result (λ input. world_of (view tree.now) ≡ Ok input) }
-    ensures refused { IfErr result (λ status. IsOfTree (view tree.now) status) }
+/// Reads the world and the goals from a JSON tree, and drops the tree: it takes much more memory than the
+/// world, which the check then has for itself.
+fn world_and_goals(alloc: Global, tree: Value) -> Result<(HirDatabase, List<Goal>), Status>
+    ensures stands { IfOk result (λ input. world_of (view tree) ≡ Ok input) }
+    ensures refused { IfErr result (λ status. IsOfTree (view tree) status) }
 {
-    match read_world(alloc, tree) {
+    match read_world(alloc, &tree) {
         Ok(input) => Ok(input),
         Err(NotAWorld::At(path)) => Err(Status::NotAWorld(path)),
         Err(NotAWorld::NoMemory) => Err(Status::NoMemory),
     }
 }
 
-/// The world, once it has passed the check.
+/// Checks a world.
 fn checked(alloc: Global, db: HirDatabase) -> Result<CheckedWorld, Status>
     ensures same { IfOk result (λ world. world ≡ db) }
     ensures passes { OnOk result (first_failure db ≡ None) }
@@ -75,7 +76,7 @@ fn is_variant(def: DefWithBodyId) -> bool
     matches!(def, DefWithBodyId::VariantId(_))
 }
 
-/// Whether there are no limits, or limits that are at most the greatest ones.
+/// Whether optional limits are none, or at most the greatest ones.
 fn are_within(limits: Option<Limits>) -> bool
     ensures { result ≡ are_within limits }
 {
@@ -85,8 +86,8 @@ fn are_within(limits: Option<Limits>) -> bool
     }
 }
 
-/// Whether a goal doesn't fit: it is a variant, it or an id in its arguments is out of range, or its
-/// limits are too great.
+/// Whether a goal is wrong: its definition is a variant or out of range, an id in its generic arguments is
+/// out of range, or its limits are too great.
 fn is_misfit(world: &CheckedWorld, goal: &Goal) -> bool
     ensures { result ≡ is_misfit world.now goal.now }
 {
@@ -96,15 +97,15 @@ fn is_misfit(world: &CheckedWorld, goal: &Goal) -> bool
         || !are_within(goal.limits)
 }
 
-/// The place of the first goal that doesn't fit.
+/// The index of the first wrong goal.
 fn first_misfit(world: &CheckedWorld, goals: &[Goal]) -> Option<usize>
     ensures { result ≡ position (is_misfit world.now) goals.now }
 {
     goals.iter().position(|goal| is_misfit(world, goal))
 }
 
-/// The first goal that doesn't fit: that is a variant, is out of range or has an id out of range in
-/// its arguments, or has limits that are too great.
+/// The index of the first wrong goal: its definition is a variant or out of range, an id in its generic
+/// arguments is out of range, or its limits are too great.
 pub fn goals_fit(world: &CheckedWorld, goals: &List<Goal>) -> Option<u64>
     ensures { result ≡ position (is_misfit world.now) goals.now }
 {
@@ -114,7 +115,7 @@ pub fn goals_fit(world: &CheckedWorld, goals: &List<Goal>) -> Option<u64>
     }
 }
 
-/// The status of a goal that doesn't fit.
+/// The status of an input with a wrong goal.
 fn misfit(alloc: Global, i: u64) -> Status
     ensures { IsOfGoal i result }
 {
@@ -124,7 +125,7 @@ fn misfit(alloc: Global, i: u64) -> Status
     }
 }
 
-/// The path of a goal.
+/// The path of a goal in the input, as `goals[3]`.
 fn misfit_path(alloc: Global, i: u64) -> Result<Text, NoMemory>
     ensures { IfOk result (λ path. path ≡ goal_path i) }
 {
@@ -132,15 +133,14 @@ fn misfit_path(alloc: Global, i: u64) -> Result<Text, NoMemory>
     Text::from_str(alloc, path.as_str())
 }
 
-/// The world and the goals that bytes stand for, once the world has passed the check and the goals are
-/// in it.
+/// The world and the goals in the bytes of the input, if the world passes the check and no goal is wrong.
 #[tactic(auto, using(crate::proofs::Standing::stands_for, crate::proofs::Refusing::tree_refused, crate::proofs::Refusing::check_refused, crate::proofs::Refusing::goal_refused))]
 pub fn checked_input(alloc: Global, bytes: &[u8]) -> Result<(CheckedWorld, List<Goal>), Status>
     ensures stands { IfOk result (λ input. StandsFor bytes.now input.0 input.1) }
     ensures refused { IfErr result (λ status. IsOfInput bytes.now status) }
 {
     let tree = tree(alloc, bytes)?;
-    let (db, goals) = world_and_goals(alloc, &tree)?;
+    let (db, goals) = world_and_goals(alloc, tree)?;
     let world = checked(alloc, db)?;
     match goals_fit(&world, &goals) {
         None => Ok((world, goals)),

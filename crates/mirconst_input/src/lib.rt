@@ -1,5 +1,5 @@
-//! What a run reads: the words, the bytes of the input, and the checked world and the goals that they
-//! stand for, or the status that refuses them.
+//! The input of a run: the command line, the bytes that are read, and the checked world and the goals in
+//! them, or the status of an input that is refused.
 #![tactic(auto)]
 
 mod input;

@@ -14,14 +14,14 @@ const MOST: usize = 67_108_864;
 /// How many bytes are read at once.
 const PIECE: usize = 65_536;
 
-/// Room for a piece.
+/// The buffer for a piece.
 fn piece(alloc: Global) -> Result<Vec<u8>, AllocError>
     ensures { IfOk result (λ piece. length piece.items ≡ 65536) }
 {
     vec![in alloc; 0u8; 65_536]
 }
 
-/// Reads some bytes and adds them at the end; how many they are.
+/// Reads some bytes, adds them at the end of `bytes`, and returns how many.
 #[tactic(auto, using(crate::proofs::Moving::piece_moves, crate::proofs::Moving::ends, crate::proofs::Moving::takes_piece, crate::proofs::Moving::takes_none))]
 fn read_piece<S: Source>(src: &mut S, room: &mut [u8], bytes: &mut Vec<u8>) -> Result<usize, Status>
     requires { 0 < length room.old }
@@ -43,7 +43,7 @@ fn read_piece<S: Source>(src: &mut S, room: &mut [u8], bytes: &mut Vec<u8>) -> R
     }
 }
 
-/// Reads the input to its end, in pieces, and never past the first byte that is too many.
+/// Reads the input to its end, in pieces; never more than one byte above the greatest length.
 #[tactic(auto, using(crate::proofs::Moving::read_to_end, crate::proofs::Moving::takes_few, crate::proofs::Moving::takes_more, crate::proofs::Moving::too_long, crate::proofs::Refusing::read_refused))]
 pub fn read_input<S: Source>(alloc: Global, src: &mut S) -> Result<Vec<u8>, Status>
     ensures end { IfOk result (λ bytes. IsReadToEnd (S.left src.old) (S.left src.new) bytes.items) }

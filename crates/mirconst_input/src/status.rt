@@ -1,4 +1,4 @@
-//! How a run ends.
+//! The ways in which a run ends.
 
 ghost use Rattle.std.specs.Prelude.{◌≡◌, Some};
 ghost use Rattle.mirconst_input.specs.Statuses.{row_text};
@@ -12,14 +12,13 @@ use world_check::{CheckRow, InvalidWorld};
 pub enum Status {
     /// Every goal has a value.
     Values,
-    /// Some goal has none.
+    /// Some goal has no value.
     Errors,
-    /// The words are no command.
+    /// The command line is no command.
     BadWords,
-    /// The input is no JSON.
+    /// The input is not JSON.
     NotJson,
-    /// The input is JSON that stands for no world and goals in it; with the path of the first place that
-    /// doesn't fit.
+    /// The input is JSON, but no world with goals in it; with the path of the first part that doesn't fit.
     NotAWorld(Text),
     /// The world fails the check.
     BadWorld(InvalidWorld),
@@ -70,7 +69,7 @@ impl Status {
     }
 }
 
-/// The line that is printed of the status, which is empty where the run was answered.
+/// The line that is printed for a status; empty if all goals were answered.
 impl fmt::Display for Status {
     ghost use Rattle.mirconst_input.specs.Statuses.{line_of};
 

@@ -1,4 +1,4 @@
-//! The words after the program's name.
+//! The command line, without the program's name.
 
 ghost use Rattle.std.specs.Prelude.{◌≡◌};
 ghost use Rattle.mirconst_input.specs.Words.{is_command};

@@ -1,4 +1,4 @@
--- Answers, one goal after another.
+-- Answers to goals, one after another.
 use Rattle.std.proofs.Common.{◌≡◌, ◌∙◌, ℕ, zero, suc, cond, ◌+◌, ◌<◌, ◌≤◌, List, [], ◌∷◌, ◌++◌, length, get_or, take, refl, sym, subst, arith}
 use Rattle.std.proofs.lemmas.Bool.Decides.{nat_tests}
 use Rattle.std.proofs.lemmas.Iterator.Adapters.{position_from-zero}
@@ -15,7 +15,7 @@ use Rattle.check_names.specs.Known.{are_args_known, is_def_known}
 use Rattle.std.specs.Prelude.{Bool, true, false, Some, None, not, ◌&&◌, ◌||◌, ◌^◌, nat_le, position}
 use Rattle.world.specs.declared.database.HirDatabase.{HirDatabase}
 
--- answers to goals, and then the answer to one more
+-- answers to goals, followed by the answer to one more
 last_too : (before between after : Kept) (goals : List Goal) (answers : List Evaluated) (goal : Goal) (answer : Evaluated) →
     AreAnswers before goals answers between → IsGoalAnswer between after goal answer → AreAnswers before (goals ++ goal ∷ []) (answers ++ answer ∷ []) after
 last_too before between after [] [] goal answer same one =
@@ -32,7 +32,7 @@ one_more before between after goals answers answers' i d answer within more firs
     let whole = last_too before between after (take i goals) answers (get_or goals i d) answer firsts one in
     rw (take_more goals i d within, more) whole
 
--- the answers over evaluations that have kept nothing yet
+-- the answers of evaluations that have kept nothing yet
 pub from_nothing : (world : HirDatabase) (before after : Kept) (goals : List Goal) (answers : List Evaluated) → before ≡ nothing_kept world →
     AreAnswers before goals answers after → (after : Kept) × AreAnswers (nothing_kept world) goals answers after
 from_nothing world before after goals answers same are = (after, subst (λ (kept : Kept). AreAnswers kept goals answers after) same are)
@@ -63,7 +63,7 @@ within limits is =
       bytes = le_from_test limits.bytes (2 ^ 59) last.1;
     }
 
--- where no goal is a misfit, each has limits that are at most the greatest ones
+-- where no goal is wrong, each has limits that are at most the greatest ones
 fits : (variant unknown foreign within : Bool) → (variant || unknown || foreign || not within) ≡ false → within ≡ true
 fits false false false true is = refl
 fits false false false false is = cc

@@ -10,7 +10,7 @@ use Rattle.world.specs.declared.database.HirDatabase.{HirDatabase}
 abbrev pub lines : HirDatabase → ℕ → Evaluated → List ℕ
 lines world number outcome = goal_text world number outcome.result outcome.output outcome.turns
 
--- what is left to report begins with the next outcome
+-- the outcomes that are left begin with the next one
 next : (outcomes : List Evaluated) (i : ℕ) (outcome : Evaluated) → i < length outcomes → outcome ≡ get_or outcomes i outcome →
     drop i outcomes ≡ outcome ∷ drop (i + 1) outcomes
 next outcomes i outcome within is =

@@ -1,4 +1,4 @@
--- A run, from its parts.
+-- A run that is answered, from its parts.
 use Rattle.std.proofs.Common.{◌≡◌, ℕ, Bool, List, ◌++◌, Option, None, Some, option_map, sym, subst, Ok}
 use Rattle.std.specs.List.{list_all}
 use Rattle.std.specs.Prelude.{IsUtf8, position}
@@ -22,7 +22,7 @@ pub answered : (left left' written written' : Option (List ℕ)) (bytes text : L
 answered left left' written written' bytes text all read reports appended =
     record { bytes = bytes; read = read; reported = record { text = text; is_report = reports; appended = appended } }
 
--- the report of the goals that bytes stand for
+-- the report of the goals in bytes
 pub reports : (bytes text : List ℕ) (world : HirDatabase) (goals : List Goal) (outcomes : List Evaluated) (all : Bool) → StandsFor bytes world goals →
     ((after : Kept) × AreAnswers (nothing_kept world) goals outcomes after) → all ≡ list_all has_value outcomes → text ≡ report_text world outcomes → IsReportOf bytes text all
 reports bytes text world goals outcomes all input answers valued reported = record {

@@ -1,4 +1,4 @@
--- A run that ends without an answer, from its parts.
+-- A run that ends without a report, from its parts.
 use Rattle.std.proofs.Common.{ℕ, Bool, List, Option, String, refl}
 use Rattle.std.specs.declared.alloc.Global.{Global}
 use Rattle.streams.specs.Faults.{HasCause}
@@ -8,7 +8,7 @@ use Rattle.mirconst_run.specs.Runs.{IsBegun, IsReportOf, Stops, Means}
 use Rattle.mirconst_input.specs.declared.status.Status.{Status}
 use Rattle.mirconst_input.specs.declared.status.Status.TheVariants.{Values, Errors, BadWords, NotJson, NotAWorld, BadWorld, TooLong, ReadFault, WriteFault, NoMemory}
 
--- the input was not read as a whole
+-- reading the input failed
 pub unread : (left left' : Option (List ℕ)) (faults faults' : ℕ) (written : Option (List ℕ)) (counted counted' : ℕ) (status : Status) →
     IsOfReading left left' faults faults' status → Stops left left' faults faults' written written counted counted' status
 unread left left' faults faults' written counted counted' Values is = absurd is
@@ -22,7 +22,7 @@ unread left left' faults faults' written counted counted' ReadFault is = record 
 unread left left' faults faults' written counted counted' WriteFault is = absurd is
 unread left left' faults faults' written counted counted' NoMemory is = record { nothing_written = refl }
 
--- the input was read, and stands for no world with goals in it
+-- the input was read, and is no checked world with goals
 pub refused : (left left' : Option (List ℕ)) (faults faults' : ℕ) (written : Option (List ℕ)) (counted counted' : ℕ) (bytes : List ℕ) (status : Status) →
     IsReadToEnd left left' bytes → IsOfInput bytes status → Stops left left' faults faults' written written counted counted' status
 refused left left' faults faults' written counted counted' bytes Values read is = absurd is
@@ -39,7 +39,7 @@ refused left left' faults faults' written counted counted' bytes ReadFault read 
 refused left left' faults faults' written counted counted' bytes WriteFault read is = absurd is
 refused left left' faults faults' written counted counted' bytes NoMemory read is = record { nothing_written = refl }
 
--- the report was not written as a whole
+-- writing the report failed
 pub unwritten : (left left' : Option (List ℕ)) (faults faults' : ℕ) (written written' : Option (List ℕ)) (counted counted' : ℕ) (bytes text : List ℕ) (all : Bool) →
     IsReadToEnd left left' bytes → IsReportOf bytes text all → IsBegun text written written' → HasCause counted counted' →
     Stops left left' faults faults' written written' counted counted' WriteFault
@@ -51,7 +51,7 @@ unwritten left left' faults faults' written written' counted counted' bytes text
       begun = record { text = text; all = all; is_report = reports; begun = begun };
     }
 
--- what a status says of a run that stops
+-- the meaning of a status of a run that ends without a report
 pub stop_means : (words : List (String Global)) (left left' : Option (List ℕ)) (faults faults' : ℕ) (written written' : Option (List ℕ)) (counted counted' : ℕ) (status : Status) →
     Stops left left' faults faults' written written' counted counted' status → Means words left left' faults faults' written written' counted counted' status
 stop_means words left left' faults faults' written written' counted counted' Values stops = absurd stops

@@ -1,14 +1,14 @@
--- What the answers to the goals are.
-use Rattle.std.specs.Prelude.{◌≡◌, ◌≤◌, ℕ, Bool, true, false, List, [], ◌∷◌, Result, Ok, Err, Option, Some, None, not, ◌||◌, Contains, IsOk, is_ok, unwrap_or}
+-- The answers to the goals.
+use Rattle.std.specs.Prelude.{◌≡◌, ◌≤◌, ℕ, Bool, true, false, List, [], ◌∷◌, Result, Ok, Err, Option, Some, None, not, ◌||◌, Contains, IfErr, IsOk, is_ok, unwrap_or}
 use Rattle.mir.specs.declared.errors.ConstEvalError.{ConstEvalError}
 use Rattle.mir.specs.declared.errors.ConstEvalError.TheVariants as constant
-use Rattle.mir.specs.declared.body.MirBody.{MirBody}
+use Rattle.mir.specs.declared.errors.MirEvalError.{MirEvalError}
 use Rattle.world.specs.Limits.{default_limits, is_within}
 use Rattle.world.specs.declared.limits.Limits.{Limits}
 use Rattle.source_meaning.specs.Valid.{HasDefinedCost}
-use Rattle.consteval.specs.Kept.{Kept, IsSound, source_of}
+use Rattle.consteval.specs.Kept.{Kept, IsSound, Stays, Value, source_of}
 use Rattle.consteval.specs.Valid.{IsValid}
-use Rattle.consteval.specs.Answers.{GivesValue, GivesPanic, AnswersWithin, HasCause, panic_of}
+use Rattle.consteval.specs.Answers.{GivesValue, GivesPanic, AnswersWithin, EndsIn, HasCause, panic_word}
 use Rattle.consteval.specs.declared.evaluated.Evaluated.{Evaluated}
 use Rattle.world.specs.declared.database.BodyRow.{BodyRow}
 use Rattle.world.specs.declared.database.HirDatabase.{HirDatabase}
@@ -19,40 +19,39 @@ use Rattle.types.specs.declared.ty.GenericArgs.{GenericArgs}
 use Rattle.world_json.specs.declared.goal.Goal.{Goal}
 use Rattle.check_names.specs.Known.{are_args_known, is_def_known}
 
--- an answer to a definition, and what was kept before and after it
+-- the answer to a definition, with the bodies and values that are kept before and after it
 pub record IsAnswer (before after : Kept) (def : DefWithBodyId) (args : GenericArgs) (blocks : ℕ) (answer : Evaluated) : Type 0 where
   pub printed : answer.output ≡ ([], [])
   pub value : (row : BodyRow) (konst : Const) → IsValid before.world def args row → answer.result ≡ Ok konst →
       GivesValue (source_of before.world row) konst
-  pub panic : (row : BodyRow) (word : List ℕ) → IsValid before.world def args row → answer.result ≡ Err (panic_of word) →
-      GivesPanic (source_of before.world row) word
+  pub panic : (row : BodyRow) (e : MirEvalError) (word : List ℕ) → IsValid before.world def args row →
+      answer.result ≡ Err (constant.MirEvalError e) → panic_word e ≡ Some word → GivesPanic (source_of before.world row) word
+  pub closed : (row : BodyRow) → IsValid before.world def args row → IfErr answer.result (EndsIn (source_of before.world row) blocks)
   pub complete : (row : BodyRow) → IsValid before.world def args row → HasDefinedCost (source_of before.world row) →
       AnswersWithin (source_of before.world row) blocks answer.result
   pub cause : HasCause after def args blocks answer.turns answer.result
   pub turns : answer.turns ≤ blocks
-  pub world : after.world ≡ before.world
-  pub bodies_stay : (key : DefWithBodyId) (body : MirBody) → Contains before.bodies (key, body) → Contains after.bodies (key, body)
-  pub values_stay : (key : DefWithBodyId) (konst : Const) → Contains before.values (key, konst) → Contains after.values (key, konst)
-  pub kept : IsOk answer.result → (konst : Const) × Contains after.values (def, konst)
+  pub stays : Stays before after
+  pub kept : IsOk answer.result → (konst : Const) × Contains after.entries (Value def konst)
   pub sound : IsSound after
 
--- whether there was no memory for a result
+-- an answer is the error for want of memory
 abbrev pub is_want_of_memory : Result Const ConstEvalError → Bool
 is_want_of_memory (Ok konst) = false
 is_want_of_memory (Err constant.NoMemory) = true
 is_want_of_memory (Err (constant.MirLowerError error)) = false
 is_want_of_memory (Err (constant.MirEvalError error)) = false
 
--- the limits of a goal: those that it asks for, or those of a run for which none were asked
+-- the limits of a goal, or the default ones if it has none
 abbrev pub limits_of : Goal → Limits
 limits_of goal = unwrap_or goal.limits default_limits
 
--- an answer to a goal under its limits, with enough memory
+-- the answer to a goal under its limits, where memory sufficed
 pub record IsGoalAnswer (before after : Kept) (goal : Goal) (answer : Evaluated) : Type 0 where
   pub answers : IsAnswer before after goal.def goal.args (limits_of goal).blocks answer
   pub in_memory : is_want_of_memory answer.result ≡ false
 
--- answers to goals, one for each in order, where each evaluation begins with what the one before has kept
+-- the answers to goals in order; each evaluation begins with the bodies and values that the one before has kept
 abbrev pub AreAnswers : Kept → List Goal → List Evaluated → Kept → Type 0
 AreAnswers before [] [] after = before ≡ after
 AreAnswers before [] (answer ∷ answers) after = ⊥
@@ -60,9 +59,9 @@ AreAnswers before (goal ∷ goals) [] after = ⊥
 AreAnswers before (goal ∷ goals) (answer ∷ answers) after =
     (between : Kept) × IsGoalAnswer before between goal answer × AreAnswers between goals answers after
 
--- nothing is kept yet
+-- no body and no value is kept yet
 abbrev pub nothing_kept : HirDatabase → Kept
-nothing_kept world = record { world = world; bodies = []; values = [] }
+nothing_kept world = record { world = world; entries = [] }
 
 abbrev pub has_value : Evaluated → Bool
 has_value answer = is_ok answer.result

@@ -1,4 +1,4 @@
-//! The answers to the goals, in their order.
+//! Evaluates the goals in their order.
 
 ghost use Rattle.std.specs.Prelude.{◌≡◌, true, false, None, IfOk, IfErr, OnOk, position};
 ghost use Rattle.std.specs.List.{list_all};
@@ -15,7 +15,7 @@ use world::{Const, Limits, List, NoMemory};
 use world_check::CheckedWorld;
 use world_json::Goal;
 
-/// Whether there was no memory for a result.
+/// Whether an answer is the error for want of memory.
 fn is_want_of_memory(answer: &Result<Const, ConstEvalError>) -> bool
     ensures { result ≡ is_want_of_memory answer.now }
 {
@@ -27,7 +27,7 @@ fn is_want_of_memory(answer: &Result<Const, ConstEvalError>) -> bool
     }
 }
 
-/// The limits of a goal: those that it asks for, or those of a run for which none were asked.
+/// The limits of a goal, or the default ones if it has none.
 #[tactic(auto, using(crate::proofs::Answering::within))]
 fn limits_of(goal: &Goal) -> Limits
     requires { are_within goal.now.limits ≡ true }
@@ -40,7 +40,7 @@ fn limits_of(goal: &Goal) -> Limits
     }
 }
 
-/// The answer to a goal.
+/// Evaluates a goal.
 fn answer(evaluations: &mut Evaluations, goal: &Goal) -> Result<Evaluated, NoMemory>
     requires { are_within goal.now.limits ≡ true }
     ensures { IfOk result (λ outcome. IsGoalAnswer evaluations.old evaluations.new goal.now outcome) }
@@ -53,7 +53,7 @@ fn answer(evaluations: &mut Evaluations, goal: &Goal) -> Result<Evaluated, NoMem
     Ok(outcome)
 }
 
-/// The answers to goals, one for each in order.
+/// Evaluates goals in order.
 fn answer_all(
     alloc: Global,
     evaluations: &mut Evaluations,
@@ -70,7 +70,7 @@ fn answer_all(
     Ok(outcomes)
 }
 
-/// The answers to the goals of a world, one for each in order.
+/// Evaluates the goals of a world in order, with nothing kept before the first.
 #[tactic(auto, using(crate::proofs::Answering::from_nothing))]
 pub(crate) fn answers(
     alloc: Global,
@@ -84,7 +84,7 @@ pub(crate) fn answers(
     answer_all(alloc, &mut evaluations, goals.as_slice())
 }
 
-/// Whether each outcome is a value.
+/// Whether each outcome has a value.
 pub(crate) fn all_have_values(outcomes: &[Evaluated]) -> bool
     ensures { result ≡ list_all has_value outcomes.now }
 {

@@ -1,5 +1,5 @@
 //! A run of the program: it reads a world and goals, checks them, evaluates the goals and writes the
-//! report. All calls of the library that a program rests on stand here.
+//! report. This crate has all public calls of the library.
 #![tactic(auto)]
 
 mod answers;

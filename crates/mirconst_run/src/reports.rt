@@ -9,7 +9,7 @@ use report_text::goal_text;
 use std::alloc::Global;
 use world::{Bytes, HirDatabase, List, NoMemory};
 
-/// Adds the lines of an outcome.
+/// Adds the lines of one outcome.
 fn push_goal(
     alloc: Global,
     db: &HirDatabase,
@@ -31,7 +31,7 @@ fn push_goal(
     Ok(())
 }
 
-/// The lines of outcomes.
+/// The lines of all outcomes.
 #[tactic(auto, using(crate::proofs::Reporting::one_more, crate::proofs::Reporting::all_done))]
 fn report_of(alloc: Global, db: &HirDatabase, outcomes: &[Evaluated]) -> Result<Bytes, NoMemory>
     ensures { IfOk result (λ text. text ≡ report_text db.now outcomes.now) }

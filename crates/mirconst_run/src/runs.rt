@@ -14,14 +14,14 @@ use std::alloc::Global;
 use streams::{Sink, Source};
 use world::Bytes;
 
-/// What is to be written, and whether each goal has a value.
+/// The report, and whether each goal has a value.
 #[derive(Drop)]
 struct Output {
     text: Bytes,
     all: bool,
 }
 
-/// The report of the goals that bytes stand for.
+/// Evaluates the goals in the bytes of the input, and makes the report.
 #[tactic(auto, using(crate::proofs::Running::reports))]
 fn answered(alloc: Global, bytes: &[u8]) -> Result<Output, Status>
     ensures reports { IfOk result (λ output. IsReportOf bytes.now output.text output.all) }
@@ -38,7 +38,7 @@ fn answered(alloc: Global, bytes: &[u8]) -> Result<Output, Status>
     }
 }
 
-/// Reads the input, and writes the report of its goals; whether each has a value.
+/// Reads the input, evaluates its goals and writes the report. Returns whether each goal has a value.
 #[tactic(auto, using(crate::proofs::Running::answered, crate::proofs::Stopping::unread, crate::proofs::Stopping::refused, crate::proofs::Stopping::unwritten))]
 fn answer_input<S: Source, K: Sink>(alloc: Global, src: &mut S, out: &mut K) -> Result<bool, Status>
     ensures few { TakesFew (S.left src.old) (S.left src.new) }
@@ -54,7 +54,7 @@ fn answer_input<S: Source, K: Sink>(alloc: Global, src: &mut S, out: &mut K) -> 
 }
 
 /// Runs the program: reads the world and its goals, evaluates the goals in order, and writes the report.
-/// The words are none, or `eval` alone.
+/// The command line `words` has to be empty or `eval`.
 #[tactic(auto, using(crate::proofs::Stopping::stop_means, mirconst_input::proofs::Moving::takes_none))]
 pub fn run<S: Source, K: Sink>(
     alloc: Global,

@@ -1,2 +1,6 @@
 pub mod Digits
-pub mod Table
+pub mod Lengths
+pub mod Reading
+pub mod Keeping
+pub mod Dispatch
+pub mod Negation

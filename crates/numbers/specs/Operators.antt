@@ -11,7 +11,7 @@ use Rattle.types.specs.declared.operators.Ordering.TheVariants.{Less, Greater}
 use Rattle.numbers.specs.declared.operator.Kind.{Kind}
 use Rattle.numbers.specs.declared.operator.Kind.TheVariants.{Signed, Unsigned, Boolean}
 use Rattle.numbers.specs.declared.operator.Operator.{Operator}
-use Rattle.numbers.specs.declared.operator.Operator.TheVariants.{Add, Sub, Mul, Div, Rem, BitXor, BitAnd, BitOr, Shl, Shr, Eq, Ne, Lt, Le, Gt, Ge}
+use Rattle.numbers.specs.declared.operator.Operator.TheVariants.{Add, Sub, Mul, Div, Rem, BitXor, BitAnd, BitOr, Shl, Shr, Eq, Lt, Le, Ne, Ge, Gt}
 use Rattle.numbers.specs.Bytes.{low_digits, low_bytes, value_of, number_of, holds, is_width}
 
 -- what an operator makes of its operands: bytes, a panic that says the word, or no meaning
@@ -68,6 +68,25 @@ name_of Le = codes "Le"
 name_of Gt = codes "Gt"
 name_of Ge = codes "Ge"
 
+-- the operator as Rust writes it
+unfoldable pub symbol_of : Operator → List ℕ
+symbol_of Add = codes "+"
+symbol_of Sub = codes "-"
+symbol_of Mul = codes "*"
+symbol_of Div = codes "/"
+symbol_of Rem = codes "%"
+symbol_of BitXor = codes "^"
+symbol_of BitAnd = codes "&"
+symbol_of BitOr = codes "|"
+symbol_of Shl = codes "<<"
+symbol_of Shr = codes ">>"
+symbol_of Eq = codes "=="
+symbol_of Lt = codes "<"
+symbol_of Le = codes "<="
+symbol_of Ne = codes "!="
+symbol_of Ge = codes ">="
+symbol_of Gt = codes ">"
+
 -- what a run says that panics in the operator
 unfoldable pub panic_word : Operator → List ℕ
 panic_word op = codes "Overflow in " ++ name_of op
@@ -90,6 +109,16 @@ told false = Computes (0 ∷ [])
 unfoldable pub by_bits : (ℕ → ℕ → ℕ) → List ℕ → List ℕ → Answer
 by_bits combined left right = Computes (low_digits (length left) (combined (value_of left) (value_of right)))
 
+-- the comparisons of two whole numbers
+abbrev pub compared : Operator → ℤ → ℤ → Answer
+compared Eq x y = told (int_eq x y)
+compared Lt x y = told (int_lt x y)
+compared Le x y = told (int_le x y)
+compared Ne x y = told (not (int_eq x y))
+compared Ge x y = told (int_le y x)
+compared Gt x y = told (int_lt y x)
+compared _ x y = Undefined
+
 -- the operators but shifts, on two operands of one integer type
 unfoldable pub on_integers : Operator → Bool → List ℕ → List ℕ → Answer
 on_integers Add signed left right = kept Add signed (length left) (number_of signed left +ℤ number_of signed right)
@@ -100,14 +129,15 @@ on_integers Rem signed left right = divided Rem signed (length left) (number_of 
 on_integers BitXor signed left right = by_bits bit_xor left right
 on_integers BitAnd signed left right = by_bits bit_and left right
 on_integers BitOr signed left right = by_bits bit_or left right
-on_integers Shl signed left right = Undefined
-on_integers Shr signed left right = Undefined
-on_integers Eq signed left right = told (int_eq (number_of signed left) (number_of signed right))
-on_integers Ne signed left right = told (not (int_eq (number_of signed left) (number_of signed right)))
-on_integers Lt signed left right = told (int_lt (number_of signed left) (number_of signed right))
-on_integers Le signed left right = told (int_le (number_of signed left) (number_of signed right))
-on_integers Gt signed left right = told (int_lt (number_of signed right) (number_of signed left))
-on_integers Ge signed left right = told (int_le (number_of signed right) (number_of signed left))
+on_integers op signed left right = compared op (number_of signed left) (number_of signed right)
+
+-- the operators but shifts, on two integers of one length, of which one is signed and one is not: comparisons compare the two
+-- numbers, and `&`, `|` and `^` go by bits; the others have no meaning, since there is no one type for their result
+unfoldable pub on_two_signs : Operator → Bool → List ℕ → List ℕ → Answer
+on_two_signs BitXor left_signed left right = by_bits bit_xor left right
+on_two_signs BitAnd left_signed left right = by_bits bit_and left right
+on_two_signs BitOr left_signed left right = by_bits bit_or left right
+on_two_signs op left_signed left right = compared op (number_of left_signed left) (number_of (not left_signed) right)
 
 -- the operators that bool has
 unfoldable pub is_on_booleans : Operator → Bool
@@ -191,12 +221,16 @@ shift op (Some left_sign) (Some right_sign) left right =
 shift op (Some left_sign) None left right = Undefined
 shift op None _ left right = Undefined
 
--- an operator that is no shift, on two operands of one kind
+-- an operator that is no shift, on two integers of one length or two truth values
 unfoldable pub combined : Operator → Option Kind → Option Kind → List ℕ → List ℕ → Answer
 combined op (Some Signed) (Some Signed) left right =
     if is_width (length left) && (length left == length right) then on_integers op true left right else Undefined
 combined op (Some Unsigned) (Some Unsigned) left right =
     if is_width (length left) && (length left == length right) then on_integers op false left right else Undefined
+combined op (Some Signed) (Some Unsigned) left right =
+    if is_width (length left) && (length left == length right) then on_two_signs op true left right else Undefined
+combined op (Some Unsigned) (Some Signed) left right =
+    if is_width (length left) && (length left == length right) then on_two_signs op false left right else Undefined
 combined op (Some Boolean) (Some Boolean) left right =
     if is_on_booleans op && (length left == 1) && (length right == 1) then on_integers op false left right else Undefined
 combined op _ _ left right = Undefined

@@ -1,11 +1,22 @@
-//! Whole numbers by width and sign, and the table of operators on them.
+//! Whole numbers by width and sign, the numbers that bytes are, and the table of operators on them, computed.
 #![tactic(auto)]
 
+mod arithmetic;
+mod comparisons;
+mod kept;
 mod laws;
 mod operator;
+mod read;
+mod shifts;
+mod table;
+mod unary;
 
+pub use kept::Computed;
 pub use laws::{
     comparisons_take_one_byte, held_numbers_come_back, low_bytes_are_bytes, low_bytes_are_so_many,
     results_keep_the_width,
 };
 pub use operator::{Kind, Operator};
+pub use read::{is_width, word2, word4, word8, word16};
+pub use table::compute;
+pub use unary::{invert, negate};

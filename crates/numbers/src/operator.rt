@@ -1,8 +1,9 @@
 //! What the bytes of an operand are, and the operators on two operands.
 
 ghost use Rattle.std.specs.Prelude.{◌≡◌};
-ghost use Rattle.numbers.specs.Operators.{kind_of, of_arith, of_compare, panic_word};
+ghost use Rattle.numbers.specs.Operators.{kind_of, panic_word};
 
+use std::fmt;
 use types::{ArithOp, CmpOp, Ordering, Ty};
 
 /// What the bytes of an operand are, by its type.
@@ -27,11 +28,11 @@ pub enum Operator {
     Shl,
     Shr,
     Eq,
-    Ne,
     Lt,
     Le,
-    Gt,
+    Ne,
     Ge,
+    Gt,
 }
 
 impl Kind {
@@ -49,12 +50,15 @@ impl Kind {
     }
 }
 
-impl Operator {
-    /// The operator that an arithmetic operator of the source stands for.
+/// The operator that an arithmetic operator of the source is.
+impl From<ArithOp> for Operator {
+    ghost use Rattle.std.specs.Prelude.{◌≡◌};
+    ghost use Rattle.numbers.specs.Operators.{of_arith};
+
+    ghost from_gives = { λ op made. made ≡ of_arith op };
+
     #[tactic(auto, unfolding(crate::specs::Operators::of_arith))]
-    pub fn of_arith(op: ArithOp) -> Operator
-        ensures { result ≡ of_arith op }
-    {
+    fn from(op: ArithOp) -> Operator {
         match op {
             ArithOp::Add => Operator::Add,
             ArithOp::Mul => Operator::Mul,
@@ -68,12 +72,17 @@ impl Operator {
             ArithOp::BitAnd => Operator::BitAnd,
         }
     }
+}
 
-    /// The operator that a comparison of the source stands for.
+/// The operator that a comparison of the source is.
+impl From<CmpOp> for Operator {
+    ghost use Rattle.std.specs.Prelude.{◌≡◌};
+    ghost use Rattle.numbers.specs.Operators.{of_compare};
+
+    ghost from_gives = { λ op made. made ≡ of_compare op };
+
     #[tactic(auto, unfolding(crate::specs::Operators::of_compare))]
-    pub fn of_compare(op: CmpOp) -> Operator
-        ensures { result ≡ of_compare op }
-    {
+    fn from(op: CmpOp) -> Operator {
         match op {
             CmpOp::Eq { negated: false } => Operator::Eq,
             CmpOp::Eq { negated: true } => Operator::Ne,
@@ -95,7 +104,39 @@ impl Operator {
             } => Operator::Ge,
         }
     }
+}
 
+/// The operator as Rust writes it.
+impl fmt::Display for Operator {
+    ghost use Rattle.std.specs.Prelude.{Some};
+    ghost use Rattle.numbers.specs.Operators.{symbol_of};
+
+    ghost output = { λ op. Some (symbol_of op) };
+
+    #[tactic(auto, unfolding(crate::specs::Operators::symbol_of))]
+    fn fmt<W: fmt::Write>(&self, f: &mut fmt::Formatter<W>) -> fmt::Result {
+        match self {
+            Operator::Add => f.write_str("+"),
+            Operator::Sub => f.write_str("-"),
+            Operator::Mul => f.write_str("*"),
+            Operator::Div => f.write_str("/"),
+            Operator::Rem => f.write_str("%"),
+            Operator::BitXor => f.write_str("^"),
+            Operator::BitAnd => f.write_str("&"),
+            Operator::BitOr => f.write_str("|"),
+            Operator::Shl => f.write_str("<<"),
+            Operator::Shr => f.write_str(">>"),
+            Operator::Eq => f.write_str("=="),
+            Operator::Lt => f.write_str("<"),
+            Operator::Le => f.write_str("<="),
+            Operator::Ne => f.write_str("!="),
+            Operator::Ge => f.write_str(">="),
+            Operator::Gt => f.write_str(">"),
+        }
+    }
+}
+
+impl Operator {
     /// What a run says that panics in the operator.
     #[tactic(auto, unfolding(crate::specs::Operators::panic_word, crate::specs::Operators::name_of))]
     pub fn panic_word(self) -> &'static str
@@ -113,11 +154,11 @@ impl Operator {
             Operator::Shl => "Overflow in Shl",
             Operator::Shr => "Overflow in Shr",
             Operator::Eq => "Overflow in Eq",
-            Operator::Ne => "Overflow in Ne",
             Operator::Lt => "Overflow in Lt",
             Operator::Le => "Overflow in Le",
-            Operator::Gt => "Overflow in Gt",
+            Operator::Ne => "Overflow in Ne",
             Operator::Ge => "Overflow in Ge",
+            Operator::Gt => "Overflow in Gt",
         }
     }
 }

@@ -1,4 +1,4 @@
--- The texts of types, generic arguments and constants, by the texts of their parts.
+-- The texts of types, generic arguments and constants, from those of their parts.
 use Rattle.std.proofs.Common.{◌≡◌, ◌∙◌, List, map, ap, rules}
 use Rattle.std.specs.Prelude.{codes}
 use Rattle.std.proofs.lemmas.Simd.{map-map}
@@ -23,7 +23,7 @@ use Rattle.report_text.specs.Names.{adt_name, alias_name, callable_name, const_p
 use Rattle.report_text.specs.Texts.{with_args}
 use Rattle.report_text.specs.Types.{told_text, tuple_text, array_text, pointer_to_function_text, dynamic_text, ty_told, type_text, const_text, arg_text, args_texts, bound_text}
 
--- what the bytes of a type are
+-- the kind that is rendered for a type is its kind in the table of operators
 pub told_kind : (world : HirDatabase) (ty : Ty) → (ty_told world ty).kind ≡ kind_of ty
 unfolding ty_told kind_of
 told_kind world type.Bool = search (the_lemmas, rules)
@@ -102,5 +102,5 @@ no_const_is world = search (the_lemmas, rules)
 
 pub ruleset const_layers = (value_is, param_is, unevaluated_is, no_const_is)
 
--- the layers of types whose parts are lists or of other kinds
+-- the texts of types whose parts are lists, constants or generic arguments
 pub ruleset type_layers = (tuple_is, array_is, adt_is, fn_def_is, fn_ptr_is, dynamic_is, alias_is)

@@ -1,4 +1,4 @@
--- The lines of table ids, one after another.
+-- The lines of vtable ids, one after another.
 use Rattle.std.proofs.Common.{◌≡◌, ℕ, ◌+◌, ◌<◌, List, [], ◌∷◌, ◌++◌, length, get_or, take, length-take, sym, ◌∙◌, ap, append_assoc, arith}
 use Rattle.std.proofs.lemmas.List.{append-nil, take_more}
 use Rattle.types.specs.declared.ty.Ty.{Ty}
@@ -16,7 +16,7 @@ tables-append world id (first ∷ tys) ty =
     ∙ sym (append_assoc (table_line world id first) (table_lines world (id + 1) tys) (table_line world (id + 1 + length tys) ty))
     ∙ ap (λ (n : ℕ). table_line world id first ++ table_lines world (id + 1) tys ++ table_line world n ty) place
 
--- the lines of one more table id
+-- the lines with one more vtable id
 pub tables_more : (world : HirDatabase) (tys : List Ty) (i id : ℕ) (ty : Ty) (out out' : List ℕ) →
     i < length tys → ty ≡ get_or tys i ty → id ≡ 1000 + i → out ≡ table_lines world 1000 (take i tys) →
     out' ≡ out ++ table_line world id ty → out' ≡ table_lines world 1000 (take (i + 1) tys)

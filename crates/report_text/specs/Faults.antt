@@ -1,9 +1,9 @@
--- The texts of faults: a variant's name, with its parts in parentheses.
+-- The texts of errors: a variant's name, with its parts in parentheses.
 use Rattle.std.specs.Prelude.{ℕ, List, [], ◌∷◌, ◌++◌, codes, map}
 use Rattle.mir.specs.declared.errors.ConstEvalError.{ConstEvalError}
 use Rattle.mir.specs.declared.errors.ConstEvalError.TheVariants as constant
 use Rattle.mir.specs.declared.errors.LayoutError.{LayoutError}
-use Rattle.mir.specs.declared.errors.LayoutError.TheVariants.{Unknown as UnknownLayout}
+use Rattle.mir.specs.declared.errors.LayoutError.TheVariants as layout
 use Rattle.mir.specs.declared.errors.MirEvalError.{MirEvalError, MirEvalError-F, fold-MirEvalError}
 use Rattle.mir.specs.declared.errors.MirEvalError.TheOpen as eval
 use Rattle.mir.specs.declared.errors.MirLowerError.{MirLowerError}
@@ -15,9 +15,10 @@ use Rattle.report_text.specs.Texts.{bracketed, named, quoted}
 use Rattle.report_text.specs.Types.{type_text}
 
 abbrev pub layout_error_text : LayoutError → List ℕ
-layout_error_text UnknownLayout = codes "Unknown"
+layout_error_text layout.HasPlaceholder = codes "HasPlaceholder"
+layout_error_text layout.Unknown = codes "Unknown"
 
--- a frame that a fault passed through
+-- the text of a frame that an error passed through
 abbrev pub entry_text : TrailEntry → List ℕ
 entry_text entry = span_text entry.span ++ (codes " of " ++ def_text entry.caller)
 
@@ -34,7 +35,7 @@ lower_error_text (lower.NotSupported text) = named (codes "NotSupported") (quote
 lower_error_text lower.InaccessibleLocal = codes "InaccessibleLocal"
 lower_error_text lower.NoMemory = codes "NoMemory"
 
--- an error's text, by the text of the error in it
+-- the text of an error, from that of the error inside it
 abbrev pub eval_layer_text : HirDatabase → MirEvalError-F (List ℕ) → List ℕ
 eval_layer_text world (eval.LayoutError error ty) = named (codes "LayoutError") (layout_error_text error ∷ type_text world ty ∷ [])
 eval_layer_text world (eval.TargetDataLayoutNotAvailable krate) = named (codes "TargetDataLayoutNotAvailable") (crate_text krate ∷ [])
@@ -44,12 +45,14 @@ eval_layer_text world (eval.TypeIsUnsized ty text) = named (codes "TypeIsUnsized
 eval_layer_text world (eval.NotSupported text) = named (codes "NotSupported") (quoted text ∷ [])
 eval_layer_text world (eval.InFunction inner trail) = named (codes "InFunction") (inner ∷ trail_text trail ∷ [])
 eval_layer_text world eval.ExecutionLimitExceeded = codes "ExecutionLimitExceeded"
+eval_layer_text world eval.StackOverflow = codes "StackOverflow"
+eval_layer_text world eval.MemoryLimitExceeded = codes "MemoryLimitExceeded"
 eval_layer_text world eval.NoMemory = codes "NoMemory"
 
 unfoldable pub eval_error_text : HirDatabase → MirEvalError → List ℕ
 eval_error_text world = fold-MirEvalError (List ℕ) (eval_layer_text world)
 
--- a fault, after the phase that it comes from
+-- the text of an error of constant evaluation, after the phase that it is from
 abbrev pub fault_text : HirDatabase → ConstEvalError → List ℕ
 fault_text world (constant.MirLowerError error) = codes "lower " ++ lower_error_text error
 fault_text world (constant.MirEvalError error) = codes "eval " ++ eval_error_text world error

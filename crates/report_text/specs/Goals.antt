@@ -17,7 +17,7 @@ use Rattle.report_text.specs.Memory.{memory_lines}
 use Rattle.report_text.specs.Texts.{digits_or_dash}
 use Rattle.report_text.specs.Types.{const_text, type_text}
 
--- a constant's variant
+-- the text of a constant that a goal has as its answer, by its variant
 abbrev ConstLayer : Type 0
 ConstLayer = Const-F Const GenericArg MemoryMap Ty ComplexMemoryMap GenericArgs TraitRef UnevaluatedConst ValueConst
 
@@ -33,16 +33,16 @@ abbrev pub result_text : HirDatabase → Result Const ConstEvalError → List �
 result_text world (Ok konst) = codes "value " ++ answer_text world konst
 result_text world (Err error) = codes "error " ++ fault_text world error
 
--- the line of what was written to one of the outputs, where that is anything
+-- the line with the bytes that were written to an output stream; empty if there are none
 abbrev pub output_line : List ℕ → List ℕ → List ℕ
 output_line name [] = []
 output_line name (byte ∷ bytes) = codes "  " ++ (name ++ (codes " " ++ (digits_or_dash (byte ∷ bytes) ++ codes "\n")))
 
--- the lines of what was written to the standard output and the standard error
+-- the lines with the bytes that were written to the standard output and the standard error
 abbrev pub output_lines : List ℕ × List ℕ → List ℕ
 output_lines output = output_line (codes "stdout") output.0 ++ output_line (codes "stderr") output.1
 
--- the line with the number of blocks that were entered
+-- the line with the number of basic blocks that were entered
 abbrev pub turns_line : ℕ → List ℕ
 turns_line turns = codes "  turns " ++ (decimal turns ++ codes "\n")
 

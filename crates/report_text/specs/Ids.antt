@@ -1,4 +1,4 @@
--- The texts of what names an item of the world, or a node of a body: a word and the place in its table.
+-- The texts of ids of items and of nodes: a word and a number.
 use Rattle.std.specs.Prelude.{ℕ, List, ◌++◌, codes, decimal}
 use Rattle.mir.specs.declared.ids.LocalId.{LocalId}
 use Rattle.mir.specs.declared.span.MirSpan.{MirSpan}
@@ -11,7 +11,7 @@ use Rattle.types.specs.declared.ids.GenericParamId.TheVariants.{TypeParamId, Con
 use Rattle.types.specs.declared.ids.InternedClosureId.{InternedClosureId}
 use Rattle.types.specs.declared.ids.TraitId.{TraitId}
 
--- what can have a body
+-- a definition with a body
 abbrev pub def_text : DefWithBodyId → List ℕ
 def_text (FunctionId id) = codes "fn#" ++ decimal id.0
 def_text (StaticId id) = codes "static#" ++ decimal id.0

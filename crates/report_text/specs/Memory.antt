@@ -19,21 +19,21 @@ use Rattle.report_text.specs.Types.{type_text}
 abbrev pub entry_line : ℕ × List ℕ → List ℕ
 entry_line entry = codes "  at " ++ (decimal entry.0 ++ (codes " " ++ (digits_or_dash entry.1 ++ codes "\n")))
 
--- the line of the type that a table id stands for
+-- the line with the type of a vtable id
 abbrev pub table_line : HirDatabase → ℕ → Ty → List ℕ
 table_line world id ty = codes "  table " ++ (decimal id ++ (codes " " ++ (type_text world ty ++ codes "\n")))
 
--- the lines of types whose table ids follow one another, the first of which is given
+-- the lines with types whose vtable ids follow one another, from the id of the first
 abbrev pub table_lines : HirDatabase → ℕ → List Ty → List ℕ
 table_lines world id [] = []
 table_lines world id (ty ∷ tys) = table_line world id ty ++ table_lines world (id + 1) tys
 
--- the table id of a value's first type; the ids of the others follow it
+-- the vtable id of a value's first type; the ids of the others follow it
 abbrev pub first_table_id : ℕ
 first_table_id = 1000
 
--- The lines of a memory map, by its variant: its entries by rising address, and then its table ids. Bytes alone stand
--- at address 0.
+-- The lines of a memory map, by its variant: its entries by rising address, and then its vtable ids. Bytes without an
+-- address are at address 0.
 abbrev pub memory_layer_lines : HirDatabase → MemoryMap-F Const GenericArg MemoryMap Ty ComplexMemoryMap GenericArgs TraitRef UnevaluatedConst ValueConst → List ℕ
 memory_layer_lines world one.Empty = []
 memory_layer_lines world (one.Simple bytes) = entry_line (0, bytes)

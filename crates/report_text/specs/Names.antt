@@ -1,4 +1,4 @@
--- The names that the world gives to items and parameters. One that it lacks has the name `{error}`.
+-- The names of items and parameters in a world; `{error}` for an id that is out of range.
 use Rattle.std.specs.Prelude.{ℕ, List, Option, Some, None, codes, slice_get}
 use Rattle.std.specs.Option.{option_map}
 use Rattle.types.specs.declared.ids.AdtId.{AdtId}
@@ -13,29 +13,29 @@ use Rattle.types.specs.declared.ids.TraitId.{TraitId}
 use Rattle.types.specs.declared.ids.TypeParamId.{TypeParamId}
 use Rattle.world.specs.declared.database.HirDatabase.{HirDatabase}
 
--- a name, where the world has it
+-- an optional name; `{error}` if there is none
 abbrev pub name_or_error : Option (List ℕ) → List ℕ
 name_or_error (Some name) = name
 name_or_error None = codes "{error}"
 
--- a constant's name; `const _` has none, and is `_`
+-- a constant's name; `_` for a `const _`, which has none
 abbrev pub name_or_underscore : Option (List ℕ) → List ℕ
 name_or_underscore (Some name) = name
 name_or_underscore None = codes "_"
 
--- a struct, union or enum
+-- the name of a struct, union or enum
 abbrev pub adt_name : HirDatabase → AdtId → List ℕ
 adt_name world (adt.StructId id) = name_or_error (option_map (λ row. row.name) (slice_get world.structs id.0))
 adt_name world (adt.UnionId id) = name_or_error (option_map (λ row. row.name) (slice_get world.unions id.0))
 adt_name world (adt.EnumId id) = name_or_error (option_map (λ row. row.name) (slice_get world.enums id.0))
 
--- a function, or a struct or variant whose constructor is called
+-- the name of a function, or of the struct or variant of a constructor
 abbrev pub callable_name : HirDatabase → CallableDefId → List ℕ
 callable_name world (callable.FunctionId id) = name_or_error (option_map (λ row. row.name) (slice_get world.functions id.0))
 callable_name world (callable.StructId id) = name_or_error (option_map (λ row. row.name) (slice_get world.structs id.0))
 callable_name world (callable.EnumVariantId id) = name_or_error (option_map (λ row. row.name) (slice_get world.variants id.0))
 
--- a constant or a static
+-- the name of a constant or a static
 abbrev pub general_const_name : HirDatabase → GeneralConstId → List ℕ
 general_const_name world (general.ConstId id) = name_or_error (option_map (λ row. name_or_underscore row.name) (slice_get world.consts id.0))
 general_const_name world (general.StaticId id) = name_or_error (option_map (λ row. row.name) (slice_get world.statics id.0))

@@ -1,4 +1,4 @@
--- Parts of a report: texts with what separates them, quoted texts, and bytes as digits.
+-- Parts of a report: texts with separators, quoted texts, and bytes as digits.
 use Rattle.std.specs.Prelude.{ℕ, ◌==◌, List, [], ◌∷◌, ◌++◌, codes, if◌then◌else◌}
 use Rattle.std.specs.List.{flat_map}
 use Rattle.hex.specs.Hex.{encode_lower}

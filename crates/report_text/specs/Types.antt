@@ -1,4 +1,4 @@
--- The texts of types, generic arguments and constants, with the names that a world gives.
+-- The texts of types, generic arguments and constants, with the names of a world.
 use Rattle.std.specs.Prelude.{ℕ, List, [], ◌∷◌, ◌++◌, codes, map, Option, Some, None}
 use Rattle.numbers.specs.declared.operator.Kind.{Kind}
 use Rattle.numbers.specs.declared.operator.Kind.TheVariants.{Signed, Unsigned, Boolean}
@@ -46,51 +46,51 @@ float_text F32 = codes "f32"
 float_text F64 = codes "f64"
 float_text F128 = codes "f128"
 
--- what stands before the type that a reference points to
+-- the text before the target type of a reference
 abbrev pub reference_word : Mutability → List ℕ
 reference_word Not = codes "&"
 reference_word Mut = codes "&mut "
 
--- what stands before the type that a raw pointer points to
+-- the text before the target type of a raw pointer
 abbrev pub pointer_word : Mutability → List ℕ
 pointer_word Not = codes "*const "
 pointer_word Mut = codes "*mut "
 
--- a tuple with these texts of its fields
+-- the text of a tuple type, from those of its fields
 abbrev pub tuple_text : List (List ℕ) → List ℕ
 tuple_text [] = codes "()"
 tuple_text (field ∷ []) = codes "(" ++ (field ++ codes ",)")
 tuple_text (first ∷ second ∷ others) = codes "(" ++ (listed (first ∷ second ∷ others) ++ codes ")")
 
--- an array with these texts of its element type and of its length
+-- the text of an array type, from those of its element type and of its length
 abbrev pub array_text : List ℕ → List ℕ → List ℕ
 array_text element len = codes "[" ++ (element ++ (codes "; " ++ (len ++ codes "]")))
 
 abbrev pub slice_text : List ℕ → List ℕ
 slice_text element = codes "[" ++ (element ++ codes "]")
 
--- a function pointer with these texts of its parameters and of its result
+-- the text of a function pointer type, from those of its parameters and of its result
 abbrev pub pointer_to_function_text : List (List ℕ) → List ℕ → List ℕ
 pointer_to_function_text params ret = codes "fn(" ++ (listed params ++ (codes ") -> " ++ ret))
 
--- several traits are joined by plus signs
+-- the text of a trait object type, from those of its bounds, which are joined by plus signs
 abbrev pub dynamic_text : List (List ℕ) → List ℕ
 dynamic_text bounds = codes "dyn " ++ summed bounds
 
--- what is told of a type: how it is written, and what its bytes are
+-- the text of a type, and the kind of number that its bytes are
 pub record Told : Type 0 where
   pub text : List ℕ
   pub kind : Option Kind
 
--- One layer of a type or of what stands in it, whose parts are told already: of a constant, a generic argument, a
--- bound or a type its text, of generic arguments the texts, and of memory nothing.
+-- One layer of a type, constant or other part of one, with its parts already rendered: constants, generic arguments and
+-- bounds as their texts, types as `Told`, lists of generic arguments as lists of texts, and memory as nothing.
 abbrev Over : (Type 0 → Type 0 → Type 0 → Type 0 → Type 0 → Type 0 → Type 0 → Type 0 → Type 0 → Type 0) → Type 0
 Over Layer = Layer (List ℕ) (List ℕ) (Unit {0}) Told (Unit {0}) (List (List ℕ)) (List ℕ) (List ℕ) (List ℕ)
 
 abbrev pub told_text : Told → List ℕ
 told_text told = told.text
 
--- how a type is written; a closure has no arguments in its text
+-- the text of a type, from its layer; a closure has no generic arguments in its text
 abbrev pub ty_layer_text : HirDatabase → Over Ty-F → List ℕ
 ty_layer_text world one.Bool = codes "bool"
 ty_layer_text world one.Char = codes "char"
@@ -113,7 +113,7 @@ ty_layer_text world (one.Alias id args) = with_args (alias_name world id) args
 ty_layer_text world (one.Ty::Param param) = type_param_name world param.id
 ty_layer_text world one.Ty::Error = codes "{error}"
 
--- what the bytes of a type are
+-- the kind of number that a type's bytes are, from its layer
 abbrev pub ty_layer_kind : Over Ty-F → Option Kind
 ty_layer_kind one.Bool = Some Boolean
 ty_layer_kind (one.Int _) = Some Signed
@@ -123,7 +123,7 @@ ty_layer_kind _ = None
 abbrev ty_layer : HirDatabase → Over Ty-F → Told
 ty_layer world ty = record { text = ty_layer_text world ty; kind = ty_layer_kind ty }
 
--- a generic argument is its type or its constant
+-- the text of a generic argument is that of its type or its constant
 abbrev arg_layer : HirDatabase → Over GenericArg-F → List ℕ
 arg_layer world (one.Ty ty) = ty.text
 arg_layer world (one.Konst konst) = konst
@@ -131,7 +131,7 @@ arg_layer world (one.Konst konst) = konst
 abbrev args_layer : HirDatabase → Over GenericArgs-F → List (List ℕ)
 args_layer world args = args.0
 
--- a trait is written as an item is
+-- the text of a trait with its generic arguments
 abbrev bound_layer : HirDatabase → Over TraitRef-F → List ℕ
 bound_layer world bound = with_args (trait_name world bound.def) bound.args
 
@@ -144,7 +144,7 @@ const_layer world one.Const::Error = codes "{error}"
 abbrev value_layer : HirDatabase → Over ValueConst-F → List ℕ
 value_layer world value = bytes_text value.ty.kind value.memory
 
--- a constant by its name has no arguments in its text
+-- the text of an unevaluated constant is its name, without generic arguments
 abbrev unevaluated_layer : HirDatabase → Over UnevaluatedConst-F → List ℕ
 unevaluated_layer world named = general_const_name world named.def
 
@@ -154,11 +154,11 @@ map_layer world map = tt
 abbrev complex_layer : HirDatabase → Over ComplexMemoryMap-F → Unit {0}
 complex_layer world map = tt
 
--- what is told of a type
+-- a type with its parts rendered
 unfoldable pub ty_told : HirDatabase → Ty → Told
 ty_told world = fold-Ty _ _ _ _ _ _ _ _ _ (const_layer world) (arg_layer world) (map_layer world) (ty_layer world) (complex_layer world) (args_layer world) (bound_layer world) (unevaluated_layer world) (value_layer world)
 
--- a type as it is written in Rust
+-- the text of a type, as Rust writes it
 abbrev pub type_text : HirDatabase → Ty → List ℕ
 type_text world ty = (ty_told world ty).text
 
@@ -172,6 +172,6 @@ arg_text world = fold-GenericArg _ _ _ _ _ _ _ _ _ (const_layer world) (arg_laye
 unfoldable pub args_texts : HirDatabase → GenericArgs → List (List ℕ)
 args_texts world = fold-GenericArgs _ _ _ _ _ _ _ _ _ (const_layer world) (arg_layer world) (map_layer world) (ty_layer world) (complex_layer world) (args_layer world) (bound_layer world) (unevaluated_layer world) (value_layer world)
 
--- the text of a trait with its arguments
+-- the text of a trait with its generic arguments, as a bound
 unfoldable pub bound_text : HirDatabase → TraitRef → List ℕ
 bound_text world = fold-TraitRef _ _ _ _ _ _ _ _ _ (const_layer world) (arg_layer world) (map_layer world) (ty_layer world) (complex_layer world) (args_layer world) (bound_layer world) (unevaluated_layer world) (value_layer world)

@@ -32,7 +32,7 @@ fn decimal_text(alloc: Global, number: IntValue) -> Result<Bytes, NoMemory>
     Bytes::from_slice(alloc, digits.as_str().as_bytes())
 }
 
-/// The number that bytes of an integer type are.
+/// The number of an integer type with these bytes.
 fn number_text(alloc: Global, signed: bool, bytes: &[u8]) -> Result<Bytes, NoMemory>
     ensures { IfOk result (λ text. text ≡ number_text signed bytes.now) }
 {
@@ -42,7 +42,7 @@ fn number_text(alloc: Global, signed: bool, bytes: &[u8]) -> Result<Bytes, NoMem
     }
 }
 
-/// The bytes of a value of a type.
+/// The text of the bytes of a value: a number if its type is an integer type, else hexadecimal digits.
 fn bytes_text(alloc: Global, kind: Option<Kind>, bytes: &[u8]) -> Result<Bytes, NoMemory>
     ensures { IfOk result (λ text. text ≡ bytes_text kind bytes.now) }
 {
@@ -54,7 +54,7 @@ fn bytes_text(alloc: Global, kind: Option<Kind>, bytes: &[u8]) -> Result<Bytes, 
     }
 }
 
-/// A constant: a number at an integer type, else its bytes or its name.
+/// The text of a constant: a number if its type is an integer type, else its bytes or its name.
 #[tactic(auto, using(crate::proofs::Layers::const_layers))]
 pub(crate) fn const_text(alloc: Global, db: &HirDatabase, konst: &Const) -> Result<Bytes, NoMemory>
     ensures { IfOk result (λ text. text ≡ const_text db.now konst.now) }

@@ -1,4 +1,4 @@
-//! The texts of faults.
+//! The texts of errors.
 
 ghost use Rattle.std.specs.Prelude.{◌≡◌, [], ◌∷◌, codes, map, IfOk};
 ghost use Rattle.report_text.specs.Texts.{named, quoted};
@@ -18,11 +18,12 @@ fn layout_error_text(alloc: Global, error: LayoutError) -> Result<Bytes, NoMemor
     ensures { IfOk result (λ text. text ≡ layout_error_text error) }
 {
     match error {
+        LayoutError::HasPlaceholder => Bytes::from_slice(alloc, b"HasPlaceholder"),
         LayoutError::Unknown => Bytes::from_slice(alloc, b"Unknown"),
     }
 }
 
-/// A frame that a fault passed through.
+/// The text of a frame that an error passed through.
 fn entry_text(alloc: Global, entry: TrailEntry) -> Result<Bytes, NoMemory>
     ensures { IfOk result (λ text. text ≡ entry_text entry) }
 {
@@ -31,7 +32,7 @@ fn entry_text(alloc: Global, entry: TrailEntry) -> Result<Bytes, NoMemory>
     enclosed(alloc, span.as_slice(), b" of ", caller.as_slice())
 }
 
-/// Frames that a fault passed through.
+/// The texts of the frames that an error passed through.
 fn entry_texts(alloc: Global, trail: &[TrailEntry]) -> Result<List<Bytes>, NoMemory>
     ensures { IfOk result (λ texts. texts ≡ map entry_text trail.now) }
 {
@@ -42,7 +43,7 @@ fn entry_texts(alloc: Global, trail: &[TrailEntry]) -> Result<List<Bytes>, NoMem
     Ok(texts)
 }
 
-/// A trail of frames, in brackets.
+/// The text of all frames that an error passed through, in brackets.
 fn trail_text(alloc: Global, trail: &List<TrailEntry>) -> Result<Bytes, NoMemory>
     ensures { IfOk result (λ text. text ≡ trail_text trail.now) }
 {
@@ -77,7 +78,7 @@ fn lower_error_text(alloc: Global, error: &MirLowerError) -> Result<Bytes, NoMem
     }
 }
 
-/// A type without a layout.
+/// The text of the error for a type without a layout.
 fn no_layout_text(
     alloc: Global,
     db: &HirDatabase,
@@ -91,7 +92,7 @@ fn no_layout_text(
     named_two(alloc, b"LayoutError", error, ty)
 }
 
-/// A type without a size.
+/// The text of the error for a type without a size.
 fn unsized_text(alloc: Global, db: &HirDatabase, ty: &Ty, what: &Text) -> Result<Bytes, NoMemory>
     ensures { IfOk result (λ text. text ≡ named (codes "TypeIsUnsized") (type_text db.now ty.now ∷ quoted what.now ∷ [])) }
 {
@@ -100,7 +101,7 @@ fn unsized_text(alloc: Global, db: &HirDatabase, ty: &Ty, what: &Text) -> Result
     named_two(alloc, b"TypeIsUnsized", ty, what)
 }
 
-/// A crate whose pointers are not known.
+/// The text of the error for a crate without a target data layout.
 fn no_target_text(alloc: Global, krate: Crate) -> Result<Bytes, NoMemory>
     ensures { IfOk result (λ text. text ≡ named (codes "TargetDataLayoutNotAvailable") (crate_text krate ∷ [])) }
 {
@@ -108,7 +109,7 @@ fn no_target_text(alloc: Global, krate: Crate) -> Result<Bytes, NoMemory>
     named_one(alloc, b"TargetDataLayoutNotAvailable", part)
 }
 
-/// A fault inside a function, whose text is known.
+/// The text of an error inside a function, from that of the inner error.
 fn in_function_text(
     alloc: Global,
     inner: Bytes,
@@ -120,7 +121,7 @@ fn in_function_text(
     named_two(alloc, b"InFunction", inner, trail)
 }
 
-/// How a run ended without a value.
+/// The text of an error of a run.
 #[tactic(auto, unfolding(crate::specs::Faults::eval_error_text))]
 fn eval_error_text(alloc: Global, db: &HirDatabase, error: &MirEvalError) -> Result<Bytes, NoMemory>
     ensures { IfOk result (λ text. text ≡ eval_error_text db.now error.now) }
@@ -139,11 +140,13 @@ fn eval_error_text(alloc: Global, db: &HirDatabase, error: &MirEvalError) -> Res
         MirEvalError::ExecutionLimitExceeded => {
             Bytes::from_slice(alloc, b"ExecutionLimitExceeded")
         }
+        MirEvalError::StackOverflow => Bytes::from_slice(alloc, b"StackOverflow"),
+        MirEvalError::MemoryLimitExceeded => Bytes::from_slice(alloc, b"MemoryLimitExceeded"),
         MirEvalError::NoMemory => Bytes::from_slice(alloc, b"NoMemory"),
     }
 }
 
-/// Why a constant has no value.
+/// The text of an error of constant evaluation, after the phase that it is from.
 pub(crate) fn fault_text(
     alloc: Global,
     db: &HirDatabase,

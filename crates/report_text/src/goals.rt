@@ -13,7 +13,7 @@ use mir_eval::MirOutput;
 use std::alloc::Global;
 use world::{Bytes, Const, HirDatabase, NoMemory};
 
-/// A goal's answer: of a value its type and its bytes.
+/// The text of a constant that a goal has as its answer: for a value, its type and its bytes.
 fn answer_text(alloc: Global, db: &HirDatabase, konst: &Const) -> Result<Bytes, NoMemory>
     ensures { IfOk result (λ text. text ≡ answer_text db.now konst.now) }
 {
@@ -27,7 +27,7 @@ fn answer_text(alloc: Global, db: &HirDatabase, konst: &Const) -> Result<Bytes, 
     }
 }
 
-/// A value or a fault.
+/// The text of an answer: a constant or an error.
 fn result_text(
     alloc: Global,
     db: &HirDatabase,
@@ -47,7 +47,7 @@ fn result_text(
     }
 }
 
-/// The line of what was written to one of the outputs, where that is anything.
+/// The line with the bytes that were written to an output stream; empty if there are none.
 fn output_line(alloc: Global, name: &[u8], bytes: &[u8]) -> Result<Bytes, NoMemory>
     ensures { IfOk result (λ text. text ≡ output_line name.now bytes.now) }
 {
@@ -61,7 +61,7 @@ fn output_line(alloc: Global, name: &[u8], bytes: &[u8]) -> Result<Bytes, NoMemo
     }
 }
 
-/// The lines of what was written to the standard output and the standard error.
+/// The lines with the bytes that were written to the standard output and the standard error.
 fn output_lines(alloc: Global, output: &MirOutput) -> Result<Bytes, NoMemory>
     ensures { IfOk result (λ text. text ≡ output_lines output.now) }
 {
@@ -70,7 +70,7 @@ fn output_lines(alloc: Global, output: &MirOutput) -> Result<Bytes, NoMemory>
     joined(alloc, stdout.as_slice(), stderr.as_slice())
 }
 
-/// The line with the number of blocks that were entered.
+/// The line with the number of basic blocks that were entered.
 fn turns_line(alloc: Global, turns: u64) -> Result<Bytes, NoMemory>
     ensures { IfOk result (λ text. text ≡ turns_line turns) }
 {
@@ -109,8 +109,8 @@ fn result_lines(
     }
 }
 
-/// The lines of a goal, which is counted from 0: its answer, how many blocks were entered, what was
-/// written, and the memory that the answer refers to.
+/// The lines of goal `number`: its answer, how many basic blocks were entered, the bytes that were written,
+/// and the memory that the answer refers to.
 pub fn goal_text(
     alloc: Global,
     db: &HirDatabase,

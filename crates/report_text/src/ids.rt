@@ -1,4 +1,4 @@
-//! The texts of what names an item of the world, or a node of a body.
+//! The texts of ids of items and of nodes: a word and a number.
 
 ghost use Rattle.std.specs.Prelude.{◌≡◌, IfOk};
 ghost use Rattle.report_text.specs.Ids.{def_text, generic_param_text, trait_text, crate_text, closure_text, local_text, span_text};
@@ -8,7 +8,7 @@ use mir::{LocalId, MirSpan};
 use std::alloc::Global;
 use world::{Bytes, Crate, DefWithBodyId, GenericParamId, InternedClosureId, NoMemory, TraitId};
 
-/// What can have a body.
+/// A definition with a body.
 pub(crate) fn def_text(alloc: Global, def: DefWithBodyId) -> Result<Bytes, NoMemory>
     ensures { IfOk result (λ text. text ≡ def_text def) }
 {

@@ -1,4 +1,4 @@
-//! The texts of a report: types, constants, faults, and the lines of a goal.
+//! The texts of a report: types, constants, errors, and the lines of a goal.
 #![tactic(auto)]
 
 mod consts;

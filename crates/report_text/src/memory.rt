@@ -9,7 +9,7 @@ use crate::ty::type_text;
 use std::alloc::Global;
 use world::{Bytes, HirDatabase, List, Map, MemoryMap, NoMemory, Ty};
 
-/// The table id of a value's first type.
+/// The vtable id of a value's first type; the ids of the others follow it.
 const FIRST_TABLE_ID: u64 = 1000;
 
 /// The line of bytes at an address.
@@ -34,7 +34,7 @@ fn entry_lines(alloc: Global, entries: &Map<u64, Bytes>) -> Result<Bytes, NoMemo
     Ok(Bytes::from_vec(out))
 }
 
-/// The line of the type that a table id stands for.
+/// The line with the type of a vtable id.
 fn table_line(alloc: Global, db: &HirDatabase, id: u64, ty: &Ty) -> Result<Bytes, NoMemory>
     ensures { IfOk result (λ text. text ≡ table_line db.now id ty.now) }
 {
@@ -49,7 +49,7 @@ fn table_line(alloc: Global, db: &HirDatabase, id: u64, ty: &Ty) -> Result<Bytes
     )
 }
 
-/// The lines of the types that table ids stand for.
+/// The lines with the types of all vtable ids.
 fn table_lines(alloc: Global, db: &HirDatabase, tys: &List<Ty>) -> Result<Bytes, NoMemory>
     ensures { IfOk result (λ text. text ≡ table_lines db.now 1000 tys.now) }
 {

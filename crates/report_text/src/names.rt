@@ -9,7 +9,7 @@ use world::{
     Text, TraitId, TypeParamId,
 };
 
-/// A name of a table of names.
+/// The name at an index of a table of names.
 fn name_at(names: &List<Text>, place: u32) -> &[u8]
     ensures { result.now ≡ name_or_error (slice_get names.now place) }
 {
@@ -29,7 +29,7 @@ fn struct_name(rows: &List<StructRow>, place: u32) -> &[u8]
     }
 }
 
-/// A struct, union or enum.
+/// The name of a struct, union or enum.
 pub(crate) fn adt_name(db: &HirDatabase, id: AdtId) -> &[u8]
     ensures { result.now ≡ adt_name db.now id }
 {
@@ -43,7 +43,7 @@ pub(crate) fn adt_name(db: &HirDatabase, id: AdtId) -> &[u8]
     }
 }
 
-/// A function, or a struct or variant whose constructor is called.
+/// The name of a function, or of the struct or variant of a constructor.
 pub(crate) fn callable_name(db: &HirDatabase, id: CallableDefId) -> &[u8]
     ensures { result.now ≡ callable_name db.now id }
 {
@@ -60,7 +60,7 @@ pub(crate) fn callable_name(db: &HirDatabase, id: CallableDefId) -> &[u8]
     }
 }
 
-/// A constant's name, where it has one.
+/// A constant's name; `_` if it has none.
 fn name_or_underscore(name: &Option<Text>) -> &[u8]
     ensures { result.now ≡ name_or_underscore name.now }
 {
@@ -70,7 +70,7 @@ fn name_or_underscore(name: &Option<Text>) -> &[u8]
     }
 }
 
-/// A constant or a static.
+/// The name of a constant or a static.
 pub(crate) fn general_const_name(db: &HirDatabase, id: GeneralConstId) -> &[u8]
     ensures { result.now ≡ general_const_name db.now id }
 {
@@ -86,28 +86,28 @@ pub(crate) fn general_const_name(db: &HirDatabase, id: GeneralConstId) -> &[u8]
     }
 }
 
-/// A trait.
+/// The name of a trait.
 pub(crate) fn trait_name(db: &HirDatabase, id: TraitId) -> &[u8]
     ensures { result.now ≡ trait_name db.now id }
 {
     name_at(&db.traits, id.0)
 }
 
-/// A type alias or an associated type.
+/// The name of a type alias or an associated type.
 pub(crate) fn alias_name(db: &HirDatabase, id: AliasId) -> &[u8]
     ensures { result.now ≡ alias_name db.now id }
 {
     name_at(&db.aliases, id.0)
 }
 
-/// A type parameter.
+/// The name of a type parameter.
 pub(crate) fn type_param_name(db: &HirDatabase, id: TypeParamId) -> &[u8]
     ensures { result.now ≡ type_param_name db.now id }
 {
     name_at(&db.type_params, id.0)
 }
 
-/// A const parameter.
+/// The name of a const parameter.
 pub(crate) fn const_param_name(db: &HirDatabase, id: ConstParamId) -> &[u8]
     ensures { result.now ≡ const_param_name db.now id }
 {

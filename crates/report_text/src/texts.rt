@@ -1,4 +1,4 @@
-//! Parts of a report: texts with what separates them, quoted texts, and bytes as digits.
+//! Parts of a report: texts with separators, quoted texts, and bytes as digits.
 
 ghost use Rattle.std.specs.Prelude.{◌≡◌, ◌++◌, [], ◌∷◌, decimal, IfOk, OnOk};
 ghost use Rattle.std.specs.List.{flat_map};

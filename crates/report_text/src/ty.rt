@@ -53,7 +53,7 @@ fn float_text(float: FloatTy) -> &'static [u8]
     }
 }
 
-/// What stands before the type that a reference points to.
+/// The text before the target type of a reference.
 fn reference_word(mutability: Mutability) -> &'static [u8]
     ensures { result.now ≡ reference_word mutability }
 {
@@ -63,7 +63,7 @@ fn reference_word(mutability: Mutability) -> &'static [u8]
     }
 }
 
-/// What stands before the type that a raw pointer points to.
+/// The text before the target type of a raw pointer.
 fn pointer_word(mutability: Mutability) -> &'static [u8]
     ensures { result.now ≡ pointer_word mutability }
 {
@@ -73,7 +73,7 @@ fn pointer_word(mutability: Mutability) -> &'static [u8]
     }
 }
 
-/// A tuple with these texts of its fields.
+/// The text of a tuple type, from those of its fields.
 fn tuple_text(alloc: Global, fields: &[Bytes]) -> Result<Bytes, NoMemory>
     ensures { IfOk result (λ text. text ≡ tuple_text fields.now) }
 {
@@ -87,7 +87,7 @@ fn tuple_text(alloc: Global, fields: &[Bytes]) -> Result<Bytes, NoMemory>
     }
 }
 
-/// An array with these texts of its element type and of its length.
+/// The text of an array type, from those of its element type and of its length.
 fn array_text(alloc: Global, element: &[u8], len: &[u8]) -> Result<Bytes, NoMemory>
     ensures { IfOk result (λ text. text ≡ array_text element.now len.now) }
 {
@@ -95,7 +95,7 @@ fn array_text(alloc: Global, element: &[u8], len: &[u8]) -> Result<Bytes, NoMemo
     enclosed(alloc, b"[", element, rest.as_slice())
 }
 
-/// A function pointer with these texts of its parameters and of its result.
+/// The text of a function pointer type, from those of its parameters and of its result.
 fn pointer_to_function_text(alloc: Global, params: &[Bytes], ret: &[u8]) -> Result<Bytes, NoMemory>
     ensures { IfOk result (λ text. text ≡ pointer_to_function_text params.now ret.now) }
 {
@@ -104,7 +104,7 @@ fn pointer_to_function_text(alloc: Global, params: &[Bytes], ret: &[u8]) -> Resu
     enclosed(alloc, b"fn(", inside.as_slice(), rest.as_slice())
 }
 
-/// A trait object with these texts of its bounds.
+/// The text of a trait object type, from those of its bounds.
 fn dynamic_text(alloc: Global, bounds: &[Bytes]) -> Result<Bytes, NoMemory>
     ensures { IfOk result (λ text. text ≡ dynamic_text bounds.now) }
 {
@@ -112,7 +112,7 @@ fn dynamic_text(alloc: Global, bounds: &[Bytes]) -> Result<Bytes, NoMemory>
     joined(alloc, b"dyn ", inside.as_slice())
 }
 
-/// A type as it is written in Rust.
+/// The text of a type, as Rust writes it.
 #[cycle(types)]
 #[tactic(auto, using(crate::proofs::Layers::type_layers), unfolding(crate::specs::Types::ty_told))]
 pub(crate) fn type_text(alloc: Global, db: &HirDatabase, ty: &Ty) -> Result<Bytes, NoMemory>
@@ -204,7 +204,7 @@ fn bound_texts(
     Ok(texts)
 }
 
-/// A trait with its arguments.
+/// The text of a trait with its generic arguments.
 #[cycle(types)]
 #[tactic(auto, using(crate::proofs::Layers::bound_is))]
 fn bound_text(alloc: Global, db: &HirDatabase, bound: &TraitRef) -> Result<Bytes, NoMemory>
@@ -227,7 +227,7 @@ fn args_texts(alloc: Global, db: &HirDatabase, args: &GenericArgs) -> Result<Lis
     Ok(texts)
 }
 
-/// A generic argument.
+/// The text of a generic argument.
 #[cycle(types)]
 #[tactic(auto, using(crate::proofs::Layers::type_arg_is, crate::proofs::Layers::const_arg_is))]
 fn arg_text(alloc: Global, db: &HirDatabase, arg: &GenericArg) -> Result<Bytes, NoMemory>

@@ -1,43 +1,71 @@
--- The expressions that an expression with a meaning holds.
-use Rattle.std.specs.Prelude.{All, flat_map}
-use Rattle.std.proofs.Common.{◌≡◌, ℕ, ◌<◌, true, false, List, [], ◌∷◌, ◌++◌, Option, Some, None, refl, subst}
-use Rattle.std.specs.Option.{option_and_then}
-use Rattle.std.specs.Prelude.{Bool, if◌then◌else◌}
+-- Each expression that an expression evaluates stands before it.
+use Rattle.std.specs.Prelude.{flat_map, Contains}
+use Rattle.std.proofs.Common.{⊎_elim, ◌≡◌, ℕ, ◌<◌, Bool, true, false, List, [], ◌∷◌, ◌++◌, Option, Some, None, option_map, option_and_then, if◌then◌else◌, refl, sym, subst}
+use Rattle.std.proofs.lemmas.List.Elements.{All-contains, Contains-append_left, Contains-append_right, Contains-append_cases}
+use Rattle.world.specs.declared.body.Statement.{Statement}
+use Rattle.world.specs.declared.body.Statement.TheVariants as statement
 use Rattle.world.specs.declared.expr.Expr.TheVariants as whole
 use Rattle.world.specs.declared.expr.Expr.{Expr}
 use Rattle.world.specs.Lookups.{expr_of}
 use Rattle.world.specs.Checked.{IsCheckedBody}
 use Rattle.world.specs.Nodes.{optional, children_of, statement_children}
-use Rattle.source_meaning.specs.Core.{CoreExpr, Literal, Path, UnaryOp, BinaryOp, Block, core_of, is_adjusted, names_item}
+use Rattle.types.specs.declared.ids.ExprId.{ExprId}
+use Rattle.source_meaning.specs.Core.{CoreExpr, Operation, Literal, Path, Strict, Block, core_literal, unary_operation, binary_operation, strict_form, core_of, is_adjusted, names_item}
 use Rattle.source_meaning.specs.Source.{Source, node}
+use Rattle.source_meaning.specs.Steps.{parts_of, statement_parts}
+use Rattle.source_meaning.proofs.Parts.{nothing_is_contained, among_more, strict_parts, block_parts}
 
-abbrev pub core_children : CoreExpr → List ℕ
-core_children (Literal literal) = []
-core_children (Path name) = []
-core_children (UnaryOp e op) = e.0 ∷ []
-core_children (BinaryOp lhs rhs op) = lhs.0 ∷ rhs.0 ∷ []
-core_children (Block statements tail) = flat_map statement_children statements ++ optional tail
+mapped : {A B : Type 0} (f : A → B) (given : Option A) (y : B) → option_map f given ≡ Some y → (x : A) × (given ≡ Some x) × (f x ≡ y)
+mapped f (Some x) y is = (x, refl, (let same : f x ≡ y = cc in same))
+mapped f None y is = absurd cc
 
-holds_the_same : (item : Bool) (e : Expr) (core : CoreExpr) → core_of item e ≡ Some core → children_of e ≡ core_children core
-holds_the_same item (whole.Literal literal) core is = let same : Literal literal ≡ core = cc in subst (λ c. [] ≡ core_children c) same refl
-holds_the_same true (whole.Path name) core is = cc
-holds_the_same false (whole.Path name) core is = let same : Path name ≡ core = cc in subst (λ c. [] ≡ core_children c) same refl
-holds_the_same item (whole.UnaryOp e op) core is = let same : UnaryOp e op ≡ core = cc in subst (λ c. e.0 ∷ [] ≡ core_children c) same refl
-holds_the_same item (whole.BinaryOp lhs rhs op) core is = let same : BinaryOp lhs rhs op ≡ core = cc in subst (λ c. lhs.0 ∷ rhs.0 ∷ [] ≡ core_children c) same refl
-holds_the_same item (whole.Block statements tail None) core is =
-    let same : Block statements tail ≡ core = cc in subst (λ c. flat_map statement_children statements ++ optional tail ≡ core_children c) same refl
-holds_the_same item _ core is = cc
+-- what a statement evaluates it holds
+statement_part_is_child : (one : Statement) (child : ℕ) → Contains (statement_parts one) child → Contains (statement_children one) child
+statement_part_is_child (statement.Let pat (Some e) None) child within = within
+statement_part_is_child (statement.Let pat (Some e) (Some other)) child within = absurd (nothing_is_contained child within)
+statement_part_is_child (statement.Let pat None other) child within = absurd (nothing_is_contained child within)
+statement_part_is_child (statement.Expr e has_semi) child within = within
+statement_part_is_child statement.Item child within = within
+
+strict_part_is_child : (operands : List ℕ) (given : Option Operation) (core : CoreExpr) → strict_form operands given ≡ Some core → (child : ℕ) → Contains (parts_of (Some core)) child → Contains operands child
+strict_part_is_child operands given core is child within =
+    let from = mapped (λ op. Strict op operands) given core is in
+    subst (λ parts. Contains parts child) (strict_parts from.0 operands) (subst (λ c. Contains (parts_of (Some c)) child) (sym from.2) within)
+
+block_part_is_child : (statements : List Statement) (tail : Option ExprId) (child : ℕ) → Contains (parts_of (Some (Block statements tail))) child → Contains (flat_map statement_children statements ++ optional tail) child
+block_part_is_child statements tail child within =
+    ⊎_elim (λ here. Contains-append_left (flat_map statement_children statements) (optional tail) child (among_more statement_parts statement_children statements child (λ one. statement_part_is_child one child) here))
+    (λ there. Contains-append_right (flat_map statement_children statements) (optional tail) child there)
+    (Contains-append_cases (flat_map statement_parts statements) (optional tail) child (subst (λ parts. Contains parts child) (block_parts statements tail) within))
+
+-- what an expression evaluates it holds
+part_is_child : (item : Bool) (e : Expr) (core : CoreExpr) → core_of item e ≡ Some core → (child : ℕ) → Contains (parts_of (Some core)) child → Contains (children_of e) child
+part_is_child item (whole.Literal given) core is child within =
+    let from = mapped Literal (core_literal given) core is in
+    absurd (nothing_is_contained child (subst (λ c. Contains (parts_of (Some c)) child) (sym from.2) within))
+part_is_child true (whole.Path name) core is child within = absurd cc
+part_is_child false (whole.Path name) core is child within =
+    let same : Path name ≡ core = cc in absurd (nothing_is_contained child (subst (λ c. Contains (parts_of (Some c)) child) (sym same) within))
+part_is_child item (whole.UnaryOp e op) core is child within = strict_part_is_child (e.0 ∷ []) (unary_operation op) core is child within
+part_is_child item (whole.BinaryOp lhs rhs op) core is child within = strict_part_is_child (lhs.0 ∷ rhs.0 ∷ []) (binary_operation op) core is child within
+part_is_child item (whole.Block statements tail None) core is child within =
+    let same : Block statements tail ≡ core = cc in block_part_is_child statements tail child (subst (λ c. Contains (parts_of (Some c)) child) (sym same) within)
+part_is_child item _ core is child within = absurd cc
 
 node_from : (adjusted item : Bool) (found : Option Expr) (core : CoreExpr) → if adjusted then None else option_and_then (core_of item) found ≡ Some core →
     (e : Expr) × (found ≡ Some e) × (core_of item e ≡ Some core)
-node_from true item found core is = cc
-node_from false item None core is = cc
+node_from true item found core is = absurd cc
+node_from false item None core is = absurd cc
 node_from false item (Some e) core is = (e, refl, is)
 
--- an expression stands after those that it holds
-pub children_before : (source : Source) → IsCheckedBody source.body source.infer → (e : ℕ) (core : CoreExpr) → node source e ≡ Some core → All (λ child. child < e) (core_children core)
+part_of_form_is_below : (source : Source) → IsCheckedBody source.body source.infer → (e child : ℕ) (form : Option CoreExpr) → node source e ≡ form → Contains (parts_of form) child → child < e
 unfolding node
-children_before source checked e core is =
+part_of_form_is_below source checked e child (Some core) is within =
     let item = names_item source.infer (record { 0 = e }) in
     let from = node_from (is_adjusted source.infer (record { 0 = e })) item (expr_of source.body e) core is in
-    subst (λ held. All (λ child. child < e) held) (holds_the_same item from.0 core from.2) (checked.children e from.0 from.1)
+    All-contains (λ other. other < e) (children_of from.0) child (checked.children e from.0 from.1) (part_is_child item from.0 core from.2 child within)
+part_of_form_is_below source checked e child None is within = absurd (nothing_is_contained child within)
+
+-- what is evaluated where an expression is has a lower number
+pub part_is_below : (source : Source) → IsCheckedBody source.body source.infer → (e child : ℕ) → Contains (parts_of (node source e)) child → child < e
+part_is_below source checked e child within = part_of_form_is_below source checked e child (node source e) refl within

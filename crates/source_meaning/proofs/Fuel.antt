@@ -1,40 +1,40 @@
 -- More fuel changes no end, and enough fuel comes to an end.
-use Rattle.std.proofs.Common.{⊎_elim, ◌≡◌, ℕ, zero, suc, ◌<◌, ◌≤◌, Bool, true, false, List, [], ◌∷◌, length, ◌==◌, if◌then◌else◌, Option, Some, None, refl, ap, ◌∙◌, arith}
+use Rattle.std.proofs.Common.{◌≡◌, ℕ, zero, suc, ◌<◌, ◌≤◌, Bool, true, false, List, [], ◌∷◌, ◌++◌, length, ◌==◌, if◌then◌else◌, Option, Some, None, refl, sym, ap, ◌∙◌, subst, arith}
 use Rattle.std.specs.Prelude.{flat_map, Contains}
-use Rattle.std.proofs.lemmas.List.Elements.{All-contains, Contains-append_left, Contains-append_right, Contains-append_cases}
+use Rattle.std.proofs.lemmas.List.Elements.{Contains-append_left, Contains-append_right}
 use Rattle.world.specs.declared.body.Statement.{Statement}
 use Rattle.world.specs.declared.body.Statement.TheVariants as statement
-use Rattle.types.specs.declared.operators.UnaryOp.{UnaryOp}
-use Rattle.types.specs.declared.operators.UnaryOp.TheVariants as unary
 use Rattle.types.specs.declared.ids.BindingId.{BindingId}
 use Rattle.types.specs.declared.ids.ExprId.{ExprId}
 use Rattle.world.specs.declared.infer.ValueNs.{ValueNs}
 use Rattle.world.specs.declared.infer.ValueNs.TheVariants.{LocalBinding}
 use Rattle.types.specs.declared.ty.Ty.{Ty}
 use Rattle.world.specs.Checked.{IsCheckedBody}
-use Rattle.world.specs.Nodes.{optional, statement_children}
-use Rattle.numbers.specs.declared.operator.Operator.{Operator}
+use Rattle.world.specs.Nodes.{optional}
 use Rattle.numbers.specs.Operators.{Answer, Computes, Panics, Undefined}
 use Rattle.source_meaning.specs.Core as expr
-use Rattle.source_meaning.specs.Core.{CoreExpr}
-use Rattle.source_meaning.specs.Ends.{Cost, no_cost, End, Go, Panic, Stuck, More, IsOver, after, then_do}
-use Rattle.source_meaning.specs.Meaning.{Level, put, put_if_any, put_answer, literal_operand, literal_bytes, named_place, named_into, bind, no_fuel, place_of, operand_of, unary_into, eager_operator, binary_into, statement_of, statements_of, tail_into, block_into, into_of, level_above, level_at, meaning_of}
+use Rattle.source_meaning.specs.Core.{CoreExpr, Operation}
+use Rattle.source_meaning.specs.Ends.{Cost, End, Go, Jumps, Faults, Stuck, More, IsOver, after, then_do}
+use Rattle.source_meaning.specs.Meaning.{Level, constant_cost, put, put_literal, put_answer, literal_operand, literal_bytes, named_place, named_into, bind, no_fuel, place_of, operand_of, operands_of, strict_into, statement_of, statements_of, tail_into, block_into, into_of, level_above, level_at, meaning_of}
 use Rattle.source_meaning.specs.Source.{Source, Store, Path, Binding, Literally, node, node_type, named_by, pattern, root}
-use Rattle.source_meaning.specs.Valid.{statement_parts, operands_of, parts_of}
-use Rattle.source_meaning.proofs.Core.{core_children, children_before}
+use Rattle.source_meaning.specs.Steps.{parts_of, statement_parts}
+use Rattle.source_meaning.proofs.Core.{part_is_below}
+use Rattle.source_meaning.proofs.Parts.{first_is_contained, rest_is_contained, strict_parts, block_parts}
 
 -- what is over after a cost is over
 over_before : {A : Type 0} (cost : Cost) (end : End A) → IsOver (after cost end) → IsOver end
 unfolding after
 over_before cost (Go value store rest) over = tt
-over_before cost (Panic word rest) over = tt
+over_before cost (Jumps to store rest) over = tt
+over_before cost (Faults fault rest) over = tt
 over_before cost Stuck over = tt
 over_before cost (More rest) over = over
 
 over_after : {A : Type 0} (cost : Cost) (end : End A) → IsOver end → IsOver (after cost end)
 unfolding after
 over_after cost (Go value store rest) over = tt
-over_after cost (Panic word rest) over = tt
+over_after cost (Jumps to store rest) over = tt
+over_after cost (Faults fault rest) over = tt
 over_after cost Stuck over = tt
 over_after cost (More rest) over = over
 
@@ -43,7 +43,8 @@ then_do_agrees : {A B : Type 0} (first second : End A) (next other : A → Store
 unfolding then_do
 then_do_agrees (Go value store cost) second next other same rest over =
     ap (λ end. then_do end other) (same tt) ∙ ap (after cost) (rest value store (over_before cost (next value store) over))
-then_do_agrees (Panic word cost) second next other same rest over = ap (λ end. then_do end other) (same tt)
+then_do_agrees (Jumps to store cost) second next other same rest over = ap (λ end. then_do end other) (same tt)
+then_do_agrees (Faults fault cost) second next other same rest over = ap (λ end. then_do end other) (same tt)
 then_do_agrees Stuck second next other same rest over = ap (λ end. then_do end other) (same tt)
 then_do_agrees (More cost) second next other same rest over = absurd over
 
@@ -62,15 +63,16 @@ module _ (source : Source) (below above : Level) (agrees : Agrees below above) w
   operand_agrees e (Some (expr.Literal literal)) store over = refl
   operand_agrees e _ store over = then_do_agrees (below.place e store) (above.place e store) _ _ (agrees.place e store) (λ value later o. refl) over
 
-  unary_agrees : (op : UnaryOp) (e : ℕ) (path : Path) (store : Store) → IsOver (unary_into source below op e path store) → unary_into source above op e path store ≡ unary_into source below op e path store
-  unary_agrees unary.Deref e path store over = refl
-  unary_agrees _ e path store over = then_do_agrees (below.operand e store) (above.operand e store) _ _ (agrees.operand e store) (λ value later o. refl) over
+  operands_agree : (operands : List ℕ) (store : Store) → IsOver (operands_of below operands store) → operands_of above operands store ≡ operands_of below operands store
+  unfolding operands_of
+  operands_agree [] store over = refl
+  operands_agree (e ∷ rest) store over =
+      then_do_agrees (below.operand e store) (above.operand e store) _ _ (agrees.operand e store) (λ first later o.
+      then_do_agrees (operands_of below rest later) (operands_of above rest later) _ _ (operands_agree rest later) (λ others last o'. refl) o) over
 
-  binary_agrees : (op : Option Operator) (lhs rhs : ℕ) (path : Path) (store : Store) → IsOver (binary_into source below op lhs rhs path store) → binary_into source above op lhs rhs path store ≡ binary_into source below op lhs rhs path store
-  binary_agrees (Some op) lhs rhs path store over =
-      then_do_agrees (below.operand lhs store) (above.operand lhs store) _ _ (agrees.operand lhs store) (λ left later o.
-      then_do_agrees (below.operand rhs later) (above.operand rhs later) _ _ (agrees.operand rhs later) (λ right last o'. refl) o) over
-  binary_agrees None lhs rhs path store over = refl
+  strict_agrees : (operation : Operation) (operands : List ℕ) (path : Path) (store : Store) → IsOver (strict_into source below operation operands path store) → strict_into source above operation operands path store ≡ strict_into source below operation operands path store
+  strict_agrees operation operands path store over =
+      then_do_agrees (operands_of below operands store) (operands_of above operands store) _ _ (operands_agree operands store) (λ given later o. refl) over
 
   statement_agrees : (statement : Statement) (store : Store) → IsOver (statement_of source below statement store) → statement_of source above statement store ≡ statement_of source below statement store
   statement_agrees (statement.Let pat (Some e) None) store over = then_do_agrees (below.place e.0 store) (above.place e.0 store) _ _ (agrees.place e.0 store) (λ path later o. refl) over
@@ -93,8 +95,7 @@ module _ (source : Source) (below above : Level) (agrees : Agrees below above) w
       then_do_agrees (tail_into below tail path later) (tail_into above tail path later) _ _ (tail_agrees tail path later) (λ done' last o'. refl) o) over
 
   into_agrees : (e : ℕ) (form : Option CoreExpr) (path : Path) (store : Store) → IsOver (into_of source below e form path store) → into_of source above e form path store ≡ into_of source below e form path store
-  into_agrees e (Some (expr.UnaryOp operand op)) path store over = unary_agrees op operand.0 path store over
-  into_agrees e (Some (expr.BinaryOp lhs rhs (Some op))) path store over = binary_agrees (eager_operator op) lhs.0 rhs.0 path store over
+  into_agrees e (Some (expr.Strict operation operands)) path store over = strict_agrees operation operands path store over
   into_agrees e (Some (expr.Block statements tail)) path store over = block_agrees statements tail path store over
   into_agrees e _ path store over = refl
 
@@ -131,7 +132,8 @@ more_fuel source fuel more le over =
 then_do_over : {A B : Type 0} (first : End A) (next : A → Store → End B) → IsOver first → ((value : A) (store : Store) → IsOver (next value store)) → IsOver (then_do first next)
 unfolding then_do
 then_do_over (Go value store cost) next over rest = over_after cost (next value store) (rest value store)
-then_do_over (Panic word cost) next over rest = tt
+then_do_over (Jumps to store cost) next over rest = tt
+then_do_over (Faults fault cost) next over rest = tt
 then_do_over Stuck next over rest = tt
 then_do_over (More cost) next over rest = over
 
@@ -143,9 +145,9 @@ put_over : (store : Store) (path : Path) (bytes : List ℕ) → IsOver (put stor
 unfolding put
 put_over store path bytes = either_over (length bytes == length (store path.cell)) (Go tt _ _) Stuck tt tt
 
-put_if_any_over : (store : Store) (path : Path) (bytes : Option (List ℕ)) → IsOver (put_if_any store path bytes)
-put_if_any_over store path (Some bytes) = put_over store path bytes
-put_if_any_over store path None = tt
+put_literal_over : (source : Source) (e : ℕ) (store : Store) (path : Path) (bytes : Option (List ℕ)) → IsOver (put_literal source e store path bytes)
+put_literal_over source e store path (Some bytes) = over_after (constant_cost source e) (put store path bytes) (put_over store path bytes)
+put_literal_over source e store path None = tt
 
 put_answer_over : (store : Store) (path : Path) (answer : Answer) → IsOver (put_answer store path answer)
 put_answer_over store path (Computes bytes) = put_over store path bytes
@@ -155,7 +157,7 @@ put_answer_over store path Undefined = tt
 literal_operand_over : (source : Source) (e : ℕ) (store : Store) (bytes : Option (List ℕ)) → IsOver (literal_operand source e store bytes)
 literal_operand_over source e store (Some bytes) = by_type (node_type source e)
   where
-    by_type : (ty : Option Ty) → IsOver (elim ty [ Some given ↦ Go (Literally given bytes) store no_cost | None ↦ Stuck ])
+    by_type : (ty : Option Ty) → IsOver (elim ty [ Some given ↦ Go (Literally given bytes) store (constant_cost source e) | None ↦ Stuck ])
     by_type (Some ty) = tt
     by_type None = tt
 literal_operand_over source e store None = tt
@@ -186,28 +188,14 @@ operand_over : (source : Source) (below : Level) (e : ℕ) (form : Option CoreEx
 operand_over source below e (Some (expr.Literal literal)) store over = literal_operand_over source e store (literal_bytes source e literal)
 operand_over source below e _ store over = then_do_over (below.place e store) _ (over store) (λ value later. tt)
 
--- a list has its first element, and what the rest has
-pub first_is_contained : (first : ℕ) (rest : List ℕ) → Contains (first ∷ rest) first
-first_is_contained first rest = (0, omega arith, refl)
-
-pub rest_is_contained : (first : ℕ) (rest : List ℕ) (x : ℕ) → Contains rest x → Contains (first ∷ rest) x
-rest_is_contained first rest x in_rest = Contains-append_right (first ∷ []) rest x in_rest
-
-nothing_is_contained : (x : ℕ) → Contains [] x → ⊥
-nothing_is_contained x within = let less = within.1 in omega arith
-
 module _ (source : Source) (below : Level) where
-  unary_over : (op : UnaryOp) (e : ℕ) (path : Path) (store : Store) → EndsIn below e → IsOver (unary_into source below op e path store)
-  unary_over unary.Deref e path store ends = tt
-  unary_over op e path store ends = then_do_over (below.operand e store) _ (ends.operand store) (λ value later. put_answer_over later path _)
-
-  binary_over : (op : Option Operator) (lhs rhs : ℕ) (path : Path) (store : Store) → ((child : ℕ) → Contains (operands_of op lhs rhs) child → EndsIn below child) → IsOver (binary_into source below op lhs rhs path store)
-  binary_over (Some op) lhs rhs path store ends =
-      let left_ends = ends lhs (first_is_contained lhs (rhs ∷ [])) in
-      let right_ends = ends rhs (rest_is_contained lhs (rhs ∷ []) rhs (first_is_contained rhs [])) in
-      then_do_over (below.operand lhs store) _ (left_ends.operand store) (λ left later.
-      then_do_over (below.operand rhs later) _ (right_ends.operand later) (λ right last. put_answer_over last path _))
-  binary_over None lhs rhs path store ends = tt
+  operands_over : (operands : List ℕ) (store : Store) → ((child : ℕ) → Contains operands child → EndsIn below child) → IsOver (operands_of below operands store)
+  unfolding operands_of
+  operands_over [] store ends = tt
+  operands_over (e ∷ rest) store ends =
+      let first_ends = ends e (first_is_contained e rest) in
+      then_do_over (below.operand e store) _ (first_ends.operand store) (λ first later.
+      then_do_over (operands_of below rest later) _ (operands_over rest later (λ child within. ends child (rest_is_contained e rest child within))) (λ others last. tt))
 
   statement_over : (statement : Statement) (store : Store) → ((child : ℕ) → Contains (statement_parts statement) child → EndsIn below child) → IsOver (statement_of source below statement store)
   statement_over (statement.Let pat (Some e) None) store ends =
@@ -231,56 +219,22 @@ module _ (source : Source) (below : Level) where
   tail_over (Some e) path store ends = let tail_ends = ends e.0 (first_is_contained e.0 []) in tail_ends.into path store
   tail_over None path store ends = tt
 
-  into_over : (e : ℕ) (form : Option CoreExpr) (path : Path) (store : Store) → ((child : ℕ) → Contains (parts_of form) child → EndsIn below child) → IsOver (into_of source below e form path store)
-  into_over e (Some (expr.Literal literal)) path store ends = put_if_any_over store path (literal_bytes source e literal)
-  into_over e (Some (expr.Path name)) path store ends = named_into_over (named_by source e) path store
-  into_over e (Some (expr.UnaryOp operand unary.Deref)) path store ends = tt
-  into_over e (Some (expr.UnaryOp operand unary.Neg)) path store ends = unary_over unary.Neg operand.0 path store (ends operand.0 (first_is_contained operand.0 []))
-  into_over e (Some (expr.UnaryOp operand unary.Not)) path store ends = unary_over unary.Not operand.0 path store (ends operand.0 (first_is_contained operand.0 []))
-  into_over e (Some (expr.BinaryOp lhs rhs (Some op))) path store ends = binary_over (eager_operator op) lhs.0 rhs.0 path store ends
-  into_over e (Some (expr.Block statements tail)) path store ends =
+  block_over : (statements : List Statement) (tail : Option ExprId) (path : Path) (store : Store) → ((child : ℕ) → Contains (flat_map statement_parts statements ++ optional tail) child → EndsIn below child) → IsOver (block_into source below statements tail path store)
+  block_over statements tail path store ends =
       then_do_over (statements_of source below statements store) _ (statements_over statements store (λ child within.
       ends child (Contains-append_left (flat_map statement_parts statements) (optional tail) child within))) (λ done later.
       then_do_over (tail_into below tail path later) _ (tail_over tail path later (λ child within.
       ends child (Contains-append_right (flat_map statement_parts statements) (optional tail) child within))) (λ done' last. tt))
-  into_over e _ path store ends = tt
 
--- what a statement evaluates it holds
-statement_part_is_child : (statement : Statement) (child : ℕ) → Contains (statement_parts statement) child → Contains (statement_children statement) child
-statement_part_is_child (statement.Let pat (Some e) None) child within = within
-statement_part_is_child (statement.Let pat (Some e) (Some other)) child within = absurd (nothing_is_contained child within)
-statement_part_is_child (statement.Let pat None other) child within = absurd (nothing_is_contained child within)
-statement_part_is_child (statement.Expr e has_semi) child within = within
-statement_part_is_child statement.Item child within = within
-
-statements_part_is_child : (statements : List Statement) (child : ℕ) → Contains (flat_map statement_parts statements) child → Contains (flat_map statement_children statements) child
-statements_part_is_child [] child within = within
-statements_part_is_child (first ∷ rest) child within =
-    ⊎_elim (λ here. Contains-append_left (statement_children first) (flat_map statement_children rest) child (statement_part_is_child first child here)) (λ there. Contains-append_right (statement_children first) (flat_map statement_children rest) child (statements_part_is_child rest child there)) (Contains-append_cases (statement_parts first) (flat_map statement_parts rest) child within)
-
-operand_is_child : (op : Option Operator) (lhs rhs child : ℕ) → Contains (operands_of op lhs rhs) child → Contains (lhs ∷ rhs ∷ []) child
-operand_is_child (Some op) lhs rhs child within = within
-operand_is_child None lhs rhs child within = absurd (nothing_is_contained child within)
-
--- what an expression evaluates it holds
-part_is_child : (form : CoreExpr) (child : ℕ) → Contains (parts_of (Some form)) child → Contains (core_children form) child
-part_is_child (expr.Path name) child within = within
-part_is_child (expr.Literal literal) child within = within
-part_is_child (expr.UnaryOp operand unary.Neg) child within = within
-part_is_child (expr.UnaryOp operand unary.Not) child within = within
-part_is_child (expr.UnaryOp operand unary.Deref) child within = absurd (nothing_is_contained child within)
-part_is_child (expr.BinaryOp lhs rhs (Some op)) child within = operand_is_child (eager_operator op) lhs.0 rhs.0 child within
-part_is_child (expr.BinaryOp lhs rhs None) child within = absurd (nothing_is_contained child within)
-part_is_child (expr.Block statements tail) child within =
-    ⊎_elim (λ here. Contains-append_left (flat_map statement_children statements) (optional tail) child (statements_part_is_child statements child here)) (λ there. Contains-append_right (flat_map statement_children statements) (optional tail) child there) (Contains-append_cases (flat_map statement_parts statements) (optional tail) child within)
-
-part_of_form_is_below : (source : Source) → IsCheckedBody source.body source.infer → (e child : ℕ) (form : Option CoreExpr) → node source e ≡ form → Contains (parts_of form) child → child < e
-part_of_form_is_below source checked e child (Some form) is within = All-contains (λ other. other < e) (core_children form) child (children_before source checked e form is) (part_is_child form child within)
-part_of_form_is_below source checked e child None is within = absurd (nothing_is_contained child within)
-
--- what is evaluated where an expression is has a lower number
-pub part_is_below : (source : Source) → IsCheckedBody source.body source.infer → (e child : ℕ) → Contains (parts_of (node source e)) child → child < e
-part_is_below source checked e child within = part_of_form_is_below source checked e child (node source e) refl within
+  into_over : (e : ℕ) (form : Option CoreExpr) (path : Path) (store : Store) → ((child : ℕ) → Contains (parts_of form) child → EndsIn below child) → IsOver (into_of source below e form path store)
+  into_over e (Some (expr.Literal literal)) path store ends = put_literal_over source e store path (literal_bytes source e literal)
+  into_over e (Some (expr.Path name)) path store ends = named_into_over (named_by source e) path store
+  into_over e (Some (expr.Strict operation operands)) path store ends =
+      then_do_over (operands_of below operands store) _ (operands_over operands store (λ child within.
+      ends child (subst (λ parts. Contains parts child) (sym (strict_parts operation operands)) within))) (λ given later. put_answer_over later path _)
+  into_over e (Some (expr.Block statements tail)) path store ends =
+      block_over statements tail path store (λ child within. ends child (subst (λ parts. Contains parts child) (sym (block_parts statements tail)) within))
+  into_over e None path store ends = tt
 
 -- the fuel with which each expression below a number comes to an end
 pub fuel_below : ℕ → ℕ

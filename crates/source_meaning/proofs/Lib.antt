@@ -1,5 +1,12 @@
+pub mod Built
 pub mod Core
+pub mod Costs
+pub mod Defined
 pub mod Depth
 pub mod Fuel
+pub mod Layouts
+pub mod Marks
 mod Operators
+pub mod Parts
 pub mod Sizes
+pub mod Values

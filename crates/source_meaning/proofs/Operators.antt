@@ -1,21 +1,15 @@
 -- What operators make of operands of plain types: bytes of the right number, or a panic.
 use Rattle.std.proofs.Common.{◌≡◌, ℕ, Bool, true, false, if◌then◌else◌, ◌==◌, ◌&&◌, List, length, Option, ℤ, pos, negsuc, refl, sym, ◌∙◌, subst, eq-eqb}
 use Rattle.std.proofs.lemmas.Bool.{false≢true}
-use Rattle.types.specs.declared.operators.CmpOp.{CmpOp}
-use Rattle.types.specs.declared.operators.CmpOp.TheVariants as compare
-use Rattle.types.specs.declared.operators.Ordering.TheVariants.{Less, Greater}
-use Rattle.types.specs.declared.operators.UnaryOp.{UnaryOp}
-use Rattle.types.specs.declared.operators.UnaryOp.TheVariants as unary
 use Rattle.types.specs.declared.ty.Ty.{Ty, Bool as BoolTy, Int as IntTy, Uint as UintTy}
 use Rattle.numbers.specs.Bytes.{is_width}
 use Rattle.numbers.specs.declared.operator.Kind.{Kind}
 use Rattle.numbers.specs.declared.operator.Operator.{Operator}
 use Rattle.numbers.specs.declared.operator.Operator.TheVariants.{Add, Sub, Mul, Div, Rem, BitXor, BitAnd, BitOr, Shl, Shr, Eq, Ne, Lt, Le, Gt, Ge}
-use Rattle.numbers.specs.Operators.{Answer, Computes, Panics, Undefined, kept, divided, told, by_bits, on_integers, shifted, shifted_by, sign_of, shift, is_shift, is_on_booleans, is_comparison, combined, computed, denied, negated, inverted, kind_of, of_compare}
+use Rattle.numbers.specs.Operators.{Answer, Computes, Panics, Undefined, kept, divided, told, by_bits, on_integers, shifted, shifted_by, sign_of, shift, is_shift, is_on_booleans, is_comparison, combined, computed, denied, negated, inverted, kind_of}
 use Rattle.numbers.proofs.Digits.{length-low_digits, length-low_bytes}
-use Rattle.numbers.proofs.Table.{length-compared, length-computed}
-use Rattle.source_meaning.specs.Meaning.{computed_of_one}
-use Rattle.source_meaning.specs.Valid.{IsInteger, IsScalar, IsPlainUnary}
+use Rattle.numbers.proofs.Lengths.{length-compared, length-computed}
+use Rattle.source_meaning.specs.Valid.{IsInteger, IsScalar}
 
 -- an answer with a meaning
 abbrev IsDefined : Answer → Type 0
@@ -59,16 +53,6 @@ allowed_on_scalar op BoolTy on_booleans scalar = on_booleans
 allowed_on_scalar op (IntTy ty) on_booleans scalar = tt
 allowed_on_scalar op (UintTy ty) on_booleans scalar = tt
 allowed_on_scalar op _ on_booleans scalar = absurd scalar
-
--- a comparison is no shift, and `bool` has it
-pub comparison_is : (op : CmpOp) → (is_shift (of_compare op) ≡ false) × (is_comparison (of_compare op) ≡ true) × (is_on_booleans (of_compare op) ≡ true)
-unfolding of_compare is_shift is_comparison is_on_booleans
-comparison_is (compare.Eq false) = (refl, refl, refl)
-comparison_is (compare.Eq true) = (refl, refl, refl)
-comparison_is (compare.Ord Less true) = (refl, refl, refl)
-comparison_is (compare.Ord Less false) = (refl, refl, refl)
-comparison_is (compare.Ord Greater true) = (refl, refl, refl)
-comparison_is (compare.Ord Greater false) = (refl, refl, refl)
 
 either_is_defined : (test : Bool) (one other : Answer) → IsDefined one → IsDefined other → IsDefined (if test then one else other)
 either_is_defined true one other defined defined' = defined
@@ -200,17 +184,22 @@ unfolding denied
 denied_fits bytes one = where_true_fits (length bytes) (length bytes == 1) _ Undefined (eq-eqb _ _ one) (told_fits (length bytes) _ one)
 
 -- an operator on one operand takes as many as it
-plain_unary_fits : (op : UnaryOp) (ty : Ty) (bytes : List ℕ) → IsPlainUnary op ty → IsLengthOf ty (length bytes) → Fits (length bytes) (computed_of_one op (kind_of ty) bytes)
-unfolding computed_of_one kind_of negated inverted
-plain_unary_fits unary.Neg (IntTy ty) bytes plain long = where_true_fits (length bytes) (is_width (length bytes)) _ Undefined long (length-low_bytes _ _)
-plain_unary_fits unary.Neg (UintTy ty) bytes plain long = where_true_fits (length bytes) (is_width (length bytes)) _ Undefined long (length-low_bytes _ _)
-plain_unary_fits unary.Neg BoolTy bytes plain long = absurd plain
-plain_unary_fits unary.Neg _ bytes plain long = absurd plain
-plain_unary_fits unary.Not (IntTy ty) bytes plain long = where_true_fits (length bytes) (is_width (length bytes)) _ Undefined long (length-low_digits _ _)
-plain_unary_fits unary.Not (UintTy ty) bytes plain long = where_true_fits (length bytes) (is_width (length bytes)) _ Undefined long (length-low_digits _ _)
-plain_unary_fits unary.Not BoolTy bytes plain long = denied_fits bytes long
-plain_unary_fits unary.Not _ bytes plain long = absurd plain
-plain_unary_fits unary.Deref ty bytes plain long = absurd plain
+negated_of_type : (ty : Ty) (bytes : List ℕ) → IsInteger ty → IsLengthOf ty (length bytes) → Fits (length bytes) (negated (kind_of ty) bytes)
+unfolding kind_of negated
+negated_of_type (IntTy ty) bytes integer long = where_true_fits (length bytes) (is_width (length bytes)) _ Undefined long (length-low_bytes _ _)
+negated_of_type (UintTy ty) bytes integer long = where_true_fits (length bytes) (is_width (length bytes)) _ Undefined long (length-low_bytes _ _)
+negated_of_type BoolTy bytes integer long = absurd integer
+negated_of_type _ bytes integer long = absurd integer
 
-pub unary_fits : (op : UnaryOp) (ty : Ty) (kind : Option Kind) (bytes : List ℕ) → IsPlainUnary op ty → kind ≡ kind_of ty → IsLengthOf ty (length bytes) → Fits (length bytes) (computed_of_one op kind bytes)
-unary_fits op ty kind bytes plain is long = subst (λ k. Fits (length bytes) (computed_of_one op k bytes)) (sym is) (plain_unary_fits op ty bytes plain long)
+inverted_of_type : (ty : Ty) (bytes : List ℕ) → IsScalar ty → IsLengthOf ty (length bytes) → Fits (length bytes) (inverted (kind_of ty) bytes)
+unfolding kind_of inverted
+inverted_of_type (IntTy ty) bytes scalar long = where_true_fits (length bytes) (is_width (length bytes)) _ Undefined long (length-low_digits _ _)
+inverted_of_type (UintTy ty) bytes scalar long = where_true_fits (length bytes) (is_width (length bytes)) _ Undefined long (length-low_digits _ _)
+inverted_of_type BoolTy bytes scalar long = denied_fits bytes long
+inverted_of_type _ bytes scalar long = absurd scalar
+
+pub negated_fits : (ty : Ty) (kind : Option Kind) (bytes : List ℕ) → IsInteger ty → kind ≡ kind_of ty → IsLengthOf ty (length bytes) → Fits (length bytes) (negated kind bytes)
+negated_fits ty kind bytes integer is long = subst (λ k. Fits (length bytes) (negated k bytes)) (sym is) (negated_of_type ty bytes integer long)
+
+pub inverted_fits : (ty : Ty) (kind : Option Kind) (bytes : List ℕ) → IsScalar ty → kind ≡ kind_of ty → IsLengthOf ty (length bytes) → Fits (length bytes) (inverted kind bytes)
+inverted_fits ty kind bytes scalar is long = subst (λ k. Fits (length bytes) (inverted k bytes)) (sym is) (inverted_of_type ty bytes scalar long)

@@ -1,14 +1,18 @@
 -- The expressions that have a meaning so far.
-use Rattle.std.specs.Prelude.{ℕ, Bool, true, false, ◌||◌, List, ◌∷◌, Option, Some, None, suc, is_some, if◌then◌else◌}
+use Rattle.std.specs.Prelude.{ℕ, Bool, true, false, ◌||◌, List, [], ◌∷◌, Option, Some, None, suc, is_some, if◌then◌else◌, ℤ, pos, option_map}
 use Rattle.std.specs.BTreeMap.{is_at}
 use Rattle.std.specs.Map.{lookup}
+use Rattle.numbers.specs.declared.operator.Operator.{Operator}
+use Rattle.numbers.specs.Operators.{of_arith, of_compare}
 use Rattle.types.specs.contracts.ids.ExprIdOrd.TheImpl as ExprIdOrd
 use Rattle.types.specs.contracts.ids.PatIdOrd.TheImpl as PatIdOrd
 use Rattle.types.specs.declared.ids.BindingId.{BindingId}
 use Rattle.types.specs.declared.ids.ExprId.{ExprId}
 use Rattle.types.specs.declared.ids.PatId.{PatId}
-use Rattle.types.specs.declared.operators.BinaryOp.{BinaryOp as BinaryOperator}
-use Rattle.types.specs.declared.operators.UnaryOp.{UnaryOp as UnaryOperator}
+use Rattle.types.specs.declared.operators.BinaryOp.{BinaryOp}
+use Rattle.types.specs.declared.operators.BinaryOp.TheVariants as binary
+use Rattle.types.specs.declared.operators.UnaryOp.{UnaryOp}
+use Rattle.types.specs.declared.operators.UnaryOp.TheVariants as unary
 use Rattle.world.specs.declared.adjust.Adjustment.{Adjustment}
 use Rattle.world.specs.declared.body.Statement.{Statement}
 use Rattle.world.specs.declared.expr.Expr.TheVariants as expr
@@ -19,24 +23,65 @@ use Rattle.world.specs.declared.infer.InferenceResult.{InferenceResult}
 use Rattle.world.specs.declared.infer.ValueNs.TheVariants as value
 use Rattle.world.specs.declared.infer.ValueNs.{ValueNs}
 use Rattle.world.specs.declared.literal.Literal.{Literal as SomeLiteral}
+use Rattle.world.specs.declared.literal.Literal.TheVariants as literal
 use Rattle.world.specs.declared.pat.Pat.TheVariants as pat
 use Rattle.world.specs.declared.pat.Pat.{Pat}
 
--- an expression of a form that has a meaning
-pub data CoreExpr : Type 0 where
-  Literal : SomeLiteral → CoreExpr
-  Path : List ℕ → CoreExpr
-  UnaryOp : ExprId → UnaryOperator → CoreExpr
-  BinaryOp : ExprId → ExprId → Option BinaryOperator → CoreExpr
-  Block : List Statement → Option ExprId → CoreExpr
+-- a literal with a meaning: a truth value, or a whole number
+pub data CoreLiteral : Type 0 where
+  Truth : Bool → CoreLiteral
+  Number : ℤ → CoreLiteral
 
--- the form of an expression, where it is one with a meaning: a block has no label, and a path is not resolved to an item
--- that a trait or an impl has, or to a variant
+-- what is computed from operands that are all evaluated: unary minus, `!`, or an operator on two operands
+pub data Operation : Type 0 where
+  Negate : Operation
+  Invert : Operation
+  Combine : Operator → Operation
+
+-- An expression of a form that has a meaning. A strict form evaluates all its operands from left to right, and then
+-- computes one operation.
+pub data CoreExpr : Type 0 where
+  Literal : CoreLiteral → CoreExpr
+  Path : (name : List ℕ) → CoreExpr
+  Strict : Operation → (operands : List ℕ) → CoreExpr
+  Block : List Statement → (tail : Option ExprId) → CoreExpr
+
+-- a literal of a kind that has a meaning: a truth value or a whole number
+abbrev pub core_literal : SomeLiteral → Option CoreLiteral
+core_literal (literal.Bool test) = Some (Truth test)
+core_literal (literal.Int number suffix) = Some (Number number)
+core_literal (literal.Uint number suffix) = Some (Number (pos number))
+core_literal _ = None
+
+-- the operation of an operator on one operand, where it is one on values
+abbrev pub unary_operation : UnaryOp → Option Operation
+unary_operation unary.Neg = Some Negate
+unary_operation unary.Not = Some Invert
+unary_operation unary.Deref = None
+
+-- the operator on numbers, where an operator always evaluates both its operands
+unfoldable pub eager_operator : BinaryOp → Option Operator
+eager_operator (binary.ArithOp op) = Some (of_arith op)
+eager_operator (binary.CmpOp op) = Some (of_compare op)
+eager_operator (binary.LogicOp op) = None
+eager_operator (binary.Assignment op) = None
+
+-- the operation of an operator on two operands, where it is there and always evaluates both
+abbrev pub binary_operation : Option BinaryOp → Option Operation
+binary_operation (Some op) = option_map Combine (eager_operator op)
+binary_operation None = None
+
+-- a strict form, where the operation has a meaning
+abbrev pub strict_form : List ℕ → Option Operation → Option CoreExpr
+strict_form operands operation = option_map (λ op. Strict op operands) operation
+
+-- The form of an expression, where it is one with a meaning. A block has no label, and a path is not resolved to an
+-- item that a trait or an impl has, or to a variant.
 abbrev pub core_of : Bool → Expr → Option CoreExpr
-core_of names_item (expr.Literal literal) = Some (Literal literal)
+core_of names_item (expr.Literal given) = option_map Literal (core_literal given)
 core_of names_item (expr.Path name) = if names_item then None else Some (Path name)
-core_of names_item (expr.UnaryOp e op) = Some (UnaryOp e op)
-core_of names_item (expr.BinaryOp lhs rhs op) = Some (BinaryOp lhs rhs op)
+core_of names_item (expr.UnaryOp e op) = strict_form (e.0 ∷ []) (unary_operation op)
+core_of names_item (expr.BinaryOp lhs rhs op) = strict_form (lhs.0 ∷ rhs.0 ∷ []) (binary_operation op)
 core_of names_item (expr.Block statements tail None) = Some (Block statements tail)
 core_of names_item _ = None
 
@@ -78,3 +123,18 @@ is_adjusted_pattern infer p =
 abbrev pub local_named : ValueNs → Option BindingId
 local_named (value.LocalBinding id) = Some id
 local_named _ = None
+
+-- whether an expression is a literal
+abbrev pub is_literal : Option CoreExpr → Bool
+is_literal (Some (Literal given)) = true
+is_literal _ = false
+
+-- whether an expression is `true` or `false`
+abbrev pub is_truth : Option CoreExpr → Bool
+is_truth (Some (Literal (Truth test))) = true
+is_truth _ = false
+
+-- whether an expression is a path, which names a place as it stands
+abbrev pub is_path : Option CoreExpr → Bool
+is_path (Some (Path name)) = true
+is_path _ = false

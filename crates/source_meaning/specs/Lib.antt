@@ -1,6 +1,10 @@
+pub mod Built
 pub mod Core
 pub mod Ends
+pub mod Entering
+pub mod Events
 pub mod Laws
 pub mod Meaning
 pub mod Source
+pub mod Steps
 pub mod Valid

@@ -1,45 +1,20 @@
 -- Which sources the theorem speaks of.
-use Rattle.std.specs.Prelude.{◌≡◌, ℕ, true, List, [], ◌∷◌, ◌++◌, flat_map, Contains, All, Option, Some, None, option_and_then}
-use Rattle.types.specs.declared.operators.ArithOp.{ArithOp}
-use Rattle.types.specs.declared.operators.ArithOp.TheVariants as arith
-use Rattle.types.specs.declared.operators.BinaryOp.{BinaryOp}
-use Rattle.types.specs.declared.operators.BinaryOp.TheVariants as binary
-use Rattle.world.specs.declared.literal.Literal.{Literal}
-use Rattle.world.specs.declared.literal.Literal.TheVariants as literal
+use Rattle.std.specs.Prelude.{◌≡◌, ℕ, true, cond, List, [], ◌∷◌, flat_map, Contains, All, Option, Some, None, option_and_then}
 use Rattle.world.specs.declared.body.Statement.{Statement}
 use Rattle.world.specs.declared.body.Statement.TheVariants as statement
-use Rattle.types.specs.declared.operators.UnaryOp.{UnaryOp}
-use Rattle.types.specs.declared.operators.UnaryOp.TheVariants as unary
 use Rattle.types.specs.declared.ids.BindingId.{BindingId}
 use Rattle.types.specs.declared.ids.ExprId.{ExprId}
 use Rattle.world.specs.declared.infer.ValueNs.TheVariants.{LocalBinding}
 use Rattle.world.specs.declared.layout.Layout.{Layout}
 use Rattle.types.specs.declared.ty.Ty.{Ty, Bool as BoolTy, Int as IntTy, Uint as UintTy}
 use Rattle.world.specs.Lookups.{layout_of}
-use Rattle.world.specs.Nodes.{optional}
 use Rattle.numbers.specs.declared.operator.Operator.{Operator}
+use Rattle.numbers.specs.declared.operator.Operator.TheVariants.{Add, Sub, Mul, Div, Rem, BitXor, BitAnd, BitOr, Shl, Shr, Eq, Ne, Lt, Le, Gt, Ge}
 use Rattle.source_meaning.specs.Core as expr
-use Rattle.source_meaning.specs.Core.{CoreExpr}
-use Rattle.source_meaning.specs.Meaning.{eager_operator}
+use Rattle.source_meaning.specs.Core.{CoreExpr, CoreLiteral, Truth, Number, Operation, Negate, Invert, Combine, is_truth}
 use Rattle.source_meaning.specs.Source.{Source, node, node_type, binding_type, pattern, pattern_type, named_by, root}
-
--- the expressions that a statement evaluates
-abbrev pub statement_parts : Statement → List ℕ
-statement_parts (statement.Let pat (Some e) None) = e.0 ∷ []
-statement_parts (statement.Expr e has_semi) = e.0 ∷ []
-statement_parts _ = []
-
-abbrev pub operands_of : Option Operator → ℕ → ℕ → List ℕ
-operands_of (Some op) lhs rhs = lhs ∷ rhs ∷ []
-operands_of None lhs rhs = []
-
--- the expressions that an expression evaluates, in the order of evaluation
-abbrev pub parts_of : Option CoreExpr → List ℕ
-parts_of (Some (expr.UnaryOp e unary.Neg)) = e.0 ∷ []
-parts_of (Some (expr.UnaryOp e unary.Not)) = e.0 ∷ []
-parts_of (Some (expr.BinaryOp lhs rhs (Some op))) = operands_of (eager_operator op) lhs.0 rhs.0
-parts_of (Some (expr.Block statements tail)) = flat_map statement_parts statements ++ optional tail
-parts_of _ = []
+use Rattle.source_meaning.specs.Steps.{Step, steps_of, step_part, parts_of}
+use Rattle.source_meaning.specs.Steps as step
 
 -- an expression is evaluated where another is: the other itself, and the parts of what is evaluated
 pub data Evaluates (source : Source) : ℕ → ℕ → Type 0 where
@@ -63,55 +38,64 @@ IsBool BoolTy = Unit {0}
 IsBool _ = ⊥
 
 -- a number literal is of an integer type, and a truth value of `bool`
-abbrev pub IsPlainLiteral : Literal → Ty → Type 0
-IsPlainLiteral (literal.Bool test) ty = IsBool ty
-IsPlainLiteral (literal.Int number suffix) ty = IsInteger ty
-IsPlainLiteral (literal.Uint number suffix) ty = IsInteger ty
-IsPlainLiteral _ ty = ⊥
+abbrev pub IsPlainLiteral : CoreLiteral → Ty → Type 0
+IsPlainLiteral (Truth test) ty = IsBool ty
+IsPlainLiteral (Number number) ty = IsInteger ty
 
--- `-` is on an integer, `!` on an integer or `bool`
-abbrev pub IsPlainUnary : UnaryOp → Ty → Type 0
-IsPlainUnary unary.Neg ty = IsInteger ty
-IsPlainUnary unary.Not ty = IsScalar ty
-IsPlainUnary unary.Deref ty = ⊥
+-- two integers of the result's type
+abbrev pub AreIntegers : Ty → Ty → Ty → Type 0
+AreIntegers left right ty = IsInteger ty × (left ≡ ty) × (right ≡ ty)
 
--- two operands have these types
-abbrev pub AreOf : Source → ℕ → ℕ → Ty → Ty → Type 0
-AreOf source lhs rhs left right = (node_type source lhs ≡ Some left) × (node_type source rhs ≡ Some right)
+-- two integers or two truth values of the result's type
+abbrev pub AreScalars : Ty → Ty → Ty → Type 0
+AreScalars left right ty = IsScalar ty × (left ≡ ty) × (right ≡ ty)
 
--- two operands have the node's type, which is an integer
-abbrev pub AreIntegers : Source → ℕ → ℕ → Ty → Type 0
-AreIntegers source lhs rhs ty = IsInteger ty × AreOf source lhs rhs ty ty
+-- two integers, the first of the result's type
+abbrev pub AreShifted : Ty → Ty → Ty → Type 0
+AreShifted left right ty = IsInteger ty × IsInteger right × (left ≡ ty)
 
--- two operands have the node's type, which is an integer or `bool`
-abbrev pub AreScalars : Source → ℕ → ℕ → Ty → Type 0
-AreScalars source lhs rhs ty = IsScalar ty × AreOf source lhs rhs ty ty
+-- two integers or two truth values of one type, and a result of `bool`
+abbrev pub AreCompared : Ty → Ty → Ty → Type 0
+AreCompared left right ty = IsBool ty × IsScalar left × (right ≡ left)
 
--- two integers, the first of the node's type
-abbrev pub AreShifted : Source → ℕ → ℕ → Ty → Type 0
-AreShifted source lhs rhs ty = IsInteger ty × (right : Ty) × IsInteger right × AreOf source lhs rhs ty right
+-- the types of an operator's two operands and of its result fit one another
+abbrev pub IsCombined : Operator → Ty → Ty → Ty → Type 0
+IsCombined Add left right ty = AreIntegers left right ty
+IsCombined Sub left right ty = AreIntegers left right ty
+IsCombined Mul left right ty = AreIntegers left right ty
+IsCombined Div left right ty = AreIntegers left right ty
+IsCombined Rem left right ty = AreIntegers left right ty
+IsCombined Shl left right ty = AreShifted left right ty
+IsCombined Shr left right ty = AreShifted left right ty
+IsCombined BitXor left right ty = AreScalars left right ty
+IsCombined BitOr left right ty = AreScalars left right ty
+IsCombined BitAnd left right ty = AreScalars left right ty
+IsCombined Eq left right ty = AreCompared left right ty
+IsCombined Ne left right ty = AreCompared left right ty
+IsCombined Lt left right ty = AreCompared left right ty
+IsCombined Le left right ty = AreCompared left right ty
+IsCombined Gt left right ty = AreCompared left right ty
+IsCombined Ge left right ty = AreCompared left right ty
 
--- two integers or two truth values, and a node of `bool`
-abbrev pub AreCompared : Source → ℕ → ℕ → Ty → Type 0
-AreCompared source lhs rhs ty = IsBool ty × (one : Ty) × IsScalar one × AreOf source lhs rhs one one
+-- The types of an operation's operands and of its result fit one another: `-` is on an integer, `!` on an integer or
+-- `bool`, and gives a value of the same type.
+abbrev pub IsTyped : Operation → List Ty → Ty → Type 0
+IsTyped Negate (one ∷ []) ty = IsInteger ty × (one ≡ ty)
+IsTyped Invert (one ∷ []) ty = IsScalar ty × (one ≡ ty)
+IsTyped (Combine op) (left ∷ right ∷ []) ty = IsCombined op left right ty
+IsTyped _ _ ty = ⊥
 
-abbrev pub IsPlainArithmetic : Source → ArithOp → ℕ → ℕ → Ty → Type 0
-IsPlainArithmetic source arith.Add lhs rhs ty = AreIntegers source lhs rhs ty
-IsPlainArithmetic source arith.Sub lhs rhs ty = AreIntegers source lhs rhs ty
-IsPlainArithmetic source arith.Mul lhs rhs ty = AreIntegers source lhs rhs ty
-IsPlainArithmetic source arith.Div lhs rhs ty = AreIntegers source lhs rhs ty
-IsPlainArithmetic source arith.Rem lhs rhs ty = AreIntegers source lhs rhs ty
-IsPlainArithmetic source arith.Shl lhs rhs ty = AreShifted source lhs rhs ty
-IsPlainArithmetic source arith.Shr lhs rhs ty = AreShifted source lhs rhs ty
-IsPlainArithmetic source arith.BitXor lhs rhs ty = AreScalars source lhs rhs ty
-IsPlainArithmetic source arith.BitOr lhs rhs ty = AreScalars source lhs rhs ty
-IsPlainArithmetic source arith.BitAnd lhs rhs ty = AreScalars source lhs rhs ty
+-- operands have these types, one each
+abbrev pub HaveTypes : Source → List ℕ → List Ty → Type 0
+HaveTypes source [] [] = Unit {0}
+HaveTypes source (e ∷ rest) (ty ∷ others) = (node_type source e ≡ Some ty) × HaveTypes source rest others
+HaveTypes source _ _ = ⊥
 
-abbrev pub IsPlainBinary : Source → BinaryOp → ℕ → ℕ → Ty → Type 0
-IsPlainBinary source (binary.ArithOp op) lhs rhs ty = IsPlainArithmetic source op lhs rhs ty
-IsPlainBinary source (binary.CmpOp op) lhs rhs ty = AreCompared source lhs rhs ty
-IsPlainBinary source (binary.LogicOp op) lhs rhs ty = ⊥
-IsPlainBinary source (binary.Assignment op) lhs rhs ty = ⊥
+-- the operands of a strict form have types that fit its operation, and its own type
+pub record IsPlainStrict (source : Source) (operation : Operation) (operands : List ℕ) (ty : Ty) : Type 0 where
+  pub types : List Ty
+  pub operands_have : HaveTypes source operands types
+  pub typed : IsTyped operation types ty
 
 -- a name pattern binds a binding of its type, which is the initializer's
 pub record IsPlainLet (source : Source) (pat e : ℕ) : Type 0 where
@@ -133,14 +117,19 @@ abbrev pub IsPlainTail : Source → Option ExprId → Ty → Type 0
 IsPlainTail source (Some e) ty = node_type source e.0 ≡ Some ty
 IsPlainTail source None ty = Unit {0}
 
+-- a path names a binding of its type
+pub record IsPlainPath (source : Source) (e : ℕ) (ty : Ty) : Type 0 where
+  pub binding : BindingId
+  pub named : named_by source e ≡ Some (LocalBinding binding)
+  pub binding_has : binding_type source binding.0 ≡ Some ty
+
 -- a form that has a meaning, at types that fit it
 abbrev pub HasPlainForm : Source → ℕ → Option CoreExpr → Ty → Type 0
 HasPlainForm source e (Some (expr.Literal l)) ty = IsPlainLiteral l ty
-HasPlainForm source e (Some (expr.Path name)) ty = (binding : BindingId) × (named_by source e ≡ Some (LocalBinding binding)) × (binding_type source binding.0 ≡ Some ty)
-HasPlainForm source e (Some (expr.UnaryOp operand op)) ty = IsPlainUnary op ty × (node_type source operand.0 ≡ Some ty)
-HasPlainForm source e (Some (expr.BinaryOp lhs rhs (Some op))) ty = IsPlainBinary source op lhs.0 rhs.0 ty
+HasPlainForm source e (Some (expr.Path name)) ty = IsPlainPath source e ty
+HasPlainForm source e (Some (expr.Strict operation operands)) ty = IsPlainStrict source operation operands ty
 HasPlainForm source e (Some (expr.Block statements tail)) ty = All (IsPlainStatement source) statements × IsPlainTail source tail ty
-HasPlainForm source e _ ty = ⊥
+HasPlainForm source e None ty = ⊥
 
 pub record IsPlainNode (source : Source) (e : ℕ) : Type 0 where
   pub ty : Ty
@@ -166,13 +155,28 @@ pub record HasSizedLayout (source : Source) (ty : Option Ty) : Type 0 where
   pub found : option_and_then (layout_of source.world) ty ≡ Some layout
   pub sized : layout.sized ≡ true
 
--- Each expression that is evaluated, and each binding, has a type with a size: else the cost of the body is
--- undefined.
+-- Each expression that is evaluated, and each binding that no closure owns, has a type with a size: else the cost of
+-- the body is undefined.
 pub record HasDefinedCost (source : Source) : Type 0 where
   pub nodes : (e : ℕ) → Evaluates source (root source) e → HasSizedLayout source (node_type source e)
   pub bindings : (b : ℕ) (ty : Ty) → binding_type source b ≡ Some ty → HasSizedLayout source (Some ty)
 
--- each expression that is evaluated, and each binding, has a type with a layout
+-- the part that a step evaluates, where it needs a layout: a truth value as an operand is one byte without any
+abbrev pub sized_part : Source → Step → List ℕ
+sized_part source (step.Operand e) = cond (is_truth (node source e)) [] (e ∷ [])
+sized_part source other = step_part other
+
+abbrev pub sized_parts : Source → Option CoreExpr → List ℕ
+sized_parts source (Some form) = flat_map (sized_part source) (steps_of form)
+sized_parts source None = []
+
+-- An expression needs a layout where another is evaluated into a place: the other itself, and what is evaluated there,
+-- but for truth values that are operands.
+pub data NeedsLayout (source : Source) : ℕ → ℕ → Type 0 where
+  own : {e : ℕ} → NeedsLayout source e e
+  inside : {e child f : ℕ} → Contains (sized_parts source (node source e)) child → NeedsLayout source child f → NeedsLayout source e f
+
+-- each expression that needs a layout, and each binding that no closure owns, has a type with a layout
 pub record AreLaidOut (source : Source) : Type 0 where
-  pub nodes : (e : ℕ) → Evaluates source (root source) e → IsLaidOut source (node_type source e)
+  pub nodes : (e : ℕ) → NeedsLayout source (root source) e → IsLaidOut source (node_type source e)
   pub bindings : (b : ℕ) (ty : Ty) → binding_type source b ≡ Some ty → IsLaidOut source (Some ty)

@@ -2,7 +2,7 @@
 //! functions here have no code: each is a law about the definitions.
 #![tactic(auto)]
 
-ghost use Rattle.source_meaning.specs.Laws.{MoreFuelChangesNothing, PlainIsNeverStuck, BodiesEnd};
+ghost use Rattle.source_meaning.specs.Laws.{MoreFuelChangesNothing, PlainIsNeverStuck, PlainJumpsNowhere, BodiesEnd, PlainIsBuilt, CostsAdd, ScopesNest, CostIsDefined};
 
 /// More fuel changes no end.
 pub fn more_fuel_changes_nothing()
@@ -14,7 +14,32 @@ pub fn plain_is_never_stuck()
     ensures { PlainIsNeverStuck }
 {}
 
+/// A plain body of a checked world, whose types have layouts, never ends in a jump.
+pub fn plain_jumps_nowhere()
+    ensures { PlainJumpsNowhere }
+{}
+
 /// A body whose expressions stand after their operands ends.
 pub fn bodies_end()
     ensures { BodiesEnd }
+{}
+
+/// A plain expression has a form that is built.
+pub fn plain_is_built()
+    ensures { PlainIsBuilt }
+{}
+
+/// Costs add up in any grouping.
+pub fn costs_add()
+    ensures { CostsAdd }
+{}
+
+/// The scopes that are open after events depend on them in order, and an expression closes what it opens.
+pub fn scopes_nest()
+    ensures { ScopesNest }
+{}
+
+/// When the cost of a body is defined.
+pub fn cost_is_defined()
+    ensures { CostIsDefined }
 {}

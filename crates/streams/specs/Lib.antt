@@ -1,2 +1,2 @@
+pub mod Buffers
 pub mod Faults
-pub mod Told

@@ -5,7 +5,7 @@ use crate::{Failed, Sink};
 use std::alloc::Global;
 use types::{List, NoMemory};
 
-/// A sink into memory, with a bound on its bytes, whose calls with chosen numbers fail.
+/// A sink into memory of bounded size, for tests: chosen calls of `write` fail.
 #[derive(Debug, Drop)]
 pub struct BytesSink {
     bytes: Vec<u8>,
@@ -18,10 +18,10 @@ pub struct BytesSink {
 }
 
 impl BytesSink {
-    ghost use Rattle.streams.specs.Told.{written_to, room_of};
+    ghost use Rattle.streams.specs.Buffers.{written_to, room_of};
 
-    /// A sink with room for `room` bytes, which it takes here. The calls of `write` whose numbers,
-    /// from 1, are in `fails` fail, and so does each without room left.
+    /// A sink with room for `room` bytes, all allocated here. The calls of `write` whose numbers,
+    /// counted from 1, are in `fails` fail, and so does each call without room left.
     pub fn new(alloc: Global, room: u64, fails: List<u64>) -> Result<BytesSink, NoMemory>
         ensures written { IfOk result (λ sink. written_to sink ≡ []) }
         ensures room { IfOk result (λ sink. room_of sink ≡ room) }
@@ -46,14 +46,14 @@ impl BytesSink {
         self.bytes.as_slice()
     }
 
-    /// Whether a call of this number fails.
+    /// Whether the call of `write` with this number fails.
     fn is_failing(&self, call: u64) -> bool
         ensures { result ≡ true ↔ (Contains self.now.fails call ⊎ (room_of self.now ≡ 0)) }
     {
         self.fails.as_slice().contains(&call) || self.bytes.len() == self.room
     }
 
-    /// Adds the front of the bytes, as far as the room goes.
+    /// Appends as many bytes from the front of `bytes` as there is room for, and returns how many.
     fn put_front(&mut self, bytes: &[u8]) -> usize
         ensures all { result ≡ min (length bytes.now) (room_of self.old) }
         ensures grows { written_to self.new ≡ written_to self.old ++ take result bytes.now }
@@ -69,7 +69,7 @@ impl BytesSink {
 }
 
 impl Sink for BytesSink {
-    ghost use Rattle.streams.specs.Told.{written_to, room_of};
+    ghost use Rattle.streams.specs.Buffers.{written_to, room_of};
 
     ghost written = { λ sink. Some (written_to sink) };
 

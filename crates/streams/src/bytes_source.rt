@@ -4,7 +4,7 @@ ghost use Rattle.streams.specs.Faults.{HasCause, one_more};
 use crate::{Failed, Source};
 use types::{Bytes, List};
 
-/// A source over bytes in memory, whose calls with chosen numbers fail.
+/// A source of bytes in memory, for tests: chosen calls of `read` fail.
 #[derive(Debug, Drop)]
 pub struct BytesSource {
     bytes: Bytes,
@@ -16,9 +16,9 @@ pub struct BytesSource {
 }
 
 impl BytesSource {
-    ghost use Rattle.streams.specs.Told.{left_of};
+    ghost use Rattle.streams.specs.Buffers.{left_of};
 
-    /// A source of these bytes. The calls of `read` whose numbers, from 1, are in `fails` fail.
+    /// A source of these bytes. The calls of `read` whose numbers, counted from 1, are in `fails` fail.
     pub fn new(bytes: Bytes, fails: List<u64>) -> BytesSource
         ensures left { left_of result ≡ bytes }
         ensures calls { result.calls ≡ 0 }
@@ -34,7 +34,7 @@ impl BytesSource {
         }
     }
 
-    /// The next bytes, as many as fit into `buf`.
+    /// Copies as many of the next bytes as fit into `buf`, and returns how many.
     fn take_front(&mut self, buf: &mut [u8]) -> usize
         ensures all { result ≡ min (length buf.old) (length (left_of self.old)) }
         ensures bytes { take result buf.new ≡ take result (left_of self.old) }
@@ -52,7 +52,7 @@ impl BytesSource {
 }
 
 impl Source for BytesSource {
-    ghost use Rattle.streams.specs.Told.{left_of};
+    ghost use Rattle.streams.specs.Buffers.{left_of};
 
     ghost left = { λ source. Some (left_of source) };
 

@@ -1,5 +1,5 @@
-//! Where a run's input comes from and where its output goes: traits whose contracts tell the bytes
-//! and count the faults, and sources and sinks over bytes in memory and over `std`'s.
+//! Input and output of a run: the traits `Source` and `Sink`, whose contracts state the bytes that are
+//! read or written and count the failures, with implementations over memory and over `std::io`.
 #![tactic(auto)]
 
 mod bytes_sink;

@@ -3,16 +3,15 @@ ghost use Rattle.streams.specs.Faults.{HasCause};
 
 use crate::Failed;
 
-/// What bytes are written to.
+/// A writer of bytes, whose contract states which bytes it wrote.
 pub trait Sink {
-    // The bytes that were written, where they are told.
+    // The bytes that were written; `None` where the contract doesn't know them.
     ghost written: { Self → Option (List ℕ) };
 
-    // How many writes have failed; the count stands still at the last `u64`.
+    // How many writes have failed; the count stays at the greatest `u64`.
     ghost faults: { Self → ℕ };
 
-    /// Writes some bytes of the front of `bytes`, which isn't empty, and answers how many they are:
-    /// at least 1.
+    /// Writes some bytes from the front of `bytes`, which isn't empty, and returns how many: at least 1.
     fn write(&mut self, bytes: &[u8]) -> Result<usize, Failed>
         requires { 0 < length bytes.now }
         ensures some { IfOk result (λ n. 0 < n) }

@@ -3,16 +3,16 @@ ghost use Rattle.streams.specs.Faults.{HasCause};
 
 use crate::Failed;
 
-/// What bytes are read from.
+/// A reader of bytes, whose contract states which bytes it reads.
 pub trait Source {
-    // The bytes that are not yet read, where they are told.
+    // The bytes that are not yet read; `None` where the contract doesn't know them.
     ghost left: { Self → Option (List ℕ) };
 
-    // How many reads have failed; the count stands still at the last `u64`.
+    // How many reads have failed; the count stays at the greatest `u64`.
     ghost faults: { Self → ℕ };
 
-    /// Reads some bytes into the front of `buf`, which isn't empty, and answers how many they are:
-    /// 0 at the end of the input alone.
+    /// Reads some bytes into the front of `buf`, which isn't empty, and returns how many: 0 only at
+    /// the end of the input.
     fn read(&mut self, buf: &mut [u8]) -> Result<usize, Failed>
         requires { 0 < length buf.old }
         ensures fits { IfOk result (λ n. n ≤ length buf.new) }

@@ -4,7 +4,7 @@ ghost use Rattle.streams.specs.Faults.{one_more};
 use crate::{Failed, Sink, Source};
 use std::io::{Read, Write};
 
-/// A source over a reader, which counts its errors.
+/// A source that reads from a `std::io::Read` and counts its errors.
 #[derive(Debug, Drop)]
 pub struct StdSource<R> {
     reader: R,
@@ -12,7 +12,7 @@ pub struct StdSource<R> {
 }
 
 impl<R: Read> StdSource<R> {
-    /// A source over this reader.
+    /// A source over this reader, without failures so far.
     pub fn new(reader: R) -> StdSource<R>
         ensures reader { result.reader ≡ reader }
         ensures faults { result.faults ≡ 0 }
@@ -37,7 +37,7 @@ impl<R: Read> Source for StdSource<R> {
     }
 }
 
-/// A sink over a writer, which flushes at each write and counts its errors.
+/// A sink that writes to a `std::io::Write`, flushes after each write and counts the errors.
 #[derive(Debug, Drop)]
 pub struct StdSink<W> {
     writer: W,
@@ -45,7 +45,7 @@ pub struct StdSink<W> {
 }
 
 impl<W: Write> StdSink<W> {
-    /// A sink over this writer.
+    /// A sink over this writer, without failures so far.
     pub fn new(writer: W) -> StdSink<W>
         ensures writer { result.writer ≡ writer }
         ensures faults { result.faults ≡ 0 }
@@ -53,7 +53,7 @@ impl<W: Write> StdSink<W> {
         StdSink { writer, faults: 0 }
     }
 
-    /// Writes and flushes; `None` where either failed or nothing was taken.
+    /// Writes and flushes; `None` where either failed or the writer accepted no byte.
     fn put(&mut self, bytes: &[u8]) -> Option<usize>
         ensures some { IfSome result (λ n. 0 < n) }
         ensures fits { IfSome result (λ n. n ≤ length bytes.now) }

@@ -3,7 +3,7 @@ ghost use Rattle.std.specs.Prelude.{◌≡◌, ◌≤◌, ◌<◌, ◌++◌, [],
 use crate::{Failed, Sink, Source};
 use types::Bytes;
 
-/// A source over bytes in memory, which never fails.
+/// A source of bytes in memory, which never fails.
 #[derive(Debug, Drop)]
 pub struct SteadySource {
     bytes: Bytes,
@@ -12,7 +12,7 @@ pub struct SteadySource {
 }
 
 impl SteadySource {
-    ghost use Rattle.streams.specs.Told.{left_of_steady};
+    ghost use Rattle.streams.specs.Buffers.{left_of_steady};
 
     /// A source of these bytes.
     pub fn new(bytes: Bytes) -> SteadySource
@@ -23,7 +23,7 @@ impl SteadySource {
 }
 
 impl Source for SteadySource {
-    ghost use Rattle.streams.specs.Told.{left_of_steady};
+    ghost use Rattle.streams.specs.Buffers.{left_of_steady};
 
     ghost left = { λ source. Some (left_of_steady source) };
 
@@ -50,7 +50,7 @@ impl Source for SteadySource {
 pub struct SteadySink;
 
 impl SteadySink {
-    /// A sink.
+    /// A sink that takes every byte.
     pub fn new() -> SteadySink {
         SteadySink
     }

@@ -100,7 +100,7 @@ uint_size world uint = search (the_lemmas, rules)
 sized : (o : Option ℕ) (known size : ℕ) → o ≡ Some known → is_fixed_size o size ≡ true → size ≡ known
 sized o known size told e = is_same size known (ap (λ p. is_fixed_size p size) (sym told) ∙ e)
 
--- the size that every world gives a type is the one that its layout has
+-- a layout has the size that is fixed for its type
 fixed : (world : HirDatabase) (ty : Ty) (size : ℕ) → is_fixed_size (known_size world ty) size ≡ true → IfSome (fixed_size ty) (λ known. size ≡ known)
 fixed world type.Bool size e = sized (known_size world type.Bool) 1 size (bool_size world) e
 fixed world (type.Int int) size e = sized (known_size world (type.Int int)) (int_bytes int) size (int_size world int) e
@@ -162,7 +162,7 @@ by_row world e1 e2 e3 e4 e5 e6 e7 C5 = e5
 by_row world e1 e2 e3 e4 e5 e6 e7 C6 = e6
 by_row world e1 e2 e3 e4 e5 e6 e7 C7 = e7
 
--- what each row of the check finds in a world with no failure: nothing
+-- in a world without a failure no row of the check fails anywhere
 pub Holds-from_passes : (world : HirDatabase) → first_failure world ≡ None → Holds world
 unfolding first_failure
 Holds-from_passes world e =
@@ -175,7 +175,7 @@ Holds-from_passes world e =
     let seventh = row_passes C7 (failing_place C7 world) None sixth.1 in
     record { at = by_row world first.0 second.0 third.0 fourth.0 fifth.0 sixth.0 seventh.0 }
 
--- each row of a table in which nothing is found passes its test
+-- each row of a table without a wrong row passes the test
 named_rows : {X : Type 0} (table : TableName) (test : X → Bool) (rows : List X) → wrong_table table test rows ≡ None → (i : ℕ) (row : X) → slice_get rows i ≡ Some row → test row ≡ true
 named_rows table test rows e i row at =
     let inside = within_table (is_nameable (length rows)) (wrong_row table test rows) (Table table) e in
@@ -187,7 +187,7 @@ consts_named world e = (neither _ _ (neither _ _ (neither _ _ e).1).1).0
 bodies_found : (world : HirDatabase) → wrong_bodies world ≡ None → first_found (wrong_body_ids world) 0 world.bodies ≡ None
 bodies_found world e = (within_table (is_nameable (length world.bodies)) _ (Table Bodies) (neither _ _ e).1).1
 
--- a world with no failure is a checked world
+-- a world without a failure is a checked world
 pub IsChecked-from_passes : (world : HirDatabase) → first_failure world ≡ None → IsChecked world
 unfolding failing_place
 IsChecked-from_passes world e =
@@ -202,7 +202,7 @@ IsChecked-from_passes world e =
       layouts = λ i row at. checked_layout world i row (passes_at (is_layout_right world) i world.layouts row (not_mapped (Row Layouts) _ (holds.at C5)) at);
     }
 
--- a world in which no row finds anything has no failure
+-- a world in which no row of the check fails has no failure
 pub no_failure : (world : HirDatabase) → None ≡ failing_place C1 world → None ≡ failing_place C2 world → None ≡ failing_place C3 world → None ≡ failing_place C4 world → None ≡ failing_place C5 world → None ≡ failing_place C6 world → None ≡ failing_place C7 world → first_failure world ≡ None
 unfolding first_failure
 no_failure world e1 e2 e3 e4 e5 e6 e7 =

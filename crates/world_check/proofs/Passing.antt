@@ -1,4 +1,4 @@
--- What holds at each row of a table in which a test finds nothing.
+-- Where a search for a wrong row finds none, each row passes the test.
 use Rattle.std.proofs.Common.{◌≡◌, ℕ, suc, zero, ◌&&◌, ◌+◌, Bool, true, false, cond, Option, Some, None, List, [], ◌∷◌, refl, sym, ◌∙◌, ap, arith, not}
 use Rattle.std.proofs.lemmas.Iterator.Adapters.{position_from-zero}
 use Rattle.std.specs.List.{list_all, position, position_from, slice_get}
@@ -12,7 +12,7 @@ pub both : (a b : Bool) → (a && b) ≡ true → (a ≡ true) × (b ≡ true)
 both true b e = (refl, e)
 both false b e = cc
 
--- neither of two searches finds anything
+-- where the first found of two is none, both are
 pub neither : {A : Type 0} (a b : Option A) → option_or a b ≡ None → (a ≡ None) × (b ≡ None)
 neither None b e = (refl, e)
 neither (Some x) b e = cc
@@ -21,7 +21,7 @@ pub not_mapped : {A B : Type 0} (f : A → B) (o : Option A) → option_map f o 
 not_mapped f None e = refl
 not_mapped f (Some x) e = cc
 
--- what is found in a table that is not too long
+-- where a table has no wrong place, it is short enough and no place was found in it
 pub within_table : (short : Bool) (found : Option Place) (p : Place) → cond short found (Some p) ≡ None → (short ≡ true) × (found ≡ None)
 within_table true found p e = (refl, e)
 within_table false found p e = cc
@@ -40,7 +40,7 @@ passes_from test i (suc k) (y ∷ xs) x e at =
     let step : i + suc k ≡ (i + 1) + k = omega arith in
     ap (λ j. test j x) step ∙ passes_from test (i + 1) k xs x (skipped (test i y) i (first_failing test (i + 1) xs) e).1 at
 
--- where no element fails a test, each passes it
+-- where no element is the first to fail a test, each passes it
 pub passes_at : {X : Type 0} (test : ℕ → X → Bool) (k : ℕ) (xs : List X) (x : X) → first_failing test 0 xs ≡ None → slice_get xs k ≡ Some x → test k x ≡ true
 passes_at test k xs x e at =
     let start : k ≡ 0 + k = omega arith in
@@ -56,7 +56,7 @@ found_none_from test i (suc k) (y ∷ xs) x e at =
     let step : i + suc k ≡ (i + 1) + k = omega arith in
     ap (λ j. test j x) step ∙ found_none_from test (i + 1) k xs x (neither (test i y) (first_found test (i + 1) xs) e).1 at
 
--- where nothing is found in any element, nothing is found in each
+-- where a search over all elements finds nothing, it finds nothing in each
 pub found_none_at : {X : Type 0} (test : ℕ → X → Option Place) (k : ℕ) (xs : List X) (x : X) → first_found test 0 xs ≡ None → slice_get xs k ≡ Some x → test k x ≡ None
 found_none_at test k xs x e at =
     let start : k ≡ 0 + k = omega arith in

@@ -1,11 +1,11 @@
--- How a walk over parameters and arguments tells whether each argument is of its parameter's sort.
+-- The loop that compares the kinds of generic parameters and arguments.
 use Rattle.std.proofs.Common.{◌≡◌, ◌≢◌, ℕ, suc, ◌&&◌, ◌+◌, ◌<◌, ◌≤◌, Bool, true, false, List, [], ◌∷◌, length, get_or, drop, refl, sym, ◌∙◌, ap, add-one, drop-cons}
 use Rattle.std.proofs.lemmas.List.{drop_all}
 use Rattle.types.specs.declared.ids.GenericParamId.{GenericParamId}
 use Rattle.types.specs.declared.ty.GenericArg.{GenericArg}
 use Rattle.world_check.specs.Valid.{are_of_sorts, is_of_sort}
 
--- other counts of parameters and arguments
+-- different numbers of parameters and arguments
 pub counts_differ : (params : List GenericParamId) (args : List GenericArg) → length params ≢ length args → false ≡ are_of_sorts params args
 counts_differ [] [] differ = absurd (differ refl)
 counts_differ [] (arg ∷ args) differ = refl

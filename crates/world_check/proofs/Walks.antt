@@ -1,4 +1,4 @@
--- How a walk over rows finds the first.
+-- The loop that searches rows for the first wrong one.
 use Rattle.std.proofs.Common.{◌≡◌, ℕ, suc, ◌+◌, ◌<◌, ◌≤◌, Bool, true, false, cond, Option, Some, None, List, [], length, get_or, drop, sym, ◌∙◌, ap, add-one, drop-cons}
 use Rattle.std.proofs.lemmas.List.{drop_all}
 use Rattle.std.specs.Option.{option_or}
@@ -12,17 +12,17 @@ unfold_found f xs i x d h e =
     ∙ ap (λ y. option_or (f i y) (first_found f (i + 1) (drop (suc i) xs))) (sym e)
     ∙ ap (λ j. option_or (f i x) (first_found f (i + 1) (drop j xs))) (sym (add-one i))
 
--- a row in which nothing is found: the walk goes on with the next
+-- nothing is found in a row: the loop goes on with the next
 pub found_next : {X : Type 0} (f : ℕ → X → Option Place) (xs : List X) (i : ℕ) (x d : X) (r : Option Place) → i < length xs → x ≡ get_or xs i d → f i x ≡ None → first_found f i (drop i xs) ≡ r → first_found f (i + 1) (drop (i + 1) xs) ≡ r
 found_next f xs i x d r h e none whole =
     ap (λ o. option_or o (first_found f (i + 1) (drop (i + 1) xs))) (sym none) ∙ sym (unfold_found f xs i x d h e) ∙ whole
 
--- a row in which something is found is the first
+-- something is found in a row: it is the first
 pub found_here : {X : Type 0} (f : ℕ → X → Option Place) (xs : List X) (i : ℕ) (x d : X) (r : Option Place) (p : Place) → i < length xs → x ≡ get_or xs i d → f i x ≡ Some p → first_found f i (drop i xs) ≡ r → Some p ≡ r
 found_here f xs i x d r p h e some whole =
     ap (λ o. option_or o (first_found f (i + 1) (drop (i + 1) xs))) (sym some) ∙ sym (unfold_found f xs i x d h e) ∙ whole
 
--- at the end nothing is left
+-- the loop reaches the end: nothing is found
 pub found_end : {X : Type 0} (f : ℕ → X → Option Place) (xs : List X) (i : ℕ) (r : Option Place) → length xs ≤ i → first_found f i (drop i xs) ≡ r → None ≡ r
 found_end f xs i r h whole = sym (ap (λ ys. first_found f i ys) (drop_all i xs h)) ∙ whole
 
@@ -32,12 +32,12 @@ unfold_failing f xs i x d h e =
     ∙ ap (λ y. cond (f i y) (first_failing f (i + 1) (drop (suc i) xs)) (Some i)) (sym e)
     ∙ ap (λ j. cond (f i x) (first_failing f (i + 1) (drop j xs)) (Some i)) (sym (add-one i))
 
--- a row that passes: the walk goes on with the next
+-- a row passes the test: the loop goes on with the next
 pub failing_next : {X : Type 0} (f : ℕ → X → Bool) (xs : List X) (i : ℕ) (x d : X) (r : Option ℕ) → i < length xs → x ≡ get_or xs i d → f i x ≡ true → first_failing f i (drop i xs) ≡ r → first_failing f (i + 1) (drop (i + 1) xs) ≡ r
 failing_next f xs i x d r h e passes whole =
     ap (λ b. cond b (first_failing f (i + 1) (drop (i + 1) xs)) (Some i)) (sym passes) ∙ sym (unfold_failing f xs i x d h e) ∙ whole
 
--- a row that fails is the first
+-- a row fails the test: it is the first
 pub failing_here : {X : Type 0} (f : ℕ → X → Bool) (xs : List X) (i : ℕ) (x d : X) (r : Option ℕ) → i < length xs → x ≡ get_or xs i d → f i x ≡ false → first_failing f i (drop i xs) ≡ r → Some i ≡ r
 failing_here f xs i x d r h e fails whole =
     ap (λ b. cond b (first_failing f (i + 1) (drop (i + 1) xs)) (Some i)) (sym fails) ∙ sym (unfold_failing f xs i x d h e) ∙ whole

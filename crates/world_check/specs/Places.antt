@@ -10,7 +10,7 @@ use Rattle.world_check.specs.declared.place.Place.TheVariants.{Table, Row, Nodes
 use Rattle.world_check.specs.declared.place.TableName.{TableName}
 use Rattle.world_check.specs.declared.place.TableName.TheVariants.{Crates, Functions, Consts, Statics, Structs, Unions, Enums, Variants, Traits, Aliases, TypeParams, ConstParams, Closures, Bodies, Layouts, Normals, Impls, ConstImpls}
 
--- a function that stands beside the tables
+-- the name of a lang function
 abbrev pub function_text : NamedFunction → List ℕ
 function_text function.Drop = codes "drop_fn"
 function_text function.Deref = codes "deref_fn"

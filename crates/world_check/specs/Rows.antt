@@ -1,4 +1,4 @@
--- The rows of the check, and what a refusal names.
+-- The rows of the check, and the faults.
 use Rattle.std.specs.Prelude.{◌≡◌, ℕ, List, [], ◌∷◌, Option, None, Some}
 use Rattle.world.specs.Checked.{IsChecked}
 use Rattle.world.specs.declared.database.HirDatabase.{HirDatabase}
@@ -23,7 +23,7 @@ failing_place C7 world = not_agreeing world
 abbrev pub all_rows : List CheckRow
 all_rows = C1 ∷ C2 ∷ C3 ∷ C4 ∷ C5 ∷ C6 ∷ C7 ∷ []
 
--- a row with the place where it fails, or else what comes of the rows after it
+-- the row and its failing place if there is one, else the failure of the rows after it
 abbrev pub row_failure : CheckRow → Option Place → Option (CheckRow × List ℕ) → Option (CheckRow × List ℕ)
 row_failure row (Some place) later = Some (row, place_text place)
 row_failure row None later = later
@@ -36,21 +36,21 @@ first_failure_among (row ∷ rows) world = row_failure row (failing_place row wo
 unfoldable pub first_failure : HirDatabase → Option (CheckRow × List ℕ)
 first_failure world = first_failure_among all_rows world
 
--- each row of the check holds at every place
+-- no row of the check fails anywhere
 pub record Holds (world : HirDatabase) : Type 0 where
   pub at : (row : CheckRow) → failing_place row world ≡ None
 
--- a refusal names the first failure; memory may run out in any world
+-- a fault names the first failure; want of memory is possible in any world
 abbrev pub IsRefusal : HirDatabase → CheckFault → Type 0
 IsRefusal world (InvalidWorld invalid) = first_failure world ≡ Some (invalid.row, invalid.place)
 IsRefusal world NoMemory = Unit {0}
 
--- a refusal names a row and a place
+-- a fault names this row and this place, or says that memory ran out
 abbrev pub IsRefusalAt : CheckRow → Place → CheckFault → Type 0
 IsRefusalAt row place (InvalidWorld invalid) = (invalid.row ≡ row) × (invalid.place ≡ place_text place)
 IsRefusalAt row place NoMemory = Unit {0}
 
--- what holds of a world that the check has passed
+-- the facts of a world that passed the check
 pub record IsAccepted (world : HirDatabase) : Type 0 where
   pub checked : IsChecked world
   pub passes : first_failure world ≡ None

@@ -1,4 +1,4 @@
--- The first place of a world where a row of the check fails. Tables are gone through in the order of the world's fields.
+-- For each row of the check, the first place of a world where it fails. The tables are tested in the order of the world's fields.
 use Rattle.std.specs.Prelude.{ℕ, ◌+◌, ◌==◌, ◌&&◌, if◌then◌else◌, Bool, false, not, List, [], ◌∷◌, length, Option, Some, None}
 use Rattle.std.specs.List.{position}
 use Rattle.std.specs.Option.{option_map, option_or}
@@ -19,7 +19,7 @@ use Rattle.world.specs.declared.impls.ConstImplRow.{ConstImplRow}
 use Rattle.world.specs.declared.impls.ImplRow.{ImplRow}
 use Rattle.world.specs.declared.layout.Layout.{Layout}
 use Rattle.check_names.specs.Known.{is_nameable}
-use Rattle.check_items.specs.Agree.{has_all_params, is_closure_row, unlisted_variant}
+use Rattle.check_items.specs.Agree.{has_all_params, is_closure_row, first_wrong_variant}
 use Rattle.check_items.specs.Closed.{is_const_impl_closed, is_impl_closed, is_normal_closed}
 use Rattle.check_items.specs.Names.{is_closure_named, is_const_impl_named, is_const_named, is_const_param_named, is_enum_named, is_function_known, is_function_named, is_impl_named, is_layout_named, is_normal_named, is_static_named, is_struct_named, is_variant_named}
 use Rattle.check_ids.specs.Parts.{wrong_part}
@@ -41,36 +41,36 @@ use Rattle.world_check.specs.declared.place.Place.TheVariants.{Table, Row, Nodes
 use Rattle.world_check.specs.declared.place.TableName.{TableName}
 use Rattle.world_check.specs.declared.place.TableName.TheVariants.{Crates, Functions, Consts, Statics, Structs, Unions, Enums, Variants, Traits, Aliases, TypeParams, ConstParams, Closures, Bodies, Layouts, Normals, Impls, ConstImpls}
 
--- the place of the first element that fails a test
+-- the index of the first element that fails a test
 abbrev pub first_wrong : {X : Type 0} → (X → Bool) → List X → Option ℕ
 first_wrong test rows = position (λ row. not (test row)) rows
 
--- the first row of a table that fails a test
+-- the place of the first row of a table that fails a test
 abbrev pub wrong_row : {X : Type 0} → TableName → (X → Bool) → List X → Option Place
 wrong_row table test rows = option_map (Row table) (first_wrong test rows)
 
--- the first row of a table that fails a test of its place and itself
+-- the place of the first row of a table that fails a test of its index and itself
 abbrev pub wrong_row_at : {X : Type 0} → TableName → (ℕ → X → Bool) → List X → Option Place
 wrong_row_at table test rows = option_map (Row table) (first_failing test 0 rows)
 
--- a table that is too long for its places to be named, or else a place in it
+-- the table itself if it has too many rows for ids of 32 bits, else the place that was found in it
 abbrev pub in_table : TableName → ℕ → Option Place → Option Place
 in_table table entries found = if is_nameable entries then found else Some (Table table)
 
--- a table whose places ids name, where it is too long
+-- the table itself if it has too many rows for ids of 32 bits
 abbrev pub too_long : TableName → ℕ → Option Place
 too_long table entries = in_table table entries None
 
--- a table whose places ids name: it is too long, or its first row that fails a test
+-- the table itself if it has too many rows for ids of 32 bits, else its first row that fails a test
 abbrev pub wrong_table : {X : Type 0} → TableName → (X → Bool) → List X → Option Place
 wrong_table table test rows = in_table table (length rows) (wrong_row table test rows)
 
--- what a test of the rows of bodies finds first
+-- the first place that a search finds, over rows with indices from `i` on
 abbrev pub first_found : {X : Type 0} → (ℕ → X → Option Place) → ℕ → List X → Option Place
 first_found test i [] = None
 first_found test i (x ∷ xs) = option_or (test i x) (first_found test (i + 1) xs)
 
--- the place of a part of the body in a row
+-- the place of a part of body `b`
 abbrev pub part_place : ℕ → BodyPart → Place
 part_place b part.Exprs = Nodes b Exprs
 part_place b (part.Expr i) = Node b Exprs i
@@ -81,22 +81,22 @@ part_place b (part.Binding i) = Node b Bindings i
 part_place b part.Labels = Nodes b Labels
 part_place b part.Rest = Row Bodies b
 
--- the place of a node of the body in a row
+-- the place of a node of body `b`
 abbrev pub node_place : ℕ → BodyNode → Place
 node_place b (node.Expr i) = Node b Exprs i
 node_place b (node.Pat i) = Node b Pats i
 
--- Ids are in range, lists are short enough for their places to be named, and keys are distinct.
+-- Ids are in range, lists are short enough for ids of 32 bits, and keys are distinct.
 
 abbrev pub wrong_body_ids : HirDatabase → ℕ → BodyRow → Option Place
 wrong_body_ids world b row = option_map (part_place b) (wrong_part world row.body row.infer)
 
--- whether a number is told, and this one
+-- an optional index is `n`
 abbrev pub is_number : Option ℕ → ℕ → Bool
 is_number None n = false
 is_number (Some m) n = m == n
 
--- the row at a place is the first with its key
+-- row `i` is the first of its table with its key
 abbrev pub has_new_type : HirDatabase → ℕ → Ty × Layout → Bool
 has_new_type world i row = is_number (place_at {R = Ty × Layout} (λ other. other.0) (ty_cmp row.0) world.layouts) i
 
@@ -154,7 +154,7 @@ wrong_keyed world =
     (option_or (wrong_row_at Impls (is_impl_known world) world.impls)
     (wrong_row_at ConstImpls (is_const_impl_known world) world.const_impls)))
 
--- one of the functions beside the tables, where the world has no row of it
+-- the place of a lang function, unless it is none or in range
 abbrev pub wrong_function : NamedFunction → HirDatabase → Option FunctionId → Option Place
 wrong_function name world id = if is_function_known world id then None else Some (Function name)
 
@@ -180,7 +180,7 @@ out_of_range world =
     (option_or (wrong_drop_or_deref world)
     (wrong_call world))))))
 
--- Bodies are trees, and jumps stand inside what they name.
+-- Bodies are trees, and jumps name enclosing labels.
 
 abbrev pub wrong_tree : ℕ → BodyRow → Option Place
 wrong_tree b row = option_map (node_place b) (wrong_node row.body)
@@ -194,7 +194,7 @@ wrong_jump b row = option_map (Node b Exprs) (loose_jump row.body)
 abbrev pub no_label : HirDatabase → Option Place
 no_label world = first_found wrong_jump 0 world.bodies
 
--- What stands for what holds no alias and no parameter.
+-- Normalized types and resolved impl items have no alias and no generic parameter in them.
 
 abbrev pub not_closed : HirDatabase → Option Place
 not_closed world =
@@ -202,7 +202,7 @@ not_closed world =
     (option_or (wrong_row Impls is_impl_closed world.impls)
     (wrong_row ConstImpls is_const_impl_closed world.const_impls))
 
--- Layouts are as every target has them, and tags fit their enums.
+-- Layouts follow the rules of all targets, and tags fit their enums.
 
 abbrev pub wrong_layout : HirDatabase → Option Place
 wrong_layout world = wrong_row_at Layouts (is_layout_right world) world.layouts
@@ -210,7 +210,7 @@ wrong_layout world = wrong_row_at Layouts (is_layout_right world) world.layouts
 abbrev pub wrong_tag : HirDatabase → Option Place
 wrong_tag world = wrong_row Layouts (is_tag_right world) world.layouts
 
--- Rows agree with what they belong to.
+-- Functions agree with bodies, variants with enums, closures with expressions, and each `..` stands within its pattern.
 
 abbrev pub wrong_dots : ℕ → BodyRow → Option Place
 wrong_dots b row = option_map (Node b Pats) (wrong_ellipsis row.body)
@@ -218,6 +218,6 @@ wrong_dots b row = option_map (Node b Pats) (wrong_ellipsis row.body)
 abbrev pub not_agreeing : HirDatabase → Option Place
 not_agreeing world =
     option_or (wrong_row Functions (has_all_params world) world.functions)
-    (option_or (option_map (Row Variants) (unlisted_variant world))
+    (option_or (option_map (Row Variants) (first_wrong_variant world))
     (option_or (wrong_row Closures (is_closure_row world) world.closures)
     (first_found wrong_dots 0 world.bodies)))

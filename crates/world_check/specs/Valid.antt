@@ -1,4 +1,4 @@
--- What of a checked world can be evaluated, and typed bodies that pass the check by themselves.
+-- Definitions of a checked world that can be evaluated, and typed bodies that pass the tests of a single body.
 use Rattle.std.specs.Prelude.{◌==◌, ◌&&◌, Bool, true, false, List, [], ◌∷◌, length, Option, Some, None, slice_get}
 use Rattle.std.specs.Option.{is_none}
 use Rattle.types.specs.declared.ids.DefWithBodyId.{DefWithBodyId}
@@ -21,23 +21,23 @@ use Rattle.check_trees.specs.Ellipsis.{wrong_ellipsis}
 use Rattle.check_trees.specs.Jumps.{loose_jump}
 use Rattle.check_trees.specs.Tree.{wrong_node}
 
--- an argument of the parameter's sort
+-- a type for a type parameter, or a constant for a const parameter
 abbrev pub is_of_sort : GenericParamId → GenericArg → Bool
 is_of_sort (param.TypeParamId id) (arg.Ty ty) = true
 is_of_sort (param.ConstParamId id) (arg.Konst konst) = true
 is_of_sort _ _ = false
 
--- one argument for each parameter, of its sort
+-- one generic argument for each generic parameter, of its kind
 abbrev pub are_of_sorts : List GenericParamId → List GenericArg → Bool
 are_of_sorts [] [] = true
 are_of_sorts (param ∷ params) (arg ∷ args) = is_of_sort param arg && are_of_sorts params args
 are_of_sorts _ _ = false
 
--- no entries
+-- the list is empty
 abbrev pub is_none_of : {X : Type 0} → List X → Bool
 is_none_of xs = length xs == 0
 
--- arguments for the generic parameters of what has none but them
+-- there is a function without parameters, and the arguments fit its generic parameters
 abbrev pub fits_function : GenericArgs → Option FunctionRow → Bool
 fits_function args None = false
 fits_function args (Some row) = is_none_of row.sig.params && are_of_sorts row.generics args.0
@@ -50,18 +50,18 @@ abbrev pub fits_static : GenericArgs → Option StaticRow → Bool
 fits_static args None = false
 fits_static args (Some row) = is_none_of args.0
 
--- a constant, a static, or a function without parameters, with one argument of its sort for each generic parameter
+-- a definition is a constant, a static or a function without parameters, and the arguments fit its generic parameters
 abbrev pub fits : HirDatabase → DefWithBodyId → GenericArgs → Bool
 fits world (def.FunctionId id) args = fits_function args (slice_get world.functions id.0)
 fits world (def.StaticId id) args = fits_static args (slice_get world.statics id.0)
 fits world (def.ConstId id) args = fits_const args (slice_get world.consts id.0)
 fits world (def.VariantId id) args = false
 
--- it can be evaluated at arguments that hold no parameter and no error
+-- a definition can be evaluated at arguments: they fit, and have no generic parameter and no error in them
 abbrev pub is_valid : HirDatabase → DefWithBodyId → GenericArgs → Bool
 is_valid world def args = fits world def args && are_args_settled args
 
--- a typed body whose ids are in range, that is a tree, whose jumps stand inside what they name and whose patterns' `..` stand among their parts
+-- a typed body has its ids in range and is a tree, its jumps name enclosing labels, and each `..` stands within its pattern
 unfoldable pub is_body_right : HirDatabase → Body → InferenceResult → Bool
 is_body_right world body infer =
     is_none (wrong_part world body infer)

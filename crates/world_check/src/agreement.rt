@@ -1,4 +1,5 @@
-//! What stands for what is closed, layouts and tags are right, and rows agree with one another.
+//! Normalized types and resolved impl items without aliases and parameters, right layouts and tags, and rows
+//! that agree with one another.
 ghost use Rattle.std.specs.Prelude.{◌≡◌, IfOk};
 ghost use Rattle.world.specs.Failing.{first_failing};
 ghost use Rattle.check_items.specs.Agree.{has_all_params, is_closure_row};
@@ -11,8 +12,8 @@ use crate::tables::{numbered_place, row_place};
 use crate::trees::first_wrong_dots;
 use crate::{Place, TableName};
 use check_items::{
-    has_all_params, is_closure_row, is_const_impl_closed, is_impl_closed, is_normal_closed,
-    unlisted_variant,
+    first_wrong_variant, has_all_params, is_closure_row, is_const_impl_closed, is_impl_closed,
+    is_normal_closed,
 };
 use check_layouts::{is_layout_right, is_tag_right};
 use std::alloc::Global;
@@ -21,28 +22,28 @@ use world::{
     NoMemory, Ty,
 };
 
-/// The first normal type that holds an alias or a parameter.
+/// The first normalized type with an alias or a generic parameter in it.
 fn open_normal(rows: &[(AliasId, GenericArgs, Ty)]) -> Option<usize>
     ensures { result ≡ first_wrong is_normal_closed rows.now }
 {
     rows.iter().position(|row| !is_normal_closed(row))
 }
 
-/// The first row of functions of impls whose arguments hold an alias or a parameter.
+/// The first row of resolved functions with an alias or a generic parameter in its arguments.
 fn open_impl(rows: &[ImplRow]) -> Option<usize>
     ensures { result ≡ first_wrong is_impl_closed rows.now }
 {
     rows.iter().position(|row| !is_impl_closed(row))
 }
 
-/// The first row of constants of impls whose arguments hold an alias or a parameter.
+/// The first row of resolved constants with an alias or a generic parameter in its arguments.
 fn open_const_impl(rows: &[ConstImplRow]) -> Option<usize>
     ensures { result ≡ first_wrong is_const_impl_closed rows.now }
 {
     rows.iter().position(|row| !is_const_impl_closed(row))
 }
 
-/// The first row of what stands for what that holds an alias or a parameter.
+/// The first row of normalized types and resolved impl items with an alias or a generic parameter in it.
 pub(crate) fn not_closed(db: &HirDatabase) -> Option<Place>
     ensures { result ≡ not_closed db.now }
 {
@@ -54,7 +55,7 @@ pub(crate) fn not_closed(db: &HirDatabase) -> Option<Place>
     row_place(TableName::Normals, types).or(second)
 }
 
-/// The first row whose layout is not as every target has it.
+/// The index of the first layout that breaks a rule of all targets.
 fn first_wrong_layout(
     alloc: Global,
     db: &HirDatabase,
@@ -71,7 +72,7 @@ fn first_wrong_layout(
     Ok(None)
 }
 
-/// The place of the first layout that is not as every target has it.
+/// The place of the first layout that breaks a rule of all targets.
 pub(crate) fn wrong_layout(alloc: Global, db: &HirDatabase) -> Result<Option<Place>, NoMemory>
     ensures { IfOk result (λ found. found ≡ wrong_layout db.now) }
 {
@@ -79,14 +80,14 @@ pub(crate) fn wrong_layout(alloc: Global, db: &HirDatabase) -> Result<Option<Pla
     Ok(row_place(TableName::Layouts, found))
 }
 
-/// The first row whose tag does not fit its enum.
+/// The index of the first layout whose tag doesn't fit its enum.
 fn first_wrong_tag(db: &HirDatabase, rows: &[(Ty, Layout)]) -> Option<usize>
     ensures { result ≡ first_wrong (is_tag_right db.now) rows.now }
 {
     rows.iter().position(|row| !is_tag_right(db, row))
 }
 
-/// The place of the first layout whose tag does not fit its enum.
+/// The place of the first layout whose tag doesn't fit its enum.
 pub(crate) fn wrong_tag(db: &HirDatabase) -> Option<Place>
     ensures { result ≡ wrong_tag db.now }
 {
@@ -96,25 +97,26 @@ pub(crate) fn wrong_tag(db: &HirDatabase) -> Option<Place>
     )
 }
 
-/// The first function whose signature has not as many parameters as its body.
+/// The first function whose body has another number of parameters than its signature.
 fn first_short_function(db: &HirDatabase, rows: &[FunctionRow]) -> Option<usize>
     ensures { result ≡ first_wrong (has_all_params db.now) rows.now }
 {
     rows.iter().position(|row| !has_all_params(db, row))
 }
 
-/// The first closure whose expression is none with as many parameters.
+/// The first closure's row whose expression is no closure with as many parameters.
 fn first_no_closure(db: &HirDatabase, rows: &[ClosureRow]) -> Option<usize>
     ensures { result ≡ first_wrong (is_closure_row db.now) rows.now }
 {
     rows.iter().position(|row| !is_closure_row(db, row))
 }
 
-/// The first row that does not agree with what it belongs to.
+/// The first row that doesn't agree with its body, its enum or its expression, or the first pattern whose
+/// `..` stands past the end of its subpatterns.
 pub(crate) fn not_agreeing(alloc: Global, db: &HirDatabase) -> Result<Option<Place>, NoMemory>
     ensures { IfOk result (λ found. found ≡ not_agreeing db.now) }
 {
-    let unlisted = unlisted_variant(alloc, db)?;
+    let unlisted = first_wrong_variant(alloc, db)?;
     let closure = first_no_closure(db, db.closures.as_slice());
     let function = first_short_function(db, db.functions.as_slice());
     let dots = first_wrong_dots(db.bodies.as_slice());

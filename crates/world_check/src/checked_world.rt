@@ -5,7 +5,7 @@ use std::alloc::Global;
 use std::marker::Model;
 use world::{DefWithBodyId, GenericArgs, HirDatabase};
 
-/// A world that the check has passed, which contracts see as the database.
+/// A world that passed the check. Contracts see it as its database.
 pub struct CheckedWorld {
     db: HirDatabase,
 }
@@ -38,7 +38,7 @@ impl CheckedWorld {
     ghost use Rattle.world_check.specs.Valid.{is_valid};
     ghost use Rattle.check_names.specs.Known.{are_args_known, is_def_known};
 
-    /// Checks a world, as `check` does. Where that errs, it hands the database back with the fault.
+    /// Checks a world, as `check` does. If the check fails, the database comes back with the fault.
     pub fn new(alloc: Global, db: HirDatabase) -> Result<CheckedWorld, (HirDatabase, CheckFault)>
         ensures same { IfOk result (λ checked. checked ≡ db) }
         ensures passes { OnOk result (first_failure db ≡ None) }
@@ -61,7 +61,7 @@ impl CheckedWorld {
         &self.db
     }
 
-    /// Whether the world has a row of what can have a body.
+    /// Whether the id of a definition is in range.
     pub fn has(&self, def: DefWithBodyId) -> bool
         ensures { result ≡ is_def_known self.now def }
     {
@@ -75,8 +75,9 @@ impl CheckedWorld {
         are_args_known(&self.db, args)
     }
 
-    /// Whether arguments fit a constant, a static, or a function without parameters: there is one of
-    /// its sort for each generic parameter, and none holds a parameter or an error.
+    /// Whether a definition can be evaluated at generic arguments: it is a constant, a static or a function
+    /// without parameters, there is one argument of its kind for each generic parameter, and no argument
+    /// has a generic parameter or an error in it.
     pub fn is_valid(&self, def: DefWithBodyId, args: &GenericArgs) -> bool
         ensures { result ≡ is_valid self.now def args.now }
     {

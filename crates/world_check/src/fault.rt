@@ -1,25 +1,27 @@
-//! Why a world is refused.
+//! The faults of the check.
 
 use world::{NoMemory, Text};
 
-/// A row of the check's table. A refusal names the first that fails.
+/// A row of the check's table. A fault names the first that fails.
 #[derive(Clone, Copy, PartialEq, Eq, PartialOrd, Ord, Hash, Debug)]
 pub enum CheckRow {
-    /// Ids are in range, each node has one type, lists are short enough to be named by ids, keys of
-    /// tables are distinct, and literals of type `char` are characters.
+    /// Ids are in range, each node has one type, lists are short enough for ids of 32 bits, keys of tables
+    /// are distinct, and `char` literals are Unicode scalar values.
     C1,
-    /// Bodies are trees: nodes stand after those that they hold and are held once at most, and no path
-    /// of more than 400 steps leads down.
+    /// Bodies are trees: a node's children have lower ids, a node is a child at most once, and no path of
+    /// more than 400 steps leads down.
     C2,
-    /// Jumps name labels around them.
+    /// Jumps name the labels of enclosing loops and blocks.
     C3,
-    /// Normal types, and the arguments of `impls` and `const_impls`, hold no alias and no parameter.
+    /// Normalized types, and the arguments of `impls` and `const_impls`, have no alias and no generic
+    /// parameter in them.
     C4,
-    /// Layouts are as every target has them.
+    /// Layouts follow the rules of all targets.
     C5,
     /// Tags fit their enums.
     C6,
-    /// Signatures, variants, closures and the `..` of patterns agree with what they belong to.
+    /// Signatures agree with bodies, variants with enums, closures with expressions, and each `..` stands
+    /// within its pattern.
     C7,
 }
 
@@ -28,11 +30,11 @@ pub enum CheckRow {
 pub struct InvalidWorld {
     pub row: CheckRow,
     /// A row, as `layouts[3]`; a node of a body, as `bodies[0].exprs[2]`; a list that is too long, as
-    /// `consts` or `bodies[0].exprs`; or a function beside the tables, as `drop_fn`.
+    /// `consts` or `bodies[0].exprs`; or a lang function, as `drop_fn`.
     pub place: Text,
 }
 
-/// Why a world was not found valid.
+/// Why the check didn't pass a world.
 #[derive(PartialEq, Eq, PartialOrd, Ord, Hash, Debug, Drop)]
 pub enum CheckFault {
     InvalidWorld(InvalidWorld),

@@ -1,4 +1,4 @@
-//! Ids in range, and distinct keys: the tables whose rows have keys.
+//! The tables whose rows have keys: ids are in range, and keys are distinct.
 ghost use Rattle.std.specs.Prelude.{◌≡◌};
 ghost use Rattle.world.specs.Failing.{first_failing};
 ghost use Rattle.world_check.specs.Tables.{is_number, wrong_keyed, wrong_row_at};
@@ -10,7 +10,7 @@ use world::{
     AliasId, ConstImplRow, GenericArgs, HirDatabase, ImplRow, ItemKey, Layout, Row, Table, Ty,
 };
 
-/// Whether a number is told, and this one.
+/// Whether an optional index is `i`.
 fn is_number(found: Option<u64>, i: u64) -> bool
     ensures { result ≡ is_number found i }
 {
@@ -27,7 +27,7 @@ trait KeyedRow {
 
     ghost is_known: { HirDatabase → ℕ → Self → Bool };
 
-    /// Whether it names what the world has, and its key is first found in row `i` of its table.
+    /// Whether all its ids are in range, and row `i` is the first of its table with its key.
     fn is_known(&self, db: &HirDatabase, i: u64) -> bool
         ensures { result ≡ is_known db.now i self.now };
 }
@@ -84,7 +84,7 @@ impl KeyedRow for ConstImplRow {
     }
 }
 
-/// The first of some rows that names what is not there, or whose key an earlier row has.
+/// The index of the first row that has an id out of range, or the key of an earlier row.
 fn first_unknown<R: KeyedRow>(db: &HirDatabase, rows: &[R]) -> Option<usize>
     ensures { result ≡ first_failing (R.is_known db.now) 0 rows.now }
 {
@@ -96,7 +96,7 @@ fn first_unknown<R: KeyedRow>(db: &HirDatabase, rows: &[R]) -> Option<usize>
     None
 }
 
-/// The place of that row in its table.
+/// The place of the first row of a table that has an id out of range, or the key of an earlier row.
 fn wrong_row<K: Ord, R: Row<K> + KeyedRow>(
     db: &HirDatabase,
     table: TableName,
@@ -107,7 +107,7 @@ fn wrong_row<K: Ord, R: Row<K> + KeyedRow>(
     row_place(table, first_unknown(db, rows.as_slice()))
 }
 
-/// The first place among the tables whose rows have keys.
+/// The first wrong row of the layouts, normalized types and resolved impl items.
 pub(crate) fn wrong_keyed(db: &HirDatabase) -> Option<Place>
     ensures { result ≡ wrong_keyed db.now }
 {

@@ -1,6 +1,6 @@
-//! The check of a world: that ids are in range, bodies are trees, jumps name labels around them, what
-//! stands for something holds no alias and no parameter, layouts are as every target has them, tags fit
-//! their enums, and rows agree.
+//! The check of a world: ids are in range, bodies are trees, jumps name enclosing labels, normalized types
+//! and resolved impl items have no alias and no generic parameter in them, layouts follow the rules of all
+//! targets, tags fit their enums, and rows agree with one another.
 #![tactic(auto)]
 
 mod agreement;

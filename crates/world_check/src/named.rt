@@ -1,4 +1,4 @@
-//! Ids in range: the tables whose places ids name.
+//! The tables whose rows are named by ids: they are short enough, and all ids in them are in range.
 ghost use Rattle.std.specs.Prelude.{◌≡◌, length};
 ghost use Rattle.check_items.specs.Names.{is_closure_named};
 ghost use Rattle.world_check.specs.Tables.{first_wrong, too_long, wrong_adts, wrong_items, wrong_names, wrong_table};
@@ -15,14 +15,14 @@ use world::{
     StructRow, VariantRow,
 };
 
-/// A row of a table whose places ids name.
+/// A row that is named by an id.
 trait NamedRow {
     ghost use Rattle.std.specs.Prelude.{Bool};
     ghost use Rattle.world.specs.declared.database.HirDatabase.{HirDatabase};
 
     ghost is_named: { HirDatabase → Self → Bool };
 
-    /// Whether it names what the world has.
+    /// Whether all ids in the row are in range.
     fn is_named(&self, db: &HirDatabase) -> bool
         ensures { result ≡ is_named db.now self.now };
 }
@@ -107,14 +107,15 @@ impl NamedRow for ClosureRow {
     }
 }
 
-/// The first of some rows that names what is not there.
+/// The index of the first row that has an id out of range.
 fn first_wrong_row<R: NamedRow>(db: &HirDatabase, rows: &[R]) -> Option<usize>
     ensures { result ≡ first_wrong (R.is_named db.now) rows.now }
 {
     rows.iter().position(|row| !row.is_named(db))
 }
 
-/// A table, where it is too long, or the first of its rows that names what is not there.
+/// The table itself if it has too many rows for ids of 32 bits, else its first row that has an id out of
+/// range.
 fn wrong_table<R: NamedRow>(db: &HirDatabase, table: TableName, rows: &List<R>) -> Option<Place>
     ensures { result ≡ wrong_table table (R.is_named db.now) rows.now }
 {
@@ -122,14 +123,14 @@ fn wrong_table<R: NamedRow>(db: &HirDatabase, table: TableName, rows: &List<R>) 
     in_table(table, rows.len(), row_place(table, found))
 }
 
-/// The first place among the closures.
+/// The first wrong place among the closures.
 pub(crate) fn wrong_closures(db: &HirDatabase) -> Option<Place>
     ensures { result ≡ wrong_table Closures (is_closure_named db.now) db.now.closures }
 {
     wrong_table(db, TableName::Closures, &db.closures)
 }
 
-/// The first place among crates, functions, constants and statics.
+/// The first wrong place among crates, functions, constants and statics.
 pub(crate) fn wrong_items(db: &HirDatabase) -> Option<Place>
     ensures { result ≡ wrong_items db.now }
 {
@@ -139,7 +140,7 @@ pub(crate) fn wrong_items(db: &HirDatabase) -> Option<Place>
     too_long(TableName::Crates, db.crates.len()).or(functions)
 }
 
-/// The first place among structs, unions, enums and variants.
+/// The first wrong place among structs, unions, enums and variants.
 pub(crate) fn wrong_adts(db: &HirDatabase) -> Option<Place>
     ensures { result ≡ wrong_adts db.now }
 {
@@ -149,7 +150,7 @@ pub(crate) fn wrong_adts(db: &HirDatabase) -> Option<Place>
     wrong_table(db, TableName::Structs, &db.structs).or(unions)
 }
 
-/// The first place among traits, aliases and parameters.
+/// The first wrong place among traits, aliases and generic parameters.
 pub(crate) fn wrong_names(db: &HirDatabase) -> Option<Place>
     ensures { result ≡ wrong_names db.now }
 {

@@ -1,4 +1,4 @@
-//! The places of a world that a refusal can name.
+//! The places of a world that a fault can name.
 ghost use Rattle.std.specs.Prelude.{◌≡◌, IfOk, string_bytes};
 ghost use Rattle.world_check.specs.Places.{function_text, indexed, kind_text, nodes_text, place_text, table_text};
 
@@ -28,7 +28,7 @@ pub enum TableName {
     ConstImpls,
 }
 
-/// A function that stands beside the tables.
+/// One of the world's lang functions, which are fields of their own and no rows.
 #[derive(Clone, Copy, PartialEq, Eq, PartialOrd, Ord, Hash, Debug)]
 pub enum NamedFunction {
     Drop,
@@ -59,7 +59,7 @@ pub enum Place {
     Nodes(u64, NodeKind),
     /// A node of a body, as `bodies[0].exprs[2]`.
     Node(u64, NodeKind, u64),
-    /// A function beside the tables, as `drop_fn`.
+    /// A lang function, as `drop_fn`.
     Function(NamedFunction),
 }
 
@@ -89,7 +89,7 @@ fn table_text(table: TableName) -> &'static str
     }
 }
 
-/// The name of a function that stands beside the tables.
+/// The name of a lang function.
 fn function_text(function: NamedFunction) -> &'static str
     ensures { result.now ≡ function_text function }
 {

@@ -1,4 +1,4 @@
-//! Ids in range, lists short enough for their places to be named, and distinct keys.
+//! All tables: ids are in range, lists are short enough for ids of 32 bits, and keys are distinct.
 ghost use Rattle.std.specs.Prelude.{◌≡◌, IfOk};
 ghost use Rattle.std.specs.Option.{option_map};
 ghost use Rattle.check_ids.specs.Parts.{wrong_part};
@@ -13,7 +13,7 @@ use check_items::is_function_known;
 use std::alloc::Global;
 use world::{BodyRow, FunctionId, HirDatabase, NoMemory};
 
-/// The place of a part of the body in a row.
+/// The place of a part of body `b`.
 fn part_place(b: u64, part: BodyPart) -> Place
     ensures { result ≡ part_place b part }
 {
@@ -29,7 +29,7 @@ fn part_place(b: u64, part: BodyPart) -> Place
     }
 }
 
-/// The first place of a body's row where an id is out of range.
+/// The place of the first wrong part of body `b`, as one that has an id out of range.
 fn wrong_body_ids(
     alloc: Global,
     db: &HirDatabase,
@@ -44,7 +44,7 @@ fn wrong_body_ids(
     }
 }
 
-/// The first place among the bodies where an id is out of range.
+/// The place of the first wrong part of these bodies.
 fn first_body_ids(
     alloc: Global,
     db: &HirDatabase,
@@ -60,7 +60,7 @@ fn first_body_ids(
     Ok(None)
 }
 
-/// The first place among closures and bodies.
+/// The first wrong place among closures and bodies.
 fn wrong_bodies(alloc: Global, db: &HirDatabase) -> Result<Option<Place>, NoMemory>
     ensures { IfOk result (λ found. found ≡ wrong_bodies db.now) }
 {
@@ -69,7 +69,7 @@ fn wrong_bodies(alloc: Global, db: &HirDatabase) -> Result<Option<Place>, NoMemo
     Ok(wrong_closures(db).or(bodies))
 }
 
-/// The place of a function beside the tables, where the world has no row of it.
+/// The place of one of the world's lang functions, as `drop_fn`, unless it is none or in range.
 fn wrong_function(name: NamedFunction, db: &HirDatabase, id: Option<FunctionId>) -> Option<Place>
     ensures { result ≡ wrong_function name db.now id }
 {
@@ -80,7 +80,7 @@ fn wrong_function(name: NamedFunction, db: &HirDatabase, id: Option<FunctionId>)
     }
 }
 
-/// The first wrong one of the functions that drop and dereference.
+/// The first of the functions of `Drop`, `Deref` and `DerefMut` that is out of range.
 fn wrong_drop_or_deref(db: &HirDatabase) -> Option<Place>
     ensures { result ≡ wrong_drop_or_deref db.now }
 {
@@ -89,7 +89,7 @@ fn wrong_drop_or_deref(db: &HirDatabase) -> Option<Place>
     wrong_function(NamedFunction::Drop, db, db.drop_fn).or(deref)
 }
 
-/// The first wrong one of the functions that call.
+/// The first of the functions of `Fn`, `FnMut` and `FnOnce` that is out of range.
 fn wrong_call(db: &HirDatabase) -> Option<Place>
     ensures { result ≡ wrong_call db.now }
 {
@@ -98,7 +98,7 @@ fn wrong_call(db: &HirDatabase) -> Option<Place>
     wrong_function(NamedFunction::Call, db, db.call_fn).or(call_mut)
 }
 
-/// The first place where an id is out of range, a list is too long, or a key is repeated.
+/// The first place with an id out of range, a list that is too long, or a key that an earlier row has.
 pub(crate) fn out_of_range(alloc: Global, db: &HirDatabase) -> Result<Option<Place>, NoMemory>
     ensures { IfOk result (λ found. found ≡ out_of_range db.now) }
 {

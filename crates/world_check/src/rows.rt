@@ -1,4 +1,4 @@
-//! The check, row by row of its table.
+//! The check of a world, one row of its table after another.
 ghost use Rattle.std.specs.Prelude.{◌≡◌, OnOk, IfErr};
 ghost use Rattle.world.specs.Checked.{IsChecked};
 ghost use Rattle.world_check.specs.Rows.{first_failure, IsRefusal, IsRefusalAt};
@@ -11,7 +11,7 @@ use crate::{CheckFault, CheckRow, InvalidWorld, Place};
 use std::alloc::Global;
 use world::HirDatabase;
 
-/// The refusal that names a row and a place.
+/// The fault for a row that fails at a place.
 fn refusal(alloc: Global, row: CheckRow, place: Place) -> CheckFault
     ensures { IsRefusalAt row place result }
 {
@@ -21,8 +21,8 @@ fn refusal(alloc: Global, row: CheckRow, place: Place) -> CheckFault
     }
 }
 
-/// Checks a world, and names the first row of the table that fails and the first place where it
-/// does. Where it wants for memory it says only that.
+/// Checks a world. A fault names the first row of the check's table that fails and the first place where it
+/// fails, or says that memory ran out.
 #[tactic(auto, unfolding(crate::specs::Rows::first_failure, crate::specs::Rows::failing_place))]
 pub fn check(alloc: Global, db: &HirDatabase) -> Result<(), CheckFault>
     ensures ok { OnOk result (IsChecked db.now) }

@@ -1,4 +1,4 @@
-//! Places in tables.
+//! Places of tables and of their rows.
 ghost use Rattle.std.specs.Prelude.{◌≡◌};
 ghost use Rattle.std.specs.Option.{option_map};
 ghost use Rattle.world_check.specs.Tables.{in_table, too_long};
@@ -7,7 +7,7 @@ ghost use Rattle.world_check.specs.declared.place.Place.TheVariants.{Row};
 use crate::{Place, TableName};
 use check_names::is_nameable;
 
-/// The place of a row of a table.
+/// The place of an optional row of a table.
 pub(crate) fn row_place(table: TableName, found: Option<usize>) -> Option<Place>
     ensures { result ≡ option_map (Row table) found }
 {
@@ -17,7 +17,7 @@ pub(crate) fn row_place(table: TableName, found: Option<usize>) -> Option<Place>
     }
 }
 
-/// The place of a row of a table, by its number.
+/// The place of an optional row of a table, by its id.
 pub(crate) fn numbered_place(table: TableName, found: Option<u64>) -> Option<Place>
     ensures { result ≡ option_map (Row table) found }
 {
@@ -27,8 +27,7 @@ pub(crate) fn numbered_place(table: TableName, found: Option<u64>) -> Option<Pla
     }
 }
 
-/// A table of so many entries, where it is too long for its places to be named, or else a place in
-/// it.
+/// The table itself if it has too many rows for ids of 32 bits, else the place that was found in it.
 pub(crate) fn in_table(table: TableName, entries: u64, found: Option<Place>) -> Option<Place>
     ensures { result ≡ in_table table entries found }
 {
@@ -39,7 +38,7 @@ pub(crate) fn in_table(table: TableName, entries: u64, found: Option<Place>) -> 
     }
 }
 
-/// A table of so many entries, where it is too long for its places to be named.
+/// The table itself if it has too many rows for ids of 32 bits.
 pub(crate) fn too_long(table: TableName, entries: u64) -> Option<Place>
     ensures { result ≡ too_long table entries }
 {

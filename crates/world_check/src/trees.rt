@@ -1,4 +1,4 @@
-//! Bodies are trees, jumps stand inside what they name, and the `..` of patterns among their parts.
+//! Tests of all bodies: they are trees, jumps name enclosing labels, and `..` stands within its pattern.
 ghost use Rattle.std.specs.Prelude.{◌≡◌, IfOk};
 ghost use Rattle.std.specs.Option.{option_map};
 ghost use Rattle.world_check.specs.Tables.{first_found, no_label, no_tree, node_place, wrong_dots, wrong_jump, wrong_tree};
@@ -8,7 +8,7 @@ use check_trees::{BodyNode, loose_jump, wrong_ellipsis, wrong_node};
 use std::alloc::Global;
 use world::{BodyRow, HirDatabase, NoMemory};
 
-/// The place of a node of the body in a row.
+/// The place of a node in body `b`.
 fn node_place(b: u64, node: BodyNode) -> Place
     ensures { result ≡ node_place b node }
 {
@@ -18,7 +18,7 @@ fn node_place(b: u64, node: BodyNode) -> Place
     }
 }
 
-/// The first node of a body that is not in order.
+/// The place of the first node of body `b` that is not in order.
 fn wrong_tree(alloc: Global, b: u64, row: &BodyRow) -> Result<Option<Place>, NoMemory>
     ensures { IfOk result (λ found. found ≡ wrong_tree b row.now) }
 {
@@ -28,7 +28,7 @@ fn wrong_tree(alloc: Global, b: u64, row: &BodyRow) -> Result<Option<Place>, NoM
     }
 }
 
-/// The first node of bodies that is not in order.
+/// The place of the first node of these bodies that is not in order.
 fn first_no_tree(alloc: Global, rows: &[BodyRow]) -> Result<Option<Place>, NoMemory>
     ensures { IfOk result (λ found. found ≡ first_found wrong_tree 0 rows.now) }
 {
@@ -40,14 +40,14 @@ fn first_no_tree(alloc: Global, rows: &[BodyRow]) -> Result<Option<Place>, NoMem
     Ok(None)
 }
 
-/// The first node of the world's bodies that is not in order.
+/// The first node at which a body is not a tree.
 pub(crate) fn no_tree(alloc: Global, db: &HirDatabase) -> Result<Option<Place>, NoMemory>
     ensures { IfOk result (λ found. found ≡ no_tree db.now) }
 {
     first_no_tree(alloc, db.bodies.as_slice())
 }
 
-/// The first jump of a body that stands outside what it names.
+/// The place of the first jump of body `b` to a label that doesn't enclose it.
 fn wrong_jump(alloc: Global, b: u64, row: &BodyRow) -> Result<Option<Place>, NoMemory>
     ensures { IfOk result (λ found. found ≡ wrong_jump b row.now) }
 {
@@ -57,7 +57,7 @@ fn wrong_jump(alloc: Global, b: u64, row: &BodyRow) -> Result<Option<Place>, NoM
     }
 }
 
-/// The first jump of bodies that stands outside what it names.
+/// The place of the first jump of these bodies to a label that doesn't enclose it.
 fn first_wrong_jump(alloc: Global, rows: &[BodyRow]) -> Result<Option<Place>, NoMemory>
     ensures { IfOk result (λ found. found ≡ first_found wrong_jump 0 rows.now) }
 {
@@ -69,14 +69,14 @@ fn first_wrong_jump(alloc: Global, rows: &[BodyRow]) -> Result<Option<Place>, No
     Ok(None)
 }
 
-/// The first jump of the world's bodies that stands outside what it names.
+/// The first jump of the world to a label that doesn't enclose it.
 pub(crate) fn no_label(alloc: Global, db: &HirDatabase) -> Result<Option<Place>, NoMemory>
     ensures { IfOk result (λ found. found ≡ no_label db.now) }
 {
     first_wrong_jump(alloc, db.bodies.as_slice())
 }
 
-/// The first pattern of a body whose `..` stands past its parts.
+/// The place of the first pattern of body `b` whose `..` stands past the end of its subpatterns.
 fn wrong_dots(b: u64, row: &BodyRow) -> Option<Place>
     ensures { result ≡ wrong_dots b row.now }
 {
@@ -86,7 +86,7 @@ fn wrong_dots(b: u64, row: &BodyRow) -> Option<Place>
     }
 }
 
-/// The first pattern of bodies whose `..` stands past its parts.
+/// The place of the first pattern of these bodies whose `..` stands past the end of its subpatterns.
 pub(crate) fn first_wrong_dots(rows: &[BodyRow]) -> Option<Place>
     ensures { result ≡ first_found wrong_dots 0 rows.now }
 {

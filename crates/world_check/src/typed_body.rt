@@ -7,10 +7,10 @@ use check_trees::{loose_jump, wrong_ellipsis, wrong_node};
 use std::alloc::Global;
 use world::{Body, HirDatabase, InferenceResult, NoMemory};
 
-/// Whether a typed body passes the rows of the check that speak of one body: its ids and those that
-/// inference found are in range, each node has a type, its lists are short enough, its literals of type
-/// `char` are characters, it is a tree, its jumps stand inside what they name, and the `..` of its patterns
-/// stand among their parts. It errs only where there is no memory.
+/// Whether a typed body passes the tests of a single body: all ids in it and in its inference result are in
+/// range, each node has a type, its lists are short enough, its `char` literals are Unicode scalar values,
+/// it is a tree, its jumps name enclosing labels, and each `..` stands within its pattern. It fails only for
+/// want of memory.
 #[tactic(auto, unfolding(crate::specs::Valid::is_body_right))]
 pub fn check_body(
     alloc: Global,

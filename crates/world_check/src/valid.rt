@@ -1,4 +1,4 @@
-//! What of a world can be evaluated.
+//! Definitions that can be evaluated, and the generic arguments that they take.
 ghost use Rattle.std.specs.Prelude.{◌≡◌, ◌==◌, length};
 ghost use Rattle.std.specs.Option.{option_copied};
 ghost use Rattle.world_check.specs.Valid.{are_of_sorts, fits, fits_const, fits_function, fits_static, is_of_sort, is_valid};
@@ -9,7 +9,7 @@ use world::{
     StaticRow,
 };
 
-/// Whether an argument is of a parameter's sort.
+/// Whether a generic argument is a type for a type parameter, or a constant for a const parameter.
 fn is_of_sort(param: GenericParamId, arg: &GenericArg) -> bool
     ensures { result ≡ is_of_sort param arg.now }
 {
@@ -20,7 +20,7 @@ fn is_of_sort(param: GenericParamId, arg: &GenericArg) -> bool
     }
 }
 
-/// Whether there is one argument for each parameter, of its sort.
+/// Whether there is one generic argument for each generic parameter, of its kind.
 fn are_of_sorts(params: &[GenericParamId], args: &[GenericArg]) -> bool
     ensures { result ≡ are_of_sorts params.now args.now }
 {
@@ -35,7 +35,7 @@ fn are_of_sorts(params: &[GenericParamId], args: &[GenericArg]) -> bool
     true
 }
 
-/// Whether a function has no parameters, and arguments fit its generic ones.
+/// Whether there is a function, it has no parameters, and the arguments fit its generic parameters.
 fn fits_function(args: &GenericArgs, row: Option<&FunctionRow>) -> bool
     ensures { result ≡ fits_function args.now (option_copied row.entry) }
 {
@@ -47,7 +47,7 @@ fn fits_function(args: &GenericArgs, row: Option<&FunctionRow>) -> bool
     }
 }
 
-/// Whether arguments fit the generic parameters of a constant.
+/// Whether there is a constant, and the arguments fit its generic parameters.
 fn fits_const(args: &GenericArgs, row: Option<&ConstRow>) -> bool
     ensures { result ≡ fits_const args.now (option_copied row.entry) }
 {
@@ -57,14 +57,15 @@ fn fits_const(args: &GenericArgs, row: Option<&ConstRow>) -> bool
     }
 }
 
-/// Whether there is a static, and no arguments.
+/// Whether there is a static, and there are no arguments.
 fn fits_static(args: &GenericArgs, row: Option<&StaticRow>) -> bool
     ensures { result ≡ fits_static args.now (option_copied row.entry) }
 {
     row.is_some() && args.0.len() == 0
 }
 
-/// Whether arguments fit the generic parameters of what can be evaluated by itself.
+/// Whether a definition is a constant, a static or a function without parameters, and the arguments fit its
+/// generic parameters.
 fn fits(db: &HirDatabase, def: DefWithBodyId, args: &GenericArgs) -> bool
     ensures { result ≡ fits db.now def args.now }
 {
@@ -76,7 +77,8 @@ fn fits(db: &HirDatabase, def: DefWithBodyId, args: &GenericArgs) -> bool
     }
 }
 
-/// Whether a constant, a static, or a function without parameters can be evaluated at arguments.
+/// Whether a definition can be evaluated at generic arguments: they fit its generic parameters, and none has
+/// a generic parameter or an error in it.
 pub(crate) fn is_valid(db: &HirDatabase, def: DefWithBodyId, args: &GenericArgs) -> bool
     ensures { result ≡ is_valid db.now def args.now }
 {

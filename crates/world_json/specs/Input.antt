@@ -1,4 +1,4 @@
--- What the whole input stands for.
+-- The world and the goals of the input.
 use Rattle.std.specs.Prelude.{ℕ, ◌==◌, List, [], ◌∷◌, ◌≡◌, codes, Ok, Err, if◌then◌else◌}
 use Rattle.serde_json.specs.Data.{Data}
 use Rattle.world.specs.declared.database.HirDatabase.{HirDatabase}
@@ -14,7 +14,7 @@ use Rattle.json_kit.specs.Parts.{list_of}
 use Rattle.json_kit.specs.Scalars.{u64_of}
 use Rattle.world_json.specs.Tables.{hir_database_of}
 
--- the one version of the form
+-- the version of the input format, which has to be 1
 abbrev pub the_version : ℕ → Fit Version
 the_version n = if n == 1 then Ok (record {}) else misfit
 
@@ -34,17 +34,17 @@ abbrev pub without_dot : List ℕ → List ℕ
 without_dot [] = []
 without_dot (c ∷ path) = if c == 46 then path else c ∷ path
 
--- whether the second fault is the first one with the path as a user reads it
+-- the second error is the first one with its path as it is printed
 abbrev pub IsAtRoot : NotAWorld → NotAWorld → Type 0
 IsAtRoot fault NoMemory = Unit {0}
 IsAtRoot (At path) (At outer) = outer ≡ without_dot path
 IsAtRoot NoMemory (At outer) = ⊥
 
--- The same with the path as a user reads it, where the first step has no dot.
+-- the world and the goals, or the path of an error as it is printed: without the dot before its first key
 abbrev pub from_root : Fit Input → Fit (HirDatabase × List Goal)
 from_root (Ok input) = Ok (input.db, input.goals)
 from_root (Err path) = Err (without_dot path)
 
--- the world and the goals, or the path of the first place that doesn't fit
+-- the world and the goals of a JSON tree, or the path of the first part that doesn't fit
 abbrev pub world_of : Data → Fit (HirDatabase × List Goal)
 world_of d = from_root (input_of d)

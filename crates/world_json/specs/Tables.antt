@@ -57,7 +57,7 @@ hir_database_adts_of d = do
   variants ← optional [] (codes "variants") (list_of variant_row_of) d
   Ok (structs, unions, enums, variants)
 
--- traits, aliases and parameters
+-- traits, aliases and generic parameters
 unfoldable pub hir_database_names_of : Data → Fit ((List (List ℕ)) × (List (List ℕ)) × (List (List ℕ)) × (List ConstParamRow))
 hir_database_names_of d = do
   traits ← optional [] (codes "traits") (list_of text_of) d
@@ -74,7 +74,7 @@ hir_database_bodies_of d = do
   layouts ← optional [] (codes "layouts") (list_of (pair_of ty_of layout_of)) d
   Ok (closures, bodies, layouts)
 
--- what stands for what
+-- normalized types and resolved impl items
 unfoldable pub hir_database_choices_of : Data → Fit ((List (AliasId × GenericArgs × Ty)) × (List ImplRow) × (List ConstImplRow))
 hir_database_choices_of d = do
   normals ← optional [] (codes "normals") (list_of (triple_of alias_id_of generic_args_of ty_of)) d
@@ -98,14 +98,14 @@ hir_database_calls_of d = do
   call_once_fn ← optional None (codes "call_once_fn") (option_of function_id_of) d
   Ok (call_fn, call_mut_fn, call_once_fn)
 
--- the tables of items and of types
+-- crates, functions, constants, statics, structs, unions, enums and variants
 unfoldable pub hir_database_definitions_of : Data → Fit (((List CrateRow) × (List FunctionRow) × (List ConstRow) × (List StaticRow)) × ((List StructRow) × (List StructRow) × (List EnumRow) × (List VariantRow)))
 hir_database_definitions_of d = do
   items ← hir_database_items_of d
   adts ← hir_database_adts_of d
   Ok (items, adts)
 
--- what stands for what, and the functions of the language
+-- normalized types, resolved impl items and the lang functions
 unfoldable pub hir_database_meanings_of : Data → Fit (((List (AliasId × GenericArgs × Ty)) × (List ImplRow) × (List ConstImplRow)) × ((Option FunctionId) × (Option FunctionId) × (Option FunctionId)) × ((Option FunctionId) × (Option FunctionId) × (Option FunctionId)))
 hir_database_meanings_of d = do
   choices ← hir_database_choices_of d

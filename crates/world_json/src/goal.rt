@@ -9,13 +9,13 @@ use std::alloc::Global;
 use types::{DefWithBodyId, GenericArgs};
 use world::Limits;
 
-/// What is to be evaluated.
+/// A definition to evaluate.
 #[derive(PartialEq, Eq, Debug, Drop)]
 pub struct Goal {
     pub def: DefWithBodyId,
     /// The generic arguments, the parent's first.
     pub args: GenericArgs,
-    /// How much the run may take, where the goal says it.
+    /// The limits of the evaluation; the default ones if there are none.
     pub limits: Option<Limits>,
 }
 

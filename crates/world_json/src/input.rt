@@ -11,7 +11,7 @@ use serde_json::Value;
 use std::alloc::Global;
 use world::{HirDatabase, List, Text};
 
-/// The version of the form that is read here.
+/// The version of the input format, which has to be 1.
 #[derive(Clone, Copy)]
 pub(crate) struct Version;
 
@@ -28,14 +28,14 @@ impl FromJson<WorldJson> for Version {
     }
 }
 
-/// The parts of the input.
+/// The world and the goals of the input.
 #[derive(Drop)]
 pub(crate) struct Input {
     pub(crate) db: HirDatabase,
     pub(crate) goals: List<Goal>,
 }
 
-/// The parts of the input, with paths from the root on.
+/// Reads the input. The path of an error begins with a dot where it begins with a key.
 #[tactic(auto, unfolding(crate::specs::Input::input_of))]
 fn read_input(alloc: Global, tree: &Value) -> Result<Input, NotAWorld>
     ensures { Gives result (input_of (view tree.now)) }
@@ -60,7 +60,7 @@ fn without_dot(path: &str) -> &str
     }
 }
 
-/// The fault with the path as a user reads it, where the first step has no dot.
+/// The error with its path as it is printed: without the dot before its first key.
 fn at_root(alloc: Global, fault: NotAWorld) -> NotAWorld
     ensures { IsAtRoot fault result }
 {
@@ -73,9 +73,9 @@ fn at_root(alloc: Global, fault: NotAWorld) -> NotAWorld
     }
 }
 
-/// Reads the world and the goals that a tree stands for. `At` has the path of the first place that
-/// doesn't fit, as `world.consts[0].ty`: keys go in the order of the type's fields, unknown ones after
-/// the known ones of their object, and the root itself has the empty path.
+/// Reads the world and the goals from a JSON tree. `At` has the path of the first part that doesn't fit, as
+/// `world.consts[0].ty`: keys count in the order of the type's fields, with unknown keys behind the known
+/// ones of their object. The path of the whole tree is empty.
 pub fn read_world(alloc: Global, tree: &Value) -> Result<(HirDatabase, List<Goal>), NotAWorld>
     ensures { Gives result (world_of (view tree.now)) }
 {

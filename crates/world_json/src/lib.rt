@@ -1,4 +1,4 @@
-//! The world and the goals as JSON: what a tree stands for, and the first place in it that doesn't fit.
+//! Reads a world and goals from a JSON tree, or gives the path of the first part of it that doesn't fit.
 #![tactic(auto)]
 
 mod goal;

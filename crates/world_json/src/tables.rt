@@ -74,7 +74,7 @@ fn hir_database_adts(
     Ok((structs, unions, enums, variants))
 }
 
-/// Reads traits, aliases and parameters.
+/// Reads traits, aliases and generic parameters.
 #[tactic(auto, unfolding(crate::specs::Tables::hir_database_names_of))]
 fn hir_database_names(
     alloc: Global,
@@ -103,7 +103,7 @@ fn hir_database_bodies(
     Ok((closures, bodies, layouts))
 }
 
-/// Reads what stands for what.
+/// Reads normalized types and resolved impl items.
 #[tactic(auto, unfolding(crate::specs::Tables::hir_database_choices_of))]
 fn hir_database_choices(
     alloc: Global,
@@ -152,7 +152,7 @@ fn hir_database_calls(
     Ok((call_fn, call_mut_fn, call_once_fn))
 }
 
-/// Reads the tables of items and of types.
+/// Reads crates, functions, constants, statics, structs, unions, enums and variants.
 #[tactic(auto, unfolding(crate::specs::Tables::hir_database_definitions_of))]
 fn hir_database_definitions(
     alloc: Global,
@@ -181,7 +181,7 @@ fn hir_database_definitions(
     Ok((items, adts))
 }
 
-/// Reads what stands for what, and the functions of the language.
+/// Reads normalized types, resolved impl items and the lang functions.
 #[tactic(auto, unfolding(crate::specs::Tables::hir_database_meanings_of))]
 fn hir_database_meanings(
     alloc: Global,

@@ -1,4 +1,4 @@
-//! What expressions hold.
+//! The children of expressions.
 ghost use Rattle.std.specs.Prelude.{◌≡◌, ◌++◌, OnOk};
 ghost use Rattle.world.specs.Nodes.{children_of, patterns_of};
 
@@ -9,8 +9,8 @@ use crate::nodes::parts::{
 };
 use world::{Expr, NoMemory};
 
-/// Adds the expressions that an expression holds itself, and not in a pattern, to a list, in the
-/// order of its fields. It errs only where there is no memory; the list may then have a part of them.
+/// Adds the direct child expressions of an expression to a list, in the order of its fields; not those
+/// inside its patterns. It fails only for want of memory, and the list may then have only some of them.
 pub fn push_children(out: &mut Vec<u64>, node: &Expr) -> Result<(), NoMemory>
     ensures { OnOk result (out.new.items ≡ out.old.items ++ children_of node.now) }
 {
@@ -68,8 +68,8 @@ pub fn push_children(out: &mut Vec<u64>, node: &Expr) -> Result<(), NoMemory>
     }
 }
 
-/// Adds the patterns that an expression holds to a list, in the order of its fields. It errs only where
-/// there is no memory; the list may then have a part of them.
+/// Adds the direct child patterns of an expression to a list, in the order of its fields. It fails only
+/// for want of memory, and the list may then have only some of them.
 pub fn push_patterns(out: &mut Vec<u64>, node: &Expr) -> Result<(), NoMemory>
     ensures { OnOk result (out.new.items ≡ out.old.items ++ patterns_of node.now) }
 {

@@ -1,4 +1,4 @@
-//! The ids that parts of nodes hold, added to a list.
+//! Adds the ids in the parts of a node, as its statements and match arms, to a list.
 ghost use Rattle.std.specs.Prelude.{◌≡◌, ◌∷◌, [], ◌++◌, OnOk, flat_map, map};
 ghost use Rattle.world.specs.Nodes.{arm_children, expr_numbers, field_numbers, optional, optional_pat, pat_numbers, spread_children, statement_children, statement_patterns};
 
@@ -23,7 +23,7 @@ pub(crate) fn push_two(out: &mut Vec<u64>, a: ExprId, b: ExprId) -> Result<(), N
     Ok(())
 }
 
-/// Adds an expression that is there to a list.
+/// Adds an optional expression to a list.
 pub(crate) fn push_optional(out: &mut Vec<u64>, id: Option<ExprId>) -> Result<(), NoMemory>
     ensures { OnOk result (out.new.items ≡ out.old.items ++ optional id) }
 {
@@ -33,7 +33,7 @@ pub(crate) fn push_optional(out: &mut Vec<u64>, id: Option<ExprId>) -> Result<()
     Ok(())
 }
 
-/// Adds those of two expressions that are there to a list.
+/// Adds two optional expressions to a list.
 pub(crate) fn push_two_optional(
     out: &mut Vec<u64>,
     a: Option<ExprId>,
@@ -81,7 +81,7 @@ pub(crate) fn push_branches(
     push_optional(out, else_branch)
 }
 
-/// Adds the expressions that a statement holds to a list.
+/// Adds the expressions of a statement to a list.
 fn push_statement(out: &mut Vec<u64>, statement: &Statement) -> Result<(), NoMemory>
     ensures { OnOk result (out.new.items ≡ out.old.items ++ statement_children statement.now) }
 {
@@ -96,7 +96,7 @@ fn push_statement(out: &mut Vec<u64>, statement: &Statement) -> Result<(), NoMem
     }
 }
 
-/// Adds the expressions that statements hold to a list.
+/// Adds the expressions of statements to a list.
 fn push_statements(out: &mut Vec<u64>, statements: &[Statement]) -> Result<(), NoMemory>
     ensures { OnOk result (out.new.items ≡ out.old.items ++ flat_map statement_children statements.now) }
 {
@@ -106,7 +106,7 @@ fn push_statements(out: &mut Vec<u64>, statements: &[Statement]) -> Result<(), N
     Ok(())
 }
 
-/// Adds the expressions that a block holds to a list.
+/// Adds the expressions of a block to a list.
 pub(crate) fn push_block(
     out: &mut Vec<u64>,
     statements: &[Statement],
@@ -118,7 +118,7 @@ pub(crate) fn push_block(
     push_optional(out, tail)
 }
 
-/// Adds the expressions that an arm holds to a list.
+/// Adds the expressions of a match arm to a list.
 fn push_arm(out: &mut Vec<u64>, arm: &MatchArm) -> Result<(), NoMemory>
     ensures { OnOk result (out.new.items ≡ out.old.items ++ arm_children arm.now) }
 {
@@ -126,7 +126,7 @@ fn push_arm(out: &mut Vec<u64>, arm: &MatchArm) -> Result<(), NoMemory>
     push_expr(out, arm.expr)
 }
 
-/// Adds the expressions that arms hold to a list.
+/// Adds the expressions of match arms to a list.
 fn push_arms(out: &mut Vec<u64>, arms: &[MatchArm]) -> Result<(), NoMemory>
     ensures { OnOk result (out.new.items ≡ out.old.items ++ flat_map arm_children arms.now) }
 {
@@ -136,7 +136,7 @@ fn push_arms(out: &mut Vec<u64>, arms: &[MatchArm]) -> Result<(), NoMemory>
     Ok(())
 }
 
-/// Adds the expressions that a `match` holds to a list.
+/// Adds the expressions of a `match` to a list.
 pub(crate) fn push_match(
     out: &mut Vec<u64>,
     matched: ExprId,
@@ -158,7 +158,7 @@ fn push_fields(out: &mut Vec<u64>, fields: &[RecordLitField]) -> Result<(), NoMe
     Ok(())
 }
 
-/// Adds the base of a record literal, where it has one, to a list.
+/// Adds the base expression of a record literal, if it has one, to a list.
 fn push_spread(out: &mut Vec<u64>, base: RecordSpread) -> Result<(), NoMemory>
     ensures { OnOk result (out.new.items ≡ out.old.items ++ spread_children base) }
 {
@@ -169,7 +169,7 @@ fn push_spread(out: &mut Vec<u64>, base: RecordSpread) -> Result<(), NoMemory>
     }
 }
 
-/// Adds the expressions that a record literal holds to a list.
+/// Adds the expressions of a record literal to a list.
 pub(crate) fn push_record(
     out: &mut Vec<u64>,
     fields: &[RecordLitField],
@@ -189,7 +189,7 @@ pub(crate) fn push_pat(out: &mut Vec<u64>, id: PatId) -> Result<(), NoMemory>
     Ok(())
 }
 
-/// Adds a pattern that is there to a list.
+/// Adds an optional pattern to a list.
 pub(crate) fn push_optional_pat(out: &mut Vec<u64>, id: Option<PatId>) -> Result<(), NoMemory>
     ensures { OnOk result (out.new.items ≡ out.old.items ++ optional_pat id) }
 {
@@ -209,7 +209,7 @@ pub(crate) fn push_pats(out: &mut Vec<u64>, ids: &[PatId]) -> Result<(), NoMemor
     Ok(())
 }
 
-/// Adds the patterns that statements hold to a list.
+/// Adds the patterns of statements to a list.
 pub(crate) fn push_statement_patterns(
     out: &mut Vec<u64>,
     statements: &[Statement],
@@ -224,7 +224,7 @@ pub(crate) fn push_statement_patterns(
     Ok(())
 }
 
-/// Adds the patterns of arms to a list.
+/// Adds the patterns of match arms to a list.
 pub(crate) fn push_arm_patterns(out: &mut Vec<u64>, arms: &[MatchArm]) -> Result<(), NoMemory>
     ensures { OnOk result (out.new.items ≡ out.old.items ++ map (λ (arm : MatchArm). arm.pat.0) arms.now) }
 {

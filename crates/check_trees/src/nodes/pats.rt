@@ -1,4 +1,4 @@
-//! What patterns hold.
+//! The children of patterns.
 ghost use Rattle.std.specs.Prelude.{◌≡◌, ◌++◌, OnOk};
 ghost use Rattle.world.specs.Nodes.{inner_exprs_of, subpatterns_of};
 
@@ -8,8 +8,8 @@ use crate::nodes::parts::{
 };
 use world::{NoMemory, Pat};
 
-/// Adds the patterns that a pattern holds to a list, in the order of its fields. It errs only where there
-/// is no memory; the list may then have a part of them.
+/// Adds the direct subpatterns of a pattern to a list, in the order of its fields. It fails only for want
+/// of memory, and the list may then have only some of them.
 pub fn push_subpatterns(out: &mut Vec<u64>, node: &Pat) -> Result<(), NoMemory>
     ensures { OnOk result (out.new.items ≡ out.old.items ++ subpatterns_of node.now) }
 {
@@ -30,8 +30,8 @@ pub fn push_subpatterns(out: &mut Vec<u64>, node: &Pat) -> Result<(), NoMemory>
     }
 }
 
-/// Adds the expressions that a pattern holds to a list, in the order of its fields. It errs only where
-/// there is no memory; the list may then have a part of them.
+/// Adds the expressions that stand directly in a pattern to a list, in the order of its fields. It fails
+/// only for want of memory, and the list may then have only some of them.
 pub fn push_inner_exprs(out: &mut Vec<u64>, node: &Pat) -> Result<(), NoMemory>
     ensures { OnOk result (out.new.items ≡ out.old.items ++ inner_exprs_of node.now) }
 {

@@ -1,9 +1,7 @@
-use Rattle.std.proofs.Common.{◌≡◌, Some, None, Err, IsErrOf, map, sym, ◌∙◌, ap, rules}
+use Rattle.std.proofs.Common.{◌≡◌, Some, None, map, sym, ◌∙◌, ap, rules}
 use Rattle.check_instances.specs.Instances.{all_there, arg_instance, bound_instance, ty_instance}
-use Rattle.check_instances.specs.declared.no_instance.NoInstance.{NoInstance}
-use Rattle.check_instances.specs.declared.no_instance.NoInstance.TheVariants.{Missing}
 use Rattle.check_instances.proofs.AllThere.{all_there_more, all_there_missing, all_there_end}
-use Rattle.check_instances.proofs.Layers.{args_are, args_missing, args_there}
+use Rattle.check_instances.proofs.Layers.{args_missing, args_there}
 use Rattle.check_instances.proofs.instances.+instances.Goals as goal
 
 pub instances_of_tys-loop-ty-preserved : goal.instances_of_tys-loop-ty-preserved

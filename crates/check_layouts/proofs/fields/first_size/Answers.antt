@@ -9,6 +9,6 @@ use Rattle.check_layouts.proofs.fields.first_size.Goals as goal
 
 pub returns-in_ok-insert-clause-sizes : goal.returns-in_ok-insert-clause-sizes
 returns-in_ok-insert-clause-sizes c =
-    let is : field_size c.args.db.now c.args.i (ty_instance c.args.db.now.normals c.args.args.now c.args.ty.now) ≡ Some c.in-Some.size = sym c.in_ok-made.ensures ∙ c.in-Some.is in
+    let is : field_size c.args.db.now c.args.i (ty_instance c.args.db.now.normals c.args.args.now c.args.ty.now) ≡ Some c.in-Some.size = sym c.in_ok-found.ensures ∙ c.in-Some.is in
     let new : c.insert.new.self ≡ insert_entry ty_cmp c.args.sizes.now c.args.ty.now c.in-Some.size = c.in_ok-insert.ensures.ok ∙ ap (λ (copy : Ty). insert_entry ty_cmp c.args.sizes.now copy c.in-Some.size) c.in_ok-try_clone.ensures in
     rw new (put_right c.args.db.now c.args.i c.args.args.now c.args.ty.now c.in-Some.size c.args.sizes.now is c.requires)

@@ -1,4 +1,4 @@
--- A layout that was found is too large.
+-- A layout that is missing, and one that was found and is too large.
 use Rattle.std.proofs.Common.{⊎_elim, refl, sym, ap, ◌∙◌, subst, arith}
 use Rattle.std.specs.Prelude.{option_and_then}
 use Rattle.world.specs.Lookups.{layout_of}
@@ -8,12 +8,18 @@ use Rattle.mir_lower.specs.Refusals.{RefusesNode}
 use Rattle.mir_lower.proofs.Building.{on-ok}
 use Rattle.mir_lower.proofs.literal.lower_number.Goals as goal
 
+pub returns-in_default-clause-refused : goal.returns-in_default-clause-refused
+returns-in_default-clause-refused c =
+    let source = source_of c.args.context.now in
+    let layout = ap (option_and_then (layout_of source.world)) c.node_ty-ty.ensures ∙ sym c.in_default.ensures in
+    (c.requires.number, layout, c.node_ty-ty.result.now, c.node_ty-ty.ensures, c.layout_error_of.ensures)
+
 pub returns-then-layout-gt16-clause-refused : goal.returns-then-layout-gt16-clause-refused
 returns-then-layout-gt16-clause-refused c =
     let source = source_of c.args.context.now in
-    let layout = ap (option_and_then (layout_of source.world)) (sym c.in-Some.ensures) ∙ sym c.in-Some-layout_of.ensures in
+    let layout = ap (option_and_then (layout_of source.world)) c.node_ty-ty.ensures ∙ sym c.in-Some.ensures in
     ⊎_elim
-    (λ text. subst (RefusesNode source c.args.e.0) (sym text) (refl, c.requires.number, c.in-Some-layout_of.layout.now, layout, c.if-layout-gt16.true))
+    (λ text. subst (RefusesNode source c.args.e.0) (sym text) (refl, c.requires.number, c.in-Some.layout.now, layout, c.if-layout-gt16.true))
     (λ none. subst (RefusesNode source c.args.e.0) (sym none) tt)
     c.too_many_bytes.ensures
 
@@ -22,7 +28,7 @@ returns-clause-built c =
     let source = source_of c.args.context.now in
     on-ok (HasNumberLayout source c.args.e.0) c.constant.result
     (record {
-      layout = c.in-Some-layout_of.layout.now;
-      found = ap (option_and_then (layout_of source.world)) (sym c.in-Some.ensures) ∙ sym c.in-Some-layout_of.ensures;
+      layout = c.in-Some.layout.now;
+      found = ap (option_and_then (layout_of source.world)) c.node_ty-ty.ensures ∙ sym c.in-Some.ensures;
       narrow = omega (arith, c.if-layout-gt16.false);
     })

@@ -2,7 +2,7 @@
 use Rattle.std.proofs.Common.{◌∙◌, ap, sym, take}
 use Rattle.std.specs.Int.{w128, cast_unsigned, to_le_bytes}
 use Rattle.std.proofs.lemmas.Int.{to_z-of_z}
-use Rattle.mir_mem.proofs.Keeping.{take-signed_bytes}
+use Rattle.numbers.proofs.Keeping.{take-signed_bytes}
 use Rattle.mir_lower.proofs.literal.signed_bytes.Goals as goal
 
 pub returns : goal.returns

@@ -1,6 +1,6 @@
 -- The lowest bytes of an unsigned number.
 use Rattle.std.proofs.Common.{◌∙◌, ap, sym, take}
-use Rattle.mir_mem.proofs.Keeping.{take-le_bytes, low_bytes-pos}
+use Rattle.numbers.proofs.Keeping.{take-le_bytes, low_bytes-pos}
 use Rattle.mir_lower.proofs.literal.unsigned_bytes.Goals as goal
 
 pub returns : goal.returns

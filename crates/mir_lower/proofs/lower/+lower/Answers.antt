@@ -1,5 +1,5 @@
 -- Each form does what it means, by what its parts do; each refusal has its cause.
-use Rattle.std.proofs.Common.{List, [], take, Option, Some, refl, sym, ap, ◌∙◌, subst, arith}
+use Rattle.std.proofs.Common.{List, [], ◌∷◌, take, Option, Some, refl, sym, ap, ◌∙◌, subst, arith}
 use Rattle.std.proofs.lemmas.List.{take_more}
 use Rattle.std.proofs.lemmas.Result.{IfOk-weaker, on_ok_weaker, IfErr-weaker}
 use Rattle.mir.specs.declared.errors.MirLowerError.TheVariants as refusal
@@ -10,19 +10,21 @@ use Rattle.mir_lower.specs.Contexts.{source_of}
 use Rattle.mir_lower.specs.Graph.{Shape, shape, with_scope}
 use Rattle.mir_lower.specs.Growth.{Grows, IsReady}
 use Rattle.mir_lower.specs.Leaving.{Idles}
-use Rattle.mir_lower.specs.Lowered.{LowersOperand, LowersPlace, LowersStatements}
+use Rattle.mir_lower.specs.Lowered.{LowersOperand, LowersPlace, LowersStatements, LowersTail}
 use Rattle.mir.specs.declared.operand.OperandKind.{OperandKind}
-use Rattle.source_meaning.specs.Core.{Block}
+use Rattle.mir.specs.declared.operand.Rvalue.TheVariants.{CheckedBinaryOp, UnaryOp as Unary}
+use Rattle.source_meaning.specs.Core.{Block, Combine}
+use Rattle.mir_lower.specs.Form.{core_value, operation_of}
 use Rattle.world.specs.declared.body.Statement.{Statement}
 use Rattle.mir_lower.specs.Refusals.{RefusesAt}
 use Rattle.std.specs.Prelude.{All}
 use Rattle.std.proofs.lemmas.List.Elements.{All-nil, All-more}
 use Rattle.world.specs.Nodes.{optional}
 use Rattle.mir_lower.specs.Built.{IsBuilt, IsBuiltThrough}
-use Rattle.mir_lower.proofs.Building.{built-literal, built-unary, built-binary, built-block, one-built}
-use Rattle.mir_lower.proofs.Blocks.{idles-read, lowers-none, lowers-more, lowers-let, lowers-expr-statement, lowers-block}
+use Rattle.mir_lower.proofs.Building.{built-literal, built-strict, built-block, one-built, two-built}
+use Rattle.mir_lower.proofs.Blocks.{idles-read, lowers-none, lowers-more, lowers-let, lowers-expr-statement, lowers-tail, lowers-no-tail, lowers-block}
 use Rattle.mir_lower.proofs.Operands.{lowers-literal-operand, lowers-place-operand, lowers-temp}
-use Rattle.mir_lower.proofs.Operations.{unary-part, left-part, right-part, lowers-unary, lowers-binary}
+use Rattle.mir_lower.proofs.Strict.{lowers-strict, unary-computes, binary-computes, lowers-one, lowers-two, first-part, second-part}
 use Rattle.mir_lower.proofs.Refused.{refuses-here, refuses-no-memory, refuses-part, refuses-unbuilt-form, refuses-statement, without-initializer, with-else, item-is-unbuilt, refuses-pattern, refused-exit, no-literal, part-below, ready-part, ready-in, part-of-statement}
 use Rattle.mir_lower.proofs.Growing.{grows-trans, with_scope-grows}
 use Rattle.mir_lower.proofs.Steps.{local_of-grows}
@@ -35,12 +37,12 @@ pub lower_operand-returns-in-Literal-clause-lowered : goal.lower_operand-returns
 lower_operand-returns-in-Literal-clause-lowered t c =
     let source = source_of c.args.context.now in
     IfOk-weaker c.lower_literal.result _ _
-    (λ operand is. lowers-literal-operand source (shape c.args.graph.now) c.args.e.0 c.in-Literal.literal.now operand.kind c.requires.sound c.requires.«open» c.in-Literal.ensures is)
+    (λ operand is. lowers-literal-operand source (shape c.args.graph.now) c.args.e.0 (core_value c.in-Literal.literal) operand.kind c.requires.sound c.requires.«open» c.in-Literal.ensures.core is)
     c.lower_literal.ensures.lowered
 
 pub lower_operand-returns-in-Literal-clause-built : goal.lower_operand-returns-in-Literal-clause-built
 lower_operand-returns-in-Literal-clause-built t c =
-    on_ok_weaker c.lower_literal.result (λ built. built-literal (source_of c.args.context.now) c.args.e.0 c.in-Literal.literal.now c.in-Literal.ensures built) c.lower_literal.ensures.built
+    on_ok_weaker c.lower_literal.result (λ built. built-literal (source_of c.args.context.now) c.args.e.0 (core_value c.in-Literal.literal) c.in-Literal.ensures.core built) c.lower_literal.ensures.built
 
 pub lower_operand-returns-in-Literal-clause-refused : goal.lower_operand-returns-in-Literal-clause-refused
 lower_operand-returns-in-Literal-clause-refused t c =
@@ -52,7 +54,7 @@ lower_operand-returns-in_ok-place-in_default t c =
     record {
       lowered = subst (λ (k : OperandKind). LowersOperand source (shape c.args.graph.now) (shape c.lower_place.new.graph) c.args.e.0 k) (sym c.copied.ensures)
           (lowers-place-operand source (shape c.args.graph.now) (shape c.lower_place.new.graph) c.args.e.0 c.in_ok-place-in_default.place c.in_ok-place-in_default.ensures.lowered
-          (no-literal _ c.form_at.result c.form_at.ensures c.in_default.not-Literal));
+          (no-literal source c.args.e.0 c.form_at.result c.form_at.ensures c.in_default.not-Literal));
       built = c.in_ok-place-in_default.ensures.built;
       refused = tt;
     }
@@ -69,18 +71,18 @@ lower_temp-returns-clause-lowered t c =
 
 -- an expression into a place
 
-pub lower_into-returns-in-NoOperator-clause-refused : goal.lower_into-returns-in-NoOperator-clause-refused
-lower_into-returns-in-NoOperator-clause-refused t c = refuses-here (source_of c.args.context.now) c.args.e.0 refusal.IncompleteExpr c.in-NoOperator.ensures.0
+pub lower_into-returns-in-Incomplete-clause-refused : goal.lower_into-returns-in-Incomplete-clause-refused
+lower_into-returns-in-Incomplete-clause-refused t c = refuses-here (source_of c.args.context.now) c.args.e.0 refusal.IncompleteExpr c.in-Incomplete.ensures.cause
 
 pub lower_into-returns-in-Unbuilt-clause-refused : goal.lower_into-returns-in-Unbuilt-clause-refused
-lower_into-returns-in-Unbuilt-clause-refused t c = refuses-unbuilt-form (source_of c.args.context.now) c.args.e.0 c.form_not_built.result c.in-Unbuilt.ensures.0 c.form_not_built.ensures
+lower_into-returns-in-Unbuilt-clause-refused t c = refuses-unbuilt-form (source_of c.args.context.now) c.args.e.0 c.form_not_built.result c.in-Unbuilt.ensures c.form_not_built.ensures
 
 -- an operator on one operand
 
 pub lower_unary-lower_operand-requires : goal.lower_unary-lower_operand-requires
 lower_unary-lower_operand-requires t c =
     let source = source_of c.args.context.now in
-    let is = unary-part source c.args.e.0 c.args.op c.args.operand c.requires.form in
+    let is = first-part source c.args.e.0 c.args.operand.0 [] (operation_of c.args.op) c.requires.form in
     let below = part-below source c.args.e.0 c.args.operand.0 c.requires.ready is in
     (omega (arith, below), ready-part source (shape c.args.graph.now) (shape c.args.graph.now) c.args.e.0 c.args.operand.0 c.requires.ready is c.requires.ready.sound c.requires.ready.«open»)
 
@@ -88,17 +90,20 @@ pub lower_unary-returns-in_err-value-clause-refused : goal.lower_unary-returns-i
 lower_unary-returns-in_err-value-clause-refused t c =
     let source = source_of c.args.context.now in
     refused-exit (RefusesAt source c.args.e.0) _ c.from_residual.result c.from_residual.ensures.1
-    (λ error same. subst (RefusesAt source c.args.e.0) (sym same) (refuses-part source c.args.e.0 c.args.operand.0 _ (unary-part source c.args.e.0 c.args.op c.args.operand c.requires.form) c.in_err-value.ensures.refused))
+    (λ error same. subst (RefusesAt source c.args.e.0) (sym same) (refuses-part source c.args.e.0 c.args.operand.0 _ (first-part source c.args.e.0 c.args.operand.0 [] (operation_of c.args.op) c.requires.form) c.in_err-value.ensures.refused))
 
 pub lower_unary-returns-clause-lowered : goal.lower_unary-returns-clause-lowered
 lower_unary-returns-clause-lowered t c =
+    let source = source_of c.args.context.now in
+    let value = lowers-one source (shape c.args.graph.now) (shape c.lower_operand.new.graph) c.args.operand.0 c.in_ok-value.value.kind c.in_ok-value.ensures.lowered in
     on_ok_weaker c.assign.result
-    (λ added cell local. lowers-unary (source_of c.args.context.now) (shape c.args.graph.now) (shape c.lower_operand.new.graph) (shape c.assign.new.graph) c.args.e.0 c.args.op c.args.operand c.in_ok-value.value c.args.place (ExprId c.args.e) c.requires.ready c.requires.form c.in_ok-value.ensures.lowered added cell local)
+    (λ added cell local. lowers-strict source (shape c.args.graph.now) (shape c.lower_operand.new.graph) (shape c.assign.new.graph) c.args.e.0 (operation_of c.args.op) (c.args.operand.0 ∷ []) (c.in_ok-value.value.kind ∷ []) (Unary c.args.op c.in_ok-value.value) c.args.place (ExprId c.args.e) c.requires.ready c.requires.form value (unary-computes source c.args.op c.in_ok-value.value) added cell local)
     c.assign.ensures.added
 
 pub lower_unary-returns-clause-built : goal.lower_unary-returns-clause-built
 lower_unary-returns-clause-built t c =
-    on_ok_weaker c.assign.result (λ added. built-unary (source_of c.args.context.now) c.args.e.0 c.args.op c.args.operand c.requires.form c.in_ok-value.ensures.built) c.assign.ensures.added
+    let source = source_of c.args.context.now in
+    on_ok_weaker c.assign.result (λ added. built-strict source c.args.e.0 (operation_of c.args.op) (c.args.operand.0 ∷ []) c.requires.form (one-built source c.args.operand.0 c.in_ok-value.ensures.built)) c.assign.ensures.added
 
 pub lower_unary-returns-clause-refused : goal.lower_unary-returns-clause-refused
 lower_unary-returns-clause-refused t c =
@@ -109,7 +114,7 @@ lower_unary-returns-clause-refused t c =
 pub lower_binary-lower_operand-requires : goal.lower_binary-lower_operand-requires
 lower_binary-lower_operand-requires t c =
     let source = source_of c.args.context.now in
-    let is = left-part source c.args.e.0 c.requires.form.0 c.args.op c.args.lhs c.args.rhs c.requires.form.1 c.requires.form.2 in
+    let is = first-part source c.args.e.0 c.args.lhs.0 (c.args.rhs.0 ∷ []) (Combine c.args.op) c.requires.form in
     let below = part-below source c.args.e.0 c.args.lhs.0 c.requires.ready is in
     (omega (arith, below), ready-part source (shape c.args.graph.now) (shape c.args.graph.now) c.args.e.0 c.args.lhs.0 c.requires.ready is c.requires.ready.sound c.requires.ready.«open»)
 
@@ -117,12 +122,12 @@ pub lower_binary-returns-in_err-left-clause-refused : goal.lower_binary-returns-
 lower_binary-returns-in_err-left-clause-refused t c =
     let source = source_of c.args.context.now in
     refused-exit (RefusesAt source c.args.e.0) _ c.from_residual.result c.from_residual.ensures.1
-    (λ error same. subst (RefusesAt source c.args.e.0) (sym same) (refuses-part source c.args.e.0 c.args.lhs.0 _ (left-part source c.args.e.0 c.requires.form.0 c.args.op c.args.lhs c.args.rhs c.requires.form.1 c.requires.form.2) c.in_err-left.ensures.refused))
+    (λ error same. subst (RefusesAt source c.args.e.0) (sym same) (refuses-part source c.args.e.0 c.args.lhs.0 _ (first-part source c.args.e.0 c.args.lhs.0 (c.args.rhs.0 ∷ []) (Combine c.args.op) c.requires.form) c.in_err-left.ensures.refused))
 
 pub lower_binary-lower_operand-requires-2 : goal.lower_binary-lower_operand-requires-2
 lower_binary-lower_operand-requires-2 t c =
     let source = source_of c.args.context.now in
-    let is = right-part source c.args.e.0 c.requires.form.0 c.args.op c.args.lhs c.args.rhs c.requires.form.1 c.requires.form.2 in
+    let is = second-part source c.args.e.0 c.args.lhs.0 c.args.rhs.0 (Combine c.args.op) c.requires.form in
     let below = part-below source c.args.e.0 c.args.rhs.0 c.requires.ready is in
     (omega (arith, below), ready-part source (shape c.args.graph.now) (shape c.lower_operand.new.graph) c.args.e.0 c.args.rhs.0 c.requires.ready is c.in_ok-left.ensures.lowered.keeps.sound c.in_ok-left.ensures.lowered.keeps.«open»)
 
@@ -130,18 +135,23 @@ pub lower_binary-returns-in_err-right-clause-refused : goal.lower_binary-returns
 lower_binary-returns-in_err-right-clause-refused t c =
     let source = source_of c.args.context.now in
     refused-exit (RefusesAt source c.args.e.0) _ c.from_residual-in_err-right.result c.from_residual-in_err-right.ensures.1
-    (λ error same. subst (RefusesAt source c.args.e.0) (sym same) (refuses-part source c.args.e.0 c.args.rhs.0 _ (right-part source c.args.e.0 c.requires.form.0 c.args.op c.args.lhs c.args.rhs c.requires.form.1 c.requires.form.2) c.in_err-right.ensures.refused))
+    (λ error same. subst (RefusesAt source c.args.e.0) (sym same) (refuses-part source c.args.e.0 c.args.rhs.0 _ (second-part source c.args.e.0 c.args.lhs.0 c.args.rhs.0 (Combine c.args.op) c.requires.form) c.in_err-right.ensures.refused))
 
 pub lower_binary-returns-clause-lowered : goal.lower_binary-returns-clause-lowered
 lower_binary-returns-clause-lowered t c =
+    let source = source_of c.args.context.now in
+    let x = c.in_ok-left.left in
+    let y = c.in_ok-right.right in
+    let values = lowers-two source (shape c.args.graph.now) (shape c.lower_operand.new.graph) (shape c.lower_operand-2.new.graph) c.args.lhs.0 c.args.rhs.0 x.kind y.kind c.in_ok-left.ensures.lowered c.in_ok-right.ensures.lowered in
     on_ok_weaker c.assign.result
-    (λ added cell local. lowers-binary (source_of c.args.context.now) (shape c.args.graph.now) (shape c.lower_operand.new.graph) (shape c.lower_operand-2.new.graph) (shape c.assign.new.graph) c.args.e.0 c.requires.form.0 c.args.op c.args.lhs c.args.rhs c.in_ok-left.left c.in_ok-right.right c.args.place (ExprId c.args.e) c.requires.ready c.requires.form.1 c.requires.form.2 c.in_ok-left.ensures.lowered c.in_ok-right.ensures.lowered added cell local)
+    (λ added cell local. lowers-strict source (shape c.args.graph.now) (shape c.lower_operand-2.new.graph) (shape c.assign.new.graph) c.args.e.0 (Combine c.args.op) (c.args.lhs.0 ∷ c.args.rhs.0 ∷ []) (x.kind ∷ y.kind ∷ []) (CheckedBinaryOp c.args.op x y) c.args.place (ExprId c.args.e) c.requires.ready c.requires.form values (binary-computes source c.args.op x y) added cell local)
     c.assign.ensures.added
 
 pub lower_binary-returns-clause-built : goal.lower_binary-returns-clause-built
 lower_binary-returns-clause-built t c =
+    let source = source_of c.args.context.now in
     on_ok_weaker c.assign.result
-    (λ added. built-binary (source_of c.args.context.now) c.args.e.0 c.requires.form.0 c.args.op c.args.lhs c.args.rhs c.requires.form.1 c.requires.form.2 c.in_ok-left.ensures.built c.in_ok-right.ensures.built)
+    (λ added. built-strict source c.args.e.0 (Combine c.args.op) (c.args.lhs.0 ∷ c.args.rhs.0 ∷ []) c.requires.form (two-built source c.args.lhs.0 c.args.rhs.0 c.in_ok-left.ensures.built c.in_ok-right.ensures.built))
     c.assign.ensures.added
 
 pub lower_binary-returns-clause-refused : goal.lower_binary-returns-clause-refused
@@ -185,6 +195,22 @@ lower_tail-returns-in-Some-clause-built t c =
     on_ok_weaker c.lower_into.result
     (λ built. subst (λ (o : Option _). All (IsBuilt source) (optional o)) (sym c.in-Some.is) (one-built source c.in-Some.tail.0 built))
     c.lower_into.ensures.built
+
+pub lower_tail-returns-in-Some-clause-lowered : goal.lower_tail-returns-in-Some-clause-lowered
+lower_tail-returns-in-Some-clause-lowered t c =
+    let source = source_of c.args.context.now in
+    let s0 = shape c.args.graph.now in
+    let s1 = shape c.lower_into.new.graph in
+    on_ok_weaker c.lower_into.result
+    (λ lowered cell found. subst (λ (o : Option _). LowersTail source s0 s1 o cell) (sym c.in-Some.is) (lowers-tail source s0 s1 c.in-Some.tail cell (lowered cell found)))
+    c.lower_into.ensures.lowered
+
+pub lower_tail-returns-in-None-clause-lowered : goal.lower_tail-returns-in-None-clause-lowered
+lower_tail-returns-in-None-clause-lowered t c =
+    λ cell found.
+    let source = source_of c.args.context.now in
+    let s0 = shape c.args.graph.now in
+    subst (λ (o : Option _). LowersTail source s0 s0 o cell) (sym c.in-None.is) (lowers-no-tail source s0 cell c.requires.ready.sound c.requires.ready.«open»)
 
 -- a `let` without an initializer, and one with `else`
 

@@ -3,6 +3,7 @@ use Rattle.std.proofs.Common.{sym, subst}
 use Rattle.std.proofs.lemmas.Result.{on_ok_weaker, IfErr-weaker}
 use Rattle.mir.specs.declared.span.MirSpan.TheVariants.{ExprId}
 use Rattle.mir_lower.specs.Contexts.{source_of}
+use Rattle.mir_lower.specs.Form.{core_value}
 use Rattle.mir_lower.specs.Graph.{shape}
 use Rattle.mir_lower.specs.Refusals.{RefusesAt}
 use Rattle.mir_lower.proofs.Building.{built-literal}
@@ -19,12 +20,12 @@ pub returns-clause-lowered : goal.returns-clause-lowered
 returns-clause-lowered c =
     let source = source_of c.args.context.now in
     on_ok_weaker c.assign.result
-    (λ added cell local. lowers-literal source (shape c.args.graph.now) (shape c.assign.new.graph) c.args.e.0 c.args.literal.now c.args.place c.in_ok-operand.operand (ExprId c.args.e) c.requires.ready c.requires.form c.in_ok-operand.ensures.lowered added cell local)
+    (λ added cell local. lowers-literal source (shape c.args.graph.now) (shape c.assign.new.graph) c.args.e.0 (core_value c.args.literal) c.args.place c.in_ok-operand.operand (ExprId c.args.e) c.requires.ready c.requires.form c.in_ok-operand.ensures.lowered added cell local)
     c.assign.ensures.added
 
 pub returns-clause-built : goal.returns-clause-built
 returns-clause-built c =
-    on_ok_weaker c.assign.result (λ added. built-literal (source_of c.args.context.now) c.args.e.0 c.args.literal.now c.requires.form c.in_ok-operand.ensures.built) c.assign.ensures.added
+    on_ok_weaker c.assign.result (λ added. built-literal (source_of c.args.context.now) c.args.e.0 (core_value c.args.literal) c.requires.form c.in_ok-operand.ensures.built) c.assign.ensures.added
 
 pub returns-clause-refused : goal.returns-clause-refused
 returns-clause-refused c =

@@ -1,7 +1,7 @@
 use Rattle.std.proofs.Common.{◌≡◌, sym, refl, rules, length}
 use Rattle.std.specs.Int.{w8, w16, w32, w64, w128}
 use Rattle.std.proofs.lemmas.Int.{to_z-of_z}
-use Rattle.mir_mem.proofs.Reading.{signed_number, word1_is}
+use Rattle.numbers.proofs.Reading.{signed_number, word1_is}
 use Rattle.mir_mem.proofs.int_value.signed_value.Goals as goal
 
 pub returns-in-1 : goal.returns-in-1

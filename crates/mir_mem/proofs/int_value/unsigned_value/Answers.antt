@@ -1,6 +1,6 @@
 use Rattle.std.proofs.Common.{◌≡◌, ap, sym, refl, rules, length, pos}
 use Rattle.numbers.specs.Bytes.{number_of}
-use Rattle.mir_mem.proofs.Reading.{word1_is}
+use Rattle.numbers.proofs.Reading.{word1_is}
 use Rattle.mir_mem.proofs.int_value.unsigned_value.Goals as goal
 
 pub returns-in-1 : goal.returns-in-1

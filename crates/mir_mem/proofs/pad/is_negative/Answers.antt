@@ -2,7 +2,7 @@ use Rattle.std.proofs.Common.{◌≡◌, ◌-◌, ◌^◌, suc, ap, arith, lengt
 use Rattle.std.proofs.lemmas.Bool.{false≢true}
 use borrow.Author.Tests.{ltb-true, lt-ltb}
 use Rattle.numbers.specs.Bytes.{value_of}
-use Rattle.mir_mem.proofs.Reading.{value_of-dropped}
+use Rattle.numbers.proofs.Reading.{value_of-dropped}
 use Rattle.mir_mem.proofs.Padding.{top_byte}
 use Rattle.mir_mem.proofs.pad.is_negative.Goals as goal
 

@@ -11,12 +11,11 @@ returns c =
       printed = told.printed;
       value = told.value;
       panic = told.panic;
+      closed = told.closed;
       complete = told.complete;
       cause = told.cause;
       turns = told.turns;
-      world = told.world;
-      bodies_stay = told.bodies_stay;
-      values_stay = told.values_stay;
+      stays = told.stays;
       kept = told.kept;
       sound = told.sound;
     })

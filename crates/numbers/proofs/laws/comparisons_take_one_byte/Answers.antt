@@ -1,4 +1,4 @@
-use Rattle.numbers.proofs.Table.{length-compared}
+use Rattle.numbers.proofs.Lengths.{length-compared}
 use Rattle.numbers.proofs.laws.comparisons_take_one_byte.Goals as goal
 
 pub returns : goal.returns

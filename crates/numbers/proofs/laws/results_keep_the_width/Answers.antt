@@ -1,4 +1,4 @@
-use Rattle.numbers.proofs.Table.{length-computed}
+use Rattle.numbers.proofs.Lengths.{length-computed}
 use Rattle.numbers.proofs.laws.results_keep_the_width.Goals as goal
 
 pub returns : goal.returns

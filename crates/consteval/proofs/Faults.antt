@@ -1,0 +1,75 @@
+-- The faults that a valid definition can end in, and the words of panics among them.
+use Rattle.std.proofs.Common.{◌≡◌, ℕ, List, Option, Some, None, refl, sym, ap, ◌∙◌, subst}
+use Rattle.std.proofs.lemmas.Option.{none-some}
+use Rattle.types.specs.declared.ty.Ty.{Ty}
+use Rattle.world.specs.Lookups.{layout_of}
+use Rattle.mir.specs.declared.errors.MirEvalError.{MirEvalError, MirEvalError-F, fold-roll-MirEvalError, map-MirEvalError, out-MirEvalError}
+use Rattle.mir.specs.declared.errors.MirEvalError.TheOpen as layer
+use Rattle.mir.specs.declared.errors.MirEvalError.TheViews.{out-roll-MirEvalError, roll-out-MirEvalError}
+use Rattle.mir.specs.declared.errors.MirEvalError.TheVariants.{rolls-InFunction, rolls-LayoutError, rolls-TypeIsUnsized, rolls-Panic, rolls-UndefinedBehavior, rolls-ExecutionLimitExceeded}
+use Rattle.mir.specs.declared.errors.MirEvalError as error
+use Rattle.mir.specs.declared.errors.MirLowerError.{MirLowerError}
+use Rattle.mir.specs.declared.errors.MirLowerError.TheVariants as refusal
+use Rattle.mir.specs.declared.errors.TrailEntry.{TrailEntry}
+use Rattle.mir.specs.Errors.{from_eval_error, from_lower_error, layout_error_of}
+use Rattle.source_meaning.specs.Source.{Source}
+use Rattle.consteval.specs.Answers.{EndsEvaluation, EndsFrame, EndsIn, EndsLayer, EndsLowering, GivesPanic, IsUnsized, panic_layer, panic_word}
+
+-- a frame's fault, wrapped in it
+pub framed : (source : Source) (blocks : ℕ) (inner : MirEvalError) (trail : List TrailEntry) → EndsFrame source blocks inner → EndsEvaluation source blocks (error.InFunction inner trail)
+framed source blocks inner trail ends =
+    subst (EndsLayer source blocks) (sym (ap out-MirEvalError (sym (rolls-InFunction inner trail)) ∙ out-roll-MirEvalError (layer.InFunction inner trail))) ends
+
+-- a type without a layout, or without a size
+pub without-layout : (source : Source) (blocks : ℕ) (ty : Ty) → layout_of source.world ty ≡ None → EndsEvaluation source blocks (error.LayoutError (layout_error_of ty) ty)
+without-layout source blocks ty none =
+    let e = layout_error_of ty in
+    subst (EndsLayer source blocks) (sym (ap out-MirEvalError (sym (rolls-LayoutError e ty)) ∙ out-roll-MirEvalError (layer.LayoutError e ty))) (refl, none)
+
+pub without-size : (source : Source) (blocks : ℕ) (ty : Ty) (text : List ℕ) → IsUnsized source.world ty → EndsEvaluation source blocks (error.TypeIsUnsized ty text)
+without-size source blocks ty text ends =
+    subst (EndsLayer source blocks) (sym (ap out-MirEvalError (sym (rolls-TypeIsUnsized ty text)) ∙ out-roll-MirEvalError (layer.TypeIsUnsized ty text))) ends
+
+-- faults and refusals, as they are carried
+pub carried-fault : (source : Source) (blocks : ℕ) (e : MirEvalError) → EndsEvaluation source blocks e → EndsIn source blocks (from_eval_error e)
+carried-fault source blocks error.NoMemory ends = tt
+carried-fault source blocks _ ends = ends
+
+pub carried-refusal : (source : Source) (blocks : ℕ) (e : MirLowerError) → EndsLowering source e → EndsIn source blocks (from_lower_error e)
+carried-refusal source blocks refusal.NoMemory ends = tt
+carried-refusal source blocks _ ends = ends
+
+word-panic : (word : List ℕ) → panic_word (error.Panic word) ≡ Some word
+unfolding panic_word
+word-panic word = ap panic_word (sym (rolls-Panic word)) ∙ fold-roll-MirEvalError (Option (List ℕ)) panic_layer (layer.Panic word)
+
+word-undefined : (text : List ℕ) → panic_word (error.UndefinedBehavior text) ≡ None
+unfolding panic_word
+word-undefined text = ap panic_word (sym (rolls-UndefinedBehavior text)) ∙ fold-roll-MirEvalError (Option (List ℕ)) panic_layer (layer.UndefinedBehavior text)
+
+word-limit : panic_word error.ExecutionLimitExceeded ≡ None
+unfolding panic_word
+word-limit = ap panic_word (sym rolls-ExecutionLimitExceeded) ∙ fold-roll-MirEvalError (Option (List ℕ)) panic_layer layer.ExecutionLimitExceeded
+
+-- a panic that a valid definition ends in is one that its source means
+frame-panic : (source : Source) (blocks : ℕ) (inner : MirEvalError) (word : List ℕ) → EndsFrame source blocks inner → panic_word inner ≡ Some word → GivesPanic source word
+frame-panic source blocks (error.Panic said) word ends says =
+    let both : Some said ≡ Some word = sym (word-panic said) ∙ says in
+    let same : said ≡ word = cc in
+    subst (GivesPanic source) same ends
+frame-panic source blocks error.ExecutionLimitExceeded word ends says = absurd (none-some word (sym word-limit ∙ says))
+frame-panic source blocks (error.UndefinedBehavior text) word ends says = absurd (none-some word (sym (word-undefined text) ∙ says))
+frame-panic source blocks _ word ends says = absurd ends
+
+-- the word of an error is that of its layer
+word-by-layer : (e : MirEvalError) → panic_word e ≡ panic_layer (map-MirEvalError MirEvalError (Option (List ℕ)) panic_word (out-MirEvalError e))
+unfolding panic_word
+word-by-layer e = ap panic_word (sym (roll-out-MirEvalError e)) ∙ fold-roll-MirEvalError (Option (List ℕ)) panic_layer (out-MirEvalError e)
+
+pub ends-in-panic : (source : Source) (blocks : ℕ) (e : MirEvalError) (word : List ℕ) → EndsEvaluation source blocks e → panic_word e ≡ Some word → GivesPanic source word
+ends-in-panic source blocks e word ends says = by (out-MirEvalError e) ends (sym (word-by-layer e) ∙ says) where
+  by : (l : MirEvalError-F MirEvalError) → EndsLayer source blocks l → panic_layer (map-MirEvalError MirEvalError (Option (List ℕ)) panic_word l) ≡ Some word → GivesPanic source word
+  by (layer.InFunction inner trail) ends says = frame-panic source blocks inner word ends says
+  by (layer.LayoutError e ty) ends says = absurd (none-some word says)
+  by (layer.TypeIsUnsized ty text) ends says = absurd (none-some word says)
+  by _ ends says = absurd ends

@@ -1,0 +1,160 @@
+-- The graph that lowering begins with: one binding after another is added, and then it can be lowered into.
+use Rattle.std.proofs.Common.{◌≡◌, ℕ, zero, suc, ◌+◌, ◌<◌, ◌⊎◌, ⊎_elim, inl, inr, List, [], ◌∷◌, ◌++◌, length, Option, Some, None, refl, sym, ap, ◌∙◌, arith, append-nil, length-append}
+use Rattle.std.specs.Prelude.{is_some, if◌then◌else◌, option_and_then, option_map, replicate, slice_get}
+use Rattle.std.proofs.lemmas.Bool.{cases_lt}
+use Rattle.std.proofs.lemmas.Option.{option_and_then_some}
+use Rattle.std.proofs.Math.ListN.{length-replicate}
+use Rattle.types.specs.declared.ty.Ty.{Ty}
+use Rattle.mir.specs.declared.body.Local.{Local}
+use Rattle.mir.specs.declared.ids.LocalId.{LocalId}
+use Rattle.source_meaning.specs.Source.{Source, Cell, Result, Node, Binding, binding_type, cell_type, node_type, root}
+use Rattle.mir_lower.specs.Graph.{Shape, no_statements, first_shape, local_at, local_of, local_of_type, binding_local, temp_of, with_binding}
+use Rattle.mir_lower.specs.Growth.{terminator_at, IsUsed, IsFirst, IsSound, IsOpen}
+use Rattle.mir_lower.specs.Order.{first_locals, local_if_any}
+use Rattle.mir_lower.proofs.Lists.{slice_get-front, slice_get-last, slice_get-more, slice_get_below}
+use Rattle.mir_lower.proofs.Sound.{no-more-allotted, one-more-allotted}
+
+-- no expression has a local at first
+none-at : (n e l : ℕ) → local_at (replicate n None) e ≡ Some l → ⊥
+none-at zero e l h = cc
+none-at (suc n) zero l h = cc
+none-at (suc n) (suc e) l h = none-at n e l h
+
+first-cell : (ty : Ty) (nodes : ℕ) (c : Cell) (l : ℕ) → local_of (first_shape ty nodes) c ≡ Some l → (c ≡ Result) × (l ≡ 0)
+unfolding temp_of binding_local
+first-cell ty nodes Result l h = (refl, (let same : 0 ≡ l = cc in sym same))
+first-cell ty nodes (Node e) l h = absurd (none-at nodes e l h)
+first-cell ty nodes (Binding b) l h = cc
+
+-- without a binding
+pub first-none : (source : Source) (ty : Ty) (nodes : ℕ) → nodes ≡ length source.body.exprs → node_type source (root source) ≡ Some ty → IsFirst source 0 (first_shape ty nodes)
+unfolding first_locals
+first-none source ty nodes many typed =
+    record {
+      blocks = refl;
+      current = refl;
+      scope = refl;
+      locals = sym (ap local_if_any typed);
+      nodes = length-replicate nodes None ∙ many;
+      bindings = refl;
+      bound = λ b t less h. absurd (omega arith);
+      allotted = record {
+        typed = λ c l h. let is = first-cell ty nodes c l h in (local_of_type ty, ap (slice_get (local_of_type ty ∷ [])) is.1, ap (cell_type source) is.0 ∙ typed);
+        own = λ c d l h k. (first-cell ty nodes c l h).0 ∙ sym (first-cell ty nodes d l k).0;
+        cells = only;
+      };
+    } where
+      only : (l : ℕ) (local : Local) → slice_get (local_of_type ty ∷ []) l ≡ Some local → (cell : Cell) × IsUsed source cell × (cell_type source cell ≡ Some local.ty)
+      only zero local h = (let same : local_of_type ty ≡ local = cc in (Result, tt, typed ∙ ap (λ (l : Local). Some l.ty) same))
+      only (suc l) local h = cc
+
+-- a table with one more place
+at-last : (table : List (Option LocalId)) (local : LocalId) → local_at (table ++ Some local ∷ []) (length table) ≡ Some local.0
+at-last table local = ap (λ entry. option_map (λ (l : LocalId). l.0) (option_and_then (λ l. l) entry)) (slice_get-last table (Some local))
+
+entry-of : (entry : Option (Option LocalId)) (l : ℕ) → option_map (λ (local : LocalId). local.0) (option_and_then (λ local. local) entry) ≡ Some l → (local : LocalId) × (entry ≡ Some (Some local)) × (local.0 ≡ l)
+entry-of (Some (Some local)) l h = (local, refl, (let same : local.0 ≡ l = cc in same))
+entry-of (Some None) l h = cc
+entry-of None l h = cc
+
+at-front : (table : List (Option LocalId)) (more : Option LocalId) (i l : ℕ) → local_at table i ≡ Some l → local_at (table ++ more ∷ []) i ≡ Some l
+at-front table more i l h =
+    let is = entry-of (slice_get table i) l h in
+    ap (λ entry. option_map (λ (local : LocalId). local.0) (option_and_then (λ local. local) entry)) (slice_get-front table (more ∷ []) i (Some is.0) is.1) ∙ ap Some is.2
+
+at-more : (table : List (Option LocalId)) (more : Option LocalId) (i l : ℕ) → local_at (table ++ more ∷ []) i ≡ Some l → ((i ≡ length table) × (option_map (λ local. local.0) more ≡ Some l)) ⊎ (local_at table i ≡ Some l)
+at-more table more i l h =
+    let is = entry-of (slice_get (table ++ more ∷ []) i) l h in
+    ⊎_elim
+    (λ last. inl (last.0, ap (option_map (λ (local : LocalId). local.0)) last.1 ∙ ap Some is.2))
+    (λ front. inr (ap (λ entry. option_map (λ (local : LocalId). local.0) (option_and_then (λ local. local) entry)) front ∙ ap Some is.2))
+    (slice_get-more table more (Some is.0) i is.1)
+
+-- one more binding: where a closure owns it, no cell has another local, and otherwise it has the new one
+unbound-cells : (s : Shape) (c : Cell) (l : ℕ) → local_of (with_binding None s) c ≡ Some l → local_of s c ≡ Some l
+unfolding with_binding temp_of binding_local
+unbound-cells s Result l h = h
+unbound-cells s (Node e) l h = h
+unbound-cells s (Binding b) l h = ⊎_elim (λ last. (let none = last.1 in cc)) (λ front. front) (at-more s.bindings None b l h)
+
+bound-cells : (ty : Ty) (s : Shape) (c : Cell) (l : ℕ) → local_of (with_binding (Some ty) s) c ≡ Some l → ((c ≡ Binding (length s.bindings)) × (l ≡ length s.locals)) ⊎ (local_of s c ≡ Some l)
+unfolding with_binding temp_of binding_local
+bound-cells ty s Result l h = inr h
+bound-cells ty s (Node e) l h = inr h
+bound-cells ty s (Binding b) l h =
+    ⊎_elim (λ last. inl (ap Binding last.0, (let is = last.1 in let same : length s.locals ≡ l = cc in sym same))) (λ front. inr front)
+    (at-more s.bindings (Some (record { 0 = length s.locals })) b l h)
+
+-- the bindings up to one, and that one
+up-to : (b n : ℕ) → b < n + 1 → (b < n) ⊎ (b ≡ n)
+up-to b n less = ⊎_elim (λ before. inl before) (λ past. inr (omega arith)) (cases_lt b n)
+
+more-locals : (source : Source) (n : ℕ) (ty : Option Ty) → binding_type source n ≡ ty → first_locals source (n + 1) ≡ first_locals source n ++ local_if_any ty
+unfolding first_locals
+more-locals source n ty is =
+    let next : n + 1 ≡ suc n = omega arith in
+    ap (first_locals source) next ∙ ap (λ (t : Option Ty). first_locals source n ++ local_if_any t) is
+
+pub first-more : (source : Source) (s : Shape) (n : ℕ) → IsFirst source n s → IsFirst source (n + 1) (with_binding (binding_type source n) s)
+unfolding with_binding binding_local
+first-more source s n first = by-type (binding_type source n) refl where
+  by-type : (ty : Option Ty) → binding_type source n ≡ ty → IsFirst source (n + 1) (with_binding ty s)
+  by-type None is =
+      let long = length-append s.bindings (None ∷ []) in
+      let many = first.bindings in
+      record {
+        blocks = first.blocks;
+        current = first.current;
+        scope = first.scope;
+        locals = first.locals ∙ sym (append-nil (first_locals source n)) ∙ sym (more-locals source n None is);
+        nodes = first.nodes;
+        bindings = omega arith;
+        bound = λ b t less h. ⊎_elim
+            (λ before. let at = first.bound b t before h in (at.0, at-front s.bindings None b at.0 at.1))
+            (λ same. let h' : binding_type source n ≡ Some t = ap (binding_type source) (sym same) ∙ h in absurd cc)
+            (up-to b n less);
+        allotted = no-more-allotted source s (with_binding None s) refl (unbound-cells s) first.allotted;
+      }
+  by-type (Some ty) is =
+      let long = length-append s.bindings (Some (record { 0 = length s.locals }) ∷ []) in
+      let many = first.bindings in
+      record {
+        blocks = first.blocks;
+        current = first.current;
+        scope = first.scope;
+        locals = ap (λ (ls : List Local). ls ++ local_of_type ty ∷ []) first.locals ∙ sym (more-locals source n (Some ty) is);
+        nodes = first.nodes;
+        bindings = omega arith;
+        bound = λ b t less h. ⊎_elim
+            (λ before. let at = first.bound b t before h in (at.0, at-front s.bindings (Some (record { 0 = length s.locals })) b at.0 at.1))
+            (λ same. (length s.locals, ap (local_at (s.bindings ++ Some (record { 0 = length s.locals }) ∷ [])) (same ∙ sym many) ∙ at-last s.bindings (record { 0 = length s.locals })))
+            (up-to b n less);
+        allotted = one-more-allotted source s (with_binding (Some ty) s) (Binding (length s.bindings)) ty refl tt (ap (binding_type source) many ∙ is) (bound-cells ty s) first.allotted;
+      }
+
+-- a binding with a type is one of the body's list
+typed-below : (source : Source) (b : ℕ) (ty : Ty) → binding_type source b ≡ Some ty → b < length source.body.bindings
+unfolding binding_type
+typed-below source b ty h =
+    option_and_then_some (λ binding. if is_some binding.owner then None else slice_get source.infer.binding_types b) (slice_get source.body.bindings b) ty h
+    (λ binding found at. slice_get_below source.body.bindings b binding found)
+
+-- with all bindings it can be lowered into
+pub first-sound : (source : Source) (s : Shape) → IsFirst source (length source.body.bindings) s → IsSound source s
+first-sound source s first =
+    record {
+      nodes = first.nodes;
+      bound = λ b ty h. first.bound b ty (typed-below source b ty h) h;
+      allotted = first.allotted;
+    }
+
+pub first-open : (source : Source) (n : ℕ) (s : Shape) → IsFirst source n s → IsOpen s
+unfolding terminator_at
+first-open source n s first =
+    let one = ap length first.blocks in
+    let zeroth = first.current in
+    record {
+      there = omega arith;
+      unended = ap (λ bs. option_and_then (λ block. block.terminator) (slice_get bs s.current)) first.blocks
+          ∙ ap (λ (n : ℕ). option_and_then (λ block. block.terminator) (slice_get (no_statements ∷ []) n)) first.current;
+    }

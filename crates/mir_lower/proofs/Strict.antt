@@ -1,0 +1,183 @@
+-- Strict forms: operands from left to right, and then one assignment of what the operation makes of them.
+use Rattle.std.proofs.Common.{arith, ◌≡◌, ℕ, false, List, [], ◌∷◌, ◌++◌, map, flat_map, Contains, Some, refl, sym, ap, ◌∙◌, subst, append_assoc, append-nil, ⊎_elim}
+use Rattle.std.proofs.lemmas.List.Elements.{Contains-append_cases}
+use Rattle.source_meaning.specs.Core.{Operation, Strict, Combine, is_truth}
+use Rattle.numbers.specs.declared.operator.Operator.{Operator}
+use Rattle.mir.specs.declared.operand.Operand.{Operand as MirOperand}
+use Rattle.mir.specs.declared.operand.OperandKind.{OperandKind}
+use Rattle.mir.specs.declared.operand.Place.{Place}
+use Rattle.mir.specs.declared.operand.Rvalue.{Rvalue}
+use Rattle.mir.specs.declared.operand.Rvalue.TheVariants.{CheckedBinaryOp, UnaryOp as Unary}
+use Rattle.mir.specs.declared.operand.UnOp.{UnOp}
+use Rattle.mir.specs.declared.operand.UnOp.TheVariants as one
+use Rattle.mir.specs.declared.span.MirSpan.{MirSpan}
+use Rattle.mir.specs.Memory.{Memory}
+use Rattle.mir.specs.Run.{Frame, rvalue_bytes, operated, operated_on, computed_of, answered as answer, operand_bytes as mir_bytes, operand_type as mir_type}
+use Rattle.numbers.specs.Operators.{computed}
+use Rattle.source_meaning.specs.Ends.{Go, then_do, no_cost}
+use Rattle.source_meaning.specs.Events.{marked_as_operand}
+use Rattle.source_meaning.specs.Meaning.{Level, Value, level_at, value_of, answered, operands_of, into_of}
+use Rattle.source_meaning.specs.Source.{Source, node, node_type, Cell, Store, Operand, operand_bytes, operand_type}
+use Rattle.source_meaning.specs.Steps.{parts_of}
+use Rattle.source_meaning.specs.Valid.{own, inside, sized_parts, IsLaidOut}
+use Rattle.source_meaning.proofs.Depth.{operand_is_part}
+use Rattle.source_meaning.proofs.Marks.{strict_marks}
+use Rattle.source_meaning.proofs.Parts.{sized_operand}
+use Rattle.mir_lower.specs.Does.{here, IsFrameOf, Holds, Reaches, Fits, FitAll}
+use Rattle.mir_lower.specs.Form.{operation_of}
+use Rattle.mir_lower.specs.Graph.{Shape, with_statement, local_of}
+use Rattle.mir_lower.specs.Growth.{Grows, IsSound, IsOpen, IsReady}
+use Rattle.mir_lower.specs.Lowered.{LaysOut, LowersInto, LowersOperand, LowersOperands}
+use Rattle.mir_lower.proofs.Growing.{grows-refl, grows-trans, with_statement-grows}
+use Rattle.mir_lower.proofs.Laid.{layouts-before, plain-part, one-of}
+use Rattle.mir_lower.proofs.Operations.{assignment}
+use Rattle.mir_lower.proofs.Reaching.{comes-refl, reaches-then}
+use Rattle.mir_lower.proofs.Sound.{with_statement-sound, with_statement-open, with_statement-scope}
+use Rattle.mir_lower.proofs.Steps.{local_of-grows, Done, assigned-answer, does-form}
+
+-- what is claimed of operands
+abbrev Given : Source → List OperandKind → Shape → Frame → List Operand → Store → Memory → Type 0
+Given source operands whole frame values after later = Holds whole frame after later × FitAll source operands whole frame values
+
+no-operands : (below : Level) (store : Store) → operands_of below [] store ≡ Go [] store no_cost
+unfolding operands_of
+no-operands below store = refl
+
+first-operand : (below : Level) (e : ℕ) (rest : List ℕ) (store : Store) → operands_of below (e ∷ rest) store ≡ then_do (below.operand e store) (λ first later. then_do (operands_of below rest later) (λ others last. Go (first ∷ others) last no_cost))
+unfolding operands_of
+first-operand below e rest store = refl
+
+pub lowers-no-operand : (source : Source) (s : Shape) → IsSound source s → IsOpen s → LowersOperands source s s [] []
+lowers-no-operand source s sound opened =
+    record {
+      keeps = record { grows = grows-refl s; sound = sound; «open» = opened; scope = sym (append-nil s.scope) };
+      does = record {
+        reaches = λ whole frame grows whole-sound is fuel store memory holds.
+            subst (Reaches frame (here s) (here s) memory (Given source [] whole frame)) (sym (no-operands (level_at source fuel) store))
+            (0, memory, omega arith, comes-refl frame (here s) memory, (holds, tt));
+      };
+      laid = λ e within. absurd (let below = within.1 in omega arith);
+    }
+
+-- an operand, and then others
+pub lowers-more-operands : (source : Source) (s0 s1 s2 : Shape) (e : ℕ) (rest : List ℕ) (operand : OperandKind) (operands : List OperandKind) → LowersOperand source s0 s1 e operand → LowersOperands source s1 s2 rest operands → LowersOperands source s0 s2 (e ∷ rest) (operand ∷ operands)
+lowers-more-operands source s0 s1 s2 e rest operand operands first others =
+    record {
+      keeps = record {
+        grows = grows-trans s0 s1 s2 first.keeps.grows others.keeps.grows;
+        sound = others.keeps.sound;
+        «open» = others.keeps.«open»;
+        scope =
+            others.keeps.scope ∙ ap (λ scope. scope ++ flat_map (marked_as_operand source) rest) first.keeps.scope
+            ∙ append_assoc s0.scope (marked_as_operand source e) (flat_map (marked_as_operand source) rest);
+      };
+      does = record {
+        reaches = λ whole frame grows sound is fuel store memory holds.
+            let below = level_at source fuel in
+            subst (Reaches frame (here s0) (here s2) memory (Given source (operand ∷ operands) whole frame)) (sym (first-operand below e rest store))
+            (reaches-then frame (here s0) (here s1) (here s2) memory (λ v after later. Holds whole frame after later × Fits source operand whole frame v) (Given source (operand ∷ operands) whole frame) (below.operand e store) _
+            (first.does.reaches whole frame (grows-trans s1 s2 whole others.keeps.grows grows) sound is fuel store memory holds)
+            (λ v store1 memory1 claims1.
+            reaches-then frame (here s1) (here s2) (here s2) memory1 (Given source operands whole frame) (Given source (operand ∷ operands) whole frame) (operands_of below rest store1) _
+            (others.does.reaches whole frame grows sound is fuel store1 memory1 claims1.0)
+            (λ values store2 memory2 claims2. (0, memory2, omega arith, comes-refl frame (here s2) memory2, (claims2.0, (claims1.1, claims2.1))))));
+      };
+      laid = λ child within truth plain layouts. ⊎_elim
+          (λ here'. let same = one-of e child here' in
+          subst (LaysOut source s2) same (λ plain' layouts'. first.laid (subst (λ x. is_truth (node source x) ≡ false) (sym same) truth) plain' (layouts-before source s1 s2 others.keeps.grows layouts')) plain layouts)
+          (λ later. others.laid child later truth plain layouts)
+          (Contains-append_cases (e ∷ []) rest child within);
+    }
+
+-- an rvalue of the graph is what the operation makes of its operands' values
+abbrev pub Computes : Source → Operation → List OperandKind → Rvalue → Type 0
+Computes source operation operands rvalue =
+    (whole : Shape) (frame : Frame) (values : List Operand) (store : Store) (memory : Memory) → Holds whole frame store memory → FitAll source operands whole frame values →
+    rvalue_bytes frame memory rvalue ≡ answer (answered operation (map (value_of source store) values))
+
+lays-strict : (source : Source) (s1 new : Shape) (e : ℕ) (operation : Operation) (es : List ℕ) → node source e ≡ Some (Strict operation es) → ((child : ℕ) → Contains es child → is_truth (node source child) ≡ false → LaysOut source s1 child) → Grows s1 new → IsLaidOut source (node_type source e) → LaysOut source new e
+lays-strict source s1 new e operation es form below grows laid plain layouts f own = laid
+lays-strict source s1 new e operation es form below grows laid plain layouts f (inside {child = child} within rest) =
+    let operand = sized_operand source es child (subst (λ n. Contains (sized_parts source n) child) form within) in
+    below child operand.0 operand.1 (plain-part source e child (operand_is_part source e operation es child form operand.0) plain) (layouts-before source s1 new grows layouts) f rest
+
+-- a strict form was lowered: its operands, and then one assignment
+pub lowers-strict : (source : Source) (s0 s1 new : Shape) (e : ℕ) (operation : Operation) (es : List ℕ) (operands : List OperandKind) (rvalue : Rvalue) (place : Place) (span : MirSpan) → IsReady source s0 e → node source e ≡ Some (Strict operation es) → LowersOperands source s0 s1 es operands → Computes source operation operands rvalue → new ≡ with_statement (assignment place rvalue span) s1 → (c : Cell) → local_of s0 c ≡ Some place.local.0 → LowersInto source s0 new e c
+lowers-strict source s0 s1 new e operation es operands rvalue place span ready form given computes same c local =
+    let st = assignment place rvalue span in
+    let opened = given.keeps.«open» in
+    let last : Grows s1 (with_statement st s1) = with_statement-grows st s1 opened in
+    subst (λ (n : Shape). LowersInto source s0 n e c) (sym same)
+    (record {
+      keeps = record {
+        grows = grows-trans s0 s1 (with_statement st s1) given.keeps.grows last;
+        sound = with_statement-sound source st s1 opened given.keeps.sound;
+        «open» = with_statement-open st s1 opened;
+        scope = with_statement-scope st s1 opened ∙ given.keeps.scope ∙ ap (λ m. s0.scope ++ m) (sym (strict_marks source ready.checked e ready.within operation es form));
+      };
+      does = does-form source s0 (with_statement st s1) e c (Some (Strict operation es)) form (record { reaches = reaches });
+      laid = lays-strict source s1 (with_statement st s1) e operation es form given.laid last;
+    }) where
+      reaches : (whole : Shape) (frame : Frame) → Grows (with_statement (assignment place rvalue span) s1) whole → IsSound source whole → IsFrameOf whole frame → (fuel : ℕ) (store : Store) (memory : Memory) → Holds whole frame store memory → Reaches frame (here s0) (here (with_statement (assignment place rvalue span) s1)) memory (Done whole frame) (into_of source (level_at source fuel) e (Some (Strict operation es)) (record { cell = c }) store)
+      reaches whole frame grows sound frame-is fuel store memory holds =
+          let st = assignment place rvalue span in
+          let opened = given.keeps.«open» in
+          let grown : Grows s1 whole = grows-trans s1 (with_statement st s1) whole (with_statement-grows st s1 opened) grows in
+          let found = local_of-grows s0 whole (grows-trans s0 s1 whole given.keeps.grows grown) c place.local.0 local in
+          reaches-then frame (here s0) (here s1) (here (with_statement st s1)) memory (Given source operands whole frame) (Done whole frame) (operands_of (level_at source fuel) es store) _
+          (given.does.reaches whole frame grown sound frame-is fuel store memory holds)
+          (λ values store1 memory1 claims.
+          assigned-answer source s1 whole frame place rvalue span opened sound frame-is grows c found store1 memory1 claims.0 _
+          (computes whole frame values store1 memory1 claims.0 claims.1))
+
+-- An operator on one operand, and one on two.
+
+one-answer : (op : UnOp) (value : Value) → computed_of op value.kind value.bytes ≡ answered (operation_of op) (value ∷ [])
+unfolding computed_of answered
+one-answer one.Not value = refl
+one-answer one.Neg value = refl
+
+two-answer : (op : Operator) (left right : Value) → computed op left.kind right.kind left.bytes right.bytes ≡ answered (Combine op) (left ∷ right ∷ [])
+unfolding answered
+two-answer op left right = refl
+
+unary-bytes : (source : Source) (whole : Shape) (frame : Frame) (op : UnOp) (value : Operand) (x : MirOperand) (store : Store) (memory : Memory) → Holds whole frame store memory → Fits source x.kind whole frame value → rvalue_bytes frame memory (Unary op x) ≡ answer (computed_of op (value_of source store value).kind (value_of source store value).bytes)
+unfolding rvalue_bytes operated_on
+unary-bytes source whole frame op value x store memory holds fits =
+    ap (λ t. operated_on op t (mir_bytes frame memory x.kind)) fits.ty
+    ∙ ap (operated_on op (operand_type source value)) (fits.bytes store memory holds)
+
+pub unary-computes : (source : Source) (op : UnOp) (x : MirOperand) → Computes source (operation_of op) (x.kind ∷ []) (Unary op x)
+unary-computes source op x whole frame [] store memory holds fits = absurd fits
+unary-computes source op x whole frame (value ∷ []) store memory holds fits =
+    unary-bytes source whole frame op value x store memory holds fits.0 ∙ ap answer (one-answer op (value_of source store value))
+unary-computes source op x whole frame (value ∷ more ∷ rest) store memory holds fits = absurd fits.1
+
+binary-bytes : (source : Source) (whole : Shape) (frame : Frame) (op : Operator) (left right : Operand) (x y : MirOperand) (store : Store) (memory : Memory) → Holds whole frame store memory → Fits source x.kind whole frame left → Fits source y.kind whole frame right → rvalue_bytes frame memory (CheckedBinaryOp op x y) ≡ answer (computed op (value_of source store left).kind (value_of source store right).kind (operand_bytes store left) (operand_bytes store right))
+unfolding rvalue_bytes operated
+binary-bytes source whole frame op left right x y store memory holds fits-left fits-right =
+    ap (λ t. operated op t (mir_type frame.body y.kind) (mir_bytes frame memory x.kind) (mir_bytes frame memory y.kind)) fits-left.ty
+    ∙ ap (λ t. operated op (operand_type source left) t (mir_bytes frame memory x.kind) (mir_bytes frame memory y.kind)) fits-right.ty
+    ∙ ap (λ b. operated op (operand_type source left) (operand_type source right) b (mir_bytes frame memory y.kind)) (fits-left.bytes store memory holds)
+    ∙ ap (λ b. operated op (operand_type source left) (operand_type source right) (Some (operand_bytes store left)) b) (fits-right.bytes store memory holds)
+
+pub binary-computes : (source : Source) (op : Operator) (x y : MirOperand) → Computes source (Combine op) (x.kind ∷ y.kind ∷ []) (CheckedBinaryOp op x y)
+binary-computes source op x y whole frame [] store memory holds fits = absurd fits
+binary-computes source op x y whole frame (left ∷ []) store memory holds fits = absurd fits.1
+binary-computes source op x y whole frame (left ∷ right ∷ []) store memory holds fits =
+    binary-bytes source whole frame op left right x y store memory holds fits.0 fits.1.0 ∙ ap answer (two-answer op (value_of source store left) (value_of source store right))
+binary-computes source op x y whole frame (left ∷ right ∷ more ∷ rest) store memory holds fits = absurd fits.1.1
+
+-- the operands of an operator on one operand, and on two
+pub lowers-one : (source : Source) (s0 s1 : Shape) (e : ℕ) (operand : OperandKind) → LowersOperand source s0 s1 e operand → LowersOperands source s0 s1 (e ∷ []) (operand ∷ [])
+lowers-one source s0 s1 e operand lowered = lowers-more-operands source s0 s1 s1 e [] operand [] lowered (lowers-no-operand source s1 lowered.keeps.sound lowered.keeps.«open»)
+
+pub lowers-two : (source : Source) (s0 s1 s2 : Shape) (lhs rhs : ℕ) (left right : OperandKind) → LowersOperand source s0 s1 lhs left → LowersOperand source s1 s2 rhs right → LowersOperands source s0 s2 (lhs ∷ rhs ∷ []) (left ∷ right ∷ [])
+lowers-two source s0 s1 s2 lhs rhs left right first second = lowers-more-operands source s0 s1 s2 lhs (rhs ∷ []) left (right ∷ []) first (lowers-one source s1 s2 rhs right second)
+
+-- an operand of a strict form is a part of it
+pub first-part : (source : Source) (e lhs : ℕ) (rest : List ℕ) (operation : Operation) → node source e ≡ Some (Strict operation (lhs ∷ rest)) → Contains (parts_of (node source e)) lhs
+first-part source e lhs rest operation form = operand_is_part source e operation (lhs ∷ rest) lhs form (0, omega arith, refl)
+
+pub second-part : (source : Source) (e lhs rhs : ℕ) (operation : Operation) → node source e ≡ Some (Strict operation (lhs ∷ rhs ∷ [])) → Contains (parts_of (node source e)) rhs
+second-part source e lhs rhs operation form = operand_is_part source e operation (lhs ∷ rhs ∷ []) rhs form (1, omega arith, refl)

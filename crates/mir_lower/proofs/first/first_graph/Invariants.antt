@@ -1,0 +1,8 @@
+use Rattle.mir_lower.specs.Contexts.{source_of}
+use Rattle.mir_lower.specs.Graph.{shape}
+use Rattle.mir_lower.specs.Growth.{IsFirst}
+use Rattle.mir_lower.proofs.first.first_graph.Given as goal
+
+-- the bindings so far are added
+abbrev pub invariant-loop-place : goal.invariant-loop-place
+invariant-loop-place l = IsFirst (source_of l.context) l.place (shape l.graph)

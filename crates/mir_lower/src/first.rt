@@ -1,0 +1,37 @@
+//! The graph that lowering begins with.
+
+ghost use Rattle.std.specs.Prelude.{◌≡◌, length, IfOk, OnOk};
+ghost use Rattle.world.specs.Checked.{IsCheckedBody};
+ghost use Rattle.source_meaning.specs.Source.{binding_type};
+ghost use Rattle.mir_lower.specs.Contexts.{source_of};
+ghost use Rattle.mir_lower.specs.Graph.{shape, with_binding};
+ghost use Rattle.mir_lower.specs.Growth.{IsFirst};
+
+use crate::context::Context;
+use crate::graph::Graph;
+use crate::inferred::{binding_ty, node_ty};
+use world::{NoMemory, TryClone};
+
+/// Adds the binding at a place of the body's list: a local of its type, where no closure owns it.
+fn push_binding(context: &Context<'_>, graph: &mut Graph, place: u64) -> Result<(), NoMemory>
+    ensures { OnOk result (shape graph.new ≡ with_binding (binding_type (source_of context.now) place) (shape graph.old)) }
+{
+    match binding_ty(context, place) {
+        Some(ty) => graph.push_bound(ty.try_clone(context.alloc)?),
+        None => graph.push_unbound(),
+    }
+}
+
+/// The graph that lowering begins with: one open block, the return slot, and a local for each binding that no closure
+/// owns, by rising id.
+pub(crate) fn first_graph(context: &Context<'_>) -> Result<Graph, NoMemory>
+    requires { IsCheckedBody context.now.body.now context.now.infer.now }
+    ensures { IfOk result (λ graph. IsFirst (source_of context.now) (length context.now.body.now.bindings) (shape graph)) }
+{
+    let ty = node_ty(context, context.body.body_expr).try_clone(context.alloc)?;
+    let mut graph = Graph::new(context.alloc, ty, context.body.exprs.len())?;
+    for place in 0..context.body.bindings.len() {
+        push_binding(context, &mut graph, place)?;
+    }
+    Ok(graph)
+}

@@ -1,0 +1,28 @@
+-- A plain expression has a form that is built.
+use Rattle.std.proofs.Common.{ℕ, get_or, Option, Some, None}
+use Rattle.world.specs.declared.body.Statement.{Statement}
+use Rattle.world.specs.declared.body.Statement.TheVariants as statement
+use Rattle.types.specs.declared.ty.Ty.{Ty}
+use Rattle.source_meaning.specs.Built.{IsBuiltStatement, IsBuiltForm}
+use Rattle.source_meaning.specs.Core.{CoreExpr, Literal, Path, Strict, Block}
+use Rattle.source_meaning.specs.Source.{Source, node}
+use Rattle.source_meaning.specs.Valid.{IsPlainStatement, HasPlainForm, IsPlainNode}
+
+plain_statement_is_built : (source : Source) (one : Statement) → IsPlainStatement source one → IsBuiltStatement source one
+plain_statement_is_built source (statement.Let pat (Some e) None) plain =
+    record { binding = plain.binding; bound = plain.binds; there = record { ty = plain.ty; typed = plain.binding_has } }
+plain_statement_is_built source (statement.Let pat (Some e) (Some other)) plain = plain
+plain_statement_is_built source (statement.Let pat None other) plain = plain
+plain_statement_is_built source (statement.Expr e has_semi) plain = plain
+plain_statement_is_built source statement.Item plain = plain
+
+plain_form_is_built : (source : Source) (e : ℕ) (form : Option CoreExpr) (ty : Ty) → HasPlainForm source e form ty → IsBuiltForm source e form
+plain_form_is_built source e (Some (Literal given)) ty plain = tt
+plain_form_is_built source e (Some (Path name)) ty plain =
+    record { binding = plain.binding; named = plain.named; there = record { ty = ty; typed = plain.binding_has } }
+plain_form_is_built source e (Some (Strict operation operands)) ty plain = tt
+plain_form_is_built source e (Some (Block statements tail)) ty plain = λ k d less. plain_statement_is_built source (get_or statements k d) (plain.0 k d less)
+plain_form_is_built source e None ty plain = plain
+
+pub plain_is_built : (source : Source) (e : ℕ) → IsPlainNode source e → IsBuiltForm source e (node source e)
+plain_is_built source e plain = plain_form_is_built source e (node source e) plain.ty plain.form

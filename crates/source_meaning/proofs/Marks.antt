@@ -1,0 +1,274 @@
+-- The cells that come into use, by the listing of events.
+use Rattle.std.specs.Prelude.{flat_map, Contains}
+use Rattle.std.proofs.Common.{◌≡◌, ℕ, zero, suc, ◌<◌, Bool, true, false, cond, List, [], ◌∷◌, ◌++◌, length, map, Option, Some, None, refl, sym, ap, ap₂, ◌∙◌, subst, append_assoc, append-nil, arith}
+use Rattle.std.proofs.lemmas.List.Concat.{flat_map-append}
+use Rattle.std.proofs.lemmas.List.Elements.{Contains-append_left, Contains-append_right}
+use Rattle.types.specs.declared.ids.BindingId.{BindingId}
+use Rattle.types.specs.declared.ids.ExprId.{ExprId}
+use Rattle.types.specs.declared.ids.PatId.{PatId}
+use Rattle.world.specs.declared.body.Statement.{Statement}
+use Rattle.world.specs.declared.body.Statement.TheVariants as statement
+use Rattle.world.specs.Checked.{IsCheckedBody}
+use Rattle.source_meaning.specs.Core.{CoreExpr, CoreLiteral, Operation, Literal, Path, Strict, Block, is_literal, is_path}
+use Rattle.source_meaning.specs.Events.{Event, Opens, Marks, Closes, place_events, operand_events, step_events, form_events, events_in, events, events_through, Scopes, after_event, scopes_after, innermost, marks_of, marked, marked_as_place, marked_as_operand, marked_by_statement, marked_by_tail, marked_in_block}
+use Rattle.source_meaning.specs.Laws.{ScopesNest}
+use Rattle.source_meaning.specs.Source.{Source, Cell, Node, Binding, node, pattern, bound_by}
+use Rattle.source_meaning.specs.Steps.{Step, Operand, Place, Into, Bind, Open, Close, statement_steps, tail_steps, block_steps, steps_of, step_part, parts_of}
+use Rattle.source_meaning.proofs.Core.{part_is_below}
+use Rattle.source_meaning.proofs.Parts.{first_is_contained}
+
+-- the scopes after events in a row
+pub scopes-append : (scopes : Scopes) (first rest : List Event) → scopes_after scopes (first ++ rest) ≡ scopes_after (scopes_after scopes first) rest
+unfolding scopes_after
+scopes-append scopes [] rest = refl
+scopes-append scopes (event ∷ more) rest = scopes-append (after_event scopes event) more rest
+
+-- events that close what they open: they leave the open scopes as they were, but for what they mark in the innermost one
+abbrev pub IsClosed : List Event → Type 0
+IsClosed listed = (inner : List Cell) (outer : Scopes) → scopes_after (inner ∷ outer) listed ≡ (inner ++ marks_of listed) ∷ outer
+
+none_is_closed : IsClosed []
+unfolding scopes_after marks_of
+none_is_closed inner outer = ap (λ cells. cells ∷ outer) (sym (append-nil inner))
+
+mark_is_closed : (cell : Cell) → IsClosed (Marks cell ∷ [])
+unfolding scopes_after marks_of
+mark_is_closed cell inner outer = refl
+
+pub marks-append : (first rest : List Event) → IsClosed first → IsClosed rest → marks_of (first ++ rest) ≡ marks_of first ++ marks_of rest
+unfolding marks_of
+marks-append first rest closed closed' =
+    ap innermost (scopes-append ([] ∷ []) first rest ∙ ap (λ scopes. scopes_after scopes rest) (closed [] []) ∙ closed' (marks_of first) [])
+
+append_is_closed : (first rest : List Event) → IsClosed first → IsClosed rest → IsClosed (first ++ rest)
+append_is_closed first rest closed closed' inner outer =
+    scopes-append (inner ∷ outer) first rest ∙ ap (λ scopes. scopes_after scopes rest) (closed inner outer) ∙ closed' (inner ++ marks_of first) outer
+    ∙ ap (λ cells. cells ∷ outer) (append_assoc inner (marks_of first) (marks_of rest) ∙ ap (λ cells. inner ++ cells) (sym (marks-append first rest closed closed')))
+
+-- a scope that opens and closes marks nothing around it
+scope_leaves : (listed : List Event) → IsClosed listed → (scopes : Scopes) → scopes_after scopes (Opens ∷ (listed ++ Closes ∷ [])) ≡ scopes
+unfolding scopes_after
+scope_leaves listed closed scopes =
+    scopes-append ([] ∷ scopes) listed (Closes ∷ []) ∙ ap (λ inside. scopes_after inside (Closes ∷ [])) (closed [] scopes)
+
+pub scope_marks : (listed : List Event) → IsClosed listed → marks_of (Opens ∷ (listed ++ Closes ∷ [])) ≡ []
+unfolding marks_of
+scope_marks listed closed = ap innermost (scope_leaves listed closed ([] ∷ []))
+
+scope_is_closed : (listed : List Event) → IsClosed listed → IsClosed (Opens ∷ (listed ++ Closes ∷ []))
+scope_is_closed listed closed inner outer =
+    scope_leaves listed closed (inner ∷ outer)
+    ∙ ap (λ cells. cells ∷ outer) (sym (append-nil inner) ∙ ap (λ cells. inner ++ cells) (sym (scope_marks listed closed)))
+
+either_is_closed : (test : Bool) (one other : List Event) → IsClosed one → IsClosed other → IsClosed (cond test one other)
+either_is_closed true one other closed closed' = closed
+either_is_closed false one other closed closed' = closed'
+
+bind_is_closed : (bound : Option BindingId) → IsClosed (map Marks (bound_by bound))
+bind_is_closed (Some id) = mark_is_closed (Binding id.0)
+bind_is_closed None = none_is_closed
+
+-- the events of each form close what they open, where those of its parts do
+module _ (source : Source) (below : ℕ → List Event) (closed : (e : ℕ) → IsClosed (below e)) where
+  place_is_closed : (e : ℕ) → IsClosed (place_events source below e)
+  place_is_closed e = either_is_closed (is_path (node source e)) [] (Marks (Node e) ∷ below e) none_is_closed (append_is_closed (Marks (Node e) ∷ []) (below e) (mark_is_closed (Node e)) (closed e))
+
+  operand_is_closed : (e : ℕ) → IsClosed (operand_events source below e)
+  operand_is_closed e = either_is_closed (is_literal (node source e)) [] (place_events source below e) none_is_closed (place_is_closed e)
+
+  operands_are_closed : (operands : List ℕ) → IsClosed (flat_map (step_events source below) (map Operand operands))
+  operands_are_closed [] = none_is_closed
+  operands_are_closed (e ∷ rest) = append_is_closed (operand_events source below e) (flat_map (step_events source below) (map Operand rest)) (operand_is_closed e) (operands_are_closed rest)
+
+  let_is_closed : (e pat : ℕ) → IsClosed (flat_map (step_events source below) (Place e ∷ Bind pat ∷ []))
+  let_is_closed e pat =
+      append_is_closed (place_events source below e) (flat_map (step_events source below) (Bind pat ∷ [])) (place_is_closed e)
+      (append_is_closed (map Marks (bound_by (pattern source pat))) [] (bind_is_closed (pattern source pat)) none_is_closed)
+
+  expression_is_closed : (e : ℕ) → IsClosed (flat_map (step_events source below) (Open ∷ Place e ∷ Close ∷ []))
+  expression_is_closed e = scope_is_closed (place_events source below e) (place_is_closed e)
+
+  statement_is_closed : (one : Statement) → IsClosed (flat_map (step_events source below) (statement_steps one))
+  statement_is_closed (statement.Let pat (Some e) None) = let_is_closed e.0 pat.0
+  statement_is_closed (statement.Let pat (Some e) (Some other)) = none_is_closed
+  statement_is_closed (statement.Let pat None other) = none_is_closed
+  statement_is_closed (statement.Expr e has_semi) = expression_is_closed e.0
+  statement_is_closed statement.Item = none_is_closed
+
+  statements_are_closed : (statements : List Statement) → IsClosed (flat_map (step_events source below) (flat_map statement_steps statements))
+  statements_are_closed [] = none_is_closed
+  statements_are_closed (first ∷ rest) =
+      subst IsClosed (sym (flat_map-append (step_events source below) (statement_steps first) (flat_map statement_steps rest)))
+      (append_is_closed (flat_map (step_events source below) (statement_steps first)) (flat_map (step_events source below) (flat_map statement_steps rest)) (statement_is_closed first) (statements_are_closed rest))
+
+  tail_is_closed : (tail : Option ExprId) → IsClosed (flat_map (step_events source below) (tail_steps tail))
+  tail_is_closed (Some e) = append_is_closed (below e.0) [] (closed e.0) none_is_closed
+  tail_is_closed None = none_is_closed
+
+  inner_is_closed : (statements : List Statement) (tail : Option ExprId) → IsClosed (flat_map (step_events source below) (block_steps statements tail))
+  inner_is_closed statements tail =
+      subst IsClosed (sym (flat_map-append (step_events source below) (flat_map statement_steps statements) (tail_steps tail)))
+      (append_is_closed (flat_map (step_events source below) (flat_map statement_steps statements)) (flat_map (step_events source below) (tail_steps tail)) (statements_are_closed statements) (tail_is_closed tail))
+
+  -- the events of a block
+  block_events_are : (statements : List Statement) (tail : Option ExprId) → form_events source below (Some (Block statements tail)) ≡ Opens ∷ (flat_map (step_events source below) (block_steps statements tail) ++ Closes ∷ [])
+  block_events_are statements tail = ap (λ rest. Opens ∷ rest) (flat_map-append (step_events source below) (block_steps statements tail) (Close ∷ []))
+
+  form_is_closed : (form : Option CoreExpr) → IsClosed (form_events source below form)
+  form_is_closed (Some (Literal given)) = none_is_closed
+  form_is_closed (Some (Path name)) = none_is_closed
+  form_is_closed (Some (Strict operation operands)) = operands_are_closed operands
+  form_is_closed (Some (Block statements tail)) =
+      subst IsClosed (sym (block_events_are statements tail)) (scope_is_closed (flat_map (step_events source below) (block_steps statements tail)) (inner_is_closed statements tail))
+  form_is_closed None = none_is_closed
+
+events_in_are_closed : (source : Source) (depth e : ℕ) → IsClosed (events_in depth source e)
+unfolding events_in
+events_in_are_closed source zero e = none_is_closed
+events_in_are_closed source (suc depth) e = form_is_closed source (events_in depth source) (events_in_are_closed source depth) (node source e)
+
+pub events_are_closed : (source : Source) (e : ℕ) → IsClosed (events source e)
+unfolding events
+events_are_closed source e = events_in_are_closed source (length source.body.exprs) e
+
+of_expression : (source : Source) (e : ℕ) (inner : List Cell) (outer : Scopes) → scopes_after (inner ∷ outer) (events source e) ≡ (inner ++ marked source e) ∷ outer
+unfolding marked
+of_expression source e inner outer = events_are_closed source e inner outer
+
+pub scopes_nest : ScopesNest
+scopes_nest = record { in_order = scopes-append; of_expression = of_expression }
+
+-- The depth changes nothing, where it is above the expression's number.
+
+step_events_same : (source : Source) (below other : ℕ → List Event) (steps : List Step) → ((child : ℕ) → Contains (flat_map step_part steps) child → below child ≡ other child) → flat_map (step_events source below) steps ≡ flat_map (step_events source other) steps
+step_events_same source below other [] same = refl
+step_events_same source below other (first ∷ rest) same =
+    ap₂ ◌++◌ (step_same first (λ child within. same child (Contains-append_left (step_part first) (flat_map step_part rest) child within)))
+    (step_events_same source below other rest (λ child within. same child (Contains-append_right (step_part first) (flat_map step_part rest) child within)))
+  where
+    step_same : (one : Step) → ((child : ℕ) → Contains (step_part one) child → below child ≡ other child) → step_events source below one ≡ step_events source other one
+    step_same (Operand e) same = ap (λ inside. cond (is_literal (node source e)) [] (cond (is_path (node source e)) [] (Marks (Node e) ∷ inside))) (same e (first_is_contained e []))
+    step_same (Place e) same = ap (λ inside. cond (is_path (node source e)) [] (Marks (Node e) ∷ inside)) (same e (first_is_contained e []))
+    step_same (Into e) same = same e (first_is_contained e [])
+    step_same (Bind pat) same = refl
+    step_same Open same = refl
+    step_same Close same = refl
+
+form_events_same : (source : Source) (below other : ℕ → List Event) (form : Option CoreExpr) → ((child : ℕ) → Contains (parts_of form) child → below child ≡ other child) → form_events source below form ≡ form_events source other form
+form_events_same source below other (Some form) same = step_events_same source below other (steps_of form) same
+form_events_same source below other None same = refl
+
+events_at_any_depth : (source : Source) → IsCheckedBody source.body source.infer → (depth other e : ℕ) → e < depth → e < other → events_in depth source e ≡ events_in other source e
+unfolding events_in
+events_at_any_depth source checked zero other e less less' = absurd (omega arith)
+events_at_any_depth source checked (suc depth) zero e less less' = absurd (omega arith)
+events_at_any_depth source checked (suc depth) (suc other) e less less' =
+    form_events_same source (events_in depth source) (events_in other source) (node source e) (λ child within.
+    let earlier = part_is_below source checked e child within in
+    events_at_any_depth source checked depth other child (omega arith) (omega arith))
+
+events_in_unroll : (source : Source) → IsCheckedBody source.body source.infer → (depth e : ℕ) → e < depth → events_in depth source e ≡ form_events source (events_in depth source) (node source e)
+unfolding events_in
+events_in_unroll source checked zero e less = absurd (omega arith)
+events_in_unroll source checked (suc depth) e less =
+    form_events_same source (events_in depth source) (events_in (suc depth) source) (node source e) (λ child within.
+    let earlier = part_is_below source checked e child within in
+    events_at_any_depth source checked depth (suc depth) child (omega arith) (omega arith))
+
+-- the events of an expression, by those of its parts
+pub events_unroll : (source : Source) → IsCheckedBody source.body source.infer → (e : ℕ) → e < length source.body.exprs → events source e ≡ form_events source (events source) (node source e)
+unfolding events
+events_unroll source checked e less = events_in_unroll source checked (length source.body.exprs) e less
+
+-- The cells that come into use, form by form.
+
+one_mark : (cell : Cell) → marks_of (Marks cell ∷ []) ≡ cell ∷ []
+unfolding marks_of scopes_after
+one_mark cell = refl
+
+no_marks : marks_of [] ≡ []
+unfolding marks_of scopes_after
+no_marks = refl
+
+bound_marks : (bound : Option BindingId) → marks_of (map Marks (bound_by bound)) ≡ bound_by bound
+bound_marks (Some id) = one_mark (Binding id.0)
+bound_marks None = no_marks
+
+operands_mark : (source : Source) (operands : List ℕ) → marks_of (events_through source (map Operand operands)) ≡ flat_map (marked_as_operand source) operands
+unfolding marked_as_operand
+operands_mark source [] = no_marks
+operands_mark source (e ∷ rest) =
+    marks-append (operand_events source (events source) e) (events_through source (map Operand rest)) (operand_is_closed source (events source) (events_are_closed source) e) (operands_are_closed source (events source) (events_are_closed source) rest)
+    ∙ ap (λ cells. marks_of (operand_events source (events source) e) ++ cells) (operands_mark source rest)
+
+statements_mark : (source : Source) (statements : List Statement) → marks_of (events_through source (flat_map statement_steps statements)) ≡ flat_map (marked_by_statement source) statements
+unfolding marked_by_statement
+statements_mark source [] = no_marks
+statements_mark source (first ∷ rest) =
+    ap marks_of (flat_map-append (step_events source (events source)) (statement_steps first) (flat_map statement_steps rest))
+    ∙ marks-append (events_through source (statement_steps first)) (events_through source (flat_map statement_steps rest)) (statement_is_closed source (events source) (events_are_closed source) first) (statements_are_closed source (events source) (events_are_closed source) rest)
+    ∙ ap (λ cells. marks_of (events_through source (statement_steps first)) ++ cells) (statements_mark source rest)
+
+pub place_marks : (source : Source) (e : ℕ) → is_path (node source e) ≡ false → marked_as_place source e ≡ Node e ∷ marked source e
+unfolding marked_as_place marked
+place_marks source e is =
+    ap (λ test. marks_of (cond test [] (Marks (Node e) ∷ events source e))) is
+    ∙ marks-append (Marks (Node e) ∷ []) (events source e) (mark_is_closed (Node e)) (events_are_closed source e)
+    ∙ ap (λ cells. cells ++ marks_of (events source e)) (one_mark (Node e))
+
+pub path_marks : (source : Source) (e : ℕ) → is_path (node source e) ≡ true → marked_as_place source e ≡ []
+unfolding marked_as_place
+path_marks source e is = ap (λ test. marks_of (cond test [] (Marks (Node e) ∷ events source e))) is ∙ no_marks
+
+pub literal_operand_marks : (source : Source) (e : ℕ) → is_literal (node source e) ≡ true → marked_as_operand source e ≡ []
+unfolding marked_as_operand
+literal_operand_marks source e is = ap (λ test. marks_of (cond test [] (place_events source (events source) e))) is ∙ no_marks
+
+pub operand_marks : (source : Source) (e : ℕ) → is_literal (node source e) ≡ false → marked_as_operand source e ≡ marked_as_place source e
+unfolding marked_as_operand marked_as_place
+operand_marks source e is = ap (λ test. marks_of (cond test [] (place_events source (events source) e))) is
+
+module _ (source : Source) (checked : IsCheckedBody source.body source.infer) (e : ℕ) (less : e < length source.body.exprs) where
+  form_marks : (form : Option CoreExpr) → node source e ≡ form → marked source e ≡ marks_of (form_events source (events source) form)
+  unfolding marked
+  form_marks form is = ap marks_of (events_unroll source checked e less ∙ ap (form_events source (events source)) is)
+
+  pub literal_marks : (given : CoreLiteral) → node source e ≡ Some (Literal given) → marked source e ≡ []
+  literal_marks given is = form_marks (Some (Literal given)) is ∙ no_marks
+
+  pub name_marks : (name : List ℕ) → node source e ≡ Some (Path name) → marked source e ≡ []
+  name_marks name is = form_marks (Some (Path name)) is ∙ no_marks
+
+  pub strict_marks : (operation : Operation) (operands : List ℕ) → node source e ≡ Some (Strict operation operands) → marked source e ≡ flat_map (marked_as_operand source) operands
+  strict_marks operation operands is = form_marks (Some (Strict operation operands)) is ∙ operands_mark source operands
+
+  pub block_marks : (statements : List Statement) (tail : Option ExprId) → node source e ≡ Some (Block statements tail) → marked source e ≡ []
+  block_marks statements tail is =
+      form_marks (Some (Block statements tail)) is ∙ ap marks_of (block_events_are source (events source) (events_are_closed source) statements tail)
+      ∙ scope_marks (events_through source (block_steps statements tail)) (inner_is_closed source (events source) (events_are_closed source) statements tail)
+
+pub let_marks : (source : Source) (pat : PatId) (e : ExprId) → marked_by_statement source (statement.Let pat (Some e) None) ≡ marked_as_place source e.0 ++ bound_by (pattern source pat.0)
+unfolding marked_by_statement marked_as_place
+let_marks source pat e =
+    marks-append (place_events source (events source) e.0) (events_through source (Bind pat.0 ∷ [])) (place_is_closed source (events source) (events_are_closed source) e.0) (append_is_closed (map Marks (bound_by (pattern source pat.0))) [] (bind_is_closed (pattern source pat.0)) none_is_closed)
+    ∙ ap (λ cells. marks_of (place_events source (events source) e.0) ++ cells) (ap marks_of (append-nil (map Marks (bound_by (pattern source pat.0)))) ∙ bound_marks (pattern source pat.0))
+
+pub expression_marks : (source : Source) (e : ExprId) (has_semi : Bool) → marked_by_statement source (statement.Expr e has_semi) ≡ []
+unfolding marked_by_statement
+expression_marks source e has_semi = scope_marks (place_events source (events source) e.0) (place_is_closed source (events source) (events_are_closed source) e.0)
+
+pub tail_marks : (source : Source) (e : ExprId) → marked_by_tail source (Some e) ≡ marked source e.0
+unfolding marked_by_tail marked
+tail_marks source e = ap marks_of (append-nil (events source e.0))
+
+pub no_tail_marks : (source : Source) → marked_by_tail source None ≡ []
+unfolding marked_by_tail
+no_tail_marks source = no_marks
+
+-- what comes into use in a block's own scope: what does in its statements, and in its tail
+pub inner_marks : (source : Source) (statements : List Statement) (tail : Option ExprId) → marked_in_block source statements tail ≡ flat_map (marked_by_statement source) statements ++ marked_by_tail source tail
+unfolding marked_in_block marked_by_tail
+inner_marks source statements tail =
+    ap marks_of (flat_map-append (step_events source (events source)) (flat_map statement_steps statements) (tail_steps tail))
+    ∙ marks-append (events_through source (flat_map statement_steps statements)) (events_through source (tail_steps tail)) (statements_are_closed source (events source) (events_are_closed source) statements) (tail_is_closed source (events source) (events_are_closed source) tail)
+    ∙ ap (λ cells. cells ++ marks_of (events_through source (tail_steps tail))) (statements_mark source statements)

@@ -1,0 +1,142 @@
+-- The parts of each form, as its steps list them.
+use Rattle.std.specs.Prelude.{flat_map, Contains}
+use Rattle.std.proofs.Common.{⊎_elim, ◌≡◌, ℕ, zero, suc, ◌<◌, Bool, true, false, cond, List, [], ◌∷◌, ◌++◌, length, map, get_or, Option, Some, None, refl, sym, ap, ap₂, ◌∙◌, subst, append-nil, arith}
+use Rattle.std.proofs.lemmas.List.Concat.{flat_map-append}
+use Rattle.std.proofs.lemmas.List.Elements.{Contains-append_left, Contains-append_right, Contains-append_cases}
+use Rattle.world.specs.declared.body.Statement.{Statement}
+use Rattle.types.specs.declared.ids.ExprId.{ExprId}
+use Rattle.world.specs.declared.body.Statement.TheVariants as statement
+use Rattle.world.specs.Nodes.{optional}
+use Rattle.source_meaning.specs.Core.{CoreExpr, Operation, Strict, Block, is_truth}
+use Rattle.source_meaning.specs.Source.{Source, node}
+use Rattle.source_meaning.specs.Steps.{Step, Operand, Place, Into, Bind, Open, Close, statement_steps, tail_steps, block_steps, steps_of, step_part, parts_of, statement_parts}
+use Rattle.source_meaning.specs.Valid.{sized_part, sized_parts}
+
+-- a list has its first element, and what the rest has
+pub first_is_contained : (first : ℕ) (rest : List ℕ) → Contains (first ∷ rest) first
+first_is_contained first rest = (0, omega arith, refl)
+
+pub rest_is_contained : (first : ℕ) (rest : List ℕ) (x : ℕ) → Contains rest x → Contains (first ∷ rest) x
+rest_is_contained first rest x in_rest = Contains-append_right (first ∷ []) rest x in_rest
+
+pub nothing_is_contained : (x : ℕ) → Contains [] x → ⊥
+nothing_is_contained x within = let less = within.1 in omega arith
+
+-- what is made from an element of a list is among what is made from the list
+among_at : {X : Type 0} (f : X → List ℕ) (xs : List X) (one : X) (y k : ℕ) → k < length xs → get_or xs k one ≡ one → Contains (f one) y → Contains (flat_map f xs) y
+among_at f [] one y k less is within = absurd (omega arith)
+among_at f (first ∷ rest) one y zero less is within =
+    Contains-append_left (f first) (flat_map f rest) y (subst (λ x. Contains (f x) y) (sym is) within)
+among_at f (first ∷ rest) one y (suc k) less is within =
+    Contains-append_right (f first) (flat_map f rest) y (among_at f rest one y k (omega arith) is within)
+
+pub among : {X : Type 0} (f : X → List ℕ) (xs : List X) (one : X) (y : ℕ) → Contains xs one → Contains (f one) y → Contains (flat_map f xs) y
+among f xs one y there within = among_at f xs one y there.0 there.1 there.2 within
+
+-- what is made from each element alone grows, and so does what is made from the list
+pub among_more : {X : Type 0} (f g : X → List ℕ) (xs : List X) (y : ℕ) → ((x : X) → Contains (f x) y → Contains (g x) y) → Contains (flat_map f xs) y → Contains (flat_map g xs) y
+among_more f g [] y more within = within
+among_more f g (first ∷ rest) y more within =
+    ⊎_elim (λ here. Contains-append_left (g first) (flat_map g rest) y (more first here)) (λ there. Contains-append_right (g first) (flat_map g rest) y (among_more f g rest y more there)) (Contains-append_cases (f first) (flat_map f rest) y within)
+
+pub flat_map-flat_map : {X Y Z : Type 0} (f : X → List Y) (g : Y → List Z) (xs : List X) → flat_map g (flat_map f xs) ≡ flat_map (λ x. flat_map g (f x)) xs
+flat_map-flat_map f g [] = refl
+flat_map-flat_map f g (x ∷ xs) = flat_map-append g (f x) (flat_map f xs) ∙ ap (λ rest. flat_map g (f x) ++ rest) (flat_map-flat_map f g xs)
+
+-- a strict form evaluates its operands
+pub operand_parts : (operands : List ℕ) → flat_map step_part (map Operand operands) ≡ operands
+operand_parts [] = refl
+operand_parts (e ∷ rest) = ap (λ others. e ∷ others) (operand_parts rest)
+
+pub strict_parts : (operation : Operation) (operands : List ℕ) → parts_of (Some (Strict operation operands)) ≡ operands
+strict_parts operation operands = operand_parts operands
+
+tail_part : (tail : Option ExprId) → flat_map step_part (tail_steps tail) ≡ optional tail
+tail_part (Some e) = refl
+tail_part None = refl
+
+-- what is made from the steps inside a block's scope
+pub inner_parts : (statements : List Statement) (tail : Option ExprId) → flat_map step_part (block_steps statements tail) ≡ flat_map statement_parts statements ++ optional tail
+inner_parts statements tail =
+    flat_map-append step_part (flat_map statement_steps statements) (tail_steps tail)
+    ∙ ap₂ ◌++◌ (flat_map-flat_map statement_steps step_part statements) (tail_part tail)
+
+-- a block evaluates what its statements do, and its tail
+pub block_parts : (statements : List Statement) (tail : Option ExprId) → parts_of (Some (Block statements tail)) ≡ flat_map statement_parts statements ++ optional tail
+block_parts statements tail =
+    flat_map-append step_part (block_steps statements tail) (Close ∷ []) ∙ append-nil (flat_map step_part (block_steps statements tail)) ∙ inner_parts statements tail
+
+-- what needs a layout is evaluated
+sized_is_part : (source : Source) (one : Step) (child : ℕ) → Contains (sized_part source one) child → Contains (step_part one) child
+sized_is_part source (Operand e) child within = by_truth (is_truth (node source e)) within
+  where
+    by_truth : (test : Bool) → Contains (cond test [] (e ∷ [])) child → Contains (e ∷ []) child
+    by_truth true within = absurd (nothing_is_contained child within)
+    by_truth false within = within
+sized_is_part source (Place e) child within = within
+sized_is_part source (Into e) child within = within
+sized_is_part source (Bind pat) child within = within
+sized_is_part source Open child within = within
+sized_is_part source Close child within = within
+
+pub sized_part_is_part : (source : Source) (form : Option CoreExpr) (child : ℕ) → Contains (sized_parts source form) child → Contains (parts_of form) child
+sized_part_is_part source (Some form) child within = among_more (sized_part source) step_part (steps_of form) child (λ one. sized_is_part source one child) within
+sized_part_is_part source None child within = within
+
+-- an operand that is no truth value needs a layout
+pub operand_is_sized : (source : Source) (operands : List ℕ) (e : ℕ) → Contains operands e → is_truth (node source e) ≡ false → Contains (flat_map (sized_part source) (map Operand operands)) e
+operand_is_sized source [] e within is = absurd (nothing_is_contained e within)
+operand_is_sized source (first ∷ rest) e within is =
+    ⊎_elim (λ here. Contains-append_left (sized_part source (Operand first)) (flat_map (sized_part source) (map Operand rest)) e (itself (first-is first e here)))
+    (λ there. Contains-append_right (sized_part source (Operand first)) (flat_map (sized_part source) (map Operand rest)) e (operand_is_sized source rest e there is))
+    (Contains-append_cases (first ∷ []) rest e within)
+  where
+    first-is : (x y : ℕ) → Contains (x ∷ []) y → x ≡ y
+    first-is x y (zero, less, is) = is
+    first-is x y (suc k, less, is) = absurd (omega arith)
+
+    itself : first ≡ e → Contains (sized_part source (Operand first)) e
+    itself same =
+        subst (λ x. Contains (sized_part source (Operand x)) e) (sym same)
+        (subst (λ test. Contains (cond test [] (e ∷ [])) e) (sym is) (first_is_contained e []))
+
+-- what a block evaluates needs layouts as it is evaluated, since none of it is an operand
+sized_statement_part : (source : Source) (one : Statement) (child : ℕ) → Contains (statement_parts one) child → Contains (flat_map (sized_part source) (statement_steps one)) child
+sized_statement_part source (statement.Let pat (Some e) None) child within = within
+sized_statement_part source (statement.Let pat (Some e) (Some other)) child within = within
+sized_statement_part source (statement.Let pat None other) child within = within
+sized_statement_part source (statement.Expr e has_semi) child within = within
+sized_statement_part source statement.Item child within = within
+
+sized_tail : (source : Source) (tail : Option ExprId) (child : ℕ) → Contains (optional tail) child → Contains (flat_map (sized_part source) (tail_steps tail)) child
+sized_tail source (Some e) child within = within
+sized_tail source None child within = within
+
+pub sized_block_parts : (source : Source) (statements : List Statement) (tail : Option ExprId) (child : ℕ) → Contains (flat_map statement_parts statements ++ optional tail) child → Contains (sized_parts source (Some (Block statements tail))) child
+sized_block_parts source statements tail child within =
+    subst (λ parts. Contains parts child) (sym (flat_map-append (sized_part source) (block_steps statements tail) (Close ∷ [])))
+    (Contains-append_left (flat_map (sized_part source) (block_steps statements tail)) [] child
+    (subst (λ parts. Contains parts child) (sym (flat_map-append (sized_part source) (flat_map statement_steps statements) (tail_steps tail)))
+    (⊎_elim (λ here. Contains-append_left (flat_map (sized_part source) (flat_map statement_steps statements)) (flat_map (sized_part source) (tail_steps tail)) child
+    (subst (λ parts. Contains parts child) (sym (flat_map-flat_map statement_steps (sized_part source) statements))
+    (among_more statement_parts (λ one. flat_map (sized_part source) (statement_steps one)) statements child (λ one. sized_statement_part source one child) here)))
+    (λ there. Contains-append_right (flat_map (sized_part source) (flat_map statement_steps statements)) (flat_map (sized_part source) (tail_steps tail)) child (sized_tail source tail child there))
+    (Contains-append_cases (flat_map statement_parts statements) (optional tail) child within))))
+
+-- an operand that needs a layout is no truth value
+pub sized_operand : (source : Source) (operands : List ℕ) (e : ℕ) → Contains (flat_map (sized_part source) (map Operand operands)) e → Contains operands e × (is_truth (node source e) ≡ false)
+sized_operand source [] e within = absurd (nothing_is_contained e within)
+sized_operand source (first ∷ rest) e within =
+    ⊎_elim (λ here. by_truth (is_truth (node source first)) refl here)
+    (λ there. let later = sized_operand source rest e there in (rest_is_contained first rest e later.0, later.1))
+    (Contains-append_cases (sized_part source (Operand first)) (flat_map (sized_part source) (map Operand rest)) e within)
+  where
+    first-is : (x y : ℕ) → Contains (x ∷ []) y → x ≡ y
+    first-is x y (zero, less, is) = is
+    first-is x y (suc k, less, is) = absurd (omega arith)
+
+    by_truth : (test : Bool) → is_truth (node source first) ≡ test → Contains (cond test [] (first ∷ [])) e → Contains (first ∷ rest) e × (is_truth (node source e) ≡ false)
+    by_truth true is here = absurd (nothing_is_contained e here)
+    by_truth false is here =
+        let same = first-is first e here in
+        (subst (λ x. Contains (first ∷ rest) x) same (first_is_contained first rest), subst (λ x. is_truth (node source x) ≡ false) same is)

@@ -1,0 +1,42 @@
+-- Which expressions have a form that is built: each has a meaning, its paths name bindings of the body, and its statements
+-- bind names of the body.
+use Rattle.std.specs.Prelude.{◌≡◌, ℕ, All, Option, Some, None}
+use Rattle.source_meaning.specs.Core.{CoreExpr}
+use Rattle.source_meaning.specs.Core as expr
+use Rattle.source_meaning.specs.Source.{Source, binding_type, named_by, pattern}
+use Rattle.types.specs.declared.ids.BindingId.{BindingId}
+use Rattle.types.specs.declared.ty.Ty.{Ty}
+use Rattle.world.specs.declared.body.Statement.{Statement}
+use Rattle.world.specs.declared.body.Statement.TheVariants as statement
+use Rattle.world.specs.declared.infer.ValueNs.TheVariants.{LocalBinding}
+
+-- a binding of the body
+pub record IsBinding (source : Source) (binding : BindingId) : Type 0 where
+  pub ty : Ty
+  pub typed : binding_type source binding.0 ≡ Some ty
+
+-- a path is resolved to a binding of the body
+pub record NamesBinding (source : Source) (e : ℕ) : Type 0 where
+  pub binding : BindingId
+  pub named : named_by source e ≡ Some (LocalBinding binding)
+  pub there : IsBinding source binding
+
+-- a pattern is a name by value, of a binding of the body
+pub record BindsBinding (source : Source) (pat : ℕ) : Type 0 where
+  pub binding : BindingId
+  pub bound : pattern source pat ≡ Some binding
+  pub there : IsBinding source binding
+
+-- a statement that is built: a `let` of a name with an initializer and without `else`, or an expression
+abbrev pub IsBuiltStatement : Source → Statement → Type 0
+IsBuiltStatement source (statement.Let pat (Some e) None) = BindsBinding source pat.0
+IsBuiltStatement source (statement.Expr e has_semi) = Unit {0}
+IsBuiltStatement source _ = ⊥
+
+-- an expression of a form that is built, whatever its parts are
+abbrev pub IsBuiltForm : Source → ℕ → Option CoreExpr → Type 0
+IsBuiltForm source e (Some (expr.Literal l)) = Unit {0}
+IsBuiltForm source e (Some (expr.Path name)) = NamesBinding source e
+IsBuiltForm source e (Some (expr.Strict operation operands)) = Unit {0}
+IsBuiltForm source e (Some (expr.Block statements tail)) = All (IsBuiltStatement source) statements
+IsBuiltForm source e None = ⊥

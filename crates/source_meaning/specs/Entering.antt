@@ -1,0 +1,66 @@
+-- What entering a body costs: a block, and the bytes of its cells.
+use Rattle.std.specs.Prelude.{ℕ, zero, suc, ◌+◌, Bool, true, false, cond, not, ◌&&◌, ◌||◌, ◌==◌, List, [], ◌∷◌, length, flat_map, map, filter, sum, Option, Some, None, option_and_then}
+use Rattle.std.specs.List.{list_all}
+use Rattle.types.specs.declared.ty.Ty.{Ty}
+use Rattle.world.specs.declared.layout.Layout.{Layout}
+use Rattle.world.specs.Lookups.{layout_of}
+use Rattle.source_meaning.specs.Core.{is_path}
+use Rattle.source_meaning.specs.Ends.{Cost}
+use Rattle.source_meaning.specs.Source.{Source, Cell, Node, Binding, binding_type, cell_layout, node, node_type, root}
+use Rattle.source_meaning.specs.Steps.{parts_of}
+
+-- the numbers below a bound, from the greatest down
+unfoldable pub below : ℕ → List ℕ
+below zero = []
+below (suc n) = n ∷ below n
+
+-- how many bytes a cell takes at most: its size, and as many for its alignment; none without a size
+abbrev pub room_of : Option Layout → ℕ
+room_of (Some layout) = cond layout.sized (layout.size + layout.align) 0
+room_of None = 0
+
+abbrev pub cell_room : Source → Cell → ℕ
+cell_room source cell = room_of (cell_layout source cell)
+
+-- whether an expression has a cell: a path has none, unless it is the root, whose cell is that of the result
+abbrev pub has_cell : Source → ℕ → Bool
+has_cell source e = not (is_path (node source e)) || (e == root source)
+
+-- how many bytes the cells of a body take at most: those of its expressions, and those of its bindings that no closure
+-- owns
+unfoldable pub body_room : Source → ℕ
+body_room source =
+    sum (map (λ e. cell_room source (Node e)) (filter (has_cell source) (below (length source.body.exprs))))
+    + sum (map (λ b. cell_room source (Binding b)) (below (length source.body.bindings)))
+
+-- whether a type has a layout with a size
+abbrev pub is_sized_layout : Option Layout → Bool
+is_sized_layout (Some layout) = layout.sized
+is_sized_layout None = false
+
+abbrev pub is_sized_type : Source → Option Ty → Bool
+is_sized_type source ty = is_sized_layout (option_and_then (layout_of source.world) ty)
+
+-- whether the type of a binding has a layout with a size; a binding that a closure owns has no type here
+abbrev pub is_sized_or_none : Source → Option Ty → Bool
+is_sized_or_none source (Some ty) = is_sized_type source (Some ty)
+is_sized_or_none source None = true
+
+-- the expressions that are evaluated where one is, as far down as the depth says
+unfoldable pub evaluated_in : ℕ → Source → ℕ → List ℕ
+evaluated_in zero source e = []
+evaluated_in (suc depth) source e = e ∷ flat_map (evaluated_in depth source) (parts_of (node source e))
+
+-- the same, however deep the expression is
+unfoldable pub evaluated : Source → ℕ → List ℕ
+evaluated source e = evaluated_in (length source.body.exprs) source e
+
+-- whether the type of each expression that is evaluated, and of each binding that no closure owns, has a layout with a size
+unfoldable pub is_cost_defined : Source → Bool
+is_cost_defined source =
+    list_all (λ e. is_sized_type source (node_type source e)) (evaluated source (root source))
+    && list_all (λ b. is_sized_or_none source (binding_type source b)) (below (length source.body.bindings))
+
+-- the cost of entering a body
+unfoldable pub entering : Source → Cost
+entering source = record { turns = 1; bytes = body_room source; nesting = 0; defined = is_cost_defined source }

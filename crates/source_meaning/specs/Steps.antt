@@ -1,0 +1,56 @@
+-- What each form consists of: which expressions it evaluates, how, and in which scopes. All that is said of a form's
+-- parts derives from this list.
+use Rattle.std.specs.Prelude.{ℕ, List, [], ◌∷◌, ◌++◌, map, flat_map, Option, Some, None}
+use Rattle.types.specs.declared.ids.ExprId.{ExprId}
+use Rattle.world.specs.declared.body.Statement.{Statement}
+use Rattle.world.specs.declared.body.Statement.TheVariants as statement
+use Rattle.source_meaning.specs.Core as expr
+use Rattle.source_meaning.specs.Core.{CoreExpr}
+
+-- A step of a form: an expression is evaluated to an operand, to a place, or into the place that the form is evaluated
+-- into; a pattern is bound; a scope opens, or closes.
+pub data Step : Type 0 where
+  Operand : (e : ℕ) → Step
+  Place : (e : ℕ) → Step
+  Into : (e : ℕ) → Step
+  Bind : (pat : ℕ) → Step
+  Open : Step
+  Close : Step
+
+-- A `let` with an initializer and without `else`: its place, and then the pattern is bound. An expression statement: its
+-- place, in a scope of its own.
+abbrev pub statement_steps : Statement → List Step
+statement_steps (statement.Let pat (Some e) None) = Place e.0 ∷ Bind pat.0 ∷ []
+statement_steps (statement.Expr e has_semi) = Open ∷ Place e.0 ∷ Close ∷ []
+statement_steps _ = []
+
+abbrev pub tail_steps : Option ExprId → List Step
+tail_steps (Some e) = Into e.0 ∷ []
+tail_steps None = []
+
+-- the steps inside a block's scope: its statements, and then its tail
+abbrev pub block_steps : List Statement → Option ExprId → List Step
+block_steps statements tail = flat_map statement_steps statements ++ tail_steps tail
+
+-- the steps of each form, in order of lowering
+abbrev pub steps_of : CoreExpr → List Step
+steps_of (expr.Literal given) = []
+steps_of (expr.Path name) = []
+steps_of (expr.Strict operation operands) = map Operand operands
+steps_of (expr.Block statements tail) = Open ∷ block_steps statements tail ++ Close ∷ []
+
+-- the expression that a step evaluates
+abbrev pub step_part : Step → List ℕ
+step_part (Operand e) = e ∷ []
+step_part (Place e) = e ∷ []
+step_part (Into e) = e ∷ []
+step_part _ = []
+
+-- the expressions that an expression evaluates, in the order of evaluation
+abbrev pub parts_of : Option CoreExpr → List ℕ
+parts_of (Some form) = flat_map step_part (steps_of form)
+parts_of None = []
+
+-- the expressions that a statement evaluates
+abbrev pub statement_parts : Statement → List ℕ
+statement_parts given = flat_map step_part (statement_steps given)
