@@ -42,7 +42,7 @@ fn number_of(konst: &Const) -> Option<u128>
     }
 }
 
-/// Whether so many elements of a size make up a whole.
+/// Whether `len` elements of `element` bytes have `size` bytes together.
 fn is_times(len: u128, element: u64, size: u64) -> bool
     ensures { result ≡ (size == len * element) }
 {
@@ -52,8 +52,8 @@ fn is_times(len: u128, element: u64, size: u64) -> bool
     }
 }
 
-/// Whether a size is that of so many elements of a layout, which there has to be. Where the number
-/// is not told, any size is.
+/// Whether `size` is that of `len` elements of a layout, which has to be there. Any size is, where the
+/// length isn't known.
 fn is_product(len: Option<u128>, element: Option<&Layout>, size: u64) -> bool
     ensures { result ≡ is_product len (option_copied element.entry) size }
 {

@@ -20,7 +20,7 @@ fn is_widest(start: u128, more: u64) -> bool
     more == 0 || start <= u128::MAX - (more as u128 - 1)
 }
 
-/// Whether a tag of so many bytes can be as many numbers as a sum.
+/// Whether a tag of `size` bytes has at least `start + more` values.
 fn is_within_tag(start: u128, more: u64, size: u64) -> bool
     ensures { result ≡ nat_le (start + more) (tag_values size) }
 {
@@ -57,7 +57,7 @@ fn is_multiple_right(count: u64, multiple: &MultiLayout) -> bool
         && is_niche_right(count, multiple.tag_size, multiple.encoding)
 }
 
-/// Whether a layout shows the variants of an enum of so many.
+/// Whether the tag of a layout fits an enum of `count` variants.
 fn is_enum_tag_right(count: u64, variants: &Variants) -> bool
     ensures { result ≡ is_enum_tag_right count variants.now }
 {

@@ -233,8 +233,8 @@ impl<'w> Evaluations<'w> {
         }
     }
 
-    /// Evaluates a definition. It always runs the definition's body afresh; that body is lowered at most
-    /// once. A value is kept, unless one is kept already.
+    /// Evaluates a definition: runs its kept lowered body, which is lowered and kept first where there is
+    /// none. A value is kept too, unless one is kept already.
     pub fn eval_def(&mut self, def: DefWithBodyId, args: &GenericArgs, limits: &Limits) -> Evaluated
         requires { IsWithin limits.now }
         ensures printed { result.output ≡ ([], []) }

@@ -22,6 +22,6 @@ pub enum Mention {
     Closure(InternedClosureId),
     /// A type or a constant that could not be found.
     Error,
-    /// A list of so many entries, whose places numbers of 32 bits name.
+    /// How many entries a list has whose places numbers of 32 bits name.
     Entries(u64),
 }

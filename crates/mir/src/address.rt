@@ -13,7 +13,7 @@ pub enum Address {
     Invalid(u64),
 }
 
-/// So many bytes from an address on.
+/// A range of bytes: the address of the first one, and how many there are.
 #[derive(Clone, Copy, PartialEq, Eq, Debug)]
 pub struct Interval {
     pub addr: Address,
@@ -61,7 +61,7 @@ impl Address {
         self.to_usize().to_le_bytes()
     }
 
-    /// The address so many bytes further on, where a `usize` stands for it.
+    /// The address `by` bytes further on, where a `usize` stands for it.
     pub fn offset(&self, by: u64) -> Option<Address>
         ensures { SomeIff result (usize_of (moved self.now by) < 2 ^ 64) (moved self.now by) }
     {

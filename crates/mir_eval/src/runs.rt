@@ -44,7 +44,7 @@ impl Run {
     ghost use Rattle.mir_eval.specs.Start.{started};
     ghost use Rattle.mir_eval.specs.Phases.{going, Reached};
 
-    /// The run of a body that may enter so many blocks, before its first.
+    /// The run of a body under a limit on blocks, before its first block.
     #[tactic(auto, unfolding(mir::specs::Run::begun))]
     pub(crate) fn start(
         alloc: Global,

@@ -56,7 +56,7 @@ fn empty_block(alloc: Global) -> BasicBlock
 }
 
 impl Graph {
-    /// One open block and the return slot, for a body of so many expressions.
+    /// One open block and the return slot, for a body of `nodes` expressions.
     pub fn new(alloc: Global, ty: Ty, nodes: u64) -> Result<Graph, NoMemory>
         ensures { IfOk result (λ graph. shape graph ≡ first_shape ty nodes) }
     {

@@ -29,7 +29,7 @@ fn undefined_as(alloc: Global, text: Result<String, AllocError>) -> MemFault
     }
 }
 
-/// The fault of a read of so many bytes at an address.
+/// The fault of a read of `size` bytes at an address.
 #[tactic(auto, unfolding(mir::specs::Areas::bad_read))]
 pub(crate) fn bad_read(alloc: Global, addr: Address, size: u64) -> MemFault
     ensures { IsFault (bad_read addr size) result }
@@ -43,7 +43,7 @@ pub(crate) fn bad_read(alloc: Global, addr: Address, size: u64) -> MemFault
     }
 }
 
-/// The fault of a write of so many bytes at an address.
+/// The fault of a write of `size` bytes at an address.
 #[tactic(auto, unfolding(mir::specs::Areas::bad_write))]
 pub(crate) fn bad_write(alloc: Global, addr: Address, size: u64) -> MemFault
     ensures { IsFault (bad_write addr size) result }

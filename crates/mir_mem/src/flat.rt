@@ -47,7 +47,7 @@ impl FlatMemory {
         }
     }
 
-    /// Writes bytes to an address, where there are so many; answers whether there are.
+    /// Writes bytes to an address, where there are as many; answers whether there are.
     #[tactic(auto, unfolding(mir::specs::Areas::with_bytes, mir::specs::Areas::with_some_bytes))]
     fn put(&mut self, addr: Address, bytes: &[u8]) -> bool
         ensures written { OnTrue result (with_bytes (areas_of self.old) addr bytes.now ≡ Some (areas_of self.new)) }
@@ -64,7 +64,7 @@ impl FlatMemory {
         }
     }
 
-    /// Copies bytes of the stack to an address, where there are so many; answers whether there are.
+    /// Copies bytes of the stack to an address, where there are as many; answers whether there are.
     #[tactic(auto, unfolding(mir::specs::Areas::with_some_bytes))]
     fn copy_from_stack(&mut self, to: Address, place: u64, size: u64) -> bool
         requires { place + size ≤ length (areas_of self.old).stack }
@@ -82,7 +82,7 @@ impl FlatMemory {
         }
     }
 
-    /// Copies bytes of the heap to an address, where there are so many; answers whether there are.
+    /// Copies bytes of the heap to an address, where there are as many; answers whether there are.
     #[tactic(auto, unfolding(mir::specs::Areas::with_some_bytes))]
     fn copy_from_heap(&mut self, to: Address, place: u64, size: u64) -> bool
         requires { place + size ≤ length (areas_of self.old).heap }
@@ -100,7 +100,7 @@ impl FlatMemory {
         }
     }
 
-    /// Copies the bytes of an interval, which are there, to an address, where there are so many; answers whether there are.
+    /// Copies the bytes of an interval, which are there, to an address, where there are as many; answers whether there are.
     fn put_from(&mut self, to: Address, from: Interval) -> bool
         requires { IsSome (bytes_at (areas_of self.old) from.addr from.size) }
         ensures written { OnTrue result (option_and_then (with_bytes (areas_of self.old) to) (bytes_at (areas_of self.old) from.addr from.size) ≡ Some (areas_of self.new)) }

@@ -25,7 +25,7 @@ pub(crate) fn end_within(start: u64, size: u64, bound: u64) -> Option<u64>
     if end <= bound { Some(end) } else { None }
 }
 
-/// An empty list with room for so many intervals.
+/// An empty list with room for `count` intervals.
 fn with_room(alloc: Global, count: usize) -> Result<List<Interval>, NoMemory>
     ensures { IfOk result (λ list. list ≡ []) }
 {
@@ -33,7 +33,7 @@ fn with_room(alloc: Global, count: usize) -> Result<List<Interval>, NoMemory>
     Ok(List::from_vec(items))
 }
 
-/// Where cells go that are placed in order behind so many bytes, where no more bytes than a bound come of it.
+/// The intervals of cells that are placed in order behind `length` bytes, where they end within `bound` bytes.
 #[tactic(auto, unfolding(mir::specs::Areas::cells_behind, mir::specs::Areas::length_behind))]
 pub(crate) fn place(
     alloc: Global,

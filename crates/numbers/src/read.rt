@@ -3,7 +3,7 @@
 ghost use Rattle.std.specs.Prelude.{◌≡◌, ℕ, ◌≤◌, IsTrue, length, true};
 ghost use Rattle.numbers.specs.Bytes.{is_width, value_of, number_of};
 
-/// Some integer type has so many bytes.
+/// Whether some integer type has `size` bytes.
 pub fn is_width(size: usize) -> bool
     ensures { result ≡ is_width size }
 {
