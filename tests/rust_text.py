@@ -1,10 +1,11 @@
-"""Reads bodies that are written in Rust: numbers, truth values, names, operators, blocks, `let`, and assignments.
+"""Reads bodies that are written in Rust: numbers, truth values, names, operators, blocks, `if`, `let`, and assignments.
 
 A body is read as a tree of tuples, the first part of which says what it is:
 
     ("number", digits, suffix or None)      ("truth", bool)             ("path", name)
     ("unary", operator, operand)            ("binary", operator, left, right)
     ("assign", operator or None, target, value)                         ("block", statements, tail or None)
+    ("branch", condition, block, block of `else`, another branch or None)
 
 An operator is one of the worlds' JSON, as `{"ArithOp": "Add"}`. A statement is one of
 
@@ -110,6 +111,8 @@ class Reader:
         """An expression without operators of two operands."""
         if self.next() == "{":
             return self.block()
+        if self.next() == "if":
+            return self.branch()
         token = self.need()
         if token in UNARY:
             return ("unary", UNARY[token], self.operand())
@@ -126,6 +129,14 @@ class Reader:
             return ("path", token)
         raise NoBody(f"{token!r} stands where an expression is wanted")
 
+    def branch(self):
+        """An `if`."""
+        self.need("if")
+        condition, first, second = self.expr(), self.block(), None
+        if self.take("else"):
+            second = self.branch() if self.next() == "if" else self.block()
+        return ("branch", condition, first, second)
+
     def block(self):
         """Statements and a tail in braces."""
         self.need("{")
@@ -137,7 +148,7 @@ class Reader:
                 statements.append(self.let())
                 continue
             found = self.expr()
-            if self.take(";") or (found[0] == "block" and self.next() != "}"):
+            if self.take(";") or (found[0] in ("block", "branch") and self.next() != "}"):
                 statements.append(("expr", found))
             else:
                 tail = found
@@ -145,6 +156,7 @@ class Reader:
 
     def let(self):
         """What follows `let`, with the semicolon."""
+        self.take("mut")
         name, initializer, other = self.need(), None, None
         ty = self.type() if self.take(":") else None
         if self.take("="):

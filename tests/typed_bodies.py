@@ -79,7 +79,7 @@ class Draft:
     def __init__(self):
         self.exprs, self.pats, self.bindings = [], [], []
         self.expr_types, self.pat_types, self.binding_types = [], [], []
-        self.value_res, self.binding_modes = [], []
+        self.value_res, self.pat_value_res, self.binding_modes = [], [], []
         self.scopes = [{}]
 
     def add(self, node, ty):
@@ -137,11 +137,31 @@ class Draft:
     def assign(self, op, target, assigned, ty):
         same(ty, "()")
         inside = Unknown()
+        if op is None and target[0] == "path":
+            lhs = self.named_target(target[1], inside)
+            return self.add(assignment(lhs, self.expr(assigned, inside)), ty)
         lhs = self.expr(target, inside)
         rhs = self.expr(assigned, inside)
         if op is None:
             return self.add(assignment(self.add_pat(expr_pat(lhs), inside), rhs), ty)
         return self.add({"BinaryOp": {"lhs": lhs, "rhs": rhs, "op": {"Assignment": {"op": op}}}}, ty)
+
+    def branch(self, condition, first, second, ty):
+        test = self.expr(condition, "bool")
+        if second is None:
+            same(ty, "()")
+        taken = self.expr(first, ty)
+        other = None if second is None else self.expr(second, ty)
+        return self.add(filled(If=filled(condition=test, then_branch=taken, else_branch=other)), ty)
+
+    def named_target(self, name, ty):
+        """The pattern of a name that is assigned, which may be one that nothing has."""
+        found = next((scope[name] for scope in reversed(self.scopes) if name in scope), None)
+        pat = self.add_pat(path(name), ty)
+        if found is not None:
+            same(ty, self.binding_types[found])
+            self.pat_value_res.append([pat, {"LocalBinding": found}])
+        return pat
 
     def block(self, statements, tail, ty):
         self.scopes.append({})
@@ -171,7 +191,7 @@ class Draft:
         kinds = ("expr_types", "pat_types", "binding_types")
         types = {kind: [settled(ty) for ty in getattr(self, kind)] for kind in kinds}
         nodes = filled(exprs=self.exprs, pats=self.pats, bindings=self.bindings)
-        names = {"value_res": self.value_res, "binding_modes": self.binding_modes}
+        names = {"value_res": self.value_res, "pat_value_res": self.pat_value_res, "binding_modes": self.binding_modes}
         found = filled(**types, **names, copy_types=copy_types)
         return {"body": {**nodes, "body_expr": len(self.exprs) - 1}, "infer": found}
 

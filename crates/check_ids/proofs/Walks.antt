@@ -29,8 +29,8 @@ module _ {X : Type 0} (test : X → Bool) where
   -- the element at which the loop stops is the first that fails the test
   pub first_failing : (xs : List X) (i : ℕ) (x : X) (b : Bool) → i < length xs → list_all test (take i xs) ≡ true
       → x ≡ get_or xs i x → b ≡ test x → b ≡ false → Some i ≡ position (λ y. not (test y)) xs
-  first_failing xs i x b h all at told fails =
-      let here : test (get_or xs i x) ≡ false = ap test (sym at) ∙ sym told ∙ fails in
+  first_failing xs i x b h all at answer fails =
+      let here : test (get_or xs i x) ≡ false = ap test (sym at) ∙ sym answer ∙ fails in
       let place = passing xs i x h all here in
       rw place (grind (arith, nat_tests))
 

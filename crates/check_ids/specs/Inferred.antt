@@ -74,8 +74,8 @@ are_types_named world infer =
     && list_all (is_ty_named world) infer.binding_types
     && list_all (is_ty_named world) infer.copy_types
 
-abbrev pub are_reworkings_named : HirDatabase → Body → InferenceResult → Bool
-are_reworkings_named world body infer =
+abbrev pub are_node_results_named : HirDatabase → Body → InferenceResult → Bool
+are_node_results_named world body infer =
     are_by_expr body (are_adjustments_named world) infer.expr_adjustments
     && are_by_pat body (λ (count : ℕ). true) infer.pat_adjustments
     && are_by_pat body (λ (mode : BindingMode). true) infer.binding_modes
@@ -102,6 +102,6 @@ abbrev pub is_inferred_right : HirDatabase → Body → InferenceResult → Bool
 is_inferred_right world body infer =
     has_type_each body infer
     && are_types_named world infer
-    && are_reworkings_named world body infer
+    && are_node_results_named world body infer
     && are_values_named world body infer
     && are_parts_named world body infer

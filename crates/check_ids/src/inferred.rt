@@ -1,6 +1,6 @@
 //! Whether the ids in an inference result are in range.
 ghost use Rattle.std.specs.Prelude.{◌≡◌, ◌&&◌, true};
-ghost use Rattle.check_ids.specs.Inferred.{are_adjustments_named, are_by_expr, are_by_pat, are_exprs_known, are_parts_named, are_reworkings_named, are_types_named, are_values_named, has_type_each, is_inferred_right};
+ghost use Rattle.check_ids.specs.Inferred.{are_adjustments_named, are_by_expr, are_by_pat, are_exprs_known, are_node_results_named, are_parts_named, are_types_named, are_values_named, has_type_each, is_inferred_right};
 
 use crate::entries::are_entries_named;
 use check_names::are_tys_named;
@@ -35,7 +35,7 @@ fn are_exprs_known(body: &Body, ids: &[ExprId]) -> bool
 
 /// Whether the nodes with adjustments or binding modes are the body's, and all ids in the types of the
 /// adjustments are in range.
-fn are_steps_named(db: &HirDatabase, body: &Body, infer: &InferenceResult) -> bool
+fn are_node_adjustments_named(db: &HirDatabase, body: &Body, infer: &InferenceResult) -> bool
     ensures { result ≡ (are_by_expr body.now (are_adjustments_named db.now) infer.now.expr_adjustments && are_by_pat body.now (λ count. true) infer.now.pat_adjustments && are_by_pat body.now (λ mode. true) infer.now.binding_modes) }
 {
     are_entries_named(db, body, &infer.expr_adjustments)
@@ -45,10 +45,10 @@ fn are_steps_named(db: &HirDatabase, body: &Body, infer: &InferenceResult) -> bo
 
 /// Whether the nodes with adjustments, binding modes, coercion casts, divergence or type mismatches are
 /// the body's, and all ids in the types of the adjustments are in range.
-fn are_reworkings_named(db: &HirDatabase, body: &Body, infer: &InferenceResult) -> bool
-    ensures { result ≡ are_reworkings_named db.now body.now infer.now }
+fn are_node_results_named(db: &HirDatabase, body: &Body, infer: &InferenceResult) -> bool
+    ensures { result ≡ are_node_results_named db.now body.now infer.now }
 {
-    are_steps_named(db, body, infer)
+    are_node_adjustments_named(db, body, infer)
         && are_exprs_known(body, infer.coercion_casts.as_slice())
         && are_exprs_known(body, infer.diverging.as_slice())
         && are_exprs_known(body, infer.mismatches.as_slice())
@@ -80,7 +80,7 @@ pub(crate) fn is_inferred_right(db: &HirDatabase, body: &Body, infer: &Inference
 {
     has_type_each(body, infer)
         && are_types_named(db, infer)
-        && are_reworkings_named(db, body, infer)
+        && are_node_results_named(db, body, infer)
         && are_values_named(db, body, infer)
         && are_parts_named(db, body, infer)
 }

@@ -22,7 +22,7 @@ fn unless(passes: bool, found: BodyPart) -> Option<BodyPart>
 }
 
 /// The index of the first expression that has an id out of range.
-fn first_wrong_expr(alloc: Global, body: &Body, nodes: &[Expr]) -> Result<Option<usize>, NoMemory>
+fn wrong_expr_among(alloc: Global, body: &Body, nodes: &[Expr]) -> Result<Option<usize>, NoMemory>
     ensures { IfOk result (λ found. found ≡ position (λ node. not (is_expr_in_range body.now node)) nodes.now) }
 {
     let mut numbers = Vec::new(alloc);
@@ -35,7 +35,7 @@ fn first_wrong_expr(alloc: Global, body: &Body, nodes: &[Expr]) -> Result<Option
 }
 
 /// The index of the first pattern that has an id out of range.
-fn first_wrong_pat(alloc: Global, body: &Body, nodes: &[Pat]) -> Result<Option<usize>, NoMemory>
+fn wrong_pat_among(alloc: Global, body: &Body, nodes: &[Pat]) -> Result<Option<usize>, NoMemory>
     ensures { IfOk result (λ found. found ≡ position (λ node. not (is_pat_in_range body.now node)) nodes.now) }
 {
     let mut numbers = Vec::new(alloc);
@@ -48,33 +48,33 @@ fn first_wrong_pat(alloc: Global, body: &Body, nodes: &[Pat]) -> Result<Option<u
 }
 
 /// The list of expressions if it is too long, else the first expression that has an id out of range.
-fn wrong_exprs(alloc: Global, body: &Body) -> Result<Option<BodyPart>, NoMemory>
+fn wrong_expr(alloc: Global, body: &Body) -> Result<Option<BodyPart>, NoMemory>
     ensures { IfOk result (λ found. found ≡ wrong_in_list part.Exprs part.Expr (is_expr_in_range body.now) body.now.exprs) }
 {
     if !is_nameable(body.exprs.len()) {
         return Ok(Some(BodyPart::Exprs));
     }
-    match first_wrong_expr(alloc, body, body.exprs.as_slice())? {
+    match wrong_expr_among(alloc, body, body.exprs.as_slice())? {
         Some(i) => Ok(Some(BodyPart::Expr(i as u64))),
         None => Ok(None),
     }
 }
 
 /// The list of patterns if it is too long, else the first pattern that has an id out of range.
-fn wrong_pats(alloc: Global, body: &Body) -> Result<Option<BodyPart>, NoMemory>
+fn wrong_pat(alloc: Global, body: &Body) -> Result<Option<BodyPart>, NoMemory>
     ensures { IfOk result (λ found. found ≡ wrong_in_list part.Pats part.Pat (is_pat_in_range body.now) body.now.pats) }
 {
     if !is_nameable(body.pats.len()) {
         return Ok(Some(BodyPart::Pats));
     }
-    match first_wrong_pat(alloc, body, body.pats.as_slice())? {
+    match wrong_pat_among(alloc, body, body.pats.as_slice())? {
         Some(i) => Ok(Some(BodyPart::Pat(i as u64))),
         None => Ok(None),
     }
 }
 
 /// The index of the first binding whose closure is no expression of the body.
-fn first_wrong_binding(body: &Body, bindings: &[Binding]) -> Option<usize>
+fn wrong_binding_among(body: &Body, bindings: &[Binding]) -> Option<usize>
     ensures { result ≡ position (λ binding. not (is_binding_in_range body.now binding)) bindings.now }
 {
     bindings
@@ -83,13 +83,13 @@ fn first_wrong_binding(body: &Body, bindings: &[Binding]) -> Option<usize>
 }
 
 /// The list of bindings if it is too long, else the first whose closure is no expression of the body.
-fn wrong_bindings(body: &Body) -> Option<BodyPart>
+fn wrong_binding(body: &Body) -> Option<BodyPart>
     ensures { result ≡ wrong_in_list part.Bindings part.Binding (is_binding_in_range body.now) body.now.bindings }
 {
     if !is_nameable(body.bindings.len()) {
         return Some(BodyPart::Bindings);
     }
-    match first_wrong_binding(body, body.bindings.as_slice()) {
+    match wrong_binding_among(body, body.bindings.as_slice()) {
         Some(i) => Some(BodyPart::Binding(i as u64)),
         None => None,
     }
@@ -116,8 +116,8 @@ fn are_roots_known(body: &Body) -> bool
 fn wrong_node(alloc: Global, body: &Body) -> Result<Option<BodyPart>, NoMemory>
     ensures { IfOk result (λ found. found ≡ wrong_node body.now) }
 {
-    let exprs = wrong_exprs(alloc, body)?;
-    let pats = wrong_pats(alloc, body)?;
+    let exprs = wrong_expr(alloc, body)?;
+    let pats = wrong_pat(alloc, body)?;
     Ok(exprs.or(pats))
 }
 
@@ -125,7 +125,7 @@ fn wrong_node(alloc: Global, body: &Body) -> Result<Option<BodyPart>, NoMemory>
 fn wrong_name(body: &Body) -> Option<BodyPart>
     ensures { result ≡ wrong_name body.now }
 {
-    wrong_bindings(body).or(unless(is_nameable(body.labels.len()), BodyPart::Labels))
+    wrong_binding(body).or(unless(is_nameable(body.labels.len()), BodyPart::Labels))
 }
 
 /// The first part of a typed body that has an id out of range, a list too long for ids of 32 bits, a

@@ -101,7 +101,7 @@ module _ (normals : Normals) (args : GenericArgs) where
   pub raw_ptr_other : (x : Ty) (m : Mutability) (whole key : Ty) (r : Ordering) → whole ≡ (type.RawPtr x m) → ((y : Ty) (n : Mutability) → key ≡ type.RawPtr y n → ⊥) → r ≡ nat_cmp (ty_variant whole) (ty_variant key) → Compares (ty_at normals args whole) (λ made. ty_cmp made key) r
   raw_ptr_other x m whole key r same differ is = subst (λ w. Compares (ty_at normals args w) (λ made. ty_cmp made key) r) (sym same) (of_one (λ made. type.RawPtr made m) (ty_at normals args x) (ty_at normals args (type.RawPtr x m)) (λ made. ty_cmp made key) r (layers.raw_ptr_is [] behind x m) (λ made there. is ∙ ap (λ n. nat_cmp n (ty_variant key)) (ap ty_variant same ∙ orders.rawptr_variant x m ∙ sym (orders.rawptr_variant made m)) ∙ sym (orders.tys_apart (type.RawPtr made m) key (λ e. orders.no_rawptr key differ (sym e ∙ orders.rawptr_variant made m)))))
 
-  -- an alias has no instance, where there are no normal types
+  -- an alias has no instance, where there are no normalized types
   no_normal : (id : AliasId) (own : Option GenericArgs) → option_and_then (normal_type [] id) own ≡ None
   no_normal id None = refl
   no_normal id (Some own) = refl
@@ -197,7 +197,7 @@ module _ (normals : Normals) (args : GenericArgs) where
   pub map_leaf : (held known key : MemoryMap) (r : Ordering) → held ≡ known → map_at normals args known ≡ Some known → r ≡ map_cmp held key → Compares (map_at normals args held) (λ made. map_cmp made key) r
   map_leaf held known key r same is = of_known (map_at normals args held) held (λ made. map_cmp made key) r (subst (λ w. map_at normals args w ≡ Some w) (sym same) is)
 
--- what came before decides, or ties
+-- the earlier parts decide, or are equal
 pub after_differs : {A : Type 0} (found : Option A) (cmp : A → Ordering) (first : Ordering) → is_ne first ≡ true → Compares found (λ made. ordering_then first (cmp made)) first
 after_differs found cmp first differs made there = sym (then_differs first (cmp made) differs)
 

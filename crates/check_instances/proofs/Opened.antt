@@ -52,7 +52,7 @@ some_within : {X : Type 0} (xs : List X) (i : ℕ) → i < length xs → is_some
 some_within [] i h = absurd (omega arith)
 some_within (x ∷ xs) i h = ap is_some (slice_get-get_or (x ∷ xs) i x h)
 
--- a list is opened as far as a loop has come
+-- a list is opened up to the index that a loop has reached
 module _ {A B : Type 0} (at whole : A → Option B) where
   abbrev pub Opened : List A → ℕ → List A → Type 0
   Opened xs i made = (done : List B) × (all_there (map at made) ≡ Some done) × (all_there (map whole (take i xs)) ≡ Some done)
@@ -79,7 +79,7 @@ module _ {A B : Type 0} (at whole : A → Option B) where
   pub there_all : (xs items made : List A) (i : ℕ) → items ≡ xs → length items ≤ i → Opened items i made → is_some (all_there (map whole xs)) ≡ true
   there_all xs items made i same past so_far = ap is_some (sym (ap (λ l. all_there (map whole l)) same) ∙ all_there_end whole items i so_far.0 past so_far.2)
 
--- a parameter has its argument also with the normal types behind
+-- a parameter has its argument also with the normalized types behind
 module _ (normals : Normals) (args : GenericArgs) where
   type_there : (o : Option GenericArg) → is_some (type_argument o) ≡ true → (x : GenericArg) × (o ≡ Some x)
   type_there None h = let e : false ≡ true = h in cc

@@ -26,7 +26,7 @@ use Rattle.check_instances.specs.Parts.{complex_instance, map_instance, unevalua
 abbrev pub Compares : {A : Type 0} → Option A → (A → Ordering) → Ordering → Type 0
 Compares {A} found compare result = (x : A) → found ≡ Some x → result ≡ compare x
 
--- the arguments, and behind them all normal types in their order: so a parameter can name a normal type
+-- the arguments, and behind them all normalized types in their order: so a parameter can name a normalized type
 abbrev pub with_normals : Normals → GenericArgs → GenericArgs
 with_normals normals args = record { 0 = args.0 ++ map (λ (row : AliasId × GenericArgs × Ty). arg.Ty row.2) normals }
 
@@ -52,7 +52,7 @@ map_cmp = MemoryMapOrd.ghosts.cmp
 abbrev pub complex_cmp : ComplexMemoryMap → ComplexMemoryMap → Ordering
 complex_cmp = ComplexMemoryMapOrd.ghosts.cmp
 
--- Types and constants without aliases, at generic arguments with the normal types behind them.
+-- Types and constants without aliases, at generic arguments with the normalized types behind them.
 abbrev pub ty_at : Normals → GenericArgs → Ty → Option Ty
 ty_at normals args = ty_instance [] (with_normals normals args)
 

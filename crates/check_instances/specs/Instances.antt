@@ -1,5 +1,5 @@
--- Types, generic arguments and constants at generic arguments: each parameter is its argument, as it stands, and each alias, its own
--- arguments done first, is its normal type. There is none where an argument or a normal type is missing.
+-- Types, generic arguments and constants at generic arguments: each parameter is replaced by its argument, and each alias,
+-- after its own arguments, by its normalized type. There is no instance where an argument or a normalized type is missing.
 use Rattle.std.specs.Prelude.{List, [], ◌∷◌, Option, Some, None, slice_get}
 use Rattle.std.specs.Option.{option_and_then, option_map}
 use Rattle.std.specs.Ordering.{ordering_then}
@@ -24,7 +24,7 @@ use Rattle.types.specs.declared.ty.Ty.TheVariants as type
 use Rattle.types.specs.declared.ty.UnevaluatedConst.{UnevaluatedConst}
 use Rattle.types.specs.declared.ty.ValueConst.{ValueConst}
 
--- the rows of normal types
+-- the rows of normalized types
 abbrev pub Normals : Type 0
 Normals = List (AliasId × GenericArgs × Ty)
 
@@ -47,11 +47,11 @@ abbrev pub const_argument : Option GenericArg → Option Const
 const_argument (Some (arg.Konst konst)) = Some konst
 const_argument _ = None
 
--- the type that an alias stands for
+-- the normalized type of an alias
 abbrev pub normal_type : Normals → AliasId → GenericArgs → Option Ty
 normal_type normals id args = option_map (λ row. row.2) (row_at {K = AliasId × GenericArgs} (λ row. (row.0, row.1)) (λ key. ordering_then (AliasIdOrd.ghosts.cmp id key.0) (args_cmp args key.1)) normals)
 
--- One layer, whose parts are done where they can be.
+-- One layer of a type or a constant, with the instances of its parts where they exist.
 abbrev Over : (Type 0 → Type 0 → Type 0 → Type 0 → Type 0 → Type 0 → Type 0 → Type 0 → Type 0 → Type 0) → Type 0
 Over Layer = Layer (Option Const) (Option GenericArg) (Option MemoryMap) (Option Ty) (Option ComplexMemoryMap) (Option GenericArgs) (Option TraitRef) (Option UnevaluatedConst) (Option ValueConst)
 

@@ -1,4 +1,4 @@
--- Types and generic arguments without aliases, at generic arguments with the normal types behind them, where they exist.
+-- Types and generic arguments without aliases, at generic arguments with the normalized types behind them, where they exist.
 use Rattle.std.specs.Prelude.{[], unwrap_or}
 use Rattle.std.specs.Cmp.{IsTotalOrder, on_total, then_total}
 use Rattle.std.specs.Ordering.{ordering_then}
@@ -14,7 +14,7 @@ use Rattle.types.specs.declared.ty.Ty.TheVariants as type
 use Rattle.check_instances.specs.Comparisons.{args_at, ty_at}
 use Rattle.check_instances.specs.Instances.{Normals}
 
--- a row of a normal type
+-- a row of a normalized type
 abbrev pub AliasRow : Type 0
 AliasRow = AliasId × GenericArgs × Ty
 

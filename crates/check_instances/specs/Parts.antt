@@ -20,6 +20,6 @@ unevaluated_instance normals args = fold-UnevaluatedConst _ _ _ _ _ _ _ _ _ (con
 unfoldable pub map_instance : Normals → GenericArgs → MemoryMap → Option MemoryMap
 map_instance normals args = fold-MemoryMap _ _ _ _ _ _ _ _ _ (const_layer args) arg_layer map_layer (ty_layer normals args) complex_layer args_layer bound_layer unevaluated_layer value_layer
 
--- bytes at several addresses, with the types that vtable ids stand for
+-- bytes at several addresses, with the types of vtable ids
 unfoldable pub complex_instance : Normals → GenericArgs → ComplexMemoryMap → Option ComplexMemoryMap
 complex_instance normals args = fold-ComplexMemoryMap _ _ _ _ _ _ _ _ _ (const_layer args) arg_layer map_layer (ty_layer normals args) complex_layer args_layer bound_layer unevaluated_layer value_layer

@@ -1,4 +1,4 @@
-//! What parameters and aliases stand for.
+//! The generic argument of a parameter, and the normalized type of an alias.
 ghost use Rattle.std.specs.Prelude.{◌≡◌, IfOk, IsErrOf, None, Some, slice_get};
 ghost use Rattle.check_instances.specs.Instances.{const_argument, normal_type, type_argument};
 
@@ -32,7 +32,7 @@ pub(crate) fn const_argument(
     }
 }
 
-/// A copy of the type that an alias stands for.
+/// A copy of the normalized type of an alias.
 pub(crate) fn normal_type(
     alloc: Global,
     normals: &Table<(AliasId, GenericArgs), (AliasId, GenericArgs, Ty)>,

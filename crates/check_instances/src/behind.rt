@@ -1,4 +1,4 @@
-//! What parameters name: generic arguments, and behind them normal types.
+//! What parameters name: generic arguments, and behind them normalized types.
 ghost use Rattle.std.specs.Prelude.{◌≡◌, slice_get};
 ghost use Rattle.std.specs.Option.{option_copied};
 ghost use Rattle.check_instances.specs.Comparisons.{with_normals};
@@ -6,7 +6,7 @@ ghost use Rattle.check_instances.specs.Instances.{Normals, const_argument, type_
 
 use types::{AliasId, Const, GenericArg, GenericArgs, Table, Ty};
 
-/// The argument at a place, where it is a type; past the arguments a normal type.
+/// The argument at a place, where it is a type; past the arguments a normalized type.
 #[tactic(auto, using(crate::proofs::Reach::arg_within, crate::proofs::Reach::normal_past))]
 pub(crate) fn type_behind<'a>(
     normals: &'a Table<(AliasId, GenericArgs), (AliasId, GenericArgs, Ty)>,
@@ -30,7 +30,7 @@ pub(crate) fn type_behind<'a>(
     }
 }
 
-/// The argument at a place, where it is a constant. No normal type is one.
+/// The argument at a place, where it is a constant. No normalized type is one.
 #[tactic(auto, using(crate::proofs::Reach::arg_within, crate::proofs::Reach::normal_past))]
 pub(crate) fn const_behind(args: &GenericArgs, index: u32) -> Option<&Const>
     ensures { (normals : Normals) → option_copied result ≡ const_argument (slice_get (with_normals normals args.now).0 index) }

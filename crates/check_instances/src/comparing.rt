@@ -1,5 +1,5 @@
-//! How types at generic arguments compare with types, without being made. Where a parameter's number is
-//! past the arguments, it names a normal type. There are no aliases: a type with one has no instance here.
+//! How types at generic arguments compare with types, without being made. A parameter whose index is past
+//! the arguments names a normalized type. There are no aliases: a type with one has no instance here.
 ghost use Rattle.std.specs.Prelude.{[], map};
 ghost use Rattle.std.specs.Cmp.Lexicographic.{slice_cmp};
 ghost use Rattle.std.specs.Ordering.{ordering_then};
@@ -15,7 +15,7 @@ use types::{
     Ty, UnevaluatedConst, ValueConst,
 };
 
-/// The rows of normal types.
+/// The rows of normalized types.
 type Normals = Table<(AliasId, GenericArgs), (AliasId, GenericArgs, Ty)>;
 
 /// How a type at generic arguments compares with a type.
@@ -306,8 +306,7 @@ fn compare_complex(
     )
 }
 
-/// How what came before compares, and where that ties, how a type at generic arguments
-/// compares.
+/// The order of the earlier parts; if they are equal, that of a type at generic arguments.
 #[cycle(comparisons)]
 fn compare_ty_after(
     own: &Ty,
@@ -324,8 +323,7 @@ fn compare_ty_after(
     compare_ty(own, key, normals, args)
 }
 
-/// How what came before compares, and where that ties, how types at generic arguments
-/// compare.
+/// The order of the earlier parts; if they are equal, that of types at generic arguments.
 #[cycle(comparisons)]
 fn compare_tys_after(
     own: &List<Ty>,
@@ -342,8 +340,7 @@ fn compare_tys_after(
     compare_tys(own, key, normals, args)
 }
 
-/// How what came before compares, and where that ties, how generic arguments at generic arguments
-/// compare.
+/// The order of the earlier parts; if they are equal, that of generic arguments at generic arguments.
 #[cycle(comparisons)]
 fn compare_args_after(
     own: &GenericArgs,
@@ -360,8 +357,7 @@ fn compare_args_after(
     compare_args(own, key, normals, args)
 }
 
-/// How what came before compares, and where that ties, how a constant at generic arguments
-/// compares.
+/// The order of the earlier parts; if they are equal, that of a constant at generic arguments.
 #[cycle(comparisons)]
 fn compare_const_after(
     own: &Const,
@@ -378,8 +374,8 @@ fn compare_const_after(
     compare_const(own, key, normals, args)
 }
 
-/// How what came before compares, and where that ties, how the memory that a constant refers to at generic arguments
-/// compares.
+/// The order of the earlier parts; if they are equal, that of the memory of a constant at generic
+/// arguments.
 #[cycle(comparisons)]
 fn compare_map_after(
     own: &MemoryMap,

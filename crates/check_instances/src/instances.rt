@@ -12,7 +12,7 @@ use types::{
     TraitRef, TryClone, Ty, UnevaluatedConst, ValueConst,
 };
 
-/// The rows of normal types.
+/// The rows of normalized types.
 type Normals = Table<(AliasId, GenericArgs), (AliasId, GenericArgs, Ty)>;
 
 /// A type at generic arguments.
@@ -95,7 +95,7 @@ fn instance_of_len(
     Ok(Box::new(alloc, made)?)
 }
 
-/// What an alias stands for, whose own arguments are done first.
+/// The normalized type of an alias at its own arguments, which are instantiated before it.
 #[cycle(instances)]
 fn instance_of_alias(
     alloc: Global,
@@ -311,9 +311,9 @@ fn instance_of_complex(
     Ok(ComplexMemoryMap { memory, vtable })
 }
 
-/// A type at generic arguments: each parameter is its argument, and each alias its normal type. It errs
-/// with `Missing` where an argument is missing or of the other sort, or a normal type is missing, and with
-/// `NoMemory` where there is no memory.
+/// A type at generic arguments: each parameter is replaced by its argument, and each alias by its
+/// normalized type. The error is `Missing` if an argument is missing or of the other kind, or a normalized
+/// type is missing, and `NoMemory` for want of memory.
 pub fn ty_instance(
     alloc: Global,
     normals: &Normals,
@@ -326,7 +326,7 @@ pub fn ty_instance(
     instance_of_ty(alloc, ty, normals, args)
 }
 
-/// Generic arguments at generic arguments, as `ty_instance` gives a type. It errs as that does.
+/// Generic arguments at generic arguments, as `ty_instance` gives a type, with the same errors.
 pub fn args_instance(
     alloc: Global,
     normals: &Normals,

@@ -13,10 +13,10 @@ use std::cmp::Ordering;
 use std::collections::btree_map::Comparable;
 use types::{AliasId, GenericArgs, Table, Ty};
 
-/// The rows of normal types.
+/// The rows of normalized types.
 type Normals = Table<(AliasId, GenericArgs), (AliasId, GenericArgs, Ty)>;
 
-/// A type without aliases, at generic arguments with the normal types behind them.
+/// A type without aliases, at generic arguments with the normalized types behind them.
 #[derive(Clone, Copy)]
 pub(crate) struct TyKey<'a> {
     pub(crate) ty: &'a Ty,
@@ -63,7 +63,7 @@ impl<'a> Comparable<(AliasId, GenericArgs)> for AliasKey<'a> {
     }
 }
 
-/// The place of the normal type of an alias, whose arguments are without aliases.
+/// The place of the normalized type of an alias, whose arguments are without aliases.
 pub(crate) fn normal_place(
     id: AliasId,
     own: &GenericArgs,

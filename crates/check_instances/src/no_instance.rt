@@ -5,7 +5,7 @@ use types::NoMemory;
 /// Why there is no instance.
 #[derive(Clone, Copy, PartialEq, Eq, PartialOrd, Ord, Hash, Debug)]
 pub enum NoInstance {
-    /// An argument or a normal type is missing.
+    /// An argument or a normalized type is missing.
     Missing,
     NoMemory,
 }

@@ -1,4 +1,4 @@
-//! Parameters that name generic arguments, or normal types behind them.
+//! Parameters that name generic arguments, or normalized types behind them.
 ghost use Rattle.std.specs.Prelude.{◌≡◌, ◌+◌, true, IfOk, IsErrOf, None, OnOk, length, slice_get};
 ghost use Rattle.std.specs.Option.{is_some};
 ghost use Rattle.check_instances.specs.Instances.{const_argument, type_argument};
@@ -31,7 +31,7 @@ pub(crate) fn open_const_param(param: ParamConst, args: &GenericArgs) -> Result<
     }
 }
 
-/// The parameter that names the normal type at a place. A place past the numbers of 32 bits has none.
+/// The parameter that names the normalized type at a place. A place past the numbers of 32 bits has none.
 pub(crate) fn param_behind(args: &GenericArgs, place: u64) -> Result<Ty, Unopened>
     ensures named { IfOk result (λ made. (param : Numbered) × (made ≡ Ty.Param param) × (param.index ≡ length args.now.0 + place)) }
     ensures missing { IsErrOf result Unopened.Missing → ⊥ }

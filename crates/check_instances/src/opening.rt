@@ -1,5 +1,5 @@
 //! Types, generic arguments and constants without aliases: a parameter stands in the place of each alias,
-//! with the number at which the alias's normal type stands behind the generic arguments.
+//! with the number at which the alias's normalized type stands behind the generic arguments.
 ghost use Rattle.std.specs.Prelude.{◌≡◌, true, IfOk, IsErrOf, None, OnOk, map};
 ghost use Rattle.std.specs.Option.{is_some, option_and_then};
 ghost use Rattle.check_instances.specs.Comparisons.{arg_at, args_at, bound_at, complex_at, const_at, map_at, ty_at, unevaluated_at, value_at};
@@ -15,7 +15,7 @@ use types::{
     TraitRef, TryClone, Ty, UnevaluatedConst, ValueConst,
 };
 
-/// The rows of normal types.
+/// The rows of normalized types.
 type Normals = Table<(AliasId, GenericArgs), (AliasId, GenericArgs, Ty)>;
 
 /// A type without aliases.
@@ -101,7 +101,7 @@ fn open_len(
     Ok(Box::new(alloc, made)?)
 }
 
-/// What an alias stands for, whose own arguments are done first.
+/// The normalized type of an alias at its own arguments, which are instantiated before it.
 #[cycle(openings)]
 #[tactic(auto, using(crate::proofs::Opened::alias_same, crate::proofs::Opened::alias_there, crate::proofs::Opened::alias_missing))]
 fn open_alias(

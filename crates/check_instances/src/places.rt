@@ -13,7 +13,7 @@ use crate::unopened::Unopened;
 use std::alloc::Global;
 use types::{AliasId, GenericArgs, NoMemory, Row, Table, Ty};
 
-/// The rows of normal types.
+/// The rows of normalized types.
 type Normals = Table<(AliasId, GenericArgs), (AliasId, GenericArgs, Ty)>;
 
 /// The place of a type at generic arguments, which is made.

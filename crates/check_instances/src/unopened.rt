@@ -5,9 +5,9 @@ use types::NoMemory;
 /// Why aliases can't be left out of a type.
 #[derive(Clone, Copy, PartialEq, Eq, PartialOrd, Ord, Hash, Debug)]
 pub(crate) enum Unopened {
-    /// An argument or a normal type is missing.
+    /// An argument or a normalized type is missing.
     Missing,
-    /// A normal type stands past the places that a parameter can name, which have 32 bits.
+    /// A normalized type stands past the places that a parameter can name, which have 32 bits.
     PastNumbers,
     NoMemory,
 }

@@ -70,8 +70,8 @@ abbrev pub is_in_place : HirDatabase → ℕ → VariantRow → Bool
 is_in_place world v row = is_listed world v row && has_own_places world v row
 
 -- the first variant that doesn't stand at its index in the list of its enum, or stands at another place too
-abbrev pub first_wrong_variant : HirDatabase → Option ℕ
-first_wrong_variant world = first_failing (is_in_place world) 0 world.variants
+abbrev pub wrong_variant : HirDatabase → Option ℕ
+wrong_variant world = first_failing (is_in_place world) 0 world.variants
 
 -- an optional expression is a closure with `count` parameters
 abbrev pub is_closure_of : ℕ → Option Expr → Bool

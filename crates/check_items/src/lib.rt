@@ -15,7 +15,7 @@ pub use closed::{is_const_impl_closed, is_impl_closed, is_normal_closed};
 pub use closures::is_closure_named;
 pub use impls::{is_const_impl_named, is_impl_named, is_normal_named};
 pub use layouts::is_layout_named;
-pub use listed::first_wrong_variant;
+pub use listed::wrong_variant;
 pub use names::{
     is_const_named, is_const_param_named, is_enum_named, is_function_named, is_static_named,
     is_struct_named, is_variant_named,

@@ -2,7 +2,7 @@
 ghost use Rattle.std.specs.Prelude.{◌≡◌, ◌++◌, ◌<◌, [], length, slice_index_or, IfOk, OnOk};
 ghost use Rattle.std.specs.Option.{option_copied};
 ghost use Rattle.world.specs.Failing.{first_failing};
-ghost use Rattle.check_items.specs.Agree.{is_in_place, is_listed, is_own_place, is_variant, listed_places, places_of_enum, places_of_enums, first_wrong_variant};
+ghost use Rattle.check_items.specs.Agree.{is_in_place, is_listed, is_own_place, is_variant, listed_places, places_of_enum, places_of_enums, wrong_variant};
 ghost use Rattle.check_items.specs.Marks.{is_elsewhere, is_misplaced, AreMarks};
 
 use std::alloc::Global;
@@ -130,7 +130,7 @@ fn is_in_place(db: &HirDatabase, marks: &[bool], v: usize, row: &VariantRow) -> 
 
 /// The first of all variants that doesn't stand at its index in the list of its enum, or stands at another
 /// place too.
-fn first_wrong_variant_among(db: &HirDatabase, marks: &[bool], rows: &[VariantRow]) -> Option<u64>
+fn wrong_variant_among(db: &HirDatabase, marks: &[bool], rows: &[VariantRow]) -> Option<u64>
     requires len { length marks.now ≡ length db.now.variants }
     requires marks { AreMarks db.now.variants (listed_places db.now) marks.now }
     requires all { rows.now ≡ db.now.variants }
@@ -146,9 +146,9 @@ fn first_wrong_variant_among(db: &HirDatabase, marks: &[bool], rows: &[VariantRo
 
 /// The id of the first variant that doesn't stand at its index in the list of its enum, or stands at
 /// another place of an enum's list too. It fails only for want of memory.
-pub fn first_wrong_variant(alloc: Global, db: &HirDatabase) -> Result<Option<u64>, NoMemory>
-    ensures { IfOk result (λ found. found ≡ first_wrong_variant db.now) }
+pub fn wrong_variant(alloc: Global, db: &HirDatabase) -> Result<Option<u64>, NoMemory>
+    ensures { IfOk result (λ found. found ≡ wrong_variant db.now) }
 {
     let marks = misplaced_marks(alloc, db)?;
-    Ok(first_wrong_variant_among(db, marks.as_slice(), db.variants.as_slice()))
+    Ok(wrong_variant_among(db, marks.as_slice(), db.variants.as_slice()))
 }

@@ -1,4 +1,4 @@
--- What is known of sizes that were found of the types of fields.
+-- Facts about the stored sizes of field types.
 use Rattle.std.proofs.Common.{◌≡◌, ℕ, Bool, true, false, cond, List, [], ◌∷◌, Option, Some, Ordering, Less, Equal, Greater, refl, sym, ◌∙◌, ap, subst}
 use Rattle.std.specs.BTreeMap.{insert_entry, is_at}
 use Rattle.std.specs.Map.{lookup}
@@ -15,7 +15,7 @@ module _ (world : HirDatabase) (i : ℕ) (args : GenericArgs) where
   abbrev size_of : Ty → Option ℕ
   size_of ty = field_size world i (ty_instance world.normals args ty)
 
-  -- nothing was found yet
+  -- no size is stored yet
   pub none_found : (sizes : List (Ty × ℕ)) → sizes ≡ [] → AreSizesRight world i args sizes
   unfolding AreSizesRight
   none_found sizes e = subst (λ (s : List (Ty × ℕ)). AreSizesRight world i args s) (sym e) tt
@@ -32,7 +32,7 @@ module _ (world : HirDatabase) (i : ℕ) (args : GenericArgs) where
   unfolding AreSizesRight
   rest_right entry sizes right = right.1
 
-  -- a size that a look-up finds is that of the type
+  -- a stored size is that of the type
   pub found_right : (ty : Ty) (sizes : List (Ty × ℕ)) (size : ℕ) → AreSizesRight world i args sizes → lookup (is_at (ty_cmp ty)) sizes ≡ Some size → size_of ty ≡ Some size
   found_right ty [] size right h = cc
   found_right ty (entry ∷ sizes) size right h = by (is_eq (ty_cmp ty entry.0)) refl (first_right entry sizes right) h (λ rest. found_right ty sizes size (rest_right entry sizes right) rest)
@@ -41,7 +41,7 @@ module _ (world : HirDatabase) (i : ℕ) (args : GenericArgs) where
       by true tied is h further = let same : ty ≡ entry.0 = (type_cmp_decides ty entry.0).0 tied in ap size_of same ∙ is ∙ h
       by false apart is h further = further h
 
-  -- one more
+  -- one more stored size
   pub put_right : (ty : Ty) (size : ℕ) (sizes : List (Ty × ℕ)) → size_of ty ≡ Some size → AreSizesRight world i args sizes → AreSizesRight world i args (insert_entry ty_cmp sizes ty size)
   put_right ty size [] is right = more_right (ty, size) [] is right
   put_right ty size (entry ∷ sizes) is right = by (ty_cmp ty entry.0) refl (first_right entry sizes right) (rest_right entry sizes right) (put_right ty size sizes is (rest_right entry sizes right))

@@ -35,7 +35,7 @@ module _ (world : HirDatabase) (i size : ℕ) where
         ∙ ap (λ y. is_part_inside size (slice_get offsets k) (field_size world i (f y)) && left_from (suc k)) (sym at)
         ∙ ap (λ j. is_part_inside size (slice_get offsets k) (field_size world i (f x)) && left_from j) (sym (add-one k))
 
-    -- a field that lies inside: the walk goes on with the next
+    -- a field that ends within the layout: the walk continues with the next
     pub inside_next : (x d : X) (r : Bool) → k < length xs → x ≡ get_or xs k d → is_part_inside size (slice_get offsets k) (field_size world i (f x)) ≡ true → left_from k ≡ r → left_from (k + 1) ≡ r
     inside_next x d r below at inside whole = ap (λ b. b && left_from (k + 1)) (sym inside) ∙ sym (unfold_inside x d below at) ∙ whole
 

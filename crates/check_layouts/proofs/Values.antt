@@ -1,4 +1,4 @@
--- The number that bytes are, as a loop from the last byte on puts it together.
+-- The number of bytes in little-endian order, as a loop from the last byte on computes it.
 use Rattle.std.proofs.Common.{◌≡◌, ℕ, suc, ◌+◌, ◌-◌, ◌*◌, ◌^◌, ◌<◌, ◌≤◌, List, [], ◌∷◌, length, get_or, drop, refl, ◌∙◌, ap, arith}
 use Rattle.std.proofs.lemmas.List.{drop_all}
 use Rattle.std.proofs.Math.Nat.{pow-le-pow_right}

@@ -21,7 +21,7 @@ use Rattle.world.specs.declared.layout.Variants.TheVariants as variants
 use Rattle.world.specs.Lookups.{fields_of}
 use Rattle.check_layouts.specs.Sizes.{TyLayer, layout_above}
 
--- Fields that a layout places: where each begins, and the type of each, where there is one.
+-- Fields with their offsets: where each begins, and the type of each, if it has an instance.
 pub record Placed : Type 0 where
   pub offsets : List ℕ
   pub types : List (Option Ty)
@@ -30,7 +30,7 @@ pub record Placed : Type 0 where
 abbrev pub types_at : HirDatabase → GenericArgs → List FieldRow → List (Option Ty)
 types_at world args fields = map (λ (field : FieldRow). ty_instance world.normals args field.ty) fields
 
--- the fields of a row, placed, where there is one
+-- optional fields with these offsets
 abbrev pub placed_of : HirDatabase → GenericArgs → List ℕ → Option (List FieldRow) → List Placed
 placed_of world args offsets None = []
 placed_of world args offsets (Some fields) = record { offsets = offsets; types = types_at world args fields } ∷ []
@@ -46,13 +46,13 @@ variants_of world e = rows (slice_get world.enums e)
     rows None = []
     rows (Some row) = row.variants
 
--- the fields of each variant, by the list of its own
+-- the fields of each variant, with the offsets in the list of the variant
 abbrev pub placed_of_each : HirDatabase → GenericArgs → List (List ℕ) → List EnumVariantId → List Placed
 placed_of_each world args [] ids = []
 placed_of_each world args (offsets ∷ lists) [] = []
 placed_of_each world args (offsets ∷ lists) (v ∷ ids) = placed_of world args offsets (fields_of_variant world v) ++ placed_of_each world args lists ids
 
--- of an enum: those of the one variant that its values are, or of every variant
+-- the fields of an enum: of its only inhabited variant, or of every variant
 abbrev pub placed_of_enum : HirDatabase → ℕ → GenericArgs → List ℕ → Variants → List Placed
 placed_of_enum world e args offsets variants.Empty = []
 placed_of_enum world e args offsets (variants.Single i) = placed_of world args offsets (option_and_then (fields_of_variant world) (slice_get (variants_of world e) i))
@@ -69,12 +69,12 @@ placed_fields world ty layout = placed (out-Ty ty)
     placed (one.Adt (adt.EnumId id) args) = placed_of_enum world id.0 args layout.offsets layout.variants
     placed _ = []
 
--- the fields of variants, of which no place is asked
+-- the fields of variants, without offsets
 abbrev pub unplaced_of_each : HirDatabase → GenericArgs → List EnumVariantId → List Placed
 unplaced_of_each world args [] = []
 unplaced_of_each world args (v ∷ ids) = placed_of world args [] (fields_of_variant world v) ++ unplaced_of_each world args ids
 
--- the fields of every variant of an enum, also of those that its layout shows no place of
+-- the fields of every variant of an enum, without offsets
 abbrev pub unplaced_fields : HirDatabase → Ty → List Placed
 unplaced_fields world ty = unplaced (out-Ty ty)
   where
@@ -82,12 +82,12 @@ unplaced_fields world ty = unplaced (out-Ty ty)
     unplaced (one.Adt (adt.EnumId id) args) = unplaced_of_each world args (variants_of world id.0)
     unplaced _ = []
 
--- what a closure captures, at its arguments
+-- the types of the captures of a closure, at its generic arguments
 abbrev pub captures_at : HirDatabase → GenericArgs → Option ClosureRow → List (Option Ty)
 captures_at world args None = []
 captures_at world args (Some row) = map (λ (capture : Capture). ty_instance world.normals args capture.ty) row.captures
 
--- the captures of a closure, of which no count of offsets is asked
+-- the captures of a closure; they may have more or fewer offsets than captures
 abbrev pub placed_captures : HirDatabase → Ty → Layout → List Placed
 placed_captures world ty layout = placed (out-Ty ty)
   where
@@ -103,16 +103,16 @@ has_offset_each placed = length placed.offsets == length placed.types
 abbrev pub field_layout : HirDatabase → ℕ → Option Ty → Option Layout
 field_layout world i ty = option_and_then (layout_above world i) ty
 
--- the place of a type's row, where there is a type
+-- the index of the row of an optional type
 abbrev pub IsPlaceOf : HirDatabase → Option Ty → Option ℕ → Type 0
 IsPlaceOf world found place = place ≡ option_and_then (λ ty. place_at {R = Ty × Layout} (λ row. row.0) (ty_cmp ty) world.layouts) found
 
--- a field of a layout lies inside a size
+-- a field has a layout and ends within the size
 abbrev pub is_inside : ℕ → ℕ → Option Layout → Bool
 is_inside size offset None = false
 is_inside size offset (Some layout) = nat_le (offset + layout.size) size
 
--- each field's type has a layout further up, and a field with an offset lies inside the size
+-- each field's type has a layout in an earlier row, and a field with an offset ends within the size
 abbrev pub are_inside : HirDatabase → ℕ → ℕ → List ℕ → List (Option Ty) → Bool
 are_inside world i size offsets [] = true
 are_inside world i size [] (ty ∷ types) = is_some (field_layout world i ty) && are_inside world i size [] types
@@ -125,17 +125,17 @@ is_placed_inside world i size placed = are_inside world i size placed.offsets pl
 abbrev pub field_size : HirDatabase → ℕ → Option Ty → Option ℕ
 field_size world i ty = option_map (λ (layout : Layout). layout.size) (field_layout world i ty)
 
--- a part with its offset, where it has one: its type has a size, which from the offset on lies inside that of the whole
+-- a part has a size and, if it has an offset, ends within the size of the whole
 abbrev pub is_part_inside : ℕ → Option ℕ → Option ℕ → Bool
 is_part_inside size None part = is_some part
 is_part_inside size (Some offset) None = false
 is_part_inside size (Some offset) (Some part) = nat_le (offset + part) size
 
--- sizes that were found of types as they are written: each is that of the type at the generic arguments
+-- stored sizes, by types before substitution: each is the size of the type at the generic arguments
 unfoldable pub AreSizesRight : HirDatabase → ℕ → GenericArgs → List (Ty × ℕ) → Type 0
 AreSizesRight world i args [] = Unit {0}
 AreSizesRight world i args (entry ∷ sizes) = (field_size world i (ty_instance world.normals args entry.0) ≡ Some entry.1) × AreSizesRight world i args sizes
 
--- one offset for each field, each inside the size
+-- one offset for each field, and each ends within the size
 abbrev pub is_placed_right : HirDatabase → ℕ → ℕ → Placed → Bool
 is_placed_right world i size placed = has_offset_each placed && is_placed_inside world i size placed

@@ -1,4 +1,4 @@
--- Layouts that are as every target has them.
+-- Layouts that follow the rules of all targets.
 use Rattle.std.specs.Prelude.{ℕ, ◌+◌, ◌==◌, ◌&&◌, ◌||◌, nat_le, Bool, true}
 use Rattle.std.specs.List.{list_all}
 use Rattle.types.specs.declared.ty.Ty.{Ty}
@@ -13,12 +13,12 @@ use Rattle.check_layouts.specs.Sizes.{is_alignment, is_array_size, is_fixed_size
 abbrev pub is_tag_size : ℕ → Bool
 is_tag_size size = size == 1 || size == 2 || size == 4 || size == 8 || size == 16
 
--- a tag has the size of an integer and lies inside the layout
+-- a tag has the size of an integer and ends within the layout
 abbrev pub is_tag_inside : ℕ → Variants → Bool
 is_tag_inside size (variants.Multiple multiple) = is_tag_size multiple.tag_size && nat_le (multiple.tag_offset + multiple.tag_size) size
 is_tag_inside size _ = true
 
--- the alignment, the size, and the size of a type that has one in every world
+-- the alignment, the size, and the size that all targets give the type, if any
 abbrev pub is_size_right : HirDatabase → Ty → Layout → Bool
 is_size_right world ty layout =
     is_alignment layout.align
@@ -35,6 +35,6 @@ are_parts_right world i ty layout =
     && is_array_size world i ty layout.size
     && is_tag_inside layout.size layout.variants
 
--- the layout in row i is as every target has it
+-- the layout in row i follows the rules of all targets
 abbrev pub is_layout_right : HirDatabase → ℕ → Ty × Layout → Bool
 is_layout_right world i row = is_ty_closed row.0 && is_size_right world row.0 row.1 && are_parts_right world i row.0 row.1

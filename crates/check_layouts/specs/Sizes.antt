@@ -1,4 +1,4 @@
--- Sizes and alignments that every target has.
+-- Sizes and alignments that are the same on all targets.
 use Rattle.std.specs.Prelude.{ℕ, ◌%◌, ◌*◌, ◌==◌, nat_le, Bool, true, false, not, if◌then◌else◌, List, [], ◌∷◌, length, take, Option, Some, None}
 use Rattle.std.specs.List.{list_any}
 use Rattle.std.specs.Option.{option_map}
@@ -38,12 +38,12 @@ is_alignment align = list_any (λ power. power == align) alignments
 abbrev pub is_multiple_of : ℕ → ℕ → Bool
 is_multiple_of size align = size % align == 0
 
--- a layout that is there, of values whose size the type alone doesn't tell
+-- an optional layout is there, and is that of an unsized type
 abbrev pub is_unsized : Option Layout → Bool
 is_unsized None = false
 is_unsized (Some layout) = not layout.sized
 
--- a pointer to a type carries a length or a table beside the address
+-- a pointer to a type is wide: it has a length or a vtable beside the address
 abbrev pub is_wide : HirDatabase → Ty → Bool
 is_wide world ty = wide (out-Ty ty)
   where
@@ -58,7 +58,7 @@ abbrev pub pointer_size : Bool → ℕ
 pointer_size true = 16
 pointer_size false = 8
 
--- the size that a type has in every world, where it has one
+-- the size that all targets give a type, if they give it one
 abbrev pub known_size : HirDatabase → Ty → Option ℕ
 known_size world ty = known (out-Ty ty)
   where
@@ -74,7 +74,7 @@ known_size world ty = known (out-Ty ty)
     known (one.FnPtr params ret) = Some 8
     known _ = None
 
--- a size that isn't told, or the one that is
+-- the size is the known one, if there is a known one
 abbrev pub is_fixed_size : Option ℕ → ℕ → Bool
 is_fixed_size None size = true
 is_fixed_size (Some fixed) size = size == fixed
@@ -83,11 +83,11 @@ is_fixed_size (Some fixed) size = size == fixed
 abbrev pub layout_above : HirDatabase → ℕ → Ty → Option Layout
 layout_above world i ty = option_map (λ row. row.1) (row_at {R = Ty × Layout} (λ row. row.0) (ty_cmp ty) (take i world.layouts))
 
--- the number that bytes are, the lowest first, where there are at most 16
+-- the number of bytes in little-endian order, if there are at most 16
 abbrev pub number_of_bytes : List ℕ → Option ℕ
 number_of_bytes bytes = if nat_le (length bytes) 16 then Some (value_of bytes) else None
 
--- the number that a constant's bytes are, where it is a value
+-- the number of an evaluated constant, if it has at most 16 bytes
 abbrev pub number_of : Const → Option ℕ
 number_of konst = number (out-Const konst)
   where
@@ -95,13 +95,14 @@ number_of konst = number (out-Const konst)
     number (one.Value value) = number_of_bytes value.memory
     number _ = None
 
--- so many elements of this layout, which there has to be; any size where the number is not told
+-- the size of `len` elements of an optional layout: false if there is no layout, else true if the length is unknown
 abbrev pub is_product : Option ℕ → Option Layout → ℕ → Bool
 is_product (Some len) (Some element) size = size == len * element.size
 is_product None (Some element) size = true
 is_product len None size = false
 
--- An array's size is its length times its element's, which has a layout further up. A length that is still to be evaluated tells no size.
+-- The size of an array is its length times its element's size, by the element's layout in an earlier row. An unevaluated
+-- length fixes no size.
 abbrev pub is_array_size : HirDatabase → ℕ → Ty → ℕ → Bool
 is_array_size world i ty size = array (out-Ty ty)
   where

@@ -13,29 +13,29 @@ use Rattle.world.specs.declared.layout.Variants.TheVariants as variants
 use Rattle.check_layouts.specs.Fields.{variants_of}
 use Rattle.check_layouts.specs.Sizes.{TyLayer}
 
--- how many numbers a tag of so many bytes can be
+-- how many values a tag of this many bytes has
 abbrev pub tag_values : ℕ → ℕ
 tag_values size = 2 ^ (8 * size)
 
--- the numbers of a niche, one for each variant but the untagged one, which is one of the enum's
+-- the untagged variant of a niche is one of the enum, and the tag has a value for each other variant from the start on
 abbrev pub is_niche_right : ℕ → ℕ → TagEncoding → Bool
 is_niche_right count size encoding.Direct = true
 is_niche_right count size (encoding.Niche untagged first last start) = nat_lt untagged count && nat_le (start + (count - 1)) (tag_values size)
 
--- as many variants as the enum has, which a tag can tell apart
+-- as many variants as in the enum, and the tag has a value for each
 abbrev pub is_multiple_right : ℕ → MultiLayout → Bool
 is_multiple_right count multiple =
     length multiple.variants == count
     && nat_le count (tag_values multiple.tag_size)
     && is_niche_right count multiple.tag_size multiple.encoding
 
--- an enum of so many variants
+-- the variants of a layout fit an enum of `count` variants
 abbrev pub is_enum_tag_right : ℕ → Variants → Bool
 is_enum_tag_right count variants.Empty = true
 is_enum_tag_right count (variants.Single i) = nat_lt i count
 is_enum_tag_right count (variants.Multiple multiple) = is_multiple_right count multiple
 
--- what is no enum has no tag
+-- a layout has no tag
 abbrev pub is_untagged : Variants → Bool
 is_untagged (variants.Multiple multiple) = false
 is_untagged _ = true

@@ -7,7 +7,7 @@ ghost use Rattle.check_layouts.specs.Sizes.{is_array_size, is_product, number_of
 use crate::sizes::layout_above;
 use world::{Const, HirDatabase, Layout, Ty};
 
-/// The number that at most 16 bytes are, the lowest first.
+/// The number of at most 16 bytes, in little-endian order.
 fn value_of(bytes: &[u8]) -> u128
     requires { length bytes.now ≤ 16 }
     ensures { result ≡ value_of bytes.now }
@@ -21,7 +21,7 @@ fn value_of(bytes: &[u8]) -> u128
     number
 }
 
-/// The number that bytes are, the lowest first, where there are at most 16.
+/// The number of bytes in little-endian order, if there are at most 16.
 fn number_of_bytes(bytes: &[u8]) -> Option<u128>
     ensures { result ≡ number_of_bytes bytes.now }
 {
@@ -32,7 +32,7 @@ fn number_of_bytes(bytes: &[u8]) -> Option<u128>
     }
 }
 
-/// The number that a constant's bytes are, where it has at most 16.
+/// The number of an evaluated constant, if it has at most 16 bytes.
 fn number_of(konst: &Const) -> Option<u128>
     ensures { result ≡ number_of konst.now }
 {
@@ -42,7 +42,7 @@ fn number_of(konst: &Const) -> Option<u128>
     }
 }
 
-/// Whether `len` elements of `element` bytes have `size` bytes together.
+/// Whether `size` is `len` times `element`.
 fn is_times(len: u128, element: u64, size: u64) -> bool
     ensures { result ≡ (size == len * element) }
 {
@@ -52,8 +52,8 @@ fn is_times(len: u128, element: u64, size: u64) -> bool
     }
 }
 
-/// Whether `size` is that of `len` elements of a layout, which has to be there. Any size is, where the
-/// length isn't known.
+/// Whether `size` is that of `len` elements of a layout: false if there is no layout, else true if the
+/// length is unknown.
 fn is_product(len: Option<u128>, element: Option<&Layout>, size: u64) -> bool
     ensures { result ≡ is_product len (option_copied element.entry) size }
 {
@@ -66,8 +66,8 @@ fn is_product(len: Option<u128>, element: Option<&Layout>, size: u64) -> bool
     }
 }
 
-/// Whether the size of an array is its length times its element's, which has a layout in one of the
-/// first `i` rows. A length that is still to be evaluated tells no size.
+/// Whether the size of an array is its length times its element's size, whose layout is in one of the
+/// first `i` rows. An unevaluated length fixes no size.
 pub(crate) fn is_array_size(db: &HirDatabase, i: u64, ty: &Ty, size: u64) -> bool
     ensures { result ≡ is_array_size db.now i ty.now size }
 {

@@ -12,7 +12,7 @@ use world::{
     NoMemory, TryClone, Ty, VariantId,
 };
 
-/// Whether there is a size of a part that lies inside a size, from an offset on where there is one.
+/// Whether a part has a size and, if it has an offset, ends within `size`.
 fn is_part_inside(size: u64, offset: Option<u64>, part: Option<u64>) -> bool
     ensures { result ≡ is_part_inside size offset part }
 {
@@ -35,7 +35,7 @@ fn size_above(db: &HirDatabase, i: u64, ty: &Ty) -> Option<u64>
     }
 }
 
-/// Whether a type has a layout in one of the first `i` rows, inside a size.
+/// Whether a type has a layout in one of the first `i` rows and, if it has an offset, ends within `size`.
 fn is_type_inside(db: &HirDatabase, i: u64, size: u64, offset: Option<u64>, ty: &Ty) -> bool
     ensures { result ≡ is_part_inside size offset (field_size db.now i (Some ty.now)) }
 {
@@ -60,7 +60,7 @@ fn instance_size(
     }
 }
 
-/// The same of a type that is met for the first time in a row: its size, where it has one, is kept.
+/// The same for a type that is not yet in `sizes`: its size, if it has one, is stored there.
 fn first_size(
     alloc: Global,
     db: &HirDatabase,
@@ -80,8 +80,8 @@ fn first_size(
     Ok(found)
 }
 
-/// The same of any type. Many fields of one type look up what was found at the first of them, so that
-/// a long argument is compared with the table's types once in a row, and not once for each field.
+/// The same for any type. Several fields of one type look up the size that was stored for the first, so
+/// that a long argument is compared with the table's types once for each row, not once for each field.
 fn field_size(
     alloc: Global,
     db: &HirDatabase,
@@ -100,7 +100,8 @@ fn field_size(
     first_size(alloc, db, i, args, sizes, ty)
 }
 
-/// Whether each of the types has a layout in one of the first `i` rows, inside a size.
+/// Whether each of the types has a layout in one of the first `i` rows, and those with an offset end
+/// within `size`.
 fn are_types_inside(
     db: &HirDatabase,
     i: u64,
@@ -120,8 +121,8 @@ fn are_types_inside(
     true
 }
 
-/// Whether each of the fields, at generic arguments, has a layout in one of the first `i` rows,
-/// inside a size.
+/// Whether each of the fields, at generic arguments, has a layout in one of the first `i` rows, and those
+/// with an offset end within `size`.
 pub(crate) fn are_fields_inside(
     alloc: Global,
     db: &HirDatabase,
@@ -147,8 +148,8 @@ pub(crate) fn are_fields_inside(
     Ok(true)
 }
 
-/// Whether each of the captures of a closure, at generic arguments, has a layout in one of the first
-/// `i` rows, inside a size.
+/// Whether each of the captures of a closure, at generic arguments, has a layout in one of the first `i`
+/// rows, and those with an offset end within `size`.
 fn are_captures_inside(
     alloc: Global,
     db: &HirDatabase,
@@ -172,7 +173,7 @@ fn are_captures_inside(
     Ok(true)
 }
 
-/// The same of a closure, where there is a row of it.
+/// The same for the captures in a closure's row, if there is one.
 pub(crate) fn is_closure_inside(
     alloc: Global,
     db: &HirDatabase,
@@ -190,7 +191,7 @@ pub(crate) fn is_closure_inside(
     }
 }
 
-/// Whether a tuple has one offset for each part, each inside a size.
+/// Whether a tuple has one offset for each field, and each field ends within `size`.
 pub(crate) fn is_tuple_placed(
     db: &HirDatabase,
     i: u64,
@@ -203,7 +204,7 @@ pub(crate) fn is_tuple_placed(
     offsets.len() == parts.len() && are_types_inside(db, i, size, offsets, parts)
 }
 
-/// Whether fields have one offset each, each inside a size.
+/// Whether fields have one offset each, and each ends within `size`.
 pub(crate) fn are_fields_placed(
     alloc: Global,
     db: &HirDatabase,

@@ -1,4 +1,4 @@
-//! Layouts that are as every target has them.
+//! Layouts that follow the rules of all targets.
 ghost use Rattle.std.specs.Prelude.{◌≡◌, [], IfOk, OnOk};
 ghost use Rattle.std.specs.List.{list_all};
 ghost use Rattle.std.specs.Option.{option_copied};
@@ -25,7 +25,7 @@ fn is_tag_size(size: u64) -> bool
     size == 1 || size == 2 || size == 4 || size == 8 || size == 16
 }
 
-/// Whether a tag, where there is one, has the size of an integer and lies inside a size.
+/// Whether a tag, if there is one, has the size of an integer and ends within `size`.
 fn is_tag_inside(size: u64, variants: &Variants) -> bool
     ensures { result ≡ is_tag_inside size variants.now }
 {
@@ -39,8 +39,8 @@ fn is_tag_inside(size: u64, variants: &Variants) -> bool
     }
 }
 
-/// Whether the alignment is a power of two, the size a multiple of it, and the one that the type has
-/// in every world where it has one.
+/// Whether the alignment is a power of two, and the size a multiple of it and, if all targets give the type
+/// one size, that one.
 fn is_size_right(db: &HirDatabase, ty: &Ty, layout: &Layout) -> bool
     ensures { result ≡ is_size_right db.now ty.now layout.now }
 {
@@ -49,8 +49,9 @@ fn is_size_right(db: &HirDatabase, ty: &Ty, layout: &Layout) -> bool
         && is_fixed_size(known_size(db, ty), layout.size)
 }
 
-/// Whether fields, where there are some, have one offset each, each inside a size.
-fn are_next_placed(
+/// Whether optional fields have one offset each, and each ends within `size`. `sizes` has the sizes of
+/// field types that were found before.
+fn are_optional_fields_placed(
     alloc: Global,
     db: &HirDatabase,
     i: u64,
@@ -70,8 +71,8 @@ fn are_next_placed(
     }
 }
 
-/// The same of the only fields of a layout.
-fn are_found_placed(
+/// The same for fields whose layout has no other variants, with no sizes found before.
+fn are_only_fields_placed(
     alloc: Global,
     db: &HirDatabase,
     i: u64,
@@ -83,10 +84,11 @@ fn are_found_placed(
     ensures { IfOk result (λ right. right ≡ list_all (is_placed_right db.now i size) (placed_of db.now args.now offsets.now (option_copied fields.entry))) }
 {
     let mut sizes = Map::new(alloc);
-    are_next_placed(alloc, db, i, size, args, &mut sizes, offsets, fields)
+    are_optional_fields_placed(alloc, db, i, size, args, &mut sizes, offsets, fields)
 }
 
-/// Whether the fields of each variant have one offset each, by the list of its own, each inside a size.
+/// Whether the fields of each variant have one offset each, by the list of the variant, and each ends
+/// within `size`.
 fn are_variants_placed(
     alloc: Global,
     db: &HirDatabase,
@@ -105,15 +107,15 @@ fn are_variants_placed(
             return Ok(true);
         }
         let fields = variant_fields(db, ids[k]);
-        if !are_next_placed(alloc, db, i, size, args, &mut sizes, offsets, fields)? {
+        if !are_optional_fields_placed(alloc, db, i, size, args, &mut sizes, offsets, fields)? {
             return Ok(false);
         }
     }
     Ok(true)
 }
 
-/// Whether the fields of the one variant that an enum's values are, or of every variant, have one
-/// offset each, each inside the layout.
+/// Whether the fields of an enum's only inhabited variant, or of every variant, have one offset each, and
+/// each ends within the layout.
 fn is_enum_placed(
     alloc: Global,
     db: &HirDatabase,
@@ -129,7 +131,7 @@ fn is_enum_placed(
         Variants::Empty => Ok(true),
         Variants::Single(v) => {
             let fields = fields_at(db, id, *v);
-            are_found_placed(alloc, db, i, size, args, &layout.offsets, fields)
+            are_only_fields_placed(alloc, db, i, size, args, &layout.offsets, fields)
         }
         Variants::Multiple(multiple) => {
             let ids = enum_variants(db, id);
@@ -138,8 +140,9 @@ fn is_enum_placed(
     }
 }
 
-/// Whether the fields of structs, unions, tuples and enums have one offset each, each inside the layout.
-fn are_all_placed(
+/// Whether the fields of a struct, union, tuple or enum have one offset each, and each ends within the
+/// layout.
+fn are_type_fields_placed(
     alloc: Global,
     db: &HirDatabase,
     i: u64,
@@ -154,19 +157,19 @@ fn are_all_placed(
         Ty::Tuple(parts) => Ok(is_tuple_placed(db, i, size, offsets, parts)),
         Ty::Adt(AdtId::StructId(id), args) => {
             let fields = db.field_types(VariantId::StructId(*id));
-            are_found_placed(alloc, db, i, size, args, offsets, fields)
+            are_only_fields_placed(alloc, db, i, size, args, offsets, fields)
         }
         Ty::Adt(AdtId::UnionId(id), args) => {
             let fields = db.field_types(VariantId::UnionId(*id));
-            are_found_placed(alloc, db, i, size, args, offsets, fields)
+            are_only_fields_placed(alloc, db, i, size, args, offsets, fields)
         }
         Ty::Adt(AdtId::EnumId(id), args) => is_enum_placed(alloc, db, i, *id, args, layout),
         _ => Ok(true),
     }
 }
 
-/// Whether fields, where there are some, have layouts in the first `i` rows.
-fn are_next_known(
+/// Whether the types of optional fields have layouts in the first `i` rows.
+fn are_optional_fields_known(
     alloc: Global,
     db: &HirDatabase,
     i: u64,
@@ -186,7 +189,7 @@ fn are_next_known(
     }
 }
 
-/// Whether the fields of each variant have layouts in the first `i` rows.
+/// Whether the types of the fields of each variant have layouts in the first `i` rows.
 fn are_variants_known(
     alloc: Global,
     db: &HirDatabase,
@@ -200,15 +203,16 @@ fn are_variants_known(
     let mut sizes = Map::new(alloc);
     for id in ids {
         let fields = variant_fields(db, *id);
-        if !are_next_known(alloc, db, i, size, args, &mut sizes, fields)? {
+        if !are_optional_fields_known(alloc, db, i, size, args, &mut sizes, fields)? {
             return Ok(false);
         }
     }
     Ok(true)
 }
 
-/// Whether the fields of all variants, where the type is an enum, have layouts in the first `i` rows.
-fn are_all_known(
+/// Whether the types of the fields of all variants, if the type is an enum, have layouts in the first `i`
+/// rows.
+fn are_enum_fields_known(
     alloc: Global,
     db: &HirDatabase,
     i: u64,
@@ -225,7 +229,7 @@ fn are_all_known(
     }
 }
 
-/// Whether what a closure captures has layouts inside its own.
+/// Whether the captures of a closure have layouts and end within its own.
 fn are_captures_placed(
     alloc: Global,
     db: &HirDatabase,
@@ -244,7 +248,7 @@ fn are_captures_placed(
     }
 }
 
-/// Whether fields, captures, elements and the tag lie inside the layout.
+/// Whether fields, captures, elements and the tag end within the layout.
 #[tactic(auto, using(crate::proofs::Placing::fields_pass, crate::proofs::Placing::fields_fail))]
 fn are_parts_right(
     alloc: Global,
@@ -255,10 +259,10 @@ fn are_parts_right(
 ) -> Result<bool, NoMemory>
     ensures { IfOk result (λ right. right ≡ are_parts_right db.now i ty.now layout.now) }
 {
-    if !are_all_placed(alloc, db, i, ty, layout)? {
+    if !are_type_fields_placed(alloc, db, i, ty, layout)? {
         return Ok(false);
     }
-    if !are_all_known(alloc, db, i, layout.size, ty)? {
+    if !are_enum_fields_known(alloc, db, i, layout.size, ty)? {
         return Ok(false);
     }
     if !are_captures_placed(alloc, db, i, ty, layout)? {
@@ -267,7 +271,7 @@ fn are_parts_right(
     Ok(is_array_size(db, i, ty, layout.size) && is_tag_inside(layout.size, &layout.variants))
 }
 
-/// Whether the layout in row `i` of `layouts` is as every target has it. It errs only where there is no
+/// Whether the layout in row `i` of `layouts` follows the rules of all targets. It fails only for want of
 /// memory.
 pub fn is_layout_right(
     alloc: Global,

@@ -1,4 +1,4 @@
-//! The tests that the check makes of layouts: that they are as every target has them, and that tags
+//! The tests of layouts: they follow the rules of all targets, and their tags
 //! fit their enums.
 #![tactic(auto)]
 

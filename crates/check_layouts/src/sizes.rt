@@ -1,4 +1,4 @@
-//! Sizes and alignments that every target has, and the layouts further up in the table.
+//! Sizes and alignments that are the same on all targets, and the layouts in earlier rows of the table.
 ghost use Rattle.std.specs.Prelude.{◌≡◌, ◌<◌, Option};
 ghost use Rattle.std.specs.Option.{option_copied};
 ghost use Rattle.check_layouts.specs.Fields.{IsPlaceOf, field_layout};
@@ -26,7 +26,7 @@ pub(crate) fn is_multiple_of(size: u64, align: u64) -> bool
     size % align == 0
 }
 
-/// Whether there is a layout, of values whose size the type alone does not tell.
+/// Whether there is a layout, and it is that of an unsized type.
 fn is_unsized(layout: Option<&Layout>) -> bool
     ensures { result ≡ is_unsized (option_copied layout.entry) }
 {
@@ -36,7 +36,7 @@ fn is_unsized(layout: Option<&Layout>) -> bool
     }
 }
 
-/// Whether a pointer to a type carries a length or a table beside the address.
+/// Whether a pointer to a type is wide: it has a length or a vtable beside the address.
 fn is_wide(db: &HirDatabase, ty: &Ty) -> bool
     ensures { result ≡ is_wide db.now ty.now }
 {
@@ -84,7 +84,7 @@ fn uint_bytes(uint: UintTy) -> u64
     }
 }
 
-/// The size that a type has in every world, where it has one.
+/// The size that all targets give a type, if they give it one.
 pub(crate) fn known_size(db: &HirDatabase, ty: &Ty) -> Option<u64>
     ensures { result ≡ known_size db.now ty.now }
 {
@@ -102,17 +102,17 @@ pub(crate) fn known_size(db: &HirDatabase, ty: &Ty) -> Option<u64>
     }
 }
 
-/// Whether no size is told, or the one that is.
-pub(crate) fn is_fixed_size(told: Option<u64>, size: u64) -> bool
-    ensures { result ≡ is_fixed_size told size }
+/// Whether a size is the known one, if there is a known one.
+pub(crate) fn is_fixed_size(known: Option<u64>, size: u64) -> bool
+    ensures { result ≡ is_fixed_size known size }
 {
-    match told {
+    match known {
         Some(fixed) => size == fixed,
         None => true,
     }
 }
 
-/// The layout of a type, by the place of its row, where that is one of the first `i` rows.
+/// The layout of a type, by the index of its row, if that is one of the first `i` rows.
 pub(crate) fn layout_at<'a>(db: &'a HirDatabase, i: u64, place: Option<u64>) -> Option<&'a Layout>
     ensures { (found : Option Ty) → IsPlaceOf db.now found place → option_copied result ≡ field_layout db.now i found }
 {
@@ -131,7 +131,7 @@ pub(crate) fn layout_at<'a>(db: &'a HirDatabase, i: u64, place: Option<u64>) -> 
     }
 }
 
-/// The layout of a type, where it stands in one of the first `i` rows.
+/// The layout of a type, if it is in one of the first `i` rows.
 pub(crate) fn layout_above<'a>(db: &'a HirDatabase, i: u64, ty: &Ty) -> Option<&'a Layout>
     ensures { option_copied result ≡ layout_above db.now i ty.now }
 {

@@ -5,7 +5,7 @@ ghost use Rattle.check_layouts.specs.Tags.{is_enum_tag_right, is_multiple_right,
 use crate::fields::enum_variants;
 use world::{AdtId, HirDatabase, Layout, MultiLayout, TagEncoding, Ty, Variants};
 
-/// How many numbers a tag of less than 16 bytes can be.
+/// How many values a tag of less than 16 bytes has.
 fn tag_values(size: u64) -> u128
     requires { size < 16 }
     ensures { result ≡ tag_values size }
@@ -13,7 +13,7 @@ fn tag_values(size: u64) -> u128
     1 << (8 * size)
 }
 
-/// Whether a tag of 16 bytes can be as many numbers as a sum, which may be 2^128.
+/// Whether a tag of 16 bytes has at least `start + more` values; the sum may be 2^128.
 fn is_widest(start: u128, more: u64) -> bool
     ensures { result ≡ nat_le (start + more) (tag_values 16) }
 {
@@ -34,7 +34,8 @@ fn is_within_tag(start: u128, more: u64, size: u64) -> bool
     start <= values && more as u128 <= values - start
 }
 
-/// Whether the numbers of a niche, one for each variant but the untagged one, fit the tag.
+/// Whether the untagged variant of a niche is one of the enum, and the tag has a value for each other
+/// variant from the start of the niche on.
 fn is_niche_right(count: u64, size: u64, encoding: TagEncoding) -> bool
     ensures { result ≡ is_niche_right count size encoding }
 {
@@ -48,7 +49,7 @@ fn is_niche_right(count: u64, size: u64, encoding: TagEncoding) -> bool
     }
 }
 
-/// Whether there are as many variants as the enum has, which the tag can tell apart.
+/// Whether there are as many variants as in the enum, and the tag has a value for each.
 fn is_multiple_right(count: u64, multiple: &MultiLayout) -> bool
     ensures { result ≡ is_multiple_right count multiple.now }
 {
@@ -78,7 +79,7 @@ fn is_untagged(variants: &Variants) -> bool
     }
 }
 
-/// Whether the tag of a layout fits its enum, and what is no enum has none.
+/// Whether the tag of a layout fits its enum; the layout of any other type has no tag.
 pub fn is_tag_right(db: &HirDatabase, row: &(Ty, Layout)) -> bool
     ensures { result ≡ is_tag_right db.now row.now }
 {

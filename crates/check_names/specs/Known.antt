@@ -1,4 +1,4 @@
--- Which names a world has rows of, and which mentions pass the tests of the check.
+-- Which ids are in range of the tables of a world, and which mentions pass the tests of the check.
 use Rattle.std.specs.Prelude.{ℕ, ◌^◌, nat_lt, Bool, true, false, List, length, Option, Some, None}
 use Rattle.std.specs.List.{list_all}
 use Rattle.types.specs.declared.ids.DefWithBodyId.{DefWithBodyId}
@@ -17,15 +17,15 @@ use Rattle.mentions.specs.Mentions.{ty_mentions, args_mentions}
 use Rattle.mentions.specs.declared.mention.Mention.{Mention}
 use Rattle.mentions.specs.declared.mention.Mention.TheVariants as mention
 
--- a place of a list
+-- an index is in range for a list
 abbrev pub is_in_range : {X : Type 0} → List X → ℕ → Bool
 is_in_range xs i = nat_lt i (length xs)
 
--- so few entries that numbers of 32 bits name each place
+-- few enough entries for indices of 32 bits
 abbrev pub is_nameable : ℕ → Bool
 is_nameable entries = nat_lt entries (2 ^ 32)
 
--- the world has a row of what is mentioned
+-- the mentioned id is in range
 abbrev pub is_known : HirDatabase → Mention → Bool
 is_known world (mention.Function id) = is_in_range world.functions id.0
 is_known world (mention.Const id) = is_in_range world.consts id.0
@@ -42,26 +42,26 @@ is_known world (mention.Closure id) = is_in_range world.closures id.0
 is_known world mention.Error = true
 is_known world (mention.Entries entries) = true
 
--- what is mentioned is known, and a list is so short that its places have names
+-- the mentioned id is in range, and a mentioned list is short enough for indices of 32 bits
 abbrev pub is_named : HirDatabase → Mention → Bool
 is_named world (mention.Entries entries) = is_nameable entries
 is_named world other = is_known world other
 
--- no alias and no parameter
+-- the mention is no alias and no generic parameter
 abbrev pub is_closed : Mention → Bool
 is_closed (mention.Alias id) = false
 is_closed (mention.TypeParam id) = false
 is_closed (mention.ConstParam id) = false
 is_closed _ = true
 
--- no parameter and no error
+-- the mention is no generic parameter and no error
 abbrev pub is_settled : Mention → Bool
 is_settled (mention.TypeParam id) = false
 is_settled (mention.ConstParam id) = false
 is_settled mention.Error = false
 is_settled _ = true
 
--- everything that generic arguments mention is known
+-- all ids in generic arguments are in range
 abbrev pub are_args_known : HirDatabase → GenericArgs → Bool
 are_args_known world args = list_all (is_known world) (args_mentions args)
 
@@ -71,40 +71,40 @@ is_ty_named world ty = list_all (is_named world) (ty_mentions ty)
 abbrev pub are_args_named : HirDatabase → GenericArgs → Bool
 are_args_named world args = list_all (is_named world) (args_mentions args)
 
--- a type that holds no alias and no parameter
+-- a type has no alias and no generic parameter in it
 abbrev pub is_ty_closed : Ty → Bool
 is_ty_closed ty = list_all is_closed (ty_mentions ty)
 
 abbrev pub are_args_closed : GenericArgs → Bool
 are_args_closed args = list_all is_closed (args_mentions args)
 
--- generic arguments that hold no parameter and no error
+-- generic arguments have no generic parameter and no error in them
 abbrev pub are_args_settled : GenericArgs → Bool
 are_args_settled args = list_all is_settled (args_mentions args)
 
--- a row of what can have a body
+-- the id of a definition with a body is in range
 abbrev pub is_def_known : HirDatabase → DefWithBodyId → Bool
 is_def_known world (def.FunctionId id) = is_in_range world.functions id.0
 is_def_known world (def.StaticId id) = is_in_range world.statics id.0
 is_def_known world (def.ConstId id) = is_in_range world.consts id.0
 is_def_known world (def.VariantId id) = is_in_range world.variants id.0
 
--- a row of what has fields
+-- the id of a struct, a union or a variant is in range
 abbrev pub is_variant_known : HirDatabase → VariantId → Bool
 is_variant_known world (variant.EnumVariantId id) = is_in_range world.variants id.0
 is_variant_known world (variant.StructId id) = is_in_range world.structs id.0
 is_variant_known world (variant.UnionId id) = is_in_range world.unions id.0
 
--- fields, where there are some, have such a place
+-- the index is in range for an optional list of fields
 abbrev pub has_place : Option (List FieldRow) → ℕ → Bool
 has_place None i = false
 has_place (Some fields) i = is_in_range fields i
 
--- a field of a row that the world has
+-- a field's struct, union or variant is in range, and has a field at its index
 abbrev pub is_field_known : HirDatabase → FieldId → Bool
 is_field_known world field = has_place (fields_of world field.parent) field.local_id
 
--- a generic parameter that the world has a row of
+-- the id of a generic parameter is in range
 abbrev pub is_param_known : HirDatabase → GenericParamId → Bool
 is_param_known world (param.TypeParamId id) = is_in_range world.type_params id.0
 is_param_known world (param.ConstParamId id) = is_in_range world.const_params id.0

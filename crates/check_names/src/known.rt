@@ -1,4 +1,4 @@
-//! Which names a world has rows of.
+//! Which ids are in range of the tables of a world.
 
 ghost use Rattle.std.specs.Prelude.{◌≡◌, length, nat_lt};
 ghost use Rattle.check_names.specs.Known.{is_nameable, is_known, is_named, is_def_known, is_variant_known, is_field_known, is_param_known};
@@ -6,21 +6,21 @@ ghost use Rattle.check_names.specs.Known.{is_nameable, is_known, is_named, is_de
 use mentions::Mention;
 use world::{DefWithBodyId, FieldId, GenericParamId, HirDatabase, VariantId};
 
-/// Whether a list of this length has such a place.
+/// Whether an index is in range for a list of this length.
 fn is_in_range(len: u64, place: u32) -> bool
     ensures { result ≡ nat_lt place len }
 {
     (place as u64) < len
 }
 
-/// Whether there are so few entries that numbers of 32 bits name each place.
+/// Whether there are few enough entries for indices of 32 bits.
 pub fn is_nameable(entries: u64) -> bool
     ensures { result ≡ is_nameable entries }
 {
     entries < 0x1_0000_0000
 }
 
-/// Whether the world has a row of what is mentioned. An error and a list are no names.
+/// Whether the mentioned id is in range. An error and a list have no id, and pass.
 pub fn is_known(db: &HirDatabase, mention: Mention) -> bool
     ensures { result ≡ is_known db.now mention }
 {
@@ -42,7 +42,7 @@ pub fn is_known(db: &HirDatabase, mention: Mention) -> bool
     }
 }
 
-/// Whether what is mentioned is known, and a list so short that its places have names.
+/// Whether the mentioned id is in range, and a mentioned list is short enough for indices of 32 bits.
 pub(crate) fn is_named(db: &HirDatabase, mention: Mention) -> bool
     ensures { result ≡ is_named db.now mention }
 {
@@ -52,7 +52,7 @@ pub(crate) fn is_named(db: &HirDatabase, mention: Mention) -> bool
     }
 }
 
-/// Whether the world has a row of what can have a body.
+/// Whether the id of a definition with a body is in range.
 pub fn is_def_known(db: &HirDatabase, def: DefWithBodyId) -> bool
     ensures { result ≡ is_def_known db.now def }
 {
@@ -64,7 +64,7 @@ pub fn is_def_known(db: &HirDatabase, def: DefWithBodyId) -> bool
     }
 }
 
-/// Whether the world has a row of what has fields.
+/// Whether the id of a struct, a union or a variant is in range.
 pub fn is_variant_known(db: &HirDatabase, v: VariantId) -> bool
     ensures { result ≡ is_variant_known db.now v }
 {
@@ -75,7 +75,7 @@ pub fn is_variant_known(db: &HirDatabase, v: VariantId) -> bool
     }
 }
 
-/// Whether the world has a row of a field's parent, and the parent such a field.
+/// Whether a field's struct, union or variant is in range, and has a field at its index.
 pub fn is_field_known(db: &HirDatabase, field: FieldId) -> bool
     ensures { result ≡ is_field_known db.now field }
 {
@@ -85,7 +85,7 @@ pub fn is_field_known(db: &HirDatabase, field: FieldId) -> bool
     }
 }
 
-/// Whether the world has a row of a generic parameter.
+/// Whether the id of a generic parameter is in range.
 pub fn is_param_known(db: &HirDatabase, param: GenericParamId) -> bool
     ensures { result ≡ is_param_known db.now param }
 {

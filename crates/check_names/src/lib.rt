@@ -1,5 +1,5 @@
-//! Whether a world has what types and generic arguments mention, and the other tests of the check over
-//! what they mention.
+//! Whether all ids in types and generic arguments are in range, and the other tests of the check over
+//! them.
 #![tactic(auto)]
 
 mod known;

@@ -1,4 +1,4 @@
-//! Whether all that types and generic arguments mention passes the tests of the check.
+//! Whether all mentions in types and generic arguments pass the tests of the check.
 
 ghost use Rattle.std.specs.Prelude.{◌≡◌};
 ghost use Rattle.std.specs.List.{list_all};
@@ -8,15 +8,15 @@ use crate::test::{Closed, Known, Named, Settled};
 use mentions::{all_in_args, all_in_ty};
 use world::{GenericArgs, HirDatabase, Ty};
 
-/// Whether the world has a row of everything that generic arguments mention.
+/// Whether all ids in generic arguments are in range.
 pub fn are_args_known(db: &HirDatabase, args: &GenericArgs) -> bool
     ensures { result ≡ are_args_known db.now args.now }
 {
     all_in_args(&Known { db }, args)
 }
 
-/// Whether the world has a row of everything that a type mentions, and the tuples and generic arguments
-/// in it are so short that their places have names.
+/// Whether all ids in a type are in range, and the tuples and generic arguments in it are short enough
+/// for indices of 32 bits.
 pub fn is_ty_named(db: &HirDatabase, ty: &Ty) -> bool
     ensures { result ≡ is_ty_named db.now ty.now }
 {
@@ -30,29 +30,29 @@ pub fn are_tys_named(db: &HirDatabase, tys: &[Ty]) -> bool
     tys.iter().all(|ty| is_ty_named(db, ty))
 }
 
-/// Whether the world has a row of everything that generic arguments mention, and the tuples and generic
-/// arguments in them are so short that their places have names.
+/// Whether all ids in generic arguments are in range, and the tuples and generic arguments in them are
+/// short enough for indices of 32 bits.
 pub fn are_args_named(db: &HirDatabase, args: &GenericArgs) -> bool
     ensures { result ≡ are_args_named db.now args.now }
 {
     all_in_args(&Named { db }, args)
 }
 
-/// Whether a type holds no alias and no parameter.
+/// Whether a type has no alias and no generic parameter in it.
 pub fn is_ty_closed(ty: &Ty) -> bool
     ensures { result ≡ is_ty_closed ty.now }
 {
     all_in_ty(&Closed, ty)
 }
 
-/// Whether generic arguments hold no alias and no parameter.
+/// Whether generic arguments have no alias and no generic parameter in them.
 pub fn are_args_closed(args: &GenericArgs) -> bool
     ensures { result ≡ are_args_closed args.now }
 {
     all_in_args(&Closed, args)
 }
 
-/// Whether generic arguments hold no parameter and no error.
+/// Whether generic arguments have no generic parameter and no error in them.
 pub fn are_args_settled(args: &GenericArgs) -> bool
     ensures { result ≡ are_args_settled args.now }
 {

@@ -1,4 +1,4 @@
-//! Tests of what is mentioned.
+//! Tests of the mentions in types and generic arguments: ids, aliases, parameters, errors and lengths.
 
 ghost use Rattle.std.specs.Prelude.{◌≡◌, Bool};
 ghost use Rattle.check_names.specs.Known.{is_known, is_named, is_closed, is_settled};
@@ -7,7 +7,7 @@ use crate::known::{is_known, is_named};
 use mentions::{Mention, MentionTest};
 use world::HirDatabase;
 
-/// The world has a row of what is mentioned.
+/// The mentioned id is in range.
 #[derive(Drop)]
 pub(crate) struct Known<'a> {
     pub(crate) db: &'a HirDatabase,
@@ -21,7 +21,7 @@ impl<'a> MentionTest for Known<'a> {
     }
 }
 
-/// What is mentioned is known, and lists are so short that their places have names.
+/// The mentioned id is in range, or the mentioned list is short enough for indices of 32 bits.
 #[derive(Drop)]
 pub(crate) struct Named<'a> {
     pub(crate) db: &'a HirDatabase,
@@ -35,7 +35,7 @@ impl<'a> MentionTest for Named<'a> {
     }
 }
 
-/// No alias and no parameter.
+/// The mention is no alias and no generic parameter.
 #[derive(Drop)]
 pub(crate) struct Closed;
 
@@ -50,7 +50,7 @@ impl MentionTest for Closed {
     }
 }
 
-/// No parameter and no error.
+/// The mention is no generic parameter and no error.
 #[derive(Drop)]
 pub(crate) struct Settled;
 

@@ -53,7 +53,7 @@ enclosed_here body label step node holder found whole h top e some labelled is_w
     ap (λ b. b || is_enclosed body label (401 - (step + 1)) holder) (sym labelled)
     ∙ enclosed_some body label step node holder found whole h top e some is_whole
 
--- the parent doesn't have the label: the climb goes on at it
+-- the parent doesn't have the label: the climb continues at it
 pub enclosed_more : (body : Body) (label : LabelId) (step : ℕ) (node holder : BodyNode) (found : Option BodyNode) (whole : Bool) → step < 401 → is_top body node ≡ false → found ≡ holder_of body node → found ≡ Some holder → is_labelled body label holder ≡ false → is_enclosed body label (401 - step) node ≡ whole → is_enclosed body label (401 - (step + 1)) holder ≡ whole
 enclosed_more body label step node holder found whole h top e some labelled is_whole =
     ap (λ b. b || is_enclosed body label (401 - (step + 1)) holder) (sym labelled)

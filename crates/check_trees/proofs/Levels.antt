@@ -39,8 +39,8 @@ and_first false b e = e
 
 -- a table of heights stays right when a node's height is stored
 pub heights_more : (body : Body) (before after : Heights) (node : BodyNode) (height : ℕ) → AreHeights body before → HasHeight body node height → ((other : BodyNode) → known_of after other ≡ noted_of before node (Height height) other) → AreHeights body after
-heights_more body before after node height are is_height noted other h told steps =
-    by_choice (chosen_height (same_node other node && has_place before node) (known_of before other) (known_of after other) h height (noted other) told)
+heights_more body before after node height are is_height noted other h fact steps =
+    by_choice (chosen_height (same_node other node && has_place before node) (known_of before other) (known_of after other) h height (noted other) fact)
   where
     by_choice : (known_of before other ≡ Height h) ⊎ (((same_node other node && has_place before node) ≡ true) × (height ≡ h)) → has_path body steps other ≡ leb steps h
     by_choice (inl was) = are other h was steps
@@ -147,17 +147,17 @@ levels_more body nodes i node d levels height h at is_height whole steps =
     ∙ whole steps
 
 -- `AreLevels` at the answer `Some levels`
-pub levels_told : (body : Body) (before : Heights) (budget : ℕ) (nodes : List BodyNode) (found : Option ℕ) (levels : ℕ) → AreLevels body before budget nodes found → found ≡ Some levels → AreLevels body before budget nodes (Some levels)
-levels_told body before budget nodes found levels h e = subst (AreLevels body before budget nodes) e h
+pub levels_at : (body : Body) (before : Heights) (budget : ℕ) (nodes : List BodyNode) (found : Option ℕ) (levels : ℕ) → AreLevels body before budget nodes found → found ≡ Some levels → AreLevels body before budget nodes (Some levels)
+levels_at body before budget nodes found levels h e = subst (AreLevels body before budget nodes) e h
 
 -- `AreLevels` at the answer `None`
-pub path_told : (body : Body) (before : Heights) (budget : ℕ) (nodes : List BodyNode) (found : Option ℕ) → AreLevels body before budget nodes found → found ≡ None → AreLevels body before budget nodes None
-path_told body before budget nodes found h e = subst (AreLevels body before budget nodes) e h
+pub path_at : (body : Body) (before : Heights) (budget : ℕ) (nodes : List BodyNode) (found : Option ℕ) → AreLevels body before budget nodes found → found ≡ None → AreLevels body before budget nodes None
+path_at body before budget nodes found h e = subst (AreLevels body before budget nodes) e h
 
 -- `IsHeight` at the answer `Some height`
-pub height_told : (body : Body) (before : Heights) (budget : ℕ) (node : BodyNode) (found : Option ℕ) (height : ℕ) → IsHeight body before budget node found → found ≡ Some height → IsHeight body before budget node (Some height)
-height_told body before budget node found height h e = subst (IsHeight body before budget node) e h
+pub height_at : (body : Body) (before : Heights) (budget : ℕ) (node : BodyNode) (found : Option ℕ) (height : ℕ) → IsHeight body before budget node found → found ≡ Some height → IsHeight body before budget node (Some height)
+height_at body before budget node found height h e = subst (IsHeight body before budget node) e h
 
 -- `LeavesNoneOpen` at the answer `Some height`
-pub closed_told : (before after : Heights) (found : Option ℕ) (height : ℕ) → LeavesNoneOpen before after found → found ≡ Some height → LeavesNoneOpen before after (Some height)
-closed_told before after found height h e = subst (LeavesNoneOpen before after) e h
+pub closed_at : (before after : Heights) (found : Option ℕ) (height : ℕ) → LeavesNoneOpen before after found → found ≡ Some height → LeavesNoneOpen before after (Some height)
+closed_at before after found height h e = subst (LeavesNoneOpen before after) e h

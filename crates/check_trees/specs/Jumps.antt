@@ -44,5 +44,5 @@ abbrev pub is_jump_inside : Body → ℕ → Expression → Bool
 is_jump_inside body e node = names_enclosing body e (jump_label node)
 
 -- the first jump to a label that no enclosing loop or block has
-abbrev pub loose_jump : Body → Option ℕ
-loose_jump body = first_failing (is_jump_inside body) 0 body.exprs
+abbrev pub wrong_jump : Body → Option ℕ
+wrong_jump body = first_failing (is_jump_inside body) 0 body.exprs

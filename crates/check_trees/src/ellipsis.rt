@@ -27,7 +27,7 @@ fn is_ellipsis_inside(pat: &Pat) -> bool
 }
 
 /// The first of these patterns whose `..` stands past the end of its subpatterns.
-fn first_wrong_ellipsis(pats: &[Pat]) -> Option<usize>
+fn wrong_ellipsis_among(pats: &[Pat]) -> Option<usize>
     ensures { result ≡ position (λ pat. not (is_ellipsis_inside pat)) pats.now }
 {
     pats.iter().position(|pat| !is_ellipsis_inside(pat))
@@ -37,7 +37,7 @@ fn first_wrong_ellipsis(pats: &[Pat]) -> Option<usize>
 pub fn wrong_ellipsis(body: &Body) -> Option<u64>
     ensures { result ≡ wrong_ellipsis body.now }
 {
-    match first_wrong_ellipsis(body.pats.as_slice()) {
+    match wrong_ellipsis_among(body.pats.as_slice()) {
         Some(p) => Some(p as u64),
         None => None,
     }

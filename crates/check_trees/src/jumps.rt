@@ -2,7 +2,7 @@
 ghost use Rattle.std.specs.Prelude.{◌≡◌, ◌<◌, length, true, IfOk};
 ghost use Rattle.world.specs.Nodes.{jump_label, scope_label};
 ghost use Rattle.check_trees.specs.Holders.{is_node, AreHolders};
-ghost use Rattle.check_trees.specs.Jumps.{is_enclosed, is_jump_inside, is_label, is_labelled, loose_jump};
+ghost use Rattle.check_trees.specs.Jumps.{is_enclosed, is_jump_inside, is_label, is_labelled, wrong_jump};
 ghost use Rattle.check_trees.specs.Tops.{AreTops};
 ghost use Rattle.world.specs.Failing.{first_failing};
 
@@ -15,10 +15,10 @@ use std::alloc::Global;
 use world::{Body, Expr, LabelId, NoMemory};
 
 /// Whether an optional label is this one.
-fn is_label(told: Option<LabelId>, label: LabelId) -> bool
-    ensures { result ≡ is_label told label }
+fn is_label(found: Option<LabelId>, label: LabelId) -> bool
+    ensures { result ≡ is_label found label }
 {
-    match told {
+    match found {
         None => false,
         Some(other) => other.0 == label.0,
     }
@@ -74,7 +74,7 @@ fn is_jump_inside(body: &Body, holders: &Holders, tops: &[bool], e: u64, node: &
 }
 
 /// The first of these expressions that jumps to a label which doesn't enclose it.
-fn first_loose_jump(body: &Body, holders: &Holders, tops: &[bool], exprs: &[Expr]) -> Option<u64>
+fn wrong_jump_among(body: &Body, holders: &Holders, tops: &[bool], exprs: &[Expr]) -> Option<u64>
     requires all { exprs.now ≡ body.now.exprs }
     requires holders { AreHolders body.now holders.now }
     requires tops { AreTops body.now tops.now }
@@ -90,11 +90,11 @@ fn first_loose_jump(body: &Body, holders: &Holders, tops: &[bool], exprs: &[Expr
 
 /// The first jump of a body to a label that no enclosing loop or block has. It fails only for want of
 /// memory.
-pub fn loose_jump(alloc: Global, body: &Body) -> Result<Option<u64>, NoMemory>
-    ensures { IfOk result (λ found. found ≡ loose_jump body.now) }
+pub fn wrong_jump(alloc: Global, body: &Body) -> Result<Option<u64>, NoMemory>
+    ensures { IfOk result (λ found. found ≡ wrong_jump body.now) }
 {
     let pairs = held_pairs(alloc, body)?;
     let holders = Holders::of(alloc, body, pairs.as_slice())?;
     let tops = top_marks(alloc, body)?;
-    Ok(first_loose_jump(body, &holders, tops.as_slice(), body.exprs.as_slice()))
+    Ok(wrong_jump_among(body, &holders, tops.as_slice(), body.exprs.as_slice()))
 }

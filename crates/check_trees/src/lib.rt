@@ -16,7 +16,7 @@ mod reach;
 mod tops;
 
 pub use ellipsis::wrong_ellipsis;
-pub use jumps::loose_jump;
+pub use jumps::wrong_jump;
 pub use node::BodyNode;
 pub use nodes::{
     jump_label, push_children, push_inner_exprs, push_patterns, push_subpatterns, scope_label,

@@ -128,7 +128,7 @@ fn is_pat_in_order(
 }
 
 /// The first expression of a body that is not in order.
-fn first_wrong_expr(
+fn wrong_expr_among(
     alloc: Global,
     body: &Body,
     facts: &Facts,
@@ -153,7 +153,7 @@ fn first_wrong_expr(
 }
 
 /// The first pattern of a body that is not in order.
-fn first_wrong_pat(
+fn wrong_pat_among(
     alloc: Global,
     body: &Body,
     facts: &Facts,
@@ -184,11 +184,11 @@ pub fn wrong_node(alloc: Global, body: &Body) -> Result<Option<BodyNode>, NoMemo
     let mut heights = Heights::new(alloc, body)?;
     let mut reaches = Reaches::new(alloc, body)?;
     let exprs = body.exprs.as_slice();
-    if let Some(e) = first_wrong_expr(alloc, body, &facts, &mut heights, &mut reaches, exprs)? {
+    if let Some(e) = wrong_expr_among(alloc, body, &facts, &mut heights, &mut reaches, exprs)? {
         return Ok(Some(BodyNode::Expr(e)));
     }
     let pats = body.pats.as_slice();
-    match first_wrong_pat(alloc, body, &facts, &mut heights, pats)? {
+    match wrong_pat_among(alloc, body, &facts, &mut heights, pats)? {
         Some(p) => Ok(Some(BodyNode::Pat(p))),
         None => Ok(None),
     }

@@ -19,11 +19,10 @@ use Rattle.mir.specs.declared.errors.MirEvalError.{MirEvalError}
 use Rattle.mir.specs.declared.errors.MirLowerError.{MirLowerError}
 use Rattle.mir.specs.declared.errors.MirLowerError.TheVariants as refusal
 use Rattle.mir_lower.specs.Refusals.{IsNumber, RefusesNode, RefusesInferred}
-use Rattle.mir_lower.proofs.Causes.{built-is-complete, built-is-no-unbuilt, built-has-local, built-is-named}
+use Rattle.mir_lower.proofs.Causes.{built-is-complete, built-is-no-unbuilt, built-has-local, built-is-resolved}
 use Rattle.mir_lower.specs.Simulates.{Simulates}
 use Rattle.source_meaning.proofs.Built.{plain_is_built}
 use Rattle.source_meaning.proofs.Layouts.{integer_is_width}
-use Rattle.source_meaning.specs.Built.{IsBuiltForm}
 use Rattle.source_meaning.specs.Source.{Source, node, root}
 use Rattle.source_meaning.specs.Valid.{Evaluates, IsInteger, HasPlainForm, IsPlainNode, HasDefinedCost}
 use Rattle.consteval.specs.Answers.{EndsEvaluation, EndsLowering, RefusesBody, RefusesRun, has_errors, has_generics, is_empty, is_erroneous, is_unbuilt, is_unbuilt_item}
@@ -72,6 +71,9 @@ number-is-integer source e (Some (expr.Literal (Number n))) ty plain number = pl
 number-is-integer source e (Some (expr.Literal (Truth test))) ty plain number = absurd number
 number-is-integer source e (Some (expr.Path name)) ty plain number = absurd number
 number-is-integer source e (Some (expr.Strict operation operands)) ty plain number = absurd number
+number-is-integer source e (Some (expr.Logic op left right)) ty plain number = absurd number
+number-is-integer source e (Some (expr.If condition then_branch else_branch)) ty plain number = absurd number
+number-is-integer source e (Some (expr.Assign assigned value)) ty plain number = absurd number
 number-is-integer source e (Some (expr.Block statements tail)) ty plain number = absurd number
 number-is-integer source e None ty plain number = absurd number
 
@@ -79,7 +81,7 @@ number-is-integer source e None ty plain number = absurd number
 refuses-node : (source : Source) (e : ℕ) (error : MirLowerError) → IsChecked source.world → IsPlainNode source e → Evaluates source (root source) e → RefusesNode source e error → (error ≡ refusal.NoMemory) ⊎ EndsLowering source error
 refuses-node source e (refusal.LayoutError layout_error) checked plain at refuses = inr (e, at, refuses)
 refuses-node source e refusal.IncompleteExpr checked plain at refuses = absurd (built-is-complete source e (plain_is_built source e plain) refuses)
-refuses-node source e (refusal.UnresolvedName name) checked plain at refuses = absurd (built-is-named source e name (subst (IsBuiltForm source e) refuses.0 (plain_is_built source e plain)) refuses.1)
+refuses-node source e (refusal.UnresolvedName name) checked plain at refuses = absurd (built-is-resolved source e (node source e) name (plain_is_built source e plain) refuses)
 refuses-node source e refusal.InaccessibleLocal checked plain at refuses = absurd (built-has-local source e (node source e) (plain_is_built source e plain) refuses)
 refuses-node source e refusal.HasErrors checked plain at refuses = absurd refuses
 refuses-node source e (refusal.TypeError text) checked plain at refuses =

@@ -6,7 +6,7 @@ use Rattle.json_kit.specs.declared.misfit.NotAWorld.{NotAWorld}
 use Rattle.json_kit.specs.declared.misfit.NotAWorld.TheVariants.{At, NoMemory}
 
 -- The value, or the path from the tree that was read to the part that doesn't fit, as the bytes of a
--- text: `.name` goes to the value at a key, `[3]` to an item of an array, and the empty path is the tree.
+-- text: `.name` is the step to the value at a key, `[3]` the step to an item of an array, and the empty path is the tree.
 abbrev pub Fit : Type 0 → Type 0
 Fit A = Result A (List ℕ)
 

@@ -1,5 +1,5 @@
 -- What a run of a body means: blocks entered one after another over one memory, under a budget of blocks.
-use Rattle.std.specs.Prelude.{ℕ, zero, suc, List, [], ◌∷◌, drop, Option, Some, None, Result, Ok, Err, slice_get, option_map, option_and_then, codes}
+use Rattle.std.specs.Prelude.{ℕ, zero, suc, List, [], ◌∷◌, length, drop, Option, Some, None, Result, Ok, Err, slice_get, option_map, option_and_then, codes, if◌then◌else◌, nat_le}
 use Rattle.world.specs.declared.database.HirDatabase.{HirDatabase}
 use Rattle.types.specs.declared.ty.ComplexMemoryMap.{ComplexMemoryMap}
 use Rattle.types.specs.declared.ty.Const.{Const, Const-F, out-Const}
@@ -11,13 +11,16 @@ use Rattle.types.specs.declared.ty.TraitRef.{TraitRef}
 use Rattle.types.specs.declared.ty.UnevaluatedConst.{UnevaluatedConst}
 use Rattle.types.specs.declared.ty.ValueConst.{ValueConst}
 use Rattle.types.specs.declared.ty.Ty.{Ty}
+use Rattle.numbers.specs.Bytes.{value_of}
 use Rattle.numbers.specs.declared.operator.Operator.{Operator}
 use Rattle.numbers.specs.declared.operator.Kind.{Kind}
 use Rattle.numbers.specs.Operators.{Answer, Computes, Panics, Undefined, computed, negated, inverted, kind_of}
 use Rattle.mir.specs.declared.body.BasicBlock.{BasicBlock}
 use Rattle.mir.specs.declared.body.MirBody.{MirBody}
 use Rattle.mir.specs.declared.body.Terminator.{Terminator}
-use Rattle.mir.specs.declared.body.TerminatorKind.TheVariants.{Return, Drop}
+use Rattle.mir.specs.declared.body.TerminatorKind.TheVariants.{Goto, SwitchInt, Return, Drop}
+use Rattle.mir.specs.declared.switch.SwitchTargets.{SwitchTargets}
+use Rattle.mir.specs.Switches.{target_of}
 use Rattle.mir.specs.declared.errors.MirEvalError.{MirEvalError}
 use Rattle.mir.specs.declared.errors.MirEvalError as error
 use Rattle.mir.specs.declared.operand.UnOp.{UnOp}
@@ -135,11 +138,21 @@ abbrev pub returned : Option (List ℕ) → Ending
 returned (Some bytes) = Returned bytes
 returned None = Faulted bad_read
 
+-- where a switch leads: to the target of the unsigned number that the operand's bytes are, of which there are at most 16
+unfoldable pub switched : Memory → SwitchTargets → Option (List ℕ) → Next
+switched memory targets (Some bytes) =
+    if nat_le (length bytes) 16
+    then GoesTo memory (target_of targets (value_of bytes)).0
+    else Stops (Faulted (error.NotSupported (codes "comparison of this type")))
+switched memory targets None = Stops (Faulted bad_read)
+
 -- what a terminator does
 unfoldable pub terminated : Frame → Memory → Option Terminator → Next
 terminated frame memory None = Stops (Faulted (error.NotSupported (codes "block without terminator")))
 terminated frame memory (Some terminator) =
     elim terminator.kind [
+      | Goto target ↦ GoesTo memory target.0
+      | SwitchInt discr targets ↦ switched memory targets (operand_bytes frame memory discr.kind)
       | Return ↦ Stops (returned (option_and_then (bytes_at memory) (slice_get frame.cells 0)))
       | Drop place target unwind ↦ GoesTo memory target.0
     ]

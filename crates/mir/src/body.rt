@@ -1,6 +1,6 @@
 //! Bodies as graphs of basic blocks.
 
-use crate::{BasicBlockId, MirSpan, Place, Statement};
+use crate::{BasicBlockId, MirSpan, Operand, Place, Statement, SwitchTargets};
 use world::{DefWithBodyId, List, Ty};
 
 /// A local variable of a body.
@@ -34,6 +34,17 @@ impl Drop for Terminator {
 /// How a block ends.
 #[derive(PartialEq, Eq, Drop)]
 pub enum TerminatorKind {
+    /// The run goes on at `target`.
+    Goto {
+        target: BasicBlockId,
+    },
+    /// The operand's bytes are read as an unsigned number, and the run goes on at its target, as
+    /// rustc's documentation of `TerminatorKind::SwitchInt` says.
+    SwitchInt {
+        discr: Operand,
+        targets: SwitchTargets,
+    },
+    /// The run ends, and the bytes of local 0 are its value.
     Return,
     /// The value at the place is dropped, and the run goes on at `target`.
     Drop {

@@ -1,7 +1,10 @@
-//! Copies of errors, which equal them.
+//! Copies of errors, operands and bodies, which equal them.
 ghost use Rattle.std.specs.Prelude.{◌≡◌, IfOk};
 
-use crate::{ConstEvalError, LayoutError, MirEvalError, MirLowerError, TrailEntry};
+use crate::{
+    BasicBlock, ConstEvalError, LayoutError, Local, MirBody, MirEvalError, MirLowerError, Operand,
+    OperandKind, Rvalue, Statement, StatementKind, Terminator, TerminatorKind, TrailEntry,
+};
 use std::alloc::Global;
 use world::{Box, NoMemory, TryClone};
 
@@ -85,5 +88,130 @@ impl TryClone for ConstEvalError {
             }
             ConstEvalError::NoMemory => Ok(ConstEvalError::NoMemory),
         }
+    }
+}
+
+impl TryClone for OperandKind {
+    fn try_clone(&self, alloc: Global) -> Result<OperandKind, NoMemory> {
+        match self {
+            OperandKind::Copy(place) => Ok(OperandKind::Copy(*place)),
+            OperandKind::Constant { konst, ty } => {
+                let konst = konst.try_clone(alloc)?;
+                let ty = ty.try_clone(alloc)?;
+                Ok(OperandKind::Constant { konst, ty })
+            }
+        }
+    }
+}
+
+impl TryClone for Operand {
+    fn try_clone(&self, alloc: Global) -> Result<Operand, NoMemory> {
+        let kind = self.kind.try_clone(alloc)?;
+        Ok(Operand {
+            kind,
+            span: self.span,
+        })
+    }
+}
+
+impl TryClone for Rvalue {
+    fn try_clone(&self, alloc: Global) -> Result<Rvalue, NoMemory> {
+        match self {
+            Rvalue::Use(operand) => Ok(Rvalue::Use(operand.try_clone(alloc)?)),
+            Rvalue::CheckedBinaryOp(op, left, right) => {
+                let left = left.try_clone(alloc)?;
+                let right = right.try_clone(alloc)?;
+                Ok(Rvalue::CheckedBinaryOp(*op, left, right))
+            }
+            Rvalue::UnaryOp(op, operand) => Ok(Rvalue::UnaryOp(*op, operand.try_clone(alloc)?)),
+        }
+    }
+}
+
+impl TryClone for StatementKind {
+    fn try_clone(&self, alloc: Global) -> Result<StatementKind, NoMemory> {
+        match self {
+            StatementKind::Assign(place, rvalue) => {
+                Ok(StatementKind::Assign(*place, rvalue.try_clone(alloc)?))
+            }
+            StatementKind::FakeRead(place) => Ok(StatementKind::FakeRead(*place)),
+            StatementKind::StorageLive(local) => Ok(StatementKind::StorageLive(*local)),
+            StatementKind::StorageDead(local) => Ok(StatementKind::StorageDead(*local)),
+        }
+    }
+}
+
+impl TryClone for Statement {
+    fn try_clone(&self, alloc: Global) -> Result<Statement, NoMemory> {
+        let kind = self.kind.try_clone(alloc)?;
+        Ok(Statement {
+            kind,
+            span: self.span,
+        })
+    }
+}
+
+impl TryClone for TerminatorKind {
+    fn try_clone(&self, alloc: Global) -> Result<TerminatorKind, NoMemory> {
+        match self {
+            TerminatorKind::Goto { target } => Ok(TerminatorKind::Goto { target: *target }),
+            TerminatorKind::SwitchInt { discr, targets } => {
+                let discr = discr.try_clone(alloc)?;
+                let targets = targets.try_clone(alloc)?;
+                Ok(TerminatorKind::SwitchInt { discr, targets })
+            }
+            TerminatorKind::Return => Ok(TerminatorKind::Return),
+            TerminatorKind::Drop {
+                place,
+                target,
+                unwind,
+            } => Ok(TerminatorKind::Drop {
+                place: *place,
+                target: *target,
+                unwind: *unwind,
+            }),
+        }
+    }
+}
+
+impl TryClone for Terminator {
+    fn try_clone(&self, alloc: Global) -> Result<Terminator, NoMemory> {
+        let kind = self.kind.try_clone(alloc)?;
+        Ok(Terminator {
+            span: self.span,
+            kind,
+        })
+    }
+}
+
+impl TryClone for BasicBlock {
+    fn try_clone(&self, alloc: Global) -> Result<BasicBlock, NoMemory> {
+        let statements = self.statements.try_clone(alloc)?;
+        let terminator = self.terminator.try_clone(alloc)?;
+        Ok(BasicBlock {
+            statements,
+            terminator,
+            is_cleanup: self.is_cleanup,
+        })
+    }
+}
+
+impl TryClone for Local {
+    fn try_clone(&self, alloc: Global) -> Result<Local, NoMemory> {
+        let ty = self.ty.try_clone(alloc)?;
+        Ok(Local { ty })
+    }
+}
+
+impl TryClone for MirBody {
+    fn try_clone(&self, alloc: Global) -> Result<MirBody, NoMemory> {
+        let basic_blocks = self.basic_blocks.try_clone(alloc)?;
+        let locals = self.locals.try_clone(alloc)?;
+        Ok(MirBody {
+            basic_blocks,
+            locals,
+            start_block: self.start_block,
+            owner: self.owner,
+        })
     }
 }

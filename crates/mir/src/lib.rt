@@ -5,7 +5,9 @@
 // Drops are written by hand: derived ones would be proved anew in each crate that drops such a value.
 
 mod address;
+mod answers;
 mod body;
+mod closed;
 mod copies;
 mod errors;
 mod ids;
@@ -13,8 +15,10 @@ mod mem_fault;
 mod operand;
 mod span;
 mod statement;
+mod switch;
 
 pub use address::{Address, CellSize, Interval};
+pub use answers::{Answer, Answers, Query};
 pub use body::{BasicBlock, Local, MirBody, Terminator, TerminatorKind};
 pub use errors::{
     ConstEvalError, LayoutError, MirEvalError, MirLowerError, TrailEntry, layout_error_of,
@@ -25,3 +29,4 @@ pub use numbers::Operator as BinOp;
 pub use operand::{Operand, OperandKind, Place, Rvalue, UnOp};
 pub use span::MirSpan;
 pub use statement::{Statement, StatementKind};
+pub use switch::{SwitchIter, SwitchTargets};

@@ -10,6 +10,7 @@ mod output;
 mod places;
 mod runs;
 mod steps;
+mod words;
 
 pub use evaluator::{Evaluator, Turned};
 pub use output::MirOutput;

@@ -2,15 +2,16 @@
 
 ghost use Rattle.std.specs.Prelude.{◌≡◌, ◌≤◌, IfOk, Some, slice_get, option_and_then, option_copied};
 ghost use Rattle.numbers.specs.Operators.{kind_of};
-ghost use Rattle.mir.specs.Run.{constant_bytes, copied, read, answered, operated, computed_of, operated_on, rvalue_bytes, operand_bytes, operand_type, after_statement, after_statements, terminated, next_from, entering};
+ghost use Rattle.mir.specs.Run.{constant_bytes, copied, read, answered, operated, computed_of, operated_on, rvalue_bytes, operand_bytes, operand_type, after_statement, after_statements, switched, terminated, next_from, entering};
 ghost use Rattle.numbers.specs.Computed.{answer_of, count_of};
 ghost use Rattle.mir_eval.specs.Steps.{interval_of, operated_bytes, frame, memory, left_with, next_of, ended_of};
 
 use crate::cells::{Cell, cell_of, copy, read, write};
 use crate::faults::Fault;
+use crate::words::unsigned;
 use mir::{
     BasicBlock, BasicBlockId, BinOp, MirBody, OperandKind, Place, Rvalue, Statement, StatementKind,
-    Terminator, TerminatorKind, UnOp,
+    SwitchTargets, Terminator, TerminatorKind, UnOp,
 };
 use numbers::{Computed, Kind, compute, invert, negate};
 use world::Const;
@@ -240,13 +241,45 @@ fn execute_all(
     Ok(())
 }
 
+/// Where a switch leads.
+#[tactic(auto, unfolding(mir::specs::Run::switched))]
+fn branch(
+    body: &MirBody,
+    cells: &[Cell],
+    stack: &[u8],
+    discr: &OperandKind,
+    targets: &SwitchTargets,
+) -> Result<Exit, Fault>
+    ensures { next_of cells.now stack.now result ≡ switched (memory stack.now) targets.now (operand_bytes (frame body.now cells.now) (memory stack.now) discr.now) }
+{
+    match operand(body, cells, stack, discr) {
+        Some(bytes) => {
+            if bytes.len() <= 16 {
+                Ok(Exit::GoesTo(targets.target_for_value(unsigned(bytes))))
+            } else {
+                Err(Fault::Undefined)
+            }
+        }
+        None => Err(Fault::BadRead),
+    }
+}
+
 /// What a terminator does.
 #[tactic(auto, unfolding(mir::specs::Run::terminated))]
-fn terminate(terminator: &Option<Terminator>) -> Result<Exit, Fault>
-    ensures { (b : _) → (cells : _) → (stack : _) → next_of cells stack result ≡ terminated (frame b cells) (memory stack) terminator.now }
+fn terminate(
+    body: &MirBody,
+    cells: &[Cell],
+    stack: &[u8],
+    terminator: &Option<Terminator>,
+) -> Result<Exit, Fault>
+    ensures { next_of cells.now stack.now result ≡ terminated (frame body.now cells.now) (memory stack.now) terminator.now }
 {
     match terminator {
         Some(terminator) => match &terminator.kind {
+            TerminatorKind::Goto { target } => Ok(Exit::GoesTo(*target)),
+            TerminatorKind::SwitchInt { discr, targets } => {
+                branch(body, cells, stack, &discr.kind, targets)
+            }
             TerminatorKind::Return => Ok(Exit::Returns),
             TerminatorKind::Drop { target, .. } => Ok(Exit::GoesTo(*target)),
         },
@@ -266,7 +299,7 @@ pub(crate) fn enter(
 {
     match body.basic_blocks.get(block.0 as u64) {
         Some(block) => match execute_all(body, cells, stack, block.statements.as_slice()) {
-            Ok(()) => terminate(&block.terminator),
+            Ok(()) => terminate(body, cells, stack, &block.terminator),
             Err(fault) => Err(fault),
         },
         None => Err(Fault::NoTerminator),

@@ -39,6 +39,7 @@ use Rattle.mir_lower.proofs.Operations.{assignment, name-computes}
 use Rattle.mir_lower.proofs.Reaching.{comes-refl, comes-trans, reaches-then}
 use Rattle.mir_lower.proofs.Running.{comes-statement}
 use Rattle.mir_lower.proofs.Sound.{with_statement-sound, with_statement-open, with_statement-scope}
+use Rattle.mir_lower.proofs.Sparing.{spares-refl, spares-trans, with_statement-spares, scoped-spares}
 use Rattle.mir_lower.proofs.Steps.{local_of-grows, Done, assigned-bytes, reaches-from, does-form}
 
 -- noting that a value was named leaves everything as it is
@@ -52,6 +53,7 @@ idles-read source s new place span sound opened same =
     subst (λ (n : Shape). Idles source s n 0) (sym same)
     (record {
       grows = with_statement-grows st s opened;
+      spares = with_statement-spares st s opened;
       sound = with_statement-sound source st s opened sound;
       «open» = with_statement-open st s opened;
       scope = with_statement-scope st s opened;
@@ -68,6 +70,7 @@ binds-name source s0 s1 new pat id place from operand span binds given copies sa
     (record {
       keeps = record {
         grows = grows-trans s0 s1 (with_statement st s1) given.keeps.grows last;
+        spares = spares-trans s0 s1 (with_statement st s1) given.keeps.spares (with_statement-spares st s1 opened);
         sound = with_statement-sound source st s1 opened given.keeps.sound;
         «open» = with_statement-open st s1 opened;
         scope = with_statement-scope st s1 opened ∙ given.keeps.scope ∙ ap (λ p. s0.scope ++ bound_by p) (sym binds);
@@ -107,7 +110,7 @@ statements-append source below (x ∷ xs) ys store =
 pub lowers-none : (source : Source) (s : Shape) → IsSound source s → IsOpen s → LowersStatements source s s []
 lowers-none source s sound opened =
     record {
-      keeps = record { grows = grows-refl s; sound = sound; «open» = opened; scope = sym (append-nil s.scope) };
+      keeps = record { grows = grows-refl s; spares = spares-refl s; sound = sound; «open» = opened; scope = sym (append-nil s.scope) };
       does = record {
         reaches = λ whole frame grows whole-sound is fuel store memory holds.
             subst (Reaches frame (here s) (here s) memory (Done whole frame)) (sym (no-statements source (level_at source fuel) store))
@@ -135,6 +138,7 @@ lowers-more source s0 s1 s2 xs ys first second =
     record {
       keeps = record {
         grows = grows-trans s0 s1 s2 first.keeps.grows second.keeps.grows;
+        spares = spares-trans s0 s1 s2 first.keeps.spares second.keeps.spares;
         sound = second.keeps.sound;
         «open» = second.keeps.«open»;
         scope =
@@ -164,6 +168,7 @@ lowers-let source s0 s1 s2 s3 pat e local place idles binding =
     record {
       keeps = record {
         grows = grows-trans s0 s1 s3 place.keeps.grows later;
+        spares = spares-trans s0 s1 s3 place.keeps.spares (spares-trans s1 s2 s3 idles.spares binds.keeps.spares);
         sound = binds.keeps.sound;
         «open» = binds.keeps.«open»;
         scope =
@@ -200,6 +205,7 @@ lowers-expr-statement source s0 s1 s2 s3 e has_semi local place read left =
     record {
       keeps = record {
         grows = grows-trans s0 (with_scope [] s0) s3 (with_scope-grows [] s0) (grows-trans (with_scope [] s0) s1 s3 place.keeps.grows into);
+        spares = scoped-spares s0 s2 s3 [] (spares-trans (with_scope [] s0) s1 s2 place.keeps.spares read.spares) s0.scope left.spares;
         sound = left.sound;
         «open» = left.«open»;
         scope = left.scope ∙ sym (append-nil s0.scope) ∙ ap (λ m. s0.scope ++ m) (sym (append-nil (marked_by_statement source (statement.Expr e has_semi)) ∙ expression_marks source e has_semi));
@@ -235,7 +241,7 @@ lowers-tail source s0 s1 t c into =
 pub lowers-no-tail : (source : Source) (s : Shape) (c : Cell) → IsSound source s → IsOpen s → LowersTail source s s None c
 lowers-no-tail source s c sound opened =
     record {
-      keeps = record { grows = grows-refl s; sound = sound; «open» = opened; scope = sym (ap (λ m. s.scope ++ m) (no_tail_marks source) ∙ append-nil s.scope) };
+      keeps = record { grows = grows-refl s; spares = spares-refl s; sound = sound; «open» = opened; scope = sym (ap (λ m. s.scope ++ m) (no_tail_marks source) ∙ append-nil s.scope) };
       does = record { reaches = λ whole frame grows whole-sound is fuel store memory holds. (0, memory, omega arith, comes-refl frame (here s) memory, (holds, tt)) };
       laid = λ e same. absurd cc;
     }
@@ -269,6 +275,7 @@ lowers-block source s0 s1 s2 s3 e statements tail c ready form first last left =
     record {
       keeps = record {
         grows = grows-trans s0 (with_scope [] s0) s3 (with_scope-grows [] s0) (grows-trans (with_scope [] s0) s1 s3 first.keeps.grows into1);
+        spares = scoped-spares s0 s2 s3 [] (spares-trans (with_scope [] s0) s1 s2 first.keeps.spares last.keeps.spares) s0.scope left.spares;
         sound = left.sound;
         «open» = left.«open»;
         scope = left.scope ∙ sym (append-nil s0.scope) ∙ ap (λ m. s0.scope ++ m) (sym (block_marks source ready.checked e ready.within statements tail form));

@@ -3,15 +3,16 @@ use Rattle.std.proofs.Common.{◌≡◌, ℕ, List, [], ◌∷◌, Option, Some,
 use Rattle.std.specs.Prelude.{All, OnOk, flat_map, option_map}
 use Rattle.std.proofs.lemmas.List.Elements.{All-nil, All-cons, All-append, All-contains, All-weaker, All-head, All-tail}
 use Rattle.mir.specs.declared.ids.LocalId.{LocalId}
-use Rattle.source_meaning.specs.Built.{IsBinding, NamesBinding, IsBuiltStatement}
+use Rattle.source_meaning.specs.Built.{IsBinding, NamesBinding, AssignsBinding, IsBuiltStatement}
 use Rattle.source_meaning.specs.Core.{CoreExpr, CoreLiteral, Operation}
 use Rattle.source_meaning.specs.Core as expr
 use Rattle.source_meaning.specs.Source.{Source, Binding, node}
 use Rattle.source_meaning.specs.Steps.{parts_of, statement_parts}
 use Rattle.source_meaning.specs.Valid.{Evaluates, itself, part}
-use Rattle.source_meaning.proofs.Parts.{strict_parts, block_parts}
+use Rattle.source_meaning.proofs.Parts.{strict_parts, if_parts, block_parts}
 use Rattle.types.specs.declared.ids.BindingId.{BindingId}
 use Rattle.types.specs.declared.ids.ExprId.{ExprId}
+use Rattle.types.specs.declared.operators.LogicOp.{LogicOp}
 use Rattle.world.specs.Nodes.{optional}
 use Rattle.world.specs.declared.body.Statement.{Statement}
 use Rattle.mir_lower.specs.Built.{IsBuiltLiteral, IsBuiltNode, IsBuilt, IsBuiltThrough}
@@ -58,6 +59,19 @@ built-strict source e operation operands is built =
 
 pub two-built : (source : Source) (lhs rhs : ℕ) → IsBuilt source lhs → IsBuilt source rhs → All (IsBuilt source) (lhs ∷ rhs ∷ [])
 two-built source lhs rhs left right = All-cons (IsBuilt source) lhs (rhs ∷ []) left (one-built source rhs right)
+
+pub built-logic : (source : Source) (e : ℕ) (op : LogicOp) (left right : ℕ) → node source e ≡ Some (expr.Logic op left right) → IsBuilt source left → IsBuilt source right → IsBuilt source e
+built-logic source e op left right is one other = built-node source e (Some (expr.Logic op left right)) is tt (two-built source left right one other)
+
+pub built-if : (source : Source) (e condition then_branch : ℕ) (else_branch : Option ExprId) → node source e ≡ Some (expr.If condition then_branch else_branch) →
+    IsBuilt source condition → IsBuilt source then_branch → All (IsBuilt source) (optional else_branch) → IsBuilt source e
+built-if source e condition then_branch else_branch is test one other =
+    built-node source e (Some (expr.If condition then_branch else_branch)) is tt
+    (subst (All (IsBuilt source)) (sym (if_parts condition then_branch else_branch))
+    (All-cons (IsBuilt source) condition (then_branch ∷ optional else_branch) test (All-cons (IsBuilt source) then_branch (optional else_branch) one other)))
+
+pub built-assign : (source : Source) (e assigned value : ℕ) → node source e ≡ Some (expr.Assign assigned value) → AssignsBinding source assigned → IsBuilt source value → IsBuilt source e
+built-assign source e assigned value is names built = built-node source e (Some (expr.Assign assigned value)) is names (one-built source value built)
 
 -- the expressions that statements evaluate
 through-parts : (source : Source) (statements : List Statement) → All (IsBuiltThrough source) statements → All (IsBuilt source) (flat_map statement_parts statements)

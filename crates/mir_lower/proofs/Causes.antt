@@ -1,18 +1,19 @@
 -- A form that is built isn't refused: no cause of a refusal holds there but for the layout of a number.
-use Rattle.std.proofs.Common.{◌≡◌, ℕ, Bool, Option, Some, None, ⊎_elim, refl, sym, ap, ◌∙◌, subst}
+use Rattle.std.proofs.Common.{◌≡◌, ℕ, Bool, List, Option, Some, None, option_and_then, ⊎_elim, refl, sym, ap, ◌∙◌, subst}
 use Rattle.std.proofs.lemmas.Bool.{false≢true}
 use Rattle.std.proofs.lemmas.List.Elements.{All-contains}
-use Rattle.source_meaning.specs.Built.{IsBuiltStatement, IsBuiltForm}
+use Rattle.source_meaning.specs.Built.{AssignsBinding, IsBuiltStatement, IsBuiltForm}
 use Rattle.source_meaning.specs.Core.{CoreExpr, core_of, local_named}
 use Rattle.source_meaning.specs.Core as expr
-use Rattle.source_meaning.specs.Source.{Source, node, named_by, binding_type}
+use Rattle.source_meaning.specs.Source.{Source, node, target_path, pattern_named_by, binding_type}
 use Rattle.types.specs.declared.ids.BindingId.{BindingId}
 use Rattle.world.specs.declared.body.Statement.{Statement}
 use Rattle.world.specs.declared.body.Statement.TheVariants as statement
 use Rattle.world.specs.declared.expr.Expr.{Expr}
 use Rattle.world.specs.declared.expr.Expr.TheVariants as whole
+use Rattle.world.specs.declared.infer.ValueNs.{ValueNs}
 use Rattle.world.specs.declared.infer.ValueNs.TheVariants.{LocalBinding}
-use Rattle.mir_lower.specs.Refusals.{IsIncomplete, LacksPart, IsUnbuiltForm, IsUnbuiltStatement, IsUnbuilt, LetBindsNone, LacksLocal}
+use Rattle.mir_lower.specs.Refusals.{IsIncomplete, LacksPart, IsUnbuiltForm, IsUnbuiltStatement, IsUnbuiltTarget, IsUnbuilt, LetBindsNone, LacksLocal, IsUnresolved}
 use Rattle.mir_lower.proofs.Forms.{node-plain}
 
 incomplete-core : (item : Bool) (e : Expr) → IsIncomplete e → core_of item e ≡ None
@@ -41,6 +42,17 @@ built-statement source (statement.Let pat None other) built unbuilt = built
 built-statement source (statement.Expr e has_semi) built unbuilt = unbuilt
 built-statement source statement.Item built unbuilt = built
 
+-- a path with a binding is there, and names the binding
+target-names : (source : Source) (assigned : ℕ) (binding : BindingId) (path : Option (List ℕ)) (named : Option ValueNs) → option_and_then (λ name. option_and_then local_named named) path ≡ Some binding → ((path ≡ None) → ⊥) × (option_and_then local_named named ≡ Some binding)
+target-names source assigned binding (Some name) named is = (λ none. absurd cc, is)
+target-names source assigned binding None named is = absurd cc
+
+-- the target of an assignment that is built is a path that names a binding
+target-is-no-unbuilt : (source : Source) (assigned : ℕ) → AssignsBinding source assigned → IsUnbuiltTarget source assigned → ⊥
+target-is-no-unbuilt source assigned built unbuilt =
+    let names = target-names source assigned built.binding (target_path source assigned) (pattern_named_by source assigned) built.names in
+    ⊎_elim names.0 (λ other. let one = ap (option_and_then local_named) (sym other.1) ∙ names.1 in let none = other.2 in absurd cc) unbuilt
+
 pub built-is-no-unbuilt : (source : Source) (e : ℕ) (form : Option CoreExpr) → IsBuiltForm source e form → IsUnbuilt source e form → ⊥
 built-is-no-unbuilt source e (Some (expr.Literal l)) built unbuilt = unbuilt
 built-is-no-unbuilt source e (Some (expr.Path name)) built unbuilt =
@@ -50,6 +62,9 @@ built-is-no-unbuilt source e (Some (expr.Path name)) built unbuilt =
     let none = ap local_named same ∙ unbuilt.2 in
     absurd cc
 built-is-no-unbuilt source e (Some (expr.Strict operation operands)) built unbuilt = unbuilt
+built-is-no-unbuilt source e (Some (expr.Logic op left right)) built unbuilt = unbuilt
+built-is-no-unbuilt source e (Some (expr.If condition then_branch else_branch)) built unbuilt = unbuilt
+built-is-no-unbuilt source e (Some (expr.Assign assigned value)) built unbuilt = target-is-no-unbuilt source assigned built unbuilt
 built-is-no-unbuilt source e (Some (expr.Block statements tail)) built unbuilt =
     built-statement source unbuilt.0 (All-contains (IsBuiltStatement source) statements unbuilt.0 built unbuilt.1) unbuilt.2
 built-is-no-unbuilt source e None built unbuilt = built
@@ -71,11 +86,26 @@ statement-binds source statement.Item built lacks = lacks
 pub built-has-local : (source : Source) (e : ℕ) (form : Option CoreExpr) → IsBuiltForm source e form → LacksLocal source e form → ⊥
 built-has-local source e (Some (expr.Path name)) built lacks =
     one-binding source built.binding lacks.0 built.there.ty (let one = built.named in let other = lacks.1 in let same : built.binding ≡ lacks.0 = cc in same) built.there.typed lacks.2
+built-has-local source e (Some (expr.Assign assigned value)) built lacks =
+    one-binding source built.binding lacks.0 built.there.ty (let one = built.names in let other = lacks.1 in let same : built.binding ≡ lacks.0 = cc in same) built.there.typed lacks.2
 built-has-local source e (Some (expr.Block statements tail)) built lacks =
     statement-binds source lacks.0 (All-contains (IsBuiltStatement source) statements lacks.0 built lacks.1) lacks.2
 built-has-local source e (Some (expr.Literal l)) built lacks = lacks
 built-has-local source e (Some (expr.Strict operation operands)) built lacks = lacks
+built-has-local source e (Some (expr.Logic op left right)) built lacks = lacks
+built-has-local source e (Some (expr.If condition then_branch else_branch)) built lacks = lacks
 built-has-local source e None built lacks = lacks
 
-pub built-is-named : (source : Source) (e : ℕ) (name : _) → IsBuiltForm source e (Some (expr.Path name)) → named_by source e ≡ None → ⊥
-built-is-named source e name built none = let is = built.named in absurd cc
+-- a path that is built is resolved, and so is the target of an assignment
+pub built-is-resolved : (source : Source) (e : ℕ) (form : Option CoreExpr) (name : List ℕ) → IsBuiltForm source e form → IsUnresolved source e form name → ⊥
+built-is-resolved source e (Some (expr.Path given)) name built unresolved = let is = built.named in let none = unresolved.1 in absurd cc
+built-is-resolved source e (Some (expr.Assign assigned value)) name built unresolved =
+    let names = target-names source assigned built.binding (target_path source assigned) (pattern_named_by source assigned) built.names in
+    let none = ap (option_and_then local_named) (sym unresolved.1) ∙ names.1 in
+    absurd cc
+built-is-resolved source e (Some (expr.Literal l)) name built unresolved = unresolved
+built-is-resolved source e (Some (expr.Strict operation operands)) name built unresolved = unresolved
+built-is-resolved source e (Some (expr.Logic op left right)) name built unresolved = unresolved
+built-is-resolved source e (Some (expr.If condition then_branch else_branch)) name built unresolved = unresolved
+built-is-resolved source e (Some (expr.Block statements tail)) name built unresolved = unresolved
+built-is-resolved source e None name built unresolved = unresolved

@@ -10,14 +10,16 @@ use Rattle.mir_lower.specs.declared.form.Form.TheVariants as form
 use Rattle.mir_lower.specs.Form.{IsFormOf, IsCauseAt, HasForm}
 
 -- an expression of none of the forms that are built
-pub otherwise : (item : Bool) (e : Expr) → ((l : _) → e ≡ whole.Literal l → ⊥) → ((name : _) → e ≡ whole.Path name → ⊥) → ((operand : _) (op : _) → e ≡ whole.UnaryOp operand op → ⊥) → ((lhs : _) (rhs : _) (op : _) → e ≡ whole.BinaryOp lhs rhs op → ⊥) → ((statements : _) (tail : _) (label : _) → e ≡ whole.Block statements tail label → ⊥) → (e ≡ whole.Missing → ⊥) → IsFormOf item e form.Unbuilt
-otherwise item (whole.Literal l) literal path unary binary block missing = absurd (literal l refl)
-otherwise item (whole.Path name) literal path unary binary block missing = absurd (path name refl)
-otherwise item (whole.UnaryOp operand op) literal path unary binary block missing = absurd (unary operand op refl)
-otherwise item (whole.BinaryOp lhs rhs op) literal path unary binary block missing = absurd (binary lhs rhs op refl)
-otherwise item (whole.Block statements tail label) literal path unary binary block missing = absurd (block statements tail label refl)
-otherwise item whole.Missing literal path unary binary block missing = absurd (missing refl)
-otherwise item _ literal path unary binary block missing = record { core = refl; cause = λ lacks. lacks }
+pub otherwise : (item : Bool) (e : Expr) → ((l : _) → e ≡ whole.Literal l → ⊥) → ((name : _) → e ≡ whole.Path name → ⊥) → ((operand : _) (op : _) → e ≡ whole.UnaryOp operand op → ⊥) → ((lhs : _) (rhs : _) (op : _) → e ≡ whole.BinaryOp lhs rhs op → ⊥) → ((condition : _) (then_branch : _) (else_branch : _) → e ≡ whole.If condition then_branch else_branch → ⊥) → ((target : _) (value : _) → e ≡ whole.Assignment target value → ⊥) → ((statements : _) (tail : _) (label : _) → e ≡ whole.Block statements tail label → ⊥) → (e ≡ whole.Missing → ⊥) → IsFormOf item e form.Unbuilt
+otherwise item (whole.Literal l) literal path unary binary either assigned block missing = absurd (literal l refl)
+otherwise item (whole.Path name) literal path unary binary either assigned block missing = absurd (path name refl)
+otherwise item (whole.UnaryOp operand op) literal path unary binary either assigned block missing = absurd (unary operand op refl)
+otherwise item (whole.BinaryOp lhs rhs op) literal path unary binary either assigned block missing = absurd (binary lhs rhs op refl)
+otherwise item (whole.If condition then_branch else_branch) literal path unary binary either assigned block missing = absurd (either condition then_branch else_branch refl)
+otherwise item (whole.Assignment target value) literal path unary binary either assigned block missing = absurd (assigned target value refl)
+otherwise item (whole.Block statements tail label) literal path unary binary either assigned block missing = absurd (block statements tail label refl)
+otherwise item whole.Missing literal path unary binary either assigned block missing = absurd (missing refl)
+otherwise item _ literal path unary binary either assigned block missing = record { core = refl; cause = λ lacks. lacks }
 
 node-adjusted : (source : Source) (e : ℕ) → is_adjusted source.infer (record { 0 = e }) ≡ true → node source e ≡ None
 unfolding node

@@ -26,7 +26,7 @@ pub record BlocksGrow (old new : List BasicBlock) : Type 0 where
 same_block : (block : BasicBlock) → BlockGrows block block
 same_block block = record { statements = λ i s h. h }
 
-same_blocks : (blocks : List BasicBlock) → BlocksGrow blocks blocks
+pub same_blocks : (blocks : List BasicBlock) → BlocksGrow blocks blocks
 same_blocks blocks = record { each = λ b block there. (block, there, same_block block); ended = λ b block t there is. there }
 
 more_grows : (statement : Statement) (block : BasicBlock) → BlockGrows block (more_of statement block)
@@ -51,7 +51,7 @@ set_grows blocks at old new found unended grows =
           (cases_eq b at);
     }
 
-append_grows : (blocks more : List BasicBlock) → BlocksGrow blocks (blocks ++ more)
+pub append_grows : (blocks more : List BasicBlock) → BlocksGrow blocks (blocks ++ more)
 append_grows blocks more =
     record {
       each = λ b block there. (block, slice_get-front blocks more b block there, same_block block);

@@ -11,17 +11,19 @@ use Rattle.mir.specs.Run.{Frame, after_statement}
 use Rattle.source_meaning.specs.Source.{Source, Cell, Node, node_type, binding_type}
 use Rattle.mir_lower.specs.Does.{Point, here, Comes}
 use Rattle.mir_lower.specs.Graph.{Shape, binding_local, with_statement, with_temp, with_mark, temp_of, local_of}
-use Rattle.mir_lower.specs.Growth.{count_at, Grows, IsSound, IsOpen, IsReady}
+use Rattle.mir_lower.specs.Growth.{count_at, Grows, Spares, IsSound, IsOpen, IsReady}
 use Rattle.mir_lower.specs.Lowered.{IsGiven}
 use Rattle.mir_lower.proofs.Growing.{grows-trans, with_statement-grows, with_scope-grows, with_temp-grows, temp_of-with_temp_same}
 use Rattle.mir_lower.proofs.Leaving.{here-scope}
 use Rattle.mir_lower.proofs.Running.{comes-statement}
 use Rattle.mir_lower.proofs.Sound.{with_statement-sound, with_statement-open, with_statement-scope, with_temp-sound, with_temp-open, with_temp-scope, with_scope-sound, with_scope-open}
+use Rattle.mir_lower.proofs.Sparing.{spares-trans, with_statement-spares, with_temp-spares, with_scope-spares}
 use Rattle.mir_lower.proofs.Steps.{local_of-grows}
 
 -- a cell was marked in the open scope, and nothing else was done
 pub record IsMarked (source : Source) (old new : Shape) (c : Cell) (local : ℕ) : Type 0 where
   pub grows : Grows old new
+  pub spares : Spares old new
   pub sound : IsSound source new
   pub «open» : IsOpen new
   pub same_here : here new ≡ here old
@@ -32,6 +34,7 @@ pub marks-cell : (source : Source) (s : Shape) (c : Cell) (local : ℕ) → IsSo
 marks-cell source s c local sound opened found =
     record {
       grows = with_scope-grows (s.scope ++ c ∷ []) s;
+      spares = with_scope-spares (s.scope ++ c ∷ []) s;
       sound = with_scope-sound source (s.scope ++ c ∷ []) s sound;
       «open» = with_scope-open (s.scope ++ c ∷ []) s opened;
       same_here = here-scope s (s.scope ++ c ∷ []);
@@ -48,6 +51,7 @@ marks-temp source s e ty ready within has none =
     let next = marks-cell source (with_temp e ty s) (Node e) (length s.locals) (with_temp-sound source e ty s within has ready.reached ready.sound) (with_temp-open e ty s ready.«open») (temp_of-with_temp_same e ty s within) in
     record {
       grows = grows-trans s (with_temp e ty s) (with_mark (Node e) (with_temp e ty s)) (with_temp-grows e ty s none) next.grows;
+      spares = spares-trans s (with_temp e ty s) (with_mark (Node e) (with_temp e ty s)) (with_temp-spares e ty s) next.spares;
       sound = next.sound;
       «open» = next.«open»;
       same_here = next.same_here ∙ same-here-temp e ty s;
@@ -80,6 +84,7 @@ given-marked source s0 s1 s2 c local span marked same =
     (record {
       keeps = record {
         grows = grows-trans s0 s1 (with_statement live s1) marked.grows grown;
+        spares = spares-trans s0 s1 (with_statement live s1) marked.spares (with_statement-spares live s1 marked.«open»);
         sound = with_statement-sound source live s1 marked.«open» marked.sound;
         «open» = with_statement-open live s1 marked.«open»;
         scope = with_statement-scope live s1 marked.«open» ∙ marked.scope;

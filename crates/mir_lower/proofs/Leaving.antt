@@ -14,7 +14,7 @@ use Rattle.mir.specs.declared.statement.StatementKind.TheVariants.{StorageDead}
 use Rattle.mir.specs.Memory.{Memory}
 use Rattle.mir.specs.Run.{Frame, Next, Stops, GoesTo, Faulted, Returned, returned, after_statement, after_statements, terminated, next_from, going_on, running, entering, out_of_blocks}
 use Rattle.source_meaning.specs.Source.{Source, Cell}
-use Rattle.mir_lower.specs.Does.{Point, here, run_from, local_bytes, IsFrameOf}
+use Rattle.mir_lower.specs.Does.{Point, here, run_from, local_bytes, IsFrameOf, Comes}
 use Rattle.mir_lower.specs.Graph.{Shape, no_statements, ended, with_statement, with_terminator, with_block, with_scope}
 use Rattle.mir_lower.specs.Growth.{count_at, Grows, IsSound, IsOpen}
 use Rattle.mir_lower.specs.Leaving.{Idles}
@@ -24,6 +24,7 @@ use Rattle.mir_lower.proofs.Lists.{slice_get-last, slice_get-set_same}
 use Rattle.mir_lower.proofs.Reaching.{comes-refl, comes-trans}
 use Rattle.mir_lower.proofs.Running.{here-is, comes-statement}
 use Rattle.mir_lower.proofs.Sound.{with_statement-sound, with_statement-open, with_statement-scope, with_terminator-sound, with_terminator-scope, with_block-sound, with_block-open, with_block-scope}
+use Rattle.mir_lower.proofs.Sparing.{spares-refl, spares-trans, with_statement-spares, with_terminator-spares, with_block-spares}
 
 drop_all : {A : Type 0} (xs : List A) → drop (length xs) xs ≡ []
 drop_all [] = refl
@@ -60,11 +61,6 @@ module _ (t : Terminator) (s whole : Shape) (frame : Frame) (opened : IsOpen s) 
       ∙ ap (λ o. going_on budget frame (next_from frame memory o (length b.0.statements))) (ended-there (b.0, b.1))
       ∙ ap (going_on budget frame) (next-at-end frame memory (ended t b.0))
 
--- a drop goes on at its target
-goes-on : (frame : Frame) (memory : Memory) (place : Place) (target : BasicBlockId) (unwind : Option BasicBlockId) (span : MirSpan) (budget : ℕ) → going_on budget frame (terminated frame memory (Some (record { span = span; kind = Drop place target unwind }))) ≡ entering budget frame memory target.0
-unfolding going_on terminated
-goes-on frame memory place target unwind span budget = refl
-
 here-with_block : (s : Shape) → here (with_block s) ≡ record { block = length s.blocks; index = 0 }
 unfolding with_block count_at
 here-with_block s = ap (λ (o : Option BasicBlock). record { block = length s.blocks; index = unwrap_or (option_map (λ (b : BasicBlock). length b.statements) o) 0 }) (slice_get-last s.blocks no_statements)
@@ -72,6 +68,30 @@ here-with_block s = ap (λ (o : Option BasicBlock). record { block = length s.bl
 pub entering-none : (frame : Frame) (memory : Memory) (block : ℕ) → entering 0 frame memory block ≡ out_of_blocks
 unfolding entering
 entering-none frame memory block = refl
+
+-- where the terminator leads to a block, the run comes to its start
+pub comes-ended : (t : Terminator) (s whole : Shape) (frame : Frame) → IsOpen s → Grows (with_terminator t s) whole → IsFrameOf whole frame → (memory : Memory) (target : ℕ) → terminated frame memory (Some t) ≡ GoesTo memory target → Comes frame 1 (here s) memory (record { block = target; index = 0 }) memory
+unfolding going_on
+comes-ended t s whole frame opened grows is memory target goes =
+    record {
+      with_more = λ more.
+          let one : 1 + more ≡ suc more = omega arith in
+          ap (run_from frame memory (here s)) one
+          ∙ run-terminator t s whole frame opened grows is memory (suc more)
+          ∙ ap (going_on (suc more) frame) goes
+          ∙ entering-suc more frame memory target;
+      with_fewer = λ fewer less.
+          let none : fewer ≡ 0 = omega arith in
+          ap (run_from frame memory (here s)) none
+          ∙ run-terminator t s whole frame opened grows is memory 0
+          ∙ ap (going_on 0 frame) goes
+          ∙ entering-none frame memory target;
+    }
+
+-- a drop goes on at its target
+drop-leads : (frame : Frame) (memory : Memory) (place : Place) (target : BasicBlockId) (unwind : Option BasicBlockId) (span : MirSpan) → terminated frame memory (Some (record { span = span; kind = Drop place target unwind })) ≡ GoesTo memory target.0
+unfolding terminated
+drop-leads frame memory place target unwind span = refl
 
 -- ending the current block by a drop, and opening the block that it goes to
 pub idles-drop : (source : Source) (s new : Shape) (place : Place) (target : BasicBlockId) (unwind : Option BasicBlockId) (span : MirSpan) → IsSound source s → IsOpen s → target.0 ≡ length s.blocks → new ≡ with_block (with_terminator (record { span = span; kind = Drop place target unwind }) s) → Idles source s new 1
@@ -82,6 +102,7 @@ idles-drop source s new place target unwind span sound opened at same =
     subst (λ (n : Shape). Idles source s n 1) (sym same)
     (record {
       grows = grows-trans s (with_terminator t s) (with_block (with_terminator t s)) (with_terminator-grows t s opened) (with_block-grows (with_terminator t s));
+      spares = spares-trans s (with_terminator t s) (with_block (with_terminator t s)) (with_terminator-spares t s opened) (with_block-spares (with_terminator t s));
       sound = with_block-sound source (with_terminator t s) (with_terminator-sound source t s opened sound);
       «open» = with_block-open (with_terminator t s);
       scope = with_block-scope (with_terminator t s) ∙ with_terminator-scope t s opened;
@@ -89,21 +110,8 @@ idles-drop source s new place target unwind span sound opened at same =
           let grown = grows-trans (with_terminator t s) (with_block (with_terminator t s)) whole (with_block-grows (with_terminator t s)) grows in
           let to : here (with_block (with_terminator t s)) ≡ record { block = target.0; index = 0 } =
           here-with_block (with_terminator t s) ∙ ap (λ n. record { block = n; index = 0 }) (many ∙ sym at) in
-          record {
-            with_more = λ more.
-                let one : 1 + more ≡ suc more = omega arith in
-                ap (run_from frame memory (here s)) one
-                ∙ run-terminator t s whole frame opened grown is memory (suc more)
-                ∙ goes-on frame memory place target unwind span (suc more)
-                ∙ entering-suc more frame memory target.0
-                ∙ ap (λ (p : Point). run_from frame memory p more) (sym to);
-            with_fewer = λ fewer less.
-                let none : fewer ≡ 0 = omega arith in
-                ap (run_from frame memory (here s)) none
-                ∙ run-terminator t s whole frame opened grown is memory 0
-                ∙ goes-on frame memory place target unwind span 0
-                ∙ entering-none frame memory target.0;
-          };
+          subst (λ (p : Point). Comes frame 1 (here s) memory p memory) (sym to)
+          (comes-ended t s whole frame opened grown is memory target.0 (drop-leads frame memory place target unwind span));
     })
 
 dead-does-nothing : (frame : Frame) (memory : Memory) (local : LocalId) → after_statement frame memory (StorageDead local) ≡ Ok memory
@@ -117,6 +125,7 @@ idles-dead source s new local span sound opened same =
     subst (λ (n : Shape). Idles source s n 0) (sym same)
     (record {
       grows = with_statement-grows dead s opened;
+      spares = with_statement-spares dead s opened;
       sound = with_statement-sound source dead s opened sound;
       «open» = with_statement-open dead s opened;
       scope = with_statement-scope dead s opened;
@@ -125,12 +134,13 @@ idles-dead source s new local span sound opened same =
 
 pub idles-refl : (source : Source) (s : Shape) → IsSound source s → IsOpen s → Idles source s s 0
 idles-refl source s sound opened =
-    record { grows = grows-refl s; sound = sound; «open» = opened; scope = refl; comes = λ whole frame grows is memory. comes-refl frame (here s) memory }
+    record { grows = grows-refl s; spares = spares-refl s; sound = sound; «open» = opened; scope = refl; comes = λ whole frame grows is memory. comes-refl frame (here s) memory }
 
 pub idles-trans : (source : Source) (a b c : Shape) (first second : ℕ) → Idles source a b first → Idles source b c second → Idles source a c (first + second)
 idles-trans source a b c first second one two =
     record {
       grows = grows-trans a b c one.grows two.grows;
+      spares = spares-trans a b c one.spares two.spares;
       sound = two.sound;
       «open» = two.«open»;
       scope = two.scope ∙ one.scope;

@@ -1,10 +1,15 @@
 pub mod Aligned
+pub mod Assignments
 pub mod Beginning
 pub mod Blocks
+pub mod Branches
+pub mod Branching
 pub mod Building
 pub mod Causes
+pub mod Conditions
 pub mod Copies
 pub mod Drops
+pub mod Forking
 pub mod Forms
 pub mod Growing
 pub mod Holding
@@ -18,8 +23,10 @@ pub mod Operations
 pub mod Placing
 pub mod Reaching
 pub mod Refused
+pub mod Reserving
 pub mod Running
 pub mod Sound
+pub mod Sparing
 pub mod Stack
 pub mod Steps
 pub mod Strict

@@ -22,6 +22,7 @@ use Rattle.mir_lower.specs.Lowered.{IsGiven, IsNamed, LowersInto, LowersPlace, L
 use Rattle.mir_lower.proofs.Growing.{grows-refl, grows-trans}
 use Rattle.mir_lower.proofs.Laid.{lays-literal, lays-name, lays-temp}
 use Rattle.mir_lower.proofs.Reaching.{comes-refl, reaches-then}
+use Rattle.mir_lower.proofs.Sparing.{spares-refl, spares-trans}
 use Rattle.mir_lower.proofs.Steps.{local_of-grows, reaches-from}
 
 -- a literal's operand
@@ -56,6 +57,7 @@ lowers-literal-operand source s e literal operand sound opened form is =
     record {
       keeps = record {
         grows = grows-refl s;
+        spares = spares-refl s;
         sound = sound;
         «open» = opened;
         scope = sym (ap (λ m. s.scope ++ m) (literal-marks source e literal form) ∙ append-nil s.scope);
@@ -105,6 +107,7 @@ lowers-place-operand source old new e place lowers form =
     record {
       keeps = record {
         grows = lowers.keeps.grows;
+        spares = lowers.keeps.spares;
         sound = lowers.keeps.sound;
         «open» = lowers.keeps.«open»;
         scope = lowers.keeps.scope ∙ ap (λ m. old.scope ++ m) (sym (operand_marks source e form));
@@ -134,6 +137,7 @@ lowers-temp source s0 s1 s2 e local form given into =
     record {
       keeps = record {
         grows = grows-trans s0 s1 s2 given.keeps.grows into.keeps.grows;
+        spares = spares-trans s0 s1 s2 given.keeps.spares into.keeps.spares;
         sound = into.keeps.sound;
         «open» = into.keeps.«open»;
         scope =
@@ -167,6 +171,7 @@ lowers-name source s e local name sound opened form named =
     record {
       keeps = record {
         grows = grows-refl s;
+        spares = spares-refl s;
         sound = sound;
         «open» = opened;
         scope = sym (ap (λ m. s.scope ++ m) (path_marks source e (ap is_path form)) ∙ append-nil s.scope);

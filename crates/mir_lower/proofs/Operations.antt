@@ -27,16 +27,18 @@ use Rattle.mir_lower.proofs.Laid.{lays-literal-into, lays-name-into}
 use Rattle.mir_lower.proofs.Operands.{literal-fits, place-fits}
 use Rattle.mir_lower.proofs.Reaching.{comes-refl, reaches-after}
 use Rattle.mir_lower.proofs.Sound.{with_statement-sound, with_statement-open, with_statement-scope}
+use Rattle.mir_lower.proofs.Sparing.{with_statement-spares}
 use Rattle.mir_lower.proofs.Steps.{local_of-grows, Done, assigned-bytes, does-form}
 
 abbrev pub assignment : Place → Rvalue → MirSpan → Statement
 assignment place rvalue span = record { kind = Assign place rvalue; span = span }
 
 -- one assignment keeps the graph, and gives no cells
-keeps-assigned : (source : Source) (s : Shape) (statement : Statement) → IsSound source s → IsOpen s → Keeps source s (with_statement statement s) []
+pub keeps-assigned : (source : Source) (s : Shape) (statement : Statement) → IsSound source s → IsOpen s → Keeps source s (with_statement statement s) []
 keeps-assigned source s statement sound opened =
     record {
       grows = with_statement-grows statement s opened;
+      spares = with_statement-spares statement s opened;
       sound = with_statement-sound source statement s opened sound;
       «open» = with_statement-open statement s opened;
       scope = with_statement-scope statement s opened ∙ sym (append-nil s.scope);

@@ -2,6 +2,7 @@
 use Rattle.std.proofs.Common.{◌≡◌, ℕ, ◌<◌, false, Contains, Option, Some, None, Result, refl, sym, ap, ◌∙◌, subst, ⊎_elim, ◌⊎◌, arith}
 use Rattle.std.specs.Prelude.{codes, IfErr, IsErrAnd}
 use Rattle.std.proofs.lemmas.Result.{err_from_is_err_and}
+use Rattle.source_meaning.specs.Core as expr
 use Rattle.source_meaning.specs.Core.{is_literal, is_path}
 use Rattle.world.specs.declared.body.Statement.{Statement}
 use Rattle.world.specs.declared.body.Statement.TheVariants as statement
@@ -20,7 +21,7 @@ use Rattle.mir_lower.specs.Form.{core_form, HasForm}
 use Rattle.mir_lower.specs.Graph.{Shape}
 use Rattle.mir_lower.specs.Growth.{IsSound, IsOpen, IsReady}
 use Rattle.mir_lower.specs.Lowered.{IsStatementOf}
-use Rattle.mir_lower.specs.Refusals.{IsUnbuiltStatement, IsUnbuilt, LacksLocal, RefusesNode, RefusesPattern, RefusesAt}
+use Rattle.mir_lower.specs.Refusals.{IsUnbuiltStatement, IsUnbuilt, LacksLocal, IsUnresolved, RefusesNode, RefusesPattern, RefusesTarget, RefusesAt}
 
 pub refuses-here : (source : Source) (e : ℕ) (error : MirLowerError) → RefusesNode source e error → RefusesAt source e error
 refuses-here source e error h = (e, itself, h)
@@ -73,6 +74,20 @@ refuses-pattern source e refusal.IncompleteExpr pat init stands refuses = absurd
 refuses-pattern source e (refusal.UnresolvedName name) pat init stands refuses = absurd refuses
 refuses-pattern source e refusal.HasErrors pat init stands refuses = absurd refuses
 refuses-pattern source e (refusal.TypeError text) pat init stands refuses = absurd refuses
+
+-- the refusal of the target of an assignment
+pub refuses-target : (source : Source) (e : ℕ) (error : MirLowerError) (assigned value : ℕ) → node source e ≡ Some (expr.Assign assigned value) → RefusesTarget source assigned error → RefusesAt source e error
+refuses-target source e (refusal.NotSupported text) assigned value form refuses =
+    refuses-here source e (refusal.NotSupported text) (refuses.0, subst (IsUnbuilt source e) (sym form) refuses.1)
+refuses-target source e (refusal.UnresolvedName name) assigned value form refuses =
+    refuses-here source e (refusal.UnresolvedName name) (subst (λ n. IsUnresolved source e n name) (sym form) refuses)
+refuses-target source e refusal.InaccessibleLocal assigned value form refuses =
+    refuses-here source e refusal.InaccessibleLocal (subst (LacksLocal source e) (sym form) refuses)
+refuses-target source e refusal.NoMemory assigned value form refuses = refuses-no-memory source e refusal.NoMemory refl
+refuses-target source e (refusal.LayoutError l) assigned value form refuses = absurd refuses
+refuses-target source e refusal.IncompleteExpr assigned value form refuses = absurd refuses
+refuses-target source e refusal.HasErrors assigned value form refuses = absurd refuses
+refuses-target source e (refusal.TypeError text) assigned value form refuses = absurd refuses
 
 -- what a `?` returns is what refused
 pub refused-exit : {T : Type 0} (P Q : MirLowerError → Type 0) (r : Result T MirLowerError) → IsErrAnd r Q → ((error : MirLowerError) → Q error → P error) → IfErr r P

@@ -19,6 +19,7 @@ use Rattle.source_meaning.proofs.Costs.{after-none}
 use Rattle.mir_lower.specs.Does.{Point, here, IsFrameOf, Holds, Comes, Reaches, Performs, Nothing, Does}
 use Rattle.mir_lower.specs.Graph.{Shape, with_statement, local_of}
 use Rattle.mir_lower.specs.Growth.{Grows, IsSound, IsOpen}
+use Rattle.mir_lower.specs.Lowered.{IsPlaced}
 use Rattle.mir_lower.proofs.Holding.{assigns, interval-of}
 use Rattle.mir_lower.proofs.Reaching.{reaches-after}
 use Rattle.mir_lower.proofs.Running.{comes-statement, ends-statement}
@@ -37,6 +38,9 @@ pub local_of-grows : (old new : Shape) → Grows old new → (c : Cell) (l : ℕ
 local_of-grows old new grows Slot l h = h
 local_of-grows old new grows (Node e) l h = grows.temps e l h
 local_of-grows old new grows (Binding b) l h = binding_local-grows old new b l grows.bindings h
+
+pub placed-later : (old new : Shape) → Grows old new → (local : ℕ) → IsPlaced old local → IsPlaced new local
+placed-later old new grows local placed = record { cell = placed.cell; found = local_of-grows old new grows placed.cell local placed.found }
 
 -- what holds behind code that only writes
 abbrev pub Done : Shape → Frame → Unit {0} → Store → Memory → Type 0

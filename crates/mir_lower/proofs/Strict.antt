@@ -33,6 +33,7 @@ use Rattle.mir_lower.proofs.Laid.{layouts-before, plain-part, one-of}
 use Rattle.mir_lower.proofs.Operations.{assignment}
 use Rattle.mir_lower.proofs.Reaching.{comes-refl, reaches-then}
 use Rattle.mir_lower.proofs.Sound.{with_statement-sound, with_statement-open, with_statement-scope}
+use Rattle.mir_lower.proofs.Sparing.{spares-refl, spares-trans, with_statement-spares}
 use Rattle.mir_lower.proofs.Steps.{local_of-grows, Done, assigned-answer, does-form}
 
 -- what is claimed of operands
@@ -50,7 +51,7 @@ first-operand below e rest store = refl
 pub lowers-no-operand : (source : Source) (s : Shape) → IsSound source s → IsOpen s → LowersOperands source s s [] []
 lowers-no-operand source s sound opened =
     record {
-      keeps = record { grows = grows-refl s; sound = sound; «open» = opened; scope = sym (append-nil s.scope) };
+      keeps = record { grows = grows-refl s; spares = spares-refl s; sound = sound; «open» = opened; scope = sym (append-nil s.scope) };
       does = record {
         reaches = λ whole frame grows whole-sound is fuel store memory holds.
             subst (Reaches frame (here s) (here s) memory (Given source [] whole frame)) (sym (no-operands (level_at source fuel) store))
@@ -65,6 +66,7 @@ lowers-more-operands source s0 s1 s2 e rest operand operands first others =
     record {
       keeps = record {
         grows = grows-trans s0 s1 s2 first.keeps.grows others.keeps.grows;
+        spares = spares-trans s0 s1 s2 first.keeps.spares others.keeps.spares;
         sound = others.keeps.sound;
         «open» = others.keeps.«open»;
         scope =
@@ -111,6 +113,7 @@ lowers-strict source s0 s1 new e operation es operands rvalue place span ready f
     (record {
       keeps = record {
         grows = grows-trans s0 s1 (with_statement st s1) given.keeps.grows last;
+        spares = spares-trans s0 s1 (with_statement st s1) given.keeps.spares (with_statement-spares st s1 opened);
         sound = with_statement-sound source st s1 opened given.keeps.sound;
         «open» = with_statement-open st s1 opened;
         scope = with_statement-scope st s1 opened ∙ given.keeps.scope ∙ ap (λ m. s0.scope ++ m) (sym (strict_marks source ready.checked e ready.within operation es form));

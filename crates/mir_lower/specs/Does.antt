@@ -5,7 +5,7 @@ use Rattle.mir.specs.Memory.{Interval, Memory, bytes_at}
 use Rattle.mir.specs.Run.{Frame, Faulted, Ended, out_of_blocks, running, operand_bytes as mir_bytes, operand_type as mir_type}
 use Rattle.source_meaning.specs.Ends.{End, Go, Jumps, Faults, Stuck, More}
 use Rattle.source_meaning.specs.Meaning.{level_at, operands_of, statements_of, tail_into, bind}
-use Rattle.source_meaning.specs.Source.{Source, pattern, Cell, Path, Store, Operand, operand_bytes, operand_type}
+use Rattle.source_meaning.specs.Source.{Source, pattern, target, Cell, Path, Store, Operand, operand_bytes, operand_type}
 use Rattle.world.specs.declared.body.Statement.{Statement}
 use Rattle.types.specs.declared.ids.ExprId.{ExprId}
 use Rattle.mir_lower.specs.Graph.{Shape, local_of}
@@ -112,3 +112,7 @@ DoesTail source old new tail cell = Performs source old new Nothing (λ fuel sto
 
 abbrev pub DoesBind : Source → Shape → Shape → ℕ → Cell → Type 0
 DoesBind source old new pat cell = Performs source old new Nothing (λ fuel store. bind (pattern source pat) (record { cell = cell }) store)
+
+-- the code assigns a cell's value to the name that an assignment's target is
+abbrev pub DoesAssign : Source → Shape → Shape → ℕ → Cell → Type 0
+DoesAssign source old new assigned cell = Performs source old new Nothing (λ fuel store. bind (target source assigned) (record { cell = cell }) store)

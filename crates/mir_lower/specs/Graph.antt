@@ -87,6 +87,14 @@ with_terminator terminator s = with_current (ended terminator) s (slice_get s.bl
 unfoldable pub with_block : Shape → Shape
 with_block s = record s { blocks = s.blocks ++ no_statements ∷ []; current = length s.blocks }
 
+-- a new block, while the current one stays
+unfoldable pub with_reserved : Shape → Shape
+with_reserved s = record s { blocks = s.blocks ++ no_statements ∷ [] }
+
+-- a block that stands there is the current one from then on
+unfoldable pub with_entered : ℕ → Shape → Shape
+with_entered block s = record s { current = block }
+
 -- the local at a place of a table, where there is one
 abbrev pub local_at : List (Option LocalId) → ℕ → Option ℕ
 local_at table i = option_map (λ local. local.0) (option_and_then (λ local. local) (slice_get table i))

@@ -1,5 +1,5 @@
 -- How the graph grows while an expression is lowered, and what stands in it at a point of its code.
-use Rattle.std.specs.Prelude.{◌≡◌, ℕ, ◌<◌, [], ◌∷◌, length, Option, Some, None, slice_get, option_map, option_and_then}
+use Rattle.std.specs.Prelude.{◌≡◌, ◌≢◌, ◌⊎◌, ℕ, ◌<◌, ◌≤◌, [], ◌∷◌, length, Option, Some, None, slice_get, option_map, option_and_then}
 use Rattle.mir.specs.declared.body.BasicBlock.{BasicBlock}
 use Rattle.mir.specs.declared.body.Local.{Local}
 use Rattle.mir.specs.declared.body.Terminator.{Terminator}
@@ -30,6 +30,12 @@ pub record Grows (old new : Shape) : Type 0 where
   pub locals : (index : ℕ) (local : Local) → slice_get old.locals index ≡ Some local → slice_get new.locals index ≡ Some local
   pub bindings : new.bindings ≡ old.bindings
   pub temps : (e local : ℕ) → temp_of old e ≡ Some local → temp_of new e ≡ Some local
+
+-- Of the blocks that stood there none is touched but the current one, and the current block is the same or a new one.
+pub record Spares (old new : Shape) : Type 0 where
+  pub others : (at : ℕ) → at ≢ old.current → at < length old.blocks → slice_get new.blocks at ≡ slice_get old.blocks at
+  pub moves : (new.current ≡ old.current) ⊎ (length old.blocks ≤ new.current)
+  pub many : length old.blocks ≤ length new.blocks
 
 -- a cell that an evaluation may use: the result, a binding, or an expression that is evaluated
 abbrev pub IsUsed : Source → Cell → Type 0

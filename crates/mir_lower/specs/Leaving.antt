@@ -5,7 +5,7 @@ use Rattle.mir.specs.Run.{Frame}
 use Rattle.source_meaning.specs.Source.{Source}
 use Rattle.mir_lower.specs.Does.{here, IsFrameOf, Comes}
 use Rattle.mir_lower.specs.Graph.{Shape}
-use Rattle.mir_lower.specs.Growth.{Grows, IsSound, IsOpen}
+use Rattle.mir_lower.specs.Growth.{Grows, Spares, IsSound, IsOpen}
 
 -- one, where a test says so
 abbrev pub one_if : Bool → ℕ
@@ -14,6 +14,7 @@ one_if test = cond test 1 0
 -- the code goes on, over so many blocks, with memory as it was
 pub record Idles (source : Source) (old new : Shape) (turns : ℕ) : Type 0 where
   pub grows : Grows old new
+  pub spares : Spares old new
   pub sound : IsSound source new
   pub «open» : IsOpen new
   pub scope : new.scope ≡ old.scope

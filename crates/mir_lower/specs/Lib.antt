@@ -10,4 +10,5 @@ pub mod Lowered
 pub mod Order
 pub mod Refusals
 pub mod Simulates
+pub mod Branches
 pub mod Built

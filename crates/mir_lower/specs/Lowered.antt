@@ -8,18 +8,19 @@ use Rattle.types.specs.declared.ids.BindingId.{BindingId}
 use Rattle.types.specs.declared.ids.ExprId.{ExprId}
 use Rattle.world.specs.declared.infer.ValueNs.TheVariants.{LocalBinding}
 use Rattle.source_meaning.specs.Events.{marked, marked_as_place, marked_as_operand, marked_by_statement, marked_by_tail}
-use Rattle.source_meaning.specs.Source.{Source, Cell, node, node_type, named_by, pattern, bound_by}
+use Rattle.source_meaning.specs.Source.{Source, Cell, node, node_type, named_by, pattern, target, bound_by}
 use Rattle.source_meaning.specs.Steps.{statement_parts}
 use Rattle.source_meaning.specs.Valid.{IsPlainFrom, IsLaidOut, NeedsLayout}
 use Rattle.mir_lower.specs.Graph.{Shape, binding_local, local_of}
-use Rattle.mir_lower.specs.Growth.{Grows, IsSound, IsOpen}
+use Rattle.mir_lower.specs.Growth.{Grows, Spares, IsSound, IsOpen}
 use Rattle.mir.specs.Memory.{Memory}
 use Rattle.mir.specs.Run.{Frame}
-use Rattle.mir_lower.specs.Does.{here, Comes, IsFrameOf, Does, DoesOperand, DoesOperands, DoesPlace, DoesStatements, DoesTail, DoesBind}
+use Rattle.mir_lower.specs.Does.{here, Comes, IsFrameOf, Does, DoesOperand, DoesOperands, DoesPlace, DoesStatements, DoesTail, DoesBind, DoesAssign}
 
 -- the graph is as sound as before, has what it had, and these cells more came into use in the scope
 pub record Keeps (source : Source) (old new : Shape) (marked : List Cell) : Type 0 where
   pub grows : Grows old new
+  pub spares : Spares old new
   pub sound : IsSound source new
   pub «open» : IsOpen new
   pub scope : new.scope ≡ old.scope ++ marked
@@ -77,6 +78,17 @@ pub record IsNamed (source : Source) (s : Shape) (e local : ℕ) : Type 0 where
 pub record Binds (source : Source) (old new : Shape) (pat : ℕ) (cell : Cell) : Type 0 where
   pub keeps : Keeps source old new (bound_by (pattern source pat))
   pub does : DoesBind source old new pat cell
+
+-- the target of an assignment names a binding with this local
+pub record IsTargeted (source : Source) (s : Shape) (assigned local : ℕ) : Type 0 where
+  pub binding : BindingId
+  pub names : target source assigned ≡ Some binding
+  pub found : binding_local s binding.0 ≡ Some local
+
+-- the value of a cell was assigned to a target: no cell comes into use
+pub record Assigns (source : Source) (old new : Shape) (assigned : ℕ) (cell : Cell) : Type 0 where
+  pub keeps : Keeps source old new []
+  pub does : DoesAssign source old new assigned cell
 
 -- statements were lowered
 pub record LowersStatements (source : Source) (old new : Shape) (statements : List Statement) : Type 0 where

@@ -20,7 +20,7 @@ use Rattle.world.specs.declared.layout.Layout.{Layout}
 use Rattle.mir.specs.declared.errors.MirLowerError.{MirLowerError}
 use Rattle.mir.specs.declared.errors.MirLowerError.TheVariants as refusal
 use Rattle.mir.specs.Errors.{layout_error_of}
-use Rattle.source_meaning.specs.Source.{Source, Cell, cell_type, node, node_layout, named_by, node_type, pattern, binding_type, root}
+use Rattle.source_meaning.specs.Source.{Source, Cell, cell_type, node, node_layout, named_by, node_type, pattern, target_path, pattern_named_by, target, binding_type, root}
 use Rattle.source_meaning.specs.Valid.{Evaluates}
 
 -- inference met an error in the body
@@ -53,7 +53,7 @@ pub record IsUnbuiltExpr (source : Source) (e : ℕ) : Type 0 where
   pub complete : IsIncomplete expr → ⊥
 
 -- An expression of a form that isn't built yet, whatever its parts are: one that is adjusted, whatever its form is, and
--- one whose form has no meaning yet, as `*`, `&&`, `||`, an assignment and a literal that is neither a truth value nor a
+-- one whose form has no meaning yet, as `*`, a jump and a literal that is neither a truth value nor a
 -- whole number.
 abbrev pub IsUnbuiltForm : Source → ℕ → Type 0
 IsUnbuiltForm source e = (is_adjusted source.infer (record { 0 = e }) ≡ true) ⊎ IsUnbuiltExpr source e
@@ -68,11 +68,22 @@ IsUnbuiltStatement source _ = Unit {0}
 abbrev pub NamesNoBinding : Source → ℕ → Type 0
 NamesNoBinding source e = (named : ValueNs) × (named_by source e ≡ Some named) × (local_named named ≡ None)
 
--- an expression that isn't built yet: by its form, as a path by what it names, or as a block by one of its statements
+-- a target of an assignment that isn't built yet: it is no path that could be one to a binding, or is resolved to something
+-- else
+abbrev pub IsUnbuiltTarget : Source → ℕ → Type 0
+IsUnbuiltTarget source p =
+    (target_path source p ≡ None)
+    ⊎ ((named : ValueNs) × (pattern_named_by source p ≡ Some named) × (local_named named ≡ None))
+
+-- an expression that isn't built yet: by its form, as a path by what it names, as an
+-- assignment by its target, or as a block by one of its statements
 abbrev pub IsUnbuilt : Source → ℕ → Option CoreExpr → Type 0
 IsUnbuilt source e (Some (expr.Literal l)) = ⊥
 IsUnbuilt source e (Some (expr.Path name)) = NamesNoBinding source e
 IsUnbuilt source e (Some (expr.Strict operation operands)) = ⊥
+IsUnbuilt source e (Some (expr.Logic op left right)) = ⊥
+IsUnbuilt source e (Some (expr.If condition then_branch else_branch)) = ⊥
+IsUnbuilt source e (Some (expr.Assign assigned value)) = IsUnbuiltTarget source assigned
 IsUnbuilt source e (Some (expr.Block statements tail)) = (one : Statement) × Contains statements one × IsUnbuiltStatement source one
 IsUnbuilt source e None = IsUnbuiltForm source e
 
@@ -85,18 +96,29 @@ abbrev pub LetBindsNone : Source → Statement → Type 0
 LetBindsNone source (statement.Let pat (Some e) None) = BindsNone source pat.0
 LetBindsNone source _ = ⊥
 
--- an expression that names, or as a block binds, a binding that the body lacks
+-- the target of an assignment names a binding that the body lacks
+abbrev pub AssignsNone : Source → ℕ → Type 0
+AssignsNone source p = (binding : BindingId) × (target source p ≡ Some binding) × (binding_type source binding.0 ≡ None)
+
+-- an expression that names, assigns, or as a block binds, a binding that the body lacks
 abbrev pub LacksLocal : Source → ℕ → Option CoreExpr → Type 0
 LacksLocal source e (Some (expr.Path name)) = (binding : BindingId) × (named_by source e ≡ Some (LocalBinding binding)) × (binding_type source binding.0 ≡ None)
+LacksLocal source e (Some (expr.Assign assigned value)) = AssignsNone source assigned
 LacksLocal source e (Some (expr.Block statements tail)) = (one : Statement) × Contains statements one × LetBindsNone source one
 LacksLocal source e _ = ⊥
+
+-- a path, or the path that an assignment's target is, to which name resolution found nothing
+abbrev pub IsUnresolved : Source → ℕ → Option CoreExpr → List ℕ → Type 0
+IsUnresolved source e (Some (expr.Path given)) name = (given ≡ name) × (named_by source e ≡ None)
+IsUnresolved source e (Some (expr.Assign assigned value)) name = (target_path source assigned ≡ Some name) × (pattern_named_by source assigned ≡ None)
+IsUnresolved source e _ name = ⊥
 
 -- the refusal of an expression has its cause there; want of memory needs none
 abbrev pub RefusesNode : Source → ℕ → MirLowerError → Type 0
 RefusesNode source e (refusal.LayoutError layout_error) =
     IsNumber (node source e) × (node_layout source e ≡ None) × (ty : Ty) × (node_type source e ≡ Some ty) × (layout_error ≡ layout_error_of ty)
 RefusesNode source e refusal.IncompleteExpr = LacksPart source e
-RefusesNode source e (refusal.UnresolvedName name) = (node source e ≡ Some (expr.Path name)) × (named_by source e ≡ None)
+RefusesNode source e (refusal.UnresolvedName name) = IsUnresolved source e (node source e) name
 RefusesNode source e refusal.HasErrors = ⊥
 RefusesNode source e (refusal.TypeError text) =
     (text ≡ codes "number literal of more than 16 bytes") × IsNumber (node source e)
@@ -111,6 +133,14 @@ RefusesPattern source pat (refusal.NotSupported text) = (text ≡ codes "form no
 RefusesPattern source pat refusal.InaccessibleLocal = BindsNone source pat
 RefusesPattern source pat refusal.NoMemory = Unit {0}
 RefusesPattern source pat _ = ⊥
+
+-- the refusal of an assignment's target: it isn't built, its name is resolved to nothing, or its binding is missing
+abbrev pub RefusesTarget : Source → ℕ → MirLowerError → Type 0
+RefusesTarget source p (refusal.NotSupported text) = (text ≡ codes "form not built") × IsUnbuiltTarget source p
+RefusesTarget source p (refusal.UnresolvedName name) = (target_path source p ≡ Some name) × (pattern_named_by source p ≡ None)
+RefusesTarget source p refusal.InaccessibleLocal = AssignsNone source p
+RefusesTarget source p refusal.NoMemory = Unit {0}
+RefusesTarget source p _ = ⊥
 
 -- a refusal comes of an expression that is evaluated where another is
 abbrev pub RefusesAt : Source → ℕ → MirLowerError → Type 0

@@ -2,8 +2,8 @@
 
 ghost use Rattle.std.specs.Prelude.{◌≡◌, ◌<◌, false, length, Some};
 ghost use Rattle.std.specs.Option.{option_and_then, option_copied};
-ghost use Rattle.source_meaning.specs.Core.{is_adjusted, is_adjusted_pattern, is_any_step, is_by_reference, is_positive, name_of, names_item};
-ghost use Rattle.source_meaning.specs.Source.{pattern};
+ghost use Rattle.source_meaning.specs.Core.{is_adjusted, is_adjusted_pattern, is_any_step, is_by_reference, is_dereferenced_pattern, is_positive, name_of, names_item, path_of, pattern_names_item};
+ghost use Rattle.source_meaning.specs.Source.{pattern, target_path};
 ghost use Rattle.world.specs.declared.expr.Expr.TheVariants as whole;
 ghost use Rattle.world.specs.Lookups.{expr_of};
 ghost use Rattle.mir_lower.specs.Contexts.{source_of};
@@ -13,8 +13,8 @@ use crate::context::Context;
 use crate::literal::LiteralValue;
 use mir::{BinOp, UnOp};
 use world::{
-    Adjustment, BinaryOp, BindingId, BindingMode, Expr, ExprId, LabelId, List, Literal, Pat, PatId,
-    Statement, Text, UnaryOp,
+    Adjustment, BinaryOp, BindingId, BindingMode, Expr, ExprId, LabelId, List, Literal, LogicOp,
+    Pat, PatId, Statement, Text, UnaryOp,
 };
 
 /// What lowering does with an expression. Its variants are the forms that are built, and two for the others.
@@ -24,6 +24,9 @@ pub enum Form<'a> {
     Path(&'a Text),
     Unary(UnOp, ExprId),
     Binary(BinOp, ExprId, ExprId),
+    Logic(LogicOp, ExprId, ExprId),
+    If(ExprId, ExprId, Option<ExprId>),
+    Assign(PatId, ExprId),
     Block(&'a List<Statement>, Option<ExprId>),
     /// An expression that is missing, or whose operator is.
     Incomplete,
@@ -51,14 +54,13 @@ fn unary_form<'a>(e: ExprId, op: UnaryOp) -> Form<'a>
     }
 }
 
-#[tactic(auto, unfolding(source_meaning::specs::Core::eager_operator))]
 fn binary_form<'a>(lhs: ExprId, rhs: ExprId, op: Option<BinaryOp>) -> Form<'a>
     ensures { IsFormOf false (whole.BinaryOp lhs rhs op) result }
 {
     match op {
         Some(BinaryOp::ArithOp(op)) => Form::Binary(BinOp::from(op), lhs, rhs),
         Some(BinaryOp::CmpOp(op)) => Form::Binary(BinOp::from(op), lhs, rhs),
-        Some(BinaryOp::LogicOp(_)) => Form::Unbuilt,
+        Some(BinaryOp::LogicOp(op)) => Form::Logic(op, lhs, rhs),
         Some(BinaryOp::Assignment { .. }) => Form::Unbuilt,
         None => Form::Incomplete,
     }
@@ -98,6 +100,12 @@ fn form_of<'a>(names_item: bool, expr: &'a Expr) -> Form<'a>
         Expr::Path(name) => path_form(names_item, name),
         Expr::UnaryOp { expr, op } => unary_form(*expr, *op),
         Expr::BinaryOp { lhs, rhs, op } => binary_form(*lhs, *rhs, *op),
+        Expr::If {
+            condition,
+            then_branch,
+            else_branch,
+        } => Form::If(*condition, *then_branch, *else_branch),
+        Expr::Assignment { target, value } => Form::Assign(*target, *value),
         Expr::Block {
             statements,
             tail,
@@ -196,5 +204,44 @@ pub(crate) fn name_bound(context: &Context<'_>, pat: PatId) -> Option<BindingId>
         None
     } else {
         name_of(context.body.pats.get(pat.0 as u64))
+    }
+}
+
+/// Whether a pattern dereferences the value first.
+#[tactic(auto, unfolding(source_meaning::specs::Core::is_dereferenced_pattern))]
+fn is_dereferenced_pattern(context: &Context<'_>, pat: PatId) -> bool
+    ensures { result ≡ is_dereferenced_pattern context.now.infer.now pat }
+{
+    is_positive(context.infer.pat_adjustments.get(&pat))
+}
+
+/// Whether a pattern is a path that is resolved to an associated item or a variant.
+#[tactic(auto, unfolding(source_meaning::specs::Core::pattern_names_item))]
+fn pattern_names_item(context: &Context<'_>, pat: PatId) -> bool
+    ensures { result ≡ pattern_names_item context.now.infer.now pat }
+{
+    context.infer.pat_assoc_res.get(&pat).is_some()
+        || context.infer.pat_variant_res.get(&pat).is_some()
+}
+
+/// The text of a pattern that is a path.
+fn path_of(pat: Option<&Pat>) -> Option<&Text>
+    ensures { option_copied result ≡ option_and_then path_of (option_copied pat.entry) }
+{
+    match pat {
+        Some(Pat::Path(name)) => Some(name),
+        _ => None,
+    }
+}
+
+/// The path that the target of an assignment is, where it is one that may name a binding.
+#[tactic(auto, unfolding(source_meaning::specs::Source::target_path))]
+pub(crate) fn target_path<'a>(context: &Context<'a>, pat: PatId) -> Option<&'a Text>
+    ensures { option_copied result ≡ target_path (source_of context.now) pat.0 }
+{
+    if is_dereferenced_pattern(context, pat) || pattern_names_item(context, pat) {
+        None
+    } else {
+        path_of(context.body.pats.get(pat.0 as u64))
     }
 }

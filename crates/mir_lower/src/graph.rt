@@ -2,7 +2,7 @@
 
 ghost use Rattle.std.specs.Prelude.{◌≡◌, ◌<◌, ◌^◌, ℕ, [], length, IfOk, OnOk, Some, None, slice_get};
 ghost use Rattle.std.specs.Option.{option_map};
-ghost use Rattle.mir_lower.specs.Graph.{shape, first_shape, with_statement, with_terminator, with_block, with_binding, with_temp, with_mark, with_scope, temp_of, binding_local, no_statements, cell_of, cells_of};
+ghost use Rattle.mir_lower.specs.Graph.{shape, first_shape, with_statement, with_terminator, with_block, with_reserved, with_entered, with_binding, with_temp, with_mark, with_scope, temp_of, binding_local, no_statements, cell_of, cells_of};
 ghost use Rattle.source_meaning.specs.Source.{Node};
 
 use mir::{BasicBlock, BasicBlockId, Local, LocalId, MirBody, Statement, Terminator};
@@ -132,6 +132,28 @@ impl Graph {
         self.blocks.push(empty_block(alloc))?;
         self.current = BasicBlockId(count as u32);
         Ok(())
+    }
+
+    /// Adds a block, and leaves the open one open. A block that would be the 2^32nd has no id: `NoMemory`.
+    #[tactic(auto, unfolding(crate::specs::Graph::with_reserved))]
+    pub fn reserve_block(&mut self, alloc: Global) -> Result<BasicBlockId, NoMemory>
+        ensures id { IfOk result (λ block. block.0 ≡ length (shape self.old).blocks) }
+        ensures added { OnOk result (shape self.new ≡ with_reserved (shape self.old)) }
+    {
+        let count = self.blocks.len();
+        if count >= u32::MAX as usize {
+            return Err(NoMemory);
+        }
+        self.blocks.push(empty_block(alloc))?;
+        Ok(BasicBlockId(count as u32))
+    }
+
+    /// Opens a block that was reserved.
+    #[tactic(auto, unfolding(crate::specs::Graph::with_entered))]
+    pub fn enter_block(&mut self, block: BasicBlockId)
+        ensures { shape self.new ≡ with_entered block.0 (shape self.old) }
+    {
+        self.current = block;
     }
 
     /// A new local for an expression that has none yet. A local that would be the 2^32nd has no id: `NoMemory`.

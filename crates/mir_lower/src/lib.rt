@@ -2,6 +2,7 @@
 #![tactic(auto)]
 
 mod body;
+mod branch;
 mod context;
 mod first;
 mod form;

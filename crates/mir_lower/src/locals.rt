@@ -10,12 +10,12 @@ ghost use Rattle.world.specs.declared.infer.ValueNs.TheVariants.{LocalBinding};
 ghost use Rattle.mir_lower.specs.Contexts.{source_of};
 ghost use Rattle.mir_lower.specs.Graph.{shape, with_statement, local_of};
 ghost use Rattle.mir_lower.specs.Growth.{IsSound, IsOpen, IsReady};
-ghost use Rattle.mir_lower.specs.Lowered.{IsGiven, IsNamed, Binds};
-ghost use Rattle.source_meaning.specs.Built.{BindsBinding, NamesBinding};
-ghost use Rattle.mir_lower.specs.Refusals.{RefusesNode, RefusesPattern};
+ghost use Rattle.mir_lower.specs.Lowered.{IsGiven, IsNamed, Binds, IsTargeted, Assigns};
+ghost use Rattle.source_meaning.specs.Built.{AssignsBinding, BindsBinding, NamesBinding};
+ghost use Rattle.mir_lower.specs.Refusals.{RefusesNode, RefusesPattern, RefusesTarget};
 
 use crate::context::Context;
-use crate::form::name_bound;
+use crate::form::{name_bound, target_path};
 use crate::graph::{Graph, Held};
 use crate::inferred::node_ty;
 use crate::unbuilt::form_not_built;
@@ -162,6 +162,55 @@ pub(crate) fn bind(
         return Err(MirLowerError::InaccessibleLocal);
     };
     storage_live(context, graph, binding, local)?;
+    let operand = Operand {
+        kind: OperandKind::Copy(from),
+        span: None,
+    };
+    assign(
+        graph,
+        Place { local },
+        Rvalue::Use(operand),
+        MirSpan::PatId(pat),
+    )
+}
+
+/// The local that the target of an assignment names: that of a binding.
+fn target_local(context: &Context<'_>, graph: &Graph, pat: PatId) -> Result<LocalId, MirLowerError>
+    requires { IsSound (source_of context.now) (shape graph.now) }
+    ensures lowered { IfOk result (λ local. IsTargeted (source_of context.now) (shape graph.now) pat.0 local.0) }
+    ensures built { OnOk result (AssignsBinding (source_of context.now) pat.0) }
+    ensures refused { IfErr result (RefusesTarget (source_of context.now) pat.0) }
+{
+    let Some(name) = target_path(context, pat) else {
+        return Err(form_not_built(context.alloc));
+    };
+    let Some(named) = context.infer.pat_value_res.get(&pat) else {
+        return Err(unresolved(context, name));
+    };
+    match binding_named(*named) {
+        Some(binding) => match graph.binding_local(binding) {
+            Some(local) => Ok(local),
+            None => Err(MirLowerError::InaccessibleLocal),
+        },
+        None => Err(form_not_built(context.alloc)),
+    }
+}
+
+/// The target of an assignment is assigned: the bytes of a place are copied to the local of the binding that it names.
+pub(crate) fn assign_target(
+    context: &Context<'_>,
+    graph: &mut Graph,
+    pat: PatId,
+    from: Place,
+) -> Result<(), MirLowerError>
+    requires sound { IsSound (source_of context.now) (shape graph.old) }
+    requires opened { IsOpen (shape graph.old) }
+    ensures lowered { OnOk result ((cell : Cell) → local_of (shape graph.old) cell ≡ Some from.local.0
+        → Assigns (source_of context.now) (shape graph.old) (shape graph.new) pat.0 cell) }
+    ensures built { OnOk result (AssignsBinding (source_of context.now) pat.0) }
+    ensures refused { IfErr result (RefusesTarget (source_of context.now) pat.0) }
+{
+    let local = target_local(context, graph, pat)?;
     let operand = Operand {
         kind: OperandKind::Copy(from),
         span: None,

@@ -5,6 +5,8 @@ ghost use Rattle.mir.specs.declared.operand.OperandKind.TheVariants.{Copy};
 ghost use Rattle.source_meaning.specs.Source.{Cell, node};
 ghost use Rattle.source_meaning.specs.Core.{Combine, is_path};
 ghost use Rattle.source_meaning.specs.Core as expr;
+ghost use Rattle.source_meaning.specs.Meaning.{deciding_byte};
+ghost use Rattle.source_meaning.specs.Steps.{parts_of};
 ghost use Rattle.world.specs.declared.body.Statement.TheVariants as statement_kind;
 ghost use Rattle.mir_lower.specs.Contexts.{source_of};
 ghost use Rattle.mir_lower.specs.Form.{core_value, operation_of};
@@ -13,18 +15,19 @@ ghost use Rattle.mir_lower.specs.Growth.{IsReady};
 ghost use Rattle.mir_lower.specs.Lowered.{IsPlaced, LowersInto, LowersPlace, LowersOperand, LowersStatements, LowersTail, IsStatementOf};
 ghost use Rattle.mir_lower.specs.Built.{IsBuilt, IsBuiltThrough};
 ghost use Rattle.mir_lower.specs.Refusals.{RefusesAt};
-ghost use Rattle.std.specs.Prelude.{All};
+ghost use Rattle.std.specs.Prelude.{All, Contains, IfSome};
 ghost use Rattle.world.specs.Nodes.{optional};
 
+use crate::branch::{fork, go_on};
 use crate::context::Context;
 use crate::form::{Form, form_at};
 use crate::graph::Graph;
 use crate::leave::leave_scope;
 use crate::literal::{LiteralValue, lower_literal};
-use crate::locals::{assign, bind, fake_read, new_temp, place_named};
+use crate::locals::{assign, assign_target, bind, fake_read, new_temp, place_named};
 use crate::unbuilt::form_not_built;
 use mir::{BinOp, MirLowerError, MirSpan, Operand, OperandKind, Place, Rvalue, UnOp};
-use world::{ExprId, List, PatId, Statement, Text};
+use world::{ExprId, List, LogicOp, PatId, Statement, Text, TryClone};
 
 /// A place as an operand.
 fn copied(place: Place, e: ExprId) -> Operand
@@ -33,6 +36,16 @@ fn copied(place: Place, e: ExprId) -> Operand
     Operand {
         kind: OperandKind::Copy(place),
         span: Some(MirSpan::ExprId(e)),
+    }
+}
+
+/// The byte of a left operand at which the right one isn't evaluated.
+fn deciding(op: LogicOp) -> u128
+    ensures { result ≡ deciding_byte op }
+{
+    match op {
+        LogicOp::And => 0,
+        LogicOp::Or => 1,
     }
 }
 
@@ -79,22 +92,6 @@ fn name_into(
     )
 }
 
-/// A path is the place that it names.
-fn name_place(
-    context: &Context<'_>,
-    graph: &Graph,
-    e: ExprId,
-    name: &Text,
-) -> Result<Place, MirLowerError>
-    requires ready { IsReady (source_of context.now) (shape graph.now) e.0 }
-    requires form { node (source_of context.now) e.0 ≡ Some (expr.Path name.now) }
-    ensures lowered { IfOk result (λ place. LowersPlace (source_of context.now) (shape graph.now) (shape graph.now) e.0 place.local.0) }
-    ensures built { OnOk result (IsBuilt (source_of context.now) e.0) }
-    ensures refused { IfErr result (RefusesAt (source_of context.now) e.0) }
-{
-    place_named(context, graph, e, name)
-}
-
 /// An expression as an operand: a literal as it stands, and any other by its place.
 #[cycle(lower)]
 pub(crate) fn lower_operand(
@@ -125,7 +122,7 @@ fn lower_place(context: &Context<'_>, graph: &mut Graph, e: ExprId) -> Result<Pl
     ensures refused { IfErr result (RefusesAt (source_of context.now) e.0) }
 {
     match form_at(context, e) {
-        Form::Path(name) => name_place(context, graph, e, name),
+        Form::Path(name) => place_named(context, graph, e, name),
         _ => lower_temp(context, graph, e),
     }
 }
@@ -164,6 +161,19 @@ pub(crate) fn lower_into(
         Form::Path(name) => name_into(context, graph, e, name, place),
         Form::Unary(op, operand) => lower_unary(context, graph, e, op, operand, place),
         Form::Binary(op, lhs, rhs) => lower_binary(context, graph, e, op, lhs, rhs, place),
+        Form::Logic(op, lhs, rhs) => lower_logic(context, graph, e, op, lhs, rhs, place),
+        Form::If(condition, then_branch, else_branch) => {
+            lower_if(
+                context,
+                graph,
+                e,
+                condition,
+                then_branch,
+                else_branch,
+                place,
+            )
+        }
+        Form::Assign(target, value) => lower_assignment(context, graph, e, target, value),
         Form::Block(statements, tail) => lower_block(context, graph, e, statements, tail, place),
         Form::Incomplete => Err(MirLowerError::IncompleteExpr),
         Form::Unbuilt => Err(form_not_built(context.alloc)),
@@ -219,6 +229,84 @@ fn lower_binary(
     )
 }
 
+/// `&&` or `||`: the left operand, a test of it, and then it is the value where it decides, and else the right operand.
+#[cycle(lower)]
+fn lower_logic(
+    context: &Context<'_>,
+    graph: &mut Graph,
+    e: ExprId,
+    op: LogicOp,
+    lhs: ExprId,
+    rhs: ExprId,
+    place: Place,
+) -> Result<(), MirLowerError>
+    requires ready { IsReady (source_of context.now) (shape graph.old) e.0 }
+    requires form { node (source_of context.now) e.0 ≡ Some (expr.Logic op lhs.0 rhs.0) }
+    requires placed { IsPlaced (shape graph.old) place.local.0 }
+    ensures lowered { OnOk result ((cell : Cell) → local_of (shape graph.old) cell ≡ Some place.local.0
+        → LowersInto (source_of context.now) (shape graph.old) (shape graph.new) e.0 cell) }
+    ensures built { OnOk result (IsBuilt (source_of context.now) e.0) }
+    ensures refused { IfErr result (RefusesAt (source_of context.now) e.0) }
+{
+    let left = lower_operand(context, graph, lhs)?;
+    let test = left.try_clone(context.alloc)?;
+    let branches = fork(context, graph, test, deciding(op), e)?;
+    assign(graph, place, Rvalue::Use(left), MirSpan::ExprId(e))?;
+    go_on(graph, branches.join, branches.other, e);
+    lower_into(context, graph, rhs, place)?;
+    go_on(graph, branches.join, branches.join, e);
+    Ok(())
+}
+
+/// An `if`: its condition, a test of it, and then a branch.
+#[cycle(lower)]
+fn lower_if(
+    context: &Context<'_>,
+    graph: &mut Graph,
+    e: ExprId,
+    condition: ExprId,
+    then_branch: ExprId,
+    else_branch: Option<ExprId>,
+    place: Place,
+) -> Result<(), MirLowerError>
+    requires ready { IsReady (source_of context.now) (shape graph.old) e.0 }
+    requires form { node (source_of context.now) e.0 ≡ Some (expr.If condition.0 then_branch.0 else_branch) }
+    requires placed { IsPlaced (shape graph.old) place.local.0 }
+    ensures lowered { OnOk result ((cell : Cell) → local_of (shape graph.old) cell ≡ Some place.local.0
+        → LowersInto (source_of context.now) (shape graph.old) (shape graph.new) e.0 cell) }
+    ensures built { OnOk result (IsBuilt (source_of context.now) e.0) }
+    ensures refused { IfErr result (RefusesAt (source_of context.now) e.0) }
+{
+    let test = lower_operand(context, graph, condition)?;
+    let branches = fork(context, graph, test, 1, e)?;
+    lower_into(context, graph, then_branch, place)?;
+    go_on(graph, branches.join, branches.other, e);
+    lower_tail(context, graph, e, else_branch, place)?;
+    go_on(graph, branches.join, branches.join, e);
+    Ok(())
+}
+
+/// An assignment: the value's place, and then the name that is the target is assigned. The assignment itself is `()`, of
+/// which nothing is written.
+#[cycle(lower)]
+fn lower_assignment(
+    context: &Context<'_>,
+    graph: &mut Graph,
+    e: ExprId,
+    target: PatId,
+    value: ExprId,
+) -> Result<(), MirLowerError>
+    requires ready { IsReady (source_of context.now) (shape graph.old) e.0 }
+    requires form { node (source_of context.now) e.0 ≡ Some (expr.Assign target.0 value.0) }
+    ensures lowered { OnOk result ((cell : Cell) → LowersInto (source_of context.now) (shape graph.old) (shape graph.new) e.0 cell) }
+    ensures built { OnOk result (IsBuilt (source_of context.now) e.0) }
+    ensures refused { IfErr result (RefusesAt (source_of context.now) e.0) }
+{
+    let place = lower_place(context, graph, value)?;
+    fake_read(graph, place, value)?;
+    assign_target(context, graph, target, place)
+}
+
 /// A block: its statements, its tail, and then its scope is left.
 #[cycle(lower)]
 fn lower_block(
@@ -264,7 +352,7 @@ fn lower_statements(
     Ok(())
 }
 
-/// The tail of a block, where it has one.
+/// An expression that may be left out: the tail of a block, or the second branch of an `if`.
 #[cycle(lower)]
 fn lower_tail(
     context: &Context<'_>,
@@ -274,7 +362,7 @@ fn lower_tail(
     place: Place,
 ) -> Result<(), MirLowerError>
     requires ready { IsReady (source_of context.now) (shape graph.old) e.0 }
-    requires form { (statements : _) × (node (source_of context.now) e.0 ≡ Some (expr.Block statements tail)) }
+    requires part { IfSome tail (λ one. Contains (parts_of (node (source_of context.now) e.0)) one.0) }
     requires placed { IsPlaced (shape graph.old) place.local.0 }
     ensures lowered { OnOk result ((cell : Cell) → local_of (shape graph.old) cell ≡ Some place.local.0
         → LowersTail (source_of context.now) (shape graph.old) (shape graph.new) tail cell) }

@@ -1,4 +1,4 @@
--- What growth leaves: new cells of the stack, and new blocks of the heap.
+-- The memory after growth: new cells of the stack, and new blocks of the heap.
 use Rattle.std.proofs.Common.{◌≡◌, ℕ, zero, suc, ◌+◌, ◌-◌, ◌*◌, ◌/◌, ◌%◌, ◌<◌, ◌≤◌, ◌⊎◌, inl, inr, Bool, true, false, cond, List, [], ◌∷◌, ◌++◌, length, take, drop, replicate, Option, Some, None, Ok, Err, IsOk, IsSome, IsTrue, All, refl, sym, ◌∙◌, ap, arith}
 use Rattle.std.specs.List.{AllZip, AllPairs}
 use Rattle.std.specs.Int.{next_multiple_of}
@@ -56,7 +56,7 @@ grown-new area end place size behind fits =
     ap (λ n. drop n (grown_to end area)) (sym more) ∙ sym (drop-drop (place - length area) (length area) (grown_to end area)) ∙ ap (drop (place - length area)) zeros ∙ drop-replicate (place - length area) (end - length area) 0 in
     part_of-inside (grown_to end area) place size (omega arith) ∙ ap Some (ap (take size) rest ∙ take-replicate size (end - length area - (place - length area)) 0 (omega arith))
 
--- reading what was there
+-- reading older bytes
 some-old : (before after : Areas) (address : Address) (size : ℕ) (bytes : List ℕ) →
     ((place : ℕ) → part_of before.stack place size ≡ Some bytes → part_of after.stack place size ≡ Some bytes) →
     ((place : ℕ) → part_of before.heap place size ≡ Some bytes → part_of after.heap place size ≡ Some bytes) →
@@ -78,7 +78,7 @@ reading-old before after address size bytes stack heap e = by_size (cases_eq siz
         let there = sym (bytes_at-some before address size some) ∙ reading-is before address size bytes e in
         reading-some after address size bytes (bytes_at-some after address size some ∙ some-old before after address size bytes stack heap there)
 
--- what a push did
+-- the stack after a push
 record IsPush (before after : Areas) (cells : List CellSize) (placed : List Interval) : Type 0 where
   intervals : placed ≡ cells_behind (length before.stack) cells
   memory : after ≡ record before { stack = grown_to (length_behind (length before.stack) cells) before.stack }
@@ -127,7 +127,7 @@ cells_new before after cells placed aligned e =
     let zipped = zip_cells before after (length_behind (length before.stack) cells) (length before.stack) cells (ap (λ areas. areas.stack) push.memory) (omega arith) (omega arith) aligned in
     rw push.intervals zipped
 
--- an interval of the stack from a place on
+-- an interval of the stack from an offset on
 record IsFrom (start : ℕ) (interval : Interval) : Type 0 where
   place : ℕ
   address : interval.addr ≡ Stack place
@@ -164,7 +164,7 @@ apart_cells end (cell ∷ cells) =
 pub cells_apart : (before after : Areas) (cells : List CellSize) (placed : List Interval) → after_push before cells ≡ Ok (placed, after) → AllPairs AreApart placed
 cells_apart before after cells placed e = rw (is_push before after cells placed e).intervals (apart_cells (length before.stack) cells)
 
--- what is there lies before the end
+-- older bytes are before the end
 is_some-from_ok : {A E : Type 0} (o : Option A) (fault : E) → IsOk (ok_or o fault) → IsSome o
 is_some-from_ok (Some x) fault there = refl
 is_some-from_ok None fault there = cc

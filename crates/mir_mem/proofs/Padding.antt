@@ -24,7 +24,7 @@ unfolding value_of
 value_of-ones zero = refl
 value_of-ones (suc k) = omega (arith, value_of-ones k, next_values k)
 
--- the highest byte tells the sign
+-- the number is negative exactly if its last byte is above 127
 pub top_byte : (bytes : List ℕ) (n : ℕ) → length bytes ≡ suc n → ((i : ℕ) → Fits w8 (get_or bytes i 0)) → (127 < get_or bytes n 0) ↔ (256 ^ length bytes ≤ 2 * value_of bytes)
 top_byte bytes n size fits =
     let top : ℕ = get_or bytes n 0 in

@@ -11,7 +11,7 @@ use Rattle.mir.specs.declared.address.Interval.{Interval}
 use Rattle.mir.specs.declared.mem_fault.MemFault.{MemFault}
 use Rattle.mir.specs.Areas.{Areas, IsFault, part_of, bytes_at, some_bytes_at, with_bytes, with_some_bytes, bad_read, bad_write, reading, after_write, after_copy}
 
--- a part that is there, and how long it is
+-- a part that the area has, and its length
 pub part_of-inside : (area : List ℕ) (place size : ℕ) → place + size ≤ length area → part_of area place size ≡ Some (take size (drop place area))
 unfolding part_of
 part_of-inside area place size h = grind (arith, nat_tests)
@@ -54,7 +54,7 @@ pub bytes_at-invalid : (areas : Areas) (address : Address) (n size : ℕ) → ad
 unfolding some_bytes_at
 bytes_at-invalid areas address n size e h = bytes_at-some areas address size h ∙ ap (λ a. some_bytes_at areas a size) e
 
--- a copy of a part that is there
+-- a copy of a part that the area has
 pub copied-none : (areas : Areas) (to from : Address) (size : ℕ) → size ≡ 0 → option_and_then (with_bytes areas to) (bytes_at areas from size) ≡ Some areas
 copied-none areas to from size e = ap (option_and_then (with_bytes areas to)) (bytes_at-none areas from size e) ∙ with_bytes-none areas to
 
@@ -75,7 +75,7 @@ pub copied-heap : (areas : Areas) (to from : Address) (place size : ℕ) → fro
 copied-heap areas to from place size e h fits =
     ap (option_and_then (with_bytes areas to)) (bytes_at-heap areas from place size e h) ∙ copied-part areas to areas.heap place size h fits
 
--- where bytes that are asked for are there
+-- the area has the bytes of a read or a write
 pub inside-stack : (areas : Areas) (address : Address) (place size : ℕ) → address ≡ Stack place → (size ≡ 0 → ⊥) → IsSome (bytes_at areas address size) → place + size ≤ length areas.stack
 inside-stack areas address place size e h there = inside areas.stack place size (rw (bytes_at-stack areas address place size e h) at there)
 
@@ -85,7 +85,7 @@ inside-heap areas address place size e h there = inside areas.heap place size (r
 pub invalid-absurd : (areas : Areas) (address : Address) (n size : ℕ) → address ≡ Invalid n → (size ≡ 0 → ⊥) → IsSome (bytes_at areas address size) → ⊥
 invalid-absurd areas address n size e h there = let none : IsSome {T = List ℕ} None = rw (bytes_at-invalid areas address n size e h) at there in cc
 
--- how many bytes are there
+-- the number of bytes that the area has
 length-some_bytes_at : (areas : Areas) (address : Address) (bytes : List ℕ) (size : ℕ) → some_bytes_at areas address size ≡ Some bytes → length bytes ≡ size
 unfolding some_bytes_at
 length-some_bytes_at areas (Stack place) bytes size e = length-part_of areas.stack bytes place size e
@@ -102,12 +102,12 @@ length-bytes_at areas address bytes size e = by_size (cases_eq size 0)
         ap length (sym empty) ∙ sym none
     by_size (inr some) = length-some_bytes_at areas address bytes size (sym (bytes_at-some areas address size some) ∙ e)
 
--- what is read
+-- the bytes of a read
 pub reading-some : (areas : Areas) (address : Address) (size : ℕ) (bytes : List ℕ) → bytes_at areas address size ≡ Some bytes → reading areas address size ≡ Ok bytes
 unfolding reading
 reading-some areas address size bytes e = ap (λ o. ok_or o (bad_read address size)) e
 
--- a copy of what is there is a write
+-- a copy of bytes that the area has is a write
 copied : (areas : Areas) (to : Address) (from : Interval) (bytes : List ℕ) → bytes_at areas from.addr from.size ≡ Some bytes → after_copy areas to from ≡ after_write areas to bytes
 unfolding after_copy
 copied areas to from bytes e = rw (reading-some areas from.addr from.size bytes e, after_copy) refl

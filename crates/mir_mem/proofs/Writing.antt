@@ -1,4 +1,4 @@
--- What writes and copies leave.
+-- The bytes after writes and copies.
 use Rattle.std.proofs.Common.{◌≡◌, ℕ, ◌+◌, ◌-◌, ◌<◌, ◌≤◌, ◌⊎◌, inl, inr, Bool, true, false, cond, leb, List, [], ◌∷◌, ◌++◌, length, get_or, take, drop, Option, Some, None, Result, Ok, Err, option_map, refl, sym, ◌∙◌, ap, arith}
 use Rattle.std.specs.Option.{ok_or}
 use Rattle.std.proofs.lemmas.List.{length-append, length-take, length-take-le, length-drop, take_at, drop_at, get_or_append_left, get_or-append_right, get_or-take, get_or-drop, same_lists, nil_from_length}
@@ -12,7 +12,7 @@ use Rattle.mir.specs.Areas.{Areas, AreApart, AreRangesApart, part_of, with_part,
 use Rattle.mir_mem.specs.MemoryLaws.{IsAsLong}
 use Rattle.mir_mem.proofs.Parts.{part_of-inside, length-part_of, length-bytes_at, bytes_at-none, bytes_at-some, bytes_at-stack, bytes_at-heap, with_bytes-none, with_bytes-some, reading-some}
 
--- what a test lets through
+-- facts from a test that passed
 pub kept-some : {A : Type 0} (m n : ℕ) (x y : A) → cond (leb m n) (Some x) None ≡ Some y → (m ≤ n) × (y ≡ x)
 kept-some {A} m n x y e = by_test (leb m n) refl e
   where
@@ -62,7 +62,7 @@ written-patched area after bytes place h =
     let rest : drop place after ≡ bytes ++ drop (place + length bytes) area = ap (drop place) h.shape ∙ drop_at (take place area) (bytes ++ drop (place + length bytes) area) place front in
     part_of-inside after place (length bytes) (omega arith) ∙ ap Some (ap (take (length bytes)) rest ∙ take_at bytes (drop (place + length bytes) area) (length bytes) refl)
 
--- a byte outside what was written
+-- a byte apart from the written ones
 byte-patched : (area after bytes : List ℕ) (place j d : ℕ) → IsPatched area after bytes place → (j < place) ⊎ (place + length bytes ≤ j) → get_or after j d ≡ get_or area j d
 byte-patched area after bytes place j d h (inl below) =
     let fits = h.fits in
@@ -109,7 +109,7 @@ other-patched area after bytes place second more h apart =
     by_test true test = ap Some (same (leb-true _ _ test))
     by_test false test = refl
 
--- what a write did: nothing, or one area is another
+-- a write changes nothing, or one area
 data IsWrite (before after : Areas) (address : Address) (bytes : List ℕ) : Type 0 where
   OfNothing : bytes ≡ [] → after ≡ before → IsWrite before after address bytes
   OnStack : (place : ℕ) (stack : List ℕ) → address ≡ Stack place → IsPatched before.stack stack bytes place → after ≡ record before { stack = stack } → IsWrite before after address bytes
@@ -226,7 +226,7 @@ lengths_by before after address bytes (OnHeap place heap at patch same) =
 pub writes_keep_lengths : (before after : Areas) (address : Address) (bytes : List ℕ) → after_write before address bytes ≡ Ok after → IsAsLong before after
 writes_keep_lengths before after address bytes e = lengths_by before after address bytes (written before after address bytes e)
 
--- a copy reads, and then writes what it read
+-- a copy reads, and then writes the bytes that it read
 record IsCopy (before after : Areas) (to : Address) (from : Interval) : Type 0 where
   bytes : List ℕ
   read : reading before from.addr from.size ≡ Ok bytes

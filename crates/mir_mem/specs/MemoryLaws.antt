@@ -1,4 +1,4 @@
--- The laws of a memory, on which those that read and write it rest.
+-- The laws of a memory, which its users rely on.
 use Rattle.std.specs.Prelude.{◌≡◌, ℕ, ◌*◌, ◌^◌, ◌≤◌, List, length, replicate, Ok, All, AllPairs, IsOk}
 use Rattle.std.specs.List.{AllZip}
 use Rattle.world.specs.Checked.{IsAlignment}
@@ -15,7 +15,7 @@ ReadsGiveWhatWasWritten =
     (before after : Areas) (address : Address) (bytes : List ℕ) →
     after_write before address bytes ≡ Ok after → reading after address (length bytes) ≡ Ok bytes
 
--- what shares no byte with the written ones is read as before
+-- bytes apart from the written ones are read as before
 abbrev pub WritesKeepOtherBytes : Type 0
 WritesKeepOtherBytes =
     (before after : Areas) (address : Address) (bytes : List ℕ) (other : Interval) →
@@ -37,26 +37,26 @@ CopiesGiveTheSource =
     (before after : Areas) (to : Address) (from : Interval) → after_copy before to from ≡ Ok after →
     reading after to from.size ≡ reading before from.addr from.size
 
--- what shares no byte with the destination is read as before
+-- bytes apart from the destination are read as before
 abbrev pub CopiesKeepOtherBytes : Type 0
 CopiesKeepOtherBytes =
     (before after : Areas) (to : Address) (from other : Interval) → after_copy before to from ≡ Ok after →
     AreApart record { addr = to; size = from.size } other →
     reading after other.addr other.size ≡ reading before other.addr other.size
 
--- what is read before cells are added is read after
+-- bytes that can be read before cells are added are the same after
 abbrev pub CellsKeepOldBytes : Type 0
 CellsKeepOldBytes =
     (before after : Areas) (cells : List CellSize) (placed : List Interval) (old : Interval) (bytes : List ℕ) →
     after_push before cells ≡ Ok (placed, after) → reading before old.addr old.size ≡ Ok bytes → reading after old.addr old.size ≡ Ok bytes
 
--- what is read before a block is added is read after
+-- bytes that can be read before a block is added are the same after
 abbrev pub BlocksKeepOldBytes : Type 0
 BlocksKeepOldBytes =
     (before after : Areas) (size align : ℕ) (address : Address) (old : Interval) (bytes : List ℕ) →
     after_allocation before size align ≡ Ok (address, after) → reading before old.addr old.size ≡ Ok bytes → reading after old.addr old.size ≡ Ok bytes
 
--- a new cell: behind all that the stack had, at a place that its alignment divides, as long as it has to be, and zero
+-- a new cell: behind all older bytes of the stack, aligned, of its size, and zero
 pub record IsNewCell (before after : Areas) (cell : CellSize) (interval : Interval) : Type 0 where
   pub place : ℕ
   pub address : interval.addr ≡ Stack place
@@ -76,13 +76,13 @@ CellsAreApart =
     (before after : Areas) (cells : List CellSize) (placed : List Interval) →
     after_push before cells ≡ Ok (placed, after) → AllPairs AreApart placed
 
--- and none with what was there
+-- and none with older bytes
 abbrev pub CellsAreApartFromOldBytes : Type 0
 CellsAreApartFromOldBytes =
     (before after : Areas) (cells : List CellSize) (placed : List Interval) (old : Interval) →
     after_push before cells ≡ Ok (placed, after) → IsOk (reading before old.addr old.size) → All (AreApart old) placed
 
--- a new block: behind all that the heap had, at a place that its alignment divides, and zero
+-- a new block: behind all older bytes of the heap, aligned, and zero
 pub record IsNewBlock (before after : Areas) (size align : ℕ) (address : Address) : Type 0 where
   pub place : ℕ
   pub is : address ≡ Heap place
@@ -95,14 +95,14 @@ BlocksAreNew =
     (before after : Areas) (size align : ℕ) (address : Address) →
     after_allocation before size align ≡ Ok (address, after) → IsNewBlock before after size align address
 
--- a new block shares no byte with what was there
+-- a new block shares no byte with older ones
 abbrev pub BlocksAreApartFromOldBytes : Type 0
 BlocksAreApartFromOldBytes =
     (before after : Areas) (size align : ℕ) (address : Address) (old : Interval) →
     after_allocation before size align ≡ Ok (address, after) → IsOk (reading before old.addr old.size) →
     AreApart old record { addr = address; size = size }
 
--- the numbers of places stand for them
+-- an address that is cast to an integer and back is the same
 pub record DoAddressesComeBack : Type 0 where
   pub stack : (place : ℕ) → 1 ≤ place → address_of (usize_of (Stack place)) ≡ Stack place
   pub heap : (place : ℕ) → 1 ≤ place → place ≤ 2 ^ 59 → address_of (usize_of (Heap place)) ≡ Heap place

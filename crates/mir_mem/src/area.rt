@@ -1,4 +1,4 @@
-//! One area of a memory: bytes that are read, written and copied by their places.
+//! One area of a memory, the stack or the heap: bytes that are read, written and copied by their offsets.
 
 ghost use Rattle.std.specs.Prelude.{◌≡◌, ◌+◌, ◌-◌, ◌≤◌, ◌↔◌, ◌++◌, IsTrue, Some, None, length, take, drop, replicate, OnOk, OnErr};
 ghost use Rattle.std.specs.Bool.{OnTrue, OnFalse};
@@ -7,7 +7,7 @@ ghost use Rattle.mir.specs.Areas.{part_of, with_part, grown_to};
 
 use world::NoMemory;
 
-/// Whether an area has `size` bytes from a place on.
+/// Whether an area has `size` bytes from an offset on.
 fn has(area: &[u8], place: u64, size: u64) -> bool
     ensures { IsTrue result ↔ (place + size ≤ length area.now) }
 {
@@ -17,7 +17,7 @@ fn has(area: &[u8], place: u64, size: u64) -> bool
     }
 }
 
-/// The `size` bytes of an area from a place on, where it has as many there.
+/// The `size` bytes of an area from an offset on, if it has that many there.
 #[tactic(auto, unfolding(mir::specs::Areas::part_of))]
 pub(crate) fn part_of(area: &[u8], place: u64, size: u64) -> Option<&[u8]>
     ensures { option_copied result ≡ part_of area.now place size }
@@ -29,7 +29,7 @@ pub(crate) fn part_of(area: &[u8], place: u64, size: u64) -> Option<&[u8]>
     }
 }
 
-/// Writes bytes from a place on, where the area has as many there; answers whether it has.
+/// Writes bytes from an offset on, if the area has that many there; returns whether it has.
 #[tactic(auto, unfolding(mir::specs::Areas::with_part))]
 pub(crate) fn write_part(area: &mut [u8], place: u64, bytes: &[u8]) -> bool
     ensures written { OnTrue result (with_part area.old place bytes.now ≡ Some area.new) }
@@ -45,7 +45,7 @@ pub(crate) fn write_part(area: &mut [u8], place: u64, bytes: &[u8]) -> bool
     }
 }
 
-/// Copies bytes of an area to another place of it, where the area has as many there; answers whether it has.
+/// Copies bytes of an area to another offset of it, if the area has that many there; returns whether it has.
 #[tactic(auto, unfolding(mir::specs::Areas::with_part))]
 pub(crate) fn copy_part(area: &mut [u8], to: u64, from: u64, size: u64) -> bool
     requires { from + size ≤ length area.old }

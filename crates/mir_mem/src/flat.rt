@@ -32,7 +32,7 @@ impl FlatMemory {
     ghost use Rattle.mir.specs.Areas.{bytes_at, some_bytes_at, with_bytes, with_some_bytes, after_block};
     ghost use Rattle.mir_mem.specs.Flat.{areas_of};
 
-    /// The bytes at an address, where they are there.
+    /// The bytes at an address, if they are in the memory.
     #[tactic(auto, unfolding(mir::specs::Areas::bytes_at, mir::specs::Areas::some_bytes_at))]
     fn bytes_at(&self, addr: Address, size: u64) -> Option<&[u8]>
         ensures { option_copied result ≡ bytes_at (areas_of self.now) addr size }
@@ -47,7 +47,7 @@ impl FlatMemory {
         }
     }
 
-    /// Writes bytes to an address, where there are as many; answers whether there are.
+    /// Writes bytes to an address, if the memory has that many there; returns whether it has.
     #[tactic(auto, unfolding(mir::specs::Areas::with_bytes, mir::specs::Areas::with_some_bytes))]
     fn put(&mut self, addr: Address, bytes: &[u8]) -> bool
         ensures written { OnTrue result (with_bytes (areas_of self.old) addr bytes.now ≡ Some (areas_of self.new)) }
@@ -64,7 +64,7 @@ impl FlatMemory {
         }
     }
 
-    /// Copies bytes of the stack to an address, where there are as many; answers whether there are.
+    /// Copies bytes of the stack to an address, if the memory has that many there; returns whether it has.
     #[tactic(auto, unfolding(mir::specs::Areas::with_some_bytes))]
     fn copy_from_stack(&mut self, to: Address, place: u64, size: u64) -> bool
         requires { place + size ≤ length (areas_of self.old).stack }
@@ -82,7 +82,7 @@ impl FlatMemory {
         }
     }
 
-    /// Copies bytes of the heap to an address, where there are as many; answers whether there are.
+    /// Copies bytes of the heap to an address, if the memory has that many there; returns whether it has.
     #[tactic(auto, unfolding(mir::specs::Areas::with_some_bytes))]
     fn copy_from_heap(&mut self, to: Address, place: u64, size: u64) -> bool
         requires { place + size ≤ length (areas_of self.old).heap }
@@ -100,7 +100,8 @@ impl FlatMemory {
         }
     }
 
-    /// Copies the bytes of an interval, which are there, to an address, where there are as many; answers whether there are.
+    /// Copies the bytes of an interval, which are in the memory, to an address, if the memory has that many
+    /// there; returns whether it has.
     fn put_from(&mut self, to: Address, from: Interval) -> bool
         requires { IsSome (bytes_at (areas_of self.old) from.addr from.size) }
         ensures written { OnTrue result (option_and_then (with_bytes (areas_of self.old) to) (bytes_at (areas_of self.old) from.addr from.size) ≡ Some (areas_of self.new)) }
@@ -117,7 +118,7 @@ impl FlatMemory {
         }
     }
 
-    /// Adds a zeroed block to the heap, from a place on that is no less than the heap's length.
+    /// Adds a zeroed block to the heap, from an offset on that is at least the heap's length.
     #[tactic(auto, unfolding(mir::specs::Areas::after_block))]
     fn add_block(&mut self, place: u64, size: u64) -> Result<Address, MemFault>
         requires { length (areas_of self.old).heap ≤ place }

@@ -1,4 +1,4 @@
-//! Arithmetic on numbers of one integer type, as std has it.
+//! Arithmetic on numbers of one integer type, by std.
 
 use crate::IntValue;
 use std::ops::{BitAnd, BitOr, BitXor};
@@ -9,7 +9,7 @@ impl IntValue {
     ghost use Rattle.std.specs.Option.{SomeIff};
     ghost use Rattle.mir_mem.specs.IntValue.{IsSameType, TypeHolds, bits_in, number_in, width_in, with_bits, with_number};
 
-    /// The sum, where the type has it.
+    /// The sum, if it fits the type.
     pub fn checked_add(self, other: IntValue) -> Option<IntValue>
         requires { IsSameType self other }
         ensures { SomeIff result (TypeHolds self (number_in self +ℤ number_in other)) (with_number self (number_in self +ℤ number_in other)) }
@@ -23,7 +23,7 @@ impl IntValue {
         }
     }
 
-    /// The difference, where the type has it.
+    /// The difference, if it fits the type.
     pub fn checked_sub(self, other: IntValue) -> Option<IntValue>
         requires { IsSameType self other }
         ensures { SomeIff result (TypeHolds self (number_in self -ℤ number_in other)) (with_number self (number_in self -ℤ number_in other)) }
@@ -37,7 +37,7 @@ impl IntValue {
         }
     }
 
-    /// The product, where the type has it.
+    /// The product, if it fits the type.
     pub fn checked_mul(self, other: IntValue) -> Option<IntValue>
         requires { IsSameType self other }
         ensures { SomeIff result (TypeHolds self (number_in self *ℤ number_in other)) (with_number self (number_in self *ℤ number_in other)) }
@@ -51,7 +51,7 @@ impl IntValue {
         }
     }
 
-    /// The quotient without its fraction, where the divisor is not 0 and the type has it.
+    /// The quotient without its fraction, if the divisor is not 0 and it fits the type.
     pub fn checked_div(self, other: IntValue) -> Option<IntValue>
         requires { IsSameType self other }
         ensures { SomeIff result ((number_in other ≢ pos 0) × TypeHolds self (int_div (number_in self) (number_in other))) (with_number self (int_div (number_in self) (number_in other))) }
@@ -65,7 +65,7 @@ impl IntValue {
         }
     }
 
-    /// The remainder, with the sign of `self`, where the divisor is not 0 and the type has the quotient.
+    /// The remainder, with the sign of `self`, if the divisor is not 0 and the quotient fits the type.
     pub fn checked_rem(self, other: IntValue) -> Option<IntValue>
         requires { IsSameType self other }
         ensures { SomeIff result ((number_in other ≢ pos 0) × TypeHolds self (int_div (number_in self) (number_in other))) (with_number self (int_rem (number_in self) (number_in other))) }
@@ -83,7 +83,7 @@ impl IntValue {
         }
     }
 
-    /// The bits moved up by an amount below the type's width: those that pass its end are lost.
+    /// The bits shifted left by an amount below the type's width; those past its end are lost.
     pub fn checked_shl(self, amount: u32) -> Option<IntValue>
         ensures { SomeIff result (amount < width_in self) (with_bits self (bits_in self * 2 ^ amount % 2 ^ width_in self)) }
     {
@@ -94,7 +94,8 @@ impl IntValue {
         }
     }
 
-    /// The number over a power of two, rounded down, where the power is below the type's width.
+    /// The number shifted right, that is divided by a power of two and rounded down, for an amount below the
+    /// type's width.
     pub fn checked_shr(self, amount: u32) -> Option<IntValue>
         ensures { SomeIff result (amount < width_in self) (with_number self (int_shr (number_in self) amount)) }
     {
@@ -108,7 +109,7 @@ impl IntValue {
         }
     }
 
-    /// The number, where it is a `u32`.
+    /// The number, if it fits a `u32`.
     pub fn as_u32(self) -> Option<u32>
         ensures { SomeIff result (FitsUnsignedBits 32 (number_in self)) (unsigned_abs (number_in self)) }
     {
@@ -120,7 +121,7 @@ impl IntValue {
     }
 }
 
-/// The bits that both have.
+/// The bits that are set in both.
 impl BitAnd for IntValue {
     ghost use Rattle.std.specs.Prelude.{◌≡◌, bit_and};
     ghost use Rattle.mir_mem.specs.IntValue.{IsSameType, bits_in, with_bits};
@@ -136,7 +137,7 @@ impl BitAnd for IntValue {
     }
 }
 
-/// The bits that one of the two has.
+/// The bits that are set in one or both.
 impl BitOr for IntValue {
     ghost use Rattle.std.specs.Prelude.{◌≡◌, bit_or};
     ghost use Rattle.mir_mem.specs.IntValue.{IsSameType, bits_in, with_bits};
@@ -152,7 +153,7 @@ impl BitOr for IntValue {
     }
 }
 
-/// The bits that just one of the two has.
+/// The bits that are set in exactly one.
 impl BitXor for IntValue {
     ghost use Rattle.std.specs.Prelude.{◌≡◌, bit_xor};
     ghost use Rattle.mir_mem.specs.IntValue.{IsSameType, bits_in, with_bits};

@@ -57,7 +57,7 @@ impl IntValue {
         }
     }
 
-    /// The value of the same signed type with this number, where the type has it.
+    /// The value of the same signed type with this number, if it fits.
     pub(crate) fn with_signed(self, number: i128) -> Option<IntValue>
         requires { is_signed_in self ≡ true }
         ensures { SomeIff result (TypeHolds self number) (with_number self number) }
@@ -84,7 +84,7 @@ impl IntValue {
         }
     }
 
-    /// The value of the same unsigned type with this number, where the type has it.
+    /// The value of the same unsigned type with this number, if it fits.
     pub(crate) fn with_unsigned(self, number: u128) -> Option<IntValue>
         requires { is_signed_in self ≡ false }
         ensures { SomeIff result (TypeHolds self (pos number)) (with_number self (pos number)) }

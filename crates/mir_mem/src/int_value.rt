@@ -48,7 +48,7 @@ fn unsigned_value(bytes: &[u8]) -> IntValue
 }
 
 impl IntValue {
-    /// The number that bytes are, where some integer type has as many.
+    /// The number of little-endian bytes, signed or unsigned, if an integer type has that width.
     pub fn from_bytes(bytes: &[u8], is_signed: bool) -> Option<IntValue>
         ensures some { IsSome result ↔ IsTrue (is_width (length bytes.now)) }
         ensures value { IfSome result (λ value. Reads value is_signed bytes.now) }

@@ -3,7 +3,7 @@
 use mir::Interval;
 use world::Bytes;
 
-/// Bytes by themselves, or where they lie in a memory.
+/// Bytes of its own, or an interval of a memory.
 #[derive(Debug, Drop)]
 pub enum IntervalOrOwned {
     Owned(Bytes),

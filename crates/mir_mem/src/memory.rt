@@ -1,4 +1,4 @@
-//! What a machine keeps its bytes in.
+//! The memory of a machine.
 
 ghost use Rattle.std.specs.Prelude.{◌≡◌, ◌^◌, ◌≤◌, ◌⊎◌, Ok, Err, All, IfOk, IfErr, IsErrAnd, OnOk, OnErr};
 ghost use Rattle.std.specs.List.{concat};
@@ -11,17 +11,17 @@ use mir::{Address, CellSize, Interval, MemFault};
 use std::alloc::Global;
 use world::{List, NoMemory};
 
-/// What a machine keeps its bytes in: a stack and a heap, which only grow, up to a limit.
+/// The memory of a machine: a stack and a heap, which only grow, up to a limit.
 pub trait Memory {
     // Its stack, its heap and its limit.
     ghost areas: { Self → Areas };
 
-    /// A memory of one zero byte in each of the two.
+    /// A memory whose stack and heap have one zero byte each.
     fn new(alloc: Global, limit: u64) -> Result<Self, NoMemory>
         requires { limit ≤ 2 ^ 59 }
         ensures { IfOk result (λ memory. areas memory ≡ first_areas limit) };
 
-    /// Lends the bytes at an address.
+    /// Views the bytes at an address.
     fn read(&self, addr: Address, size: u64) -> Result<View<'_>, MemFault>
         ensures ok { IfOk result (λ view. reading (areas self.now) addr size ≡ Ok (concat view)) }
         ensures err { IfErr result (λ e. IsErrAnd (reading (areas self.now) addr size) (λ meant. IsFault meant e)) };
@@ -59,6 +59,6 @@ pub trait Memory {
     fn heap_taken(&self) -> u64
         ensures { result ≡ taken (areas self.now).heap };
 
-    // Each of the two has its first byte and keeps to the limit.
+    // Each of the two has its first byte, and is no longer than the limit.
     ghost bounded: { (memory : Self) → IsBounded (areas memory) };
 }

@@ -33,7 +33,7 @@ pub fn copies_give_the_source()
     ensures others { CopiesKeepOtherBytes }
 {}
 
-/// What is read before the stack or the heap grows is read after.
+/// A read gives the same bytes before and after the stack or the heap grows.
 pub fn growth_keeps_old_bytes()
     ensures cells { CellsKeepOldBytes }
     ensures blocks { BlocksKeepOldBytes }
@@ -44,19 +44,19 @@ pub fn cells_are_new()
     ensures { CellsAreNew }
 {}
 
-/// New cells share no byte with one another, and none with what was there.
+/// New cells share no byte with one another, and none with older bytes.
 pub fn cells_are_apart()
     ensures new { CellsAreApart }
     ensures old { CellsAreApartFromOldBytes }
 {}
 
-/// New blocks are zero and aligned, and share no byte with what was there.
+/// New blocks are zero and aligned, and share no byte with older ones.
 pub fn blocks_are_new()
     ensures new { BlocksAreNew }
     ensures old { BlocksAreApartFromOldBytes }
 {}
 
-/// A place that memories have is the one that its number stands for.
+/// The address of a byte, cast to an integer and back, is the same address.
 pub fn addresses_come_back()
     ensures { DoAddressesComeBack }
 {}

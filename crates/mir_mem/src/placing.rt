@@ -1,4 +1,4 @@
-//! Where new cells go.
+//! The addresses of new cells.
 
 ghost use Rattle.std.specs.Prelude.{◌≡◌, ◌+◌, ◌^◌, ◌<◌, ◌≤◌, ◌⊎◌, [], All, IfSome, IfNone, IfOk, IfErr};
 ghost use Rattle.world.specs.Checked.{IsAlignment};
@@ -9,14 +9,14 @@ use mir::{Address, CellSize, Interval, MemFault};
 use std::alloc::Global;
 use world::{List, NoMemory};
 
-/// The intervals of cells, and how many bytes there are with the last of them.
+/// The intervals of cells, and the length of the area with all of them.
 #[derive(Drop)]
 pub(crate) struct Placed {
     pub cells: List<Interval>,
     pub length: u64,
 }
 
-/// Where bytes that begin at a place end, where no more bytes than a bound come of it.
+/// The end of `size` bytes that begin at offset `start`, if it is at most `bound`.
 pub(crate) fn end_within(start: u64, size: u64, bound: u64) -> Option<u64>
     ensures some { IfSome result (λ end. (end ≡ start + size) × (end ≤ bound)) }
     ensures none { IfNone result (bound < start + size) }
@@ -33,7 +33,7 @@ fn with_room(alloc: Global, count: usize) -> Result<List<Interval>, NoMemory>
     Ok(List::from_vec(items))
 }
 
-/// The intervals of cells that are placed in order behind `length` bytes, where they end within `bound` bytes.
+/// The intervals of cells that are placed in order behind `length` bytes, if they end within `bound` bytes.
 #[tactic(auto, unfolding(mir::specs::Areas::cells_behind, mir::specs::Areas::length_behind))]
 pub(crate) fn place(
     alloc: Global,

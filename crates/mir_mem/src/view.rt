@@ -1,8 +1,8 @@
-//! Bytes that a memory lends.
+//! Views of the bytes of a memory.
 
 use std::marker::Model;
 
-/// Bytes that a memory lends, in pieces. Contracts see the list of the pieces.
+/// A view of bytes of a memory, in pieces. Contracts see the list of the pieces.
 #[derive(Drop)]
 pub struct View<'a> {
     bytes: &'a [u8],
@@ -22,28 +22,28 @@ impl<'a> View<'a> {
     ghost use Rattle.std.specs.Prelude.{◌≡◌, ◌<◌, length, slice_get, Some};
     ghost use Rattle.std.specs.List.{concat};
 
-    /// A view of these bytes, as one piece, or as none where there are no bytes.
+    /// A view of these bytes, as one piece, or as none if there are no bytes.
     pub fn of(bytes: &'a [u8]) -> View<'a>
         ensures { result ≡ pieces_of bytes.now }
     {
         View { bytes }
     }
 
-    /// How many bytes all pieces have together.
+    /// The length of all pieces together.
     pub fn len(&self) -> u64
         ensures { result ≡ length (concat self.now) }
     {
         self.bytes.len() as u64
     }
 
-    /// How many pieces there are.
+    /// The number of pieces.
     pub fn pieces(&self) -> u64
         ensures { result ≡ length self.now }
     {
         if self.bytes.is_empty() { 0 } else { 1 }
     }
 
-    /// The piece at place `i`, counted from 0.
+    /// The piece at index `i`.
     pub fn piece(&self, i: u64) -> &[u8]
         requires { i < length self.now }
         ensures { slice_get self.now i ≡ Some result.now }

@@ -1,4 +1,4 @@
-//! How the adapters over `std` hand on the errors of a reader and a writer.
+//! The adapters over `std` pass on the errors of a reader and a writer.
 
 ghost use Rattle.std.specs.Prelude.{◌≤◌, IfOk};
 

@@ -46,7 +46,7 @@ is_want_of_memory (Err (constant.MirEvalError error)) = false
 abbrev pub limits_of : Goal → Limits
 limits_of goal = unwrap_or goal.limits default_limits
 
--- the answer to a goal under its limits, where memory sufficed
+-- the answer to a goal under its limits, if memory did not run out
 pub record IsGoalAnswer (before after : Kept) (goal : Goal) (answer : Evaluated) : Type 0 where
   pub answers : IsAnswer before after goal.def goal.args (limits_of goal).blocks answer
   pub in_memory : is_want_of_memory answer.result ≡ false

@@ -99,7 +99,7 @@ pub record StopsAtWrite (left left' written written' : Option (List ℕ)) (fault
   pub cause : HasCause faults faults'
   pub begun : IsReportBegun bytes written written'
 
--- a run for which memory did not suffice
+-- a run that ran out of memory
 pub record StopsForMemory (written written' : Option (List ℕ)) : Type 0 where
   pub nothing_written : written' ≡ written
 

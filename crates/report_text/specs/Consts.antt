@@ -6,8 +6,8 @@ use Rattle.numbers.specs.declared.operator.Kind.{Kind}
 use Rattle.numbers.specs.declared.operator.Kind.TheVariants.{Signed, Unsigned, Boolean}
 use Rattle.report_text.specs.Texts.{hex_text}
 
--- The number that bytes of an integer type are, in decimal digits: their value with the lowest byte first, and where
--- the type is signed, in two's complement. Any other count of bytes than an integer type has is written as bytes.
+-- The number of the bytes of an integer type, in decimal digits: little-endian and, if the type is signed, in two's
+-- complement. Bytes of a length that no integer type has are written in hexadecimal digits.
 abbrev pub number_text : Bool → List ℕ → List ℕ
 number_text signed bytes = if is_width (length bytes) then signed_decimal (number_of signed bytes) else hex_text bytes
 

@@ -77,7 +77,7 @@ pointer_to_function_text params ret = codes "fn(" ++ (listed params ++ (codes ")
 abbrev pub dynamic_text : List (List ℕ) → List ℕ
 dynamic_text bounds = codes "dyn " ++ summed bounds
 
--- the text of a type, and the kind of number that its bytes are
+-- the text of a type, and the kind of its values if they are numbers or booleans
 pub record Told : Type 0 where
   pub text : List ℕ
   pub kind : Option Kind
@@ -113,7 +113,7 @@ ty_layer_text world (one.Alias id args) = with_args (alias_name world id) args
 ty_layer_text world (one.Ty::Param param) = type_param_name world param.id
 ty_layer_text world one.Ty::Error = codes "{error}"
 
--- the kind of number that a type's bytes are, from its layer
+-- the kind of a type's values if they are numbers or booleans, from its layer
 abbrev pub ty_layer_kind : Over Ty-F → Option Kind
 ty_layer_kind one.Bool = Some Boolean
 ty_layer_kind (one.Int _) = Some Signed

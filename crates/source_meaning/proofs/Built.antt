@@ -4,7 +4,7 @@ use Rattle.world.specs.declared.body.Statement.{Statement}
 use Rattle.world.specs.declared.body.Statement.TheVariants as statement
 use Rattle.types.specs.declared.ty.Ty.{Ty}
 use Rattle.source_meaning.specs.Built.{IsBuiltStatement, IsBuiltForm}
-use Rattle.source_meaning.specs.Core.{CoreExpr, Literal, Path, Strict, Block}
+use Rattle.source_meaning.specs.Core.{CoreExpr, Literal, Path, Strict, Logic, If, Assign, Block}
 use Rattle.source_meaning.specs.Source.{Source, node}
 use Rattle.source_meaning.specs.Valid.{IsPlainStatement, HasPlainForm, IsPlainNode}
 
@@ -21,6 +21,10 @@ plain_form_is_built source e (Some (Literal given)) ty plain = tt
 plain_form_is_built source e (Some (Path name)) ty plain =
     record { binding = plain.binding; named = plain.named; there = record { ty = ty; typed = plain.binding_has } }
 plain_form_is_built source e (Some (Strict operation operands)) ty plain = tt
+plain_form_is_built source e (Some (Logic op left right)) ty plain = tt
+plain_form_is_built source e (Some (If condition then_branch else_branch)) ty plain = tt
+plain_form_is_built source e (Some (Assign assigned value)) ty plain =
+    record { binding = plain.binding; names = plain.names; there = record { ty = plain.ty; typed = plain.binding_has } }
 plain_form_is_built source e (Some (Block statements tail)) ty plain = λ k d less. plain_statement_is_built source (get_or statements k d) (plain.0 k d less)
 plain_form_is_built source e None ty plain = plain
 

@@ -1,6 +1,6 @@
 -- Each expression that an expression evaluates stands before it.
 use Rattle.std.specs.Prelude.{flat_map, Contains}
-use Rattle.std.proofs.Common.{⊎_elim, ◌≡◌, ℕ, ◌<◌, Bool, true, false, List, [], ◌∷◌, ◌++◌, Option, Some, None, option_map, option_and_then, if◌then◌else◌, refl, sym, subst}
+use Rattle.std.proofs.Common.{⊎_elim, ◌≡◌, ℕ, ◌<◌, Bool, true, false, List, [], ◌∷◌, ◌++◌, Option, Some, None, option_map, option_and_then, if◌then◌else◌, refl, sym, ap, ◌∙◌, subst}
 use Rattle.std.proofs.lemmas.List.Elements.{All-contains, Contains-append_left, Contains-append_right, Contains-append_cases}
 use Rattle.world.specs.declared.body.Statement.{Statement}
 use Rattle.world.specs.declared.body.Statement.TheVariants as statement
@@ -10,10 +10,13 @@ use Rattle.world.specs.Lookups.{expr_of}
 use Rattle.world.specs.Checked.{IsCheckedBody}
 use Rattle.world.specs.Nodes.{optional, children_of, statement_children}
 use Rattle.types.specs.declared.ids.ExprId.{ExprId}
-use Rattle.source_meaning.specs.Core.{CoreExpr, Operation, Literal, Path, Strict, Block, core_literal, unary_operation, binary_operation, strict_form, core_of, is_adjusted, names_item}
+use Rattle.types.specs.declared.operators.BinaryOp.{BinaryOp}
+use Rattle.types.specs.declared.operators.BinaryOp.TheVariants as binary
+use Rattle.numbers.specs.Operators.{of_arith, of_compare}
+use Rattle.source_meaning.specs.Core.{CoreExpr, Operation, Literal, Path, Strict, Logic, If, Assign, Block, core_literal, unary_operation, unary_form, eager_form, binary_form, core_of, is_adjusted, names_item}
 use Rattle.source_meaning.specs.Source.{Source, node}
 use Rattle.source_meaning.specs.Steps.{parts_of, statement_parts}
-use Rattle.source_meaning.proofs.Parts.{nothing_is_contained, among_more, strict_parts, block_parts}
+use Rattle.source_meaning.proofs.Parts.{nothing_is_contained, among_more, if_parts, block_parts}
 
 mapped : {A B : Type 0} (f : A → B) (given : Option A) (y : B) → option_map f given ≡ Some y → (x : A) × (given ≡ Some x) × (f x ≡ y)
 mapped f (Some x) y is = (x, refl, (let same : f x ≡ y = cc in same))
@@ -27,10 +30,15 @@ statement_part_is_child (statement.Let pat None other) child within = absurd (no
 statement_part_is_child (statement.Expr e has_semi) child within = within
 statement_part_is_child statement.Item child within = within
 
-strict_part_is_child : (operands : List ℕ) (given : Option Operation) (core : CoreExpr) → strict_form operands given ≡ Some core → (child : ℕ) → Contains (parts_of (Some core)) child → Contains operands child
-strict_part_is_child operands given core is child within =
-    let from = mapped (λ op. Strict op operands) given core is in
-    subst (λ parts. Contains parts child) (strict_parts from.0 operands) (subst (λ c. Contains (parts_of (Some c)) child) (sym from.2) within)
+-- an operator evaluates its operands
+unary_parts : (e : ℕ) (given : Option Operation) (core : CoreExpr) → unary_form e given ≡ Some core → parts_of (Some core) ≡ e ∷ []
+unary_parts e given core is = let from = mapped (λ op. Strict op (e ∷ [])) given core is in ap (λ c. parts_of (Some c)) (sym from.2)
+
+binary_parts : (lhs rhs : ℕ) (op : BinaryOp) (core : CoreExpr) → binary_form lhs rhs op ≡ Some core → parts_of (Some core) ≡ lhs ∷ rhs ∷ []
+binary_parts lhs rhs (binary.ArithOp op) core is = let same : core ≡ eager_form lhs rhs (of_arith op) = cc in ap (λ c. parts_of (Some c)) same
+binary_parts lhs rhs (binary.CmpOp op) core is = let same : core ≡ eager_form lhs rhs (of_compare op) = cc in ap (λ c. parts_of (Some c)) same
+binary_parts lhs rhs (binary.LogicOp op) core is = let same : core ≡ Logic op lhs rhs = cc in ap (λ c. parts_of (Some c)) same
+binary_parts lhs rhs (binary.Assignment op) core is = absurd cc
 
 block_part_is_child : (statements : List Statement) (tail : Option ExprId) (child : ℕ) → Contains (parts_of (Some (Block statements tail))) child → Contains (flat_map statement_children statements ++ optional tail) child
 block_part_is_child statements tail child within =
@@ -46,8 +54,14 @@ part_is_child item (whole.Literal given) core is child within =
 part_is_child true (whole.Path name) core is child within = absurd cc
 part_is_child false (whole.Path name) core is child within =
     let same : Path name ≡ core = cc in absurd (nothing_is_contained child (subst (λ c. Contains (parts_of (Some c)) child) (sym same) within))
-part_is_child item (whole.UnaryOp e op) core is child within = strict_part_is_child (e.0 ∷ []) (unary_operation op) core is child within
-part_is_child item (whole.BinaryOp lhs rhs op) core is child within = strict_part_is_child (lhs.0 ∷ rhs.0 ∷ []) (binary_operation op) core is child within
+part_is_child item (whole.UnaryOp e op) core is child within = subst (λ parts. Contains parts child) (unary_parts e.0 (unary_operation op) core is) within
+part_is_child item (whole.BinaryOp lhs rhs (Some op)) core is child within = subst (λ parts. Contains parts child) (binary_parts lhs.0 rhs.0 op core is) within
+part_is_child item (whole.BinaryOp lhs rhs None) core is child within = absurd cc
+part_is_child item (whole.If condition then_branch else_branch) core is child within =
+    let same : core ≡ If condition.0 then_branch.0 else_branch = cc in
+    subst (λ parts. Contains parts child) (ap (λ c. parts_of (Some c)) same ∙ if_parts condition.0 then_branch.0 else_branch) within
+part_is_child item (whole.Assignment target value) core is child within =
+    let same : Assign target.0 value.0 ≡ core = cc in subst (λ c. Contains (parts_of (Some c)) child) (sym same) within
 part_is_child item (whole.Block statements tail None) core is child within =
     let same : Block statements tail ≡ core = cc in block_part_is_child statements tail child (subst (λ c. Contains (parts_of (Some c)) child) (sym same) within)
 part_is_child item _ core is child within = absurd cc

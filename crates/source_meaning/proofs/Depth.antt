@@ -1,17 +1,18 @@
 -- What is evaluated where, and in which order expressions stand.
 use Rattle.std.specs.Prelude.{flat_map, Contains}
 use Rattle.std.proofs.lemmas.List.Elements.{Contains-append_left, Contains-append_right}
-use Rattle.std.proofs.Common.{◌≡◌, ℕ, ◌≤◌, List, [], Option, Some, sym, subst, arith}
+use Rattle.std.proofs.Common.{◌≡◌, ℕ, ◌≤◌, List, [], ◌∷◌, Option, Some, sym, subst, arith}
 use Rattle.world.specs.declared.body.Statement.{Statement}
 use Rattle.types.specs.declared.ids.ExprId.{ExprId}
+use Rattle.types.specs.declared.operators.LogicOp.{LogicOp}
 use Rattle.world.specs.Checked.{IsCheckedBody}
 use Rattle.world.specs.Nodes.{optional}
-use Rattle.source_meaning.specs.Core.{Operation, Strict, Block}
+use Rattle.source_meaning.specs.Core.{Operation, Strict, Logic, If, Assign, Block}
 use Rattle.source_meaning.specs.Source.{Source, node}
 use Rattle.source_meaning.specs.Steps.{parts_of, statement_parts}
 use Rattle.source_meaning.specs.Valid.{Evaluates, itself, part, NeedsLayout, own, inside}
 use Rattle.source_meaning.proofs.Core.{part_is_below}
-use Rattle.source_meaning.proofs.Parts.{among, first_is_contained, strict_parts, block_parts, sized_part_is_part}
+use Rattle.source_meaning.proofs.Parts.{among, first_is_contained, strict_parts, if_parts, block_parts, sized_part_is_part}
 
 -- what is evaluated where an expression is comes no later than it
 pub evaluated_is_no_later : (source : Source) → IsCheckedBody source.body source.infer → {e f : ℕ} → Evaluates source e f → f ≤ e
@@ -33,6 +34,19 @@ needed_is_evaluated source (inside {e = e} {child = child} within rest) = part (
 pub operand_is_part : (source : Source) (e : ℕ) (operation : Operation) (operands : List ℕ) (child : ℕ) → node source e ≡ Some (Strict operation operands) → Contains operands child → Contains (parts_of (node source e)) child
 operand_is_part source e operation operands child is within =
     subst (λ form. Contains (parts_of form) child) (sym is) (subst (λ parts. Contains parts child) (sym (strict_parts operation operands)) within)
+
+-- `&&` and `||` evaluate both operands, the right one unless the left one decides
+pub logic_operand_is_part : (source : Source) (e : ℕ) (op : LogicOp) (left right child : ℕ) → node source e ≡ Some (Logic op left right) → Contains (left ∷ right ∷ []) child → Contains (parts_of (node source e)) child
+logic_operand_is_part source e op left right child is within = subst (λ form. Contains (parts_of form) child) (sym is) within
+
+-- an `if` evaluates its condition and one of its branches
+pub if_part_is_part : (source : Source) (e condition then_branch : ℕ) (else_branch : Option ExprId) (child : ℕ) → node source e ≡ Some (If condition then_branch else_branch) → Contains (condition ∷ then_branch ∷ optional else_branch) child → Contains (parts_of (node source e)) child
+if_part_is_part source e condition then_branch else_branch child is within =
+    subst (λ form. Contains (parts_of form) child) (sym is) (subst (λ parts. Contains parts child) (sym (if_parts condition then_branch else_branch)) within)
+
+-- an assignment evaluates its value
+pub assigned_is_part : (source : Source) (e assigned value : ℕ) → node source e ≡ Some (Assign assigned value) → Contains (parts_of (node source e)) value
+assigned_is_part source e assigned value is = subst (λ form. Contains (parts_of form) value) (sym is) (first_is_contained value [])
 
 -- a block evaluates what its statements do
 pub statement_part_is_part : (source : Source) (e : ℕ) (statements : List Statement) (tail : Option ExprId) (one : Statement) (child : ℕ) → node source e ≡ Some (Block statements tail) → Contains statements one → Contains (statement_parts one) child → Contains (parts_of (node source e)) child

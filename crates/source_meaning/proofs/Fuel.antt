@@ -6,6 +6,7 @@ use Rattle.world.specs.declared.body.Statement.{Statement}
 use Rattle.world.specs.declared.body.Statement.TheVariants as statement
 use Rattle.types.specs.declared.ids.BindingId.{BindingId}
 use Rattle.types.specs.declared.ids.ExprId.{ExprId}
+use Rattle.types.specs.declared.operators.LogicOp.{LogicOp}
 use Rattle.world.specs.declared.infer.ValueNs.{ValueNs}
 use Rattle.world.specs.declared.infer.ValueNs.TheVariants.{LocalBinding}
 use Rattle.types.specs.declared.ty.Ty.{Ty}
@@ -14,12 +15,12 @@ use Rattle.world.specs.Nodes.{optional}
 use Rattle.numbers.specs.Operators.{Answer, Computes, Panics, Undefined}
 use Rattle.source_meaning.specs.Core as expr
 use Rattle.source_meaning.specs.Core.{CoreExpr, Operation}
-use Rattle.source_meaning.specs.Ends.{Cost, End, Go, Jumps, Faults, Stuck, More, IsOver, after, then_do}
-use Rattle.source_meaning.specs.Meaning.{Level, constant_cost, put, put_literal, put_answer, literal_operand, literal_bytes, named_place, named_into, bind, no_fuel, place_of, operand_of, operands_of, strict_into, statement_of, statements_of, tail_into, block_into, into_of, level_above, level_at, meaning_of}
-use Rattle.source_meaning.specs.Source.{Source, Store, Path, Binding, Literally, node, node_type, named_by, pattern, root}
+use Rattle.source_meaning.specs.Ends.{Cost, turns_alone, End, Go, Jumps, Faults, Stuck, More, IsOver, after, then_do}
+use Rattle.source_meaning.specs.Meaning.{Level, constant_cost, put, put_literal, put_answer, literal_operand, literal_bytes, named_place, named_into, bind, no_fuel, place_of, operand_of, operands_of, strict_into, is_byte, deciding_byte, reading_cost, decided_into, branched, logic_into, tail_into, branch_into, if_into, assign_into, statement_of, statements_of, block_into, into_of, level_above, level_at, meaning_of}
+use Rattle.source_meaning.specs.Source.{Source, Store, Path, Binding, Operand, Literally, operand_bytes, node, node_type, named_by, pattern, target, root}
 use Rattle.source_meaning.specs.Steps.{parts_of, statement_parts}
 use Rattle.source_meaning.proofs.Core.{part_is_below}
-use Rattle.source_meaning.proofs.Parts.{first_is_contained, rest_is_contained, strict_parts, block_parts}
+use Rattle.source_meaning.proofs.Parts.{first_is_contained, rest_is_contained, strict_parts, if_parts, block_parts}
 
 -- what is over after a cost is over
 over_before : {A : Type 0} (cost : Cost) (end : End A) → IsOver (after cost end) → IsOver end
@@ -47,6 +48,14 @@ then_do_agrees (Jumps to store cost) second next other same rest over = ap (λ e
 then_do_agrees (Faults fault cost) second next other same rest over = ap (λ end. then_do end other) (same tt)
 then_do_agrees Stuck second next other same rest over = ap (λ end. then_do end other) (same tt)
 then_do_agrees (More cost) second next other same rest over = absurd over
+
+after_agrees : {A : Type 0} (cost : Cost) (first second : End A) → (IsOver first → second ≡ first) → IsOver (after cost first) → after cost second ≡ after cost first
+after_agrees cost first second same over = ap (after cost) (same (over_before cost first over))
+
+-- where a branch agrees with another, so do the whole ones
+branched_agrees : (first second : End (Unit {0})) → (IsOver first → second ≡ first) → IsOver (branched first) → branched second ≡ branched first
+branched_agrees first second same over =
+    after_agrees (turns_alone 1) _ _ (λ then_over. then_do_agrees first second _ _ same (λ done later o. refl) then_over) over
 
 -- wherever a level comes to an end, another comes to the same
 pub record Agrees (below above : Level) : Type 0 where
@@ -89,6 +98,29 @@ module _ (source : Source) (below above : Level) (agrees : Agrees below above) w
   tail_agrees (Some e) path store over = agrees.into e.0 path store over
   tail_agrees None path store over = refl
 
+  decided_agrees : (left : Operand) (right : ℕ) (decides : Option Bool) (path : Path) (store : Store) → IsOver (decided_into source below left right decides path store) → decided_into source above left right decides path store ≡ decided_into source below left right decides path store
+  decided_agrees left right (Some true) path store over = refl
+  decided_agrees left right (Some false) path store over = agrees.into right path store over
+  decided_agrees left right None path store over = refl
+
+  logic_agrees : (op : LogicOp) (left right : ℕ) (path : Path) (store : Store) → IsOver (logic_into source below op left right path store) → logic_into source above op left right path store ≡ logic_into source below op left right path store
+  logic_agrees op left right path store over =
+      then_do_agrees (below.operand left store) (above.operand left store) _ _ (agrees.operand left store) (λ given later o.
+      branched_agrees _ _ (decided_agrees given right (is_byte (deciding_byte op) (operand_bytes later given)) path later) o) over
+
+  branch_agrees : (then_branch : ℕ) (else_branch : Option ExprId) (holds : Option Bool) (path : Path) (store : Store) → IsOver (branch_into below then_branch else_branch holds path store) → branch_into above then_branch else_branch holds path store ≡ branch_into below then_branch else_branch holds path store
+  branch_agrees then_branch else_branch (Some true) path store over = agrees.into then_branch path store over
+  branch_agrees then_branch else_branch (Some false) path store over = tail_agrees else_branch path store over
+  branch_agrees then_branch else_branch None path store over = refl
+
+  if_agrees : (condition then_branch : ℕ) (else_branch : Option ExprId) (path : Path) (store : Store) → IsOver (if_into below condition then_branch else_branch path store) → if_into above condition then_branch else_branch path store ≡ if_into below condition then_branch else_branch path store
+  if_agrees condition then_branch else_branch path store over =
+      then_do_agrees (below.operand condition store) (above.operand condition store) _ _ (agrees.operand condition store) (λ given later o.
+      branched_agrees _ _ (branch_agrees then_branch else_branch (is_byte 1 (operand_bytes later given)) path later) o) over
+
+  assign_agrees : (assigned value : ℕ) (store : Store) → IsOver (assign_into source below assigned value store) → assign_into source above assigned value store ≡ assign_into source below assigned value store
+  assign_agrees assigned value store over = then_do_agrees (below.place value store) (above.place value store) _ _ (agrees.place value store) (λ from later o. refl) over
+
   block_agrees : (statements : List Statement) (tail : Option ExprId) (path : Path) (store : Store) → IsOver (block_into source below statements tail path store) → block_into source above statements tail path store ≡ block_into source below statements tail path store
   block_agrees statements tail path store over =
       then_do_agrees (statements_of source below statements store) (statements_of source above statements store) _ _ (statements_agree statements store) (λ done later o.
@@ -96,6 +128,9 @@ module _ (source : Source) (below above : Level) (agrees : Agrees below above) w
 
   into_agrees : (e : ℕ) (form : Option CoreExpr) (path : Path) (store : Store) → IsOver (into_of source below e form path store) → into_of source above e form path store ≡ into_of source below e form path store
   into_agrees e (Some (expr.Strict operation operands)) path store over = strict_agrees operation operands path store over
+  into_agrees e (Some (expr.Logic op left right)) path store over = logic_agrees op left right path store over
+  into_agrees e (Some (expr.If condition then_branch else_branch)) path store over = if_agrees condition then_branch else_branch path store over
+  into_agrees e (Some (expr.Assign assigned value)) path store over = assign_agrees assigned value store over
   into_agrees e (Some (expr.Block statements tail)) path store over = block_agrees statements tail path store over
   into_agrees e _ path store over = refl
 
@@ -119,9 +154,6 @@ more_agrees source zero more le = no_fuel_agrees (level_at source more)
 more_agrees source (suc fuel) zero le = absurd (omega arith)
 more_agrees source (suc fuel) (suc more) le = above_agrees source (level_at source fuel) (level_at source more) (more_agrees source fuel more (omega arith))
 
-after_agrees : {A : Type 0} (cost : Cost) (first second : End A) → (IsOver first → second ≡ first) → IsOver (after cost first) → after cost second ≡ after cost first
-after_agrees cost first second same over = ap (after cost) (same (over_before cost first over))
-
 pub more_fuel : (source : Source) (fuel more : ℕ) → fuel ≤ more → IsOver (meaning_of source fuel) → meaning_of source more ≡ meaning_of source fuel
 unfolding meaning_of
 more_fuel source fuel more le over =
@@ -136,6 +168,9 @@ then_do_over (Jumps to store cost) next over rest = tt
 then_do_over (Faults fault cost) next over rest = tt
 then_do_over Stuck next over rest = tt
 then_do_over (More cost) next over rest = over
+
+branched_over : (branch : End (Unit {0})) → IsOver branch → IsOver (branched branch)
+branched_over branch over = over_after (turns_alone 1) _ (then_do_over branch _ over (λ done later. tt))
 
 either_over : {A : Type 0} (test : Bool) (one other : End A) → IsOver one → IsOver other → IsOver (if test then one else other)
 either_over true one other over over' = over
@@ -219,6 +254,32 @@ module _ (source : Source) (below : Level) where
   tail_over (Some e) path store ends = let tail_ends = ends e.0 (first_is_contained e.0 []) in tail_ends.into path store
   tail_over None path store ends = tt
 
+  decided_over : (left : Operand) (right : ℕ) (decides : Option Bool) (path : Path) (store : Store) → EndsIn below right → IsOver (decided_into source below left right decides path store)
+  decided_over left right (Some true) path store ends = over_after (reading_cost source left) _ (put_over store path (operand_bytes store left))
+  decided_over left right (Some false) path store ends = ends.into path store
+  decided_over left right None path store ends = tt
+
+  logic_over : (op : LogicOp) (left right : ℕ) (path : Path) (store : Store) → ((child : ℕ) → Contains (left ∷ right ∷ []) child → EndsIn below child) → IsOver (logic_into source below op left right path store)
+  logic_over op left right path store ends =
+      let left_ends = ends left (first_is_contained left (right ∷ [])) in
+      then_do_over (below.operand left store) _ (left_ends.operand store) (λ given later.
+      branched_over _ (decided_over given right (is_byte (deciding_byte op) (operand_bytes later given)) path later
+      (ends right (rest_is_contained left (right ∷ []) right (first_is_contained right [])))))
+
+  branch_over : (then_branch : ℕ) (else_branch : Option ExprId) (holds : Option Bool) (path : Path) (store : Store) → ((child : ℕ) → Contains (then_branch ∷ optional else_branch) child → EndsIn below child) → IsOver (branch_into below then_branch else_branch holds path store)
+  branch_over then_branch else_branch (Some true) path store ends =
+      let then_ends = ends then_branch (first_is_contained then_branch (optional else_branch)) in then_ends.into path store
+  branch_over then_branch else_branch (Some false) path store ends =
+      tail_over else_branch path store (λ child within. ends child (rest_is_contained then_branch (optional else_branch) child within))
+  branch_over then_branch else_branch None path store ends = tt
+
+  if_over : (condition then_branch : ℕ) (else_branch : Option ExprId) (path : Path) (store : Store) → ((child : ℕ) → Contains (condition ∷ then_branch ∷ optional else_branch) child → EndsIn below child) → IsOver (if_into below condition then_branch else_branch path store)
+  if_over condition then_branch else_branch path store ends =
+      let condition_ends = ends condition (first_is_contained condition (then_branch ∷ optional else_branch)) in
+      then_do_over (below.operand condition store) _ (condition_ends.operand store) (λ given later.
+      branched_over _ (branch_over then_branch else_branch (is_byte 1 (operand_bytes later given)) path later (λ child within.
+      ends child (rest_is_contained condition (then_branch ∷ optional else_branch) child within))))
+
   block_over : (statements : List Statement) (tail : Option ExprId) (path : Path) (store : Store) → ((child : ℕ) → Contains (flat_map statement_parts statements ++ optional tail) child → EndsIn below child) → IsOver (block_into source below statements tail path store)
   block_over statements tail path store ends =
       then_do_over (statements_of source below statements store) _ (statements_over statements store (λ child within.
@@ -232,6 +293,12 @@ module _ (source : Source) (below : Level) where
   into_over e (Some (expr.Strict operation operands)) path store ends =
       then_do_over (operands_of below operands store) _ (operands_over operands store (λ child within.
       ends child (subst (λ parts. Contains parts child) (sym (strict_parts operation operands)) within))) (λ given later. put_answer_over later path _)
+  into_over e (Some (expr.Logic op left right)) path store ends = logic_over op left right path store ends
+  into_over e (Some (expr.If condition then_branch else_branch)) path store ends =
+      if_over condition then_branch else_branch path store (λ child within. ends child (subst (λ parts. Contains parts child) (sym (if_parts condition then_branch else_branch)) within))
+  into_over e (Some (expr.Assign assigned value)) path store ends =
+      let value_ends = ends value (first_is_contained value []) in
+      then_do_over (below.place value store) _ (value_ends.place store) (λ from later. bind_over (target source assigned) from later)
   into_over e (Some (expr.Block statements tail)) path store ends =
       block_over statements tail path store (λ child within. ends child (subst (λ parts. Contains parts child) (sym (block_parts statements tail)) within))
   into_over e None path store ends = tt

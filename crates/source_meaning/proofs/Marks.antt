@@ -6,10 +6,11 @@ use Rattle.std.proofs.lemmas.List.Elements.{Contains-append_left, Contains-appen
 use Rattle.types.specs.declared.ids.BindingId.{BindingId}
 use Rattle.types.specs.declared.ids.ExprId.{ExprId}
 use Rattle.types.specs.declared.ids.PatId.{PatId}
+use Rattle.types.specs.declared.operators.LogicOp.{LogicOp}
 use Rattle.world.specs.declared.body.Statement.{Statement}
 use Rattle.world.specs.declared.body.Statement.TheVariants as statement
 use Rattle.world.specs.Checked.{IsCheckedBody}
-use Rattle.source_meaning.specs.Core.{CoreExpr, CoreLiteral, Operation, Literal, Path, Strict, Block, is_literal, is_path}
+use Rattle.source_meaning.specs.Core.{CoreExpr, CoreLiteral, Operation, Literal, Path, Strict, Logic, If, Assign, Block, is_literal, is_path}
 use Rattle.source_meaning.specs.Events.{Event, Opens, Marks, Closes, place_events, operand_events, step_events, form_events, events_in, events, events_through, Scopes, after_event, scopes_after, innermost, marks_of, marked, marked_as_place, marked_as_operand, marked_by_statement, marked_by_tail, marked_in_block}
 use Rattle.source_meaning.specs.Laws.{ScopesNest}
 use Rattle.source_meaning.specs.Source.{Source, Cell, Node, Binding, node, pattern, bound_by}
@@ -105,6 +106,21 @@ module _ (source : Source) (below : ℕ → List Event) (closed : (e : ℕ) → 
   tail_is_closed (Some e) = append_is_closed (below e.0) [] (closed e.0) none_is_closed
   tail_is_closed None = none_is_closed
 
+  logic_is_closed : (left right : ℕ) → IsClosed (flat_map (step_events source below) (Operand left ∷ Into right ∷ []))
+  logic_is_closed left right =
+      append_is_closed (operand_events source below left) (flat_map (step_events source below) (Into right ∷ [])) (operand_is_closed left)
+      (append_is_closed (below right) [] (closed right) none_is_closed)
+
+  branches_are_closed : (then_branch : ℕ) (else_branch : Option ExprId) → IsClosed (flat_map (step_events source below) (Into then_branch ∷ tail_steps else_branch))
+  branches_are_closed then_branch else_branch = append_is_closed (below then_branch) (flat_map (step_events source below) (tail_steps else_branch)) (closed then_branch) (tail_is_closed else_branch)
+
+  if_is_closed : (condition then_branch : ℕ) (else_branch : Option ExprId) → IsClosed (flat_map (step_events source below) (Operand condition ∷ Into then_branch ∷ tail_steps else_branch))
+  if_is_closed condition then_branch else_branch =
+      append_is_closed (operand_events source below condition) (flat_map (step_events source below) (Into then_branch ∷ tail_steps else_branch)) (operand_is_closed condition) (branches_are_closed then_branch else_branch)
+
+  assign_is_closed : (value : ℕ) → IsClosed (flat_map (step_events source below) (Place value ∷ []))
+  assign_is_closed value = append_is_closed (place_events source below value) [] (place_is_closed value) none_is_closed
+
   inner_is_closed : (statements : List Statement) (tail : Option ExprId) → IsClosed (flat_map (step_events source below) (block_steps statements tail))
   inner_is_closed statements tail =
       subst IsClosed (sym (flat_map-append (step_events source below) (flat_map statement_steps statements) (tail_steps tail)))
@@ -118,6 +134,9 @@ module _ (source : Source) (below : ℕ → List Event) (closed : (e : ℕ) → 
   form_is_closed (Some (Literal given)) = none_is_closed
   form_is_closed (Some (Path name)) = none_is_closed
   form_is_closed (Some (Strict operation operands)) = operands_are_closed operands
+  form_is_closed (Some (Logic op left right)) = logic_is_closed left right
+  form_is_closed (Some (If condition then_branch else_branch)) = if_is_closed condition then_branch else_branch
+  form_is_closed (Some (Assign assigned value)) = assign_is_closed value
   form_is_closed (Some (Block statements tail)) =
       subst IsClosed (sym (block_events_are statements tail)) (scope_is_closed (flat_map (step_events source below) (block_steps statements tail)) (inner_is_closed statements tail))
   form_is_closed None = none_is_closed
@@ -241,6 +260,27 @@ module _ (source : Source) (checked : IsCheckedBody source.body source.infer) (e
 
   pub strict_marks : (operation : Operation) (operands : List ℕ) → node source e ≡ Some (Strict operation operands) → marked source e ≡ flat_map (marked_as_operand source) operands
   strict_marks operation operands is = form_marks (Some (Strict operation operands)) is ∙ operands_mark source operands
+
+  pub logic_marks : (op : LogicOp) (left right : ℕ) → node source e ≡ Some (Logic op left right) → marked source e ≡ marked_as_operand source left ++ marked source right
+  unfolding marked_as_operand marked
+  logic_marks op left right is =
+      form_marks (Some (Logic op left right)) is
+      ∙ marks-append (operand_events source (events source) left) (events_through source (Into right ∷ [])) (operand_is_closed source (events source) (events_are_closed source) left)
+      (append_is_closed (events source right) [] (events_are_closed source right) none_is_closed)
+      ∙ ap (λ inside. marks_of (operand_events source (events source) left) ++ marks_of inside) (append-nil (events source right))
+
+  pub if_marks : (condition then_branch : ℕ) (else_branch : Option ExprId) → node source e ≡ Some (If condition then_branch else_branch) → marked source e ≡ marked_as_operand source condition ++ (marked source then_branch ++ marked_by_tail source else_branch)
+  unfolding marked_as_operand marked marked_by_tail
+  if_marks condition then_branch else_branch is =
+      form_marks (Some (If condition then_branch else_branch)) is
+      ∙ marks-append (operand_events source (events source) condition) (events_through source (Into then_branch ∷ tail_steps else_branch)) (operand_is_closed source (events source) (events_are_closed source) condition)
+      (branches_are_closed source (events source) (events_are_closed source) then_branch else_branch)
+      ∙ ap (λ cells. marks_of (operand_events source (events source) condition) ++ cells)
+      (marks-append (events source then_branch) (events_through source (tail_steps else_branch)) (events_are_closed source then_branch) (tail_is_closed source (events source) (events_are_closed source) else_branch))
+
+  pub assign_marks : (assigned value : ℕ) → node source e ≡ Some (Assign assigned value) → marked source e ≡ marked_as_place source value
+  unfolding marked_as_place
+  assign_marks assigned value is = form_marks (Some (Assign assigned value)) is ∙ ap marks_of (append-nil (place_events source (events source) value))
 
   pub block_marks : (statements : List Statement) (tail : Option ExprId) → node source e ≡ Some (Block statements tail) → marked source e ≡ []
   block_marks statements tail is =

@@ -5,9 +5,10 @@ use Rattle.std.proofs.lemmas.List.Concat.{flat_map-append}
 use Rattle.std.proofs.lemmas.List.Elements.{Contains-append_left, Contains-append_right, Contains-append_cases}
 use Rattle.world.specs.declared.body.Statement.{Statement}
 use Rattle.types.specs.declared.ids.ExprId.{ExprId}
+use Rattle.types.specs.declared.operators.LogicOp.{LogicOp}
 use Rattle.world.specs.declared.body.Statement.TheVariants as statement
 use Rattle.world.specs.Nodes.{optional}
-use Rattle.source_meaning.specs.Core.{CoreExpr, Operation, Strict, Block, is_truth}
+use Rattle.source_meaning.specs.Core.{CoreExpr, Operation, Strict, Logic, If, Block, is_truth}
 use Rattle.source_meaning.specs.Source.{Source, node}
 use Rattle.source_meaning.specs.Steps.{Step, Operand, Place, Into, Bind, Open, Close, statement_steps, tail_steps, block_steps, steps_of, step_part, parts_of, statement_parts}
 use Rattle.source_meaning.specs.Valid.{sized_part, sized_parts}
@@ -55,6 +56,10 @@ tail_part : (tail : Option ExprId) → flat_map step_part (tail_steps tail) ≡ 
 tail_part (Some e) = refl
 tail_part None = refl
 
+-- an `if` evaluates its condition and its branches
+pub if_parts : (condition then_branch : ℕ) (else_branch : Option ExprId) → parts_of (Some (If condition then_branch else_branch)) ≡ condition ∷ then_branch ∷ optional else_branch
+if_parts condition then_branch else_branch = ap (λ rest. condition ∷ then_branch ∷ rest) (tail_part else_branch)
+
 -- what is made from the steps inside a block's scope
 pub inner_parts : (statements : List Statement) (tail : Option ExprId) → flat_map step_part (block_steps statements tail) ≡ flat_map statement_parts statements ++ optional tail
 inner_parts statements tail =
@@ -99,6 +104,26 @@ operand_is_sized source (first ∷ rest) e within is =
     itself same =
         subst (λ x. Contains (sized_part source (Operand x)) e) (sym same)
         (subst (λ test. Contains (cond test [] (e ∷ [])) e) (sym is) (first_is_contained e []))
+
+-- so does one that other steps come after
+pub first_is_sized : (source : Source) (e : ℕ) (rest : List Step) → is_truth (node source e) ≡ false → Contains (flat_map (sized_part source) (Operand e ∷ rest)) e
+first_is_sized source e rest is =
+    Contains-append_left (sized_part source (Operand e)) (flat_map (sized_part source) rest) e
+    (subst (λ test. Contains (cond test [] (e ∷ [])) e) (sym is) (first_is_contained e []))
+
+-- the right operand of `&&` and `||` needs a layout, since it is evaluated into the place of the whole
+pub right_is_sized : (source : Source) (op : LogicOp) (left right : ℕ) → Contains (sized_parts source (Some (Logic op left right))) right
+right_is_sized source op left right = Contains-append_right (sized_part source (Operand left)) (right ∷ []) right (first_is_contained right [])
+
+branches_are_sized : (source : Source) (then_branch : ℕ) (else_branch : Option ExprId) → flat_map (sized_part source) (Into then_branch ∷ tail_steps else_branch) ≡ then_branch ∷ optional else_branch
+branches_are_sized source then_branch (Some e) = refl
+branches_are_sized source then_branch None = refl
+
+-- and so do the branches of an `if`
+pub branch_is_sized : (source : Source) (condition then_branch : ℕ) (else_branch : Option ExprId) (child : ℕ) → Contains (then_branch ∷ optional else_branch) child → Contains (sized_parts source (Some (If condition then_branch else_branch))) child
+branch_is_sized source condition then_branch else_branch child within =
+    Contains-append_right (sized_part source (Operand condition)) (flat_map (sized_part source) (Into then_branch ∷ tail_steps else_branch)) child
+    (subst (λ parts. Contains parts child) (sym (branches_are_sized source then_branch else_branch)) within)
 
 -- what a block evaluates needs layouts as it is evaluated, since none of it is an operand
 sized_statement_part : (source : Source) (one : Statement) (child : ℕ) → Contains (statement_parts one) child → Contains (flat_map (sized_part source) (statement_steps one)) child

@@ -1,12 +1,13 @@
 -- A plain body of a checked world is never stuck, and never ends in a jump: each value has the size of its type.
 use Rattle.std.specs.Prelude.{All, flat_map, Contains}
-use Rattle.std.proofs.Common.{⊎_elim, ◌⊎◌, inl, inr, ◌≡◌, ◌≢◌, ℕ, zero, suc, Bool, true, false, cond, if◌then◌else◌, ◌==◌, List, [], ◌∷◌, ◌++◌, length, map, Option, Some, None, unwrap_or, option_map, option_and_then, ℤ, refl, sym, ap, ◌∙◌, subst, eqb-true, eq-eqb}
+use Rattle.std.proofs.Common.{⊎_elim, ◌⊎◌, inl, inr, ◌≡◌, ◌≢◌, ℕ, zero, suc, Bool, true, false, cond, if◌then◌else◌, ◌==◌, List, [], ◌∷◌, ◌++◌, length, map, Option, Some, None, unwrap_or, option_map, option_and_then, ℤ, refl, sym, ap, ◌∙◌, subst, arith, eqb-true, eq-eqb}
 use Rattle.std.proofs.lemmas.Bool.{false≢true}
 use Rattle.std.proofs.lemmas.List.{length-replicate}
 use Rattle.std.proofs.lemmas.List.Elements.{All-head, All-tail, Contains-append_left, Contains-append_right}
 use Rattle.world.specs.declared.body.Statement.{Statement}
 use Rattle.world.specs.declared.body.Statement.TheVariants as statement
 use Rattle.types.specs.declared.ids.ExprId.{ExprId}
+use Rattle.types.specs.declared.operators.LogicOp.{LogicOp}
 use Rattle.types.specs.declared.ty.Ty.{Ty, Bool as BoolTy, Int as IntType, Uint as UintType}
 use Rattle.world.specs.Checked.{IsChecked, IsCheckedBody}
 use Rattle.world.specs.Nodes.{optional}
@@ -15,15 +16,16 @@ use Rattle.numbers.specs.Operators.{Answer, Computes, Panics, Undefined, kind_of
 use Rattle.numbers.proofs.Digits.{length-low_bytes}
 use Rattle.source_meaning.specs.Core as expr
 use Rattle.source_meaning.specs.Core.{CoreExpr, CoreLiteral, Truth, Number, Operation, is_truth}
-use Rattle.source_meaning.specs.Ends.{Cost, no_cost, End, Go, Jumps, Faults, Stuck, More, JumpsNowhere, after, then_do}
-use Rattle.source_meaning.specs.Meaning.{Level, value_of, answered, truth_byte, literal_bytes, constant_cost, put, put_literal, put_answer, literal_operand, named_place, named_into, bind, operands_of, strict_into, statement_of, statements_of, tail_into, block_into, no_fuel, place_of, operand_of, into_of, level_above, level_at, meaning_of}
-use Rattle.source_meaning.specs.Source.{Source, Store, Path, Cell, Result, Node, Binding, Operand, Literally, At, same_cell, zeroed, with_cell_bytes, node, node_type, node_layout, pattern, root, cell_type, cell_size}
-use Rattle.source_meaning.specs.Steps.{parts_of, statement_parts}
-use Rattle.source_meaning.specs.Valid.{Evaluates, itself, part, IsScalar, IsBool, IsPlainLiteral, HaveTypes, IsPlainLet, IsPlainStatement, IsPlainTail, HasPlainForm, IsPlainNode, IsPlain, IsLaidOut, sized_parts, NeedsLayout, own, inside, AreLaidOut}
-use Rattle.source_meaning.proofs.Depth.{operand_is_part}
+use Rattle.source_meaning.specs.Ends.{Cost, no_cost, turns_alone, End, Go, Jumps, Faults, Stuck, More, JumpsNowhere, after, then_do}
+use Rattle.source_meaning.specs.Meaning.{Level, value_of, answered, truth_byte, literal_bytes, constant_cost, put, put_literal, put_answer, literal_operand, named_place, named_into, bind, operands_of, strict_into, is_byte, deciding_byte, reading_cost, decided_into, branched, logic_into, tail_into, branch_into, if_into, assign_into, statement_of, statements_of, block_into, no_fuel, place_of, operand_of, into_of, level_above, level_at, meaning_of}
+use Rattle.source_meaning.specs.Source.{Source, Store, Path, Cell, Result, Node, Binding, Operand, Literally, At, operand_bytes, same_cell, zeroed, with_cell_bytes, node, node_type, node_layout, pattern, target, root, cell_type, cell_size}
+use Rattle.source_meaning.specs.Steps.{parts_of, statement_parts, tail_steps}
+use Rattle.source_meaning.specs.Steps as step
+use Rattle.source_meaning.specs.Valid.{Evaluates, itself, part, IsScalar, IsBool, IsPlainLiteral, HaveTypes, IsPlainLet, IsPlainStatement, IsPlainTail, IsPlainAssign, HasPlainForm, IsPlainNode, IsPlain, IsLaidOut, sized_parts, NeedsLayout, own, inside, AreLaidOut}
+use Rattle.source_meaning.proofs.Depth.{operand_is_part, logic_operand_is_part, if_part_is_part}
 use Rattle.source_meaning.proofs.Layouts.{scalar_has_length, bool_is_scalar, bool_length_is_one}
 use Rattle.source_meaning.proofs.Operators.{Fits, IsLengthOf}
-use Rattle.source_meaning.proofs.Parts.{first_is_contained, rest_is_contained, operand_is_sized, sized_part_is_part, sized_block_parts}
+use Rattle.source_meaning.proofs.Parts.{first_is_contained, rest_is_contained, operand_is_sized, first_is_sized, right_is_sized, branch_is_sized, sized_part_is_part, sized_block_parts}
 use Rattle.source_meaning.proofs.Values.{size_at, IsValueOf, AreValues, typed_fits}
 
 -- how many bytes the values of an expression have
@@ -108,18 +110,20 @@ pub record IsFineOperand (source : Source) (e : ℕ) : Type 0 where
 
 module _ (source : Source) (checked : IsChecked source.world) where
   -- a part that is evaluated to a place, or into one
-  part_is_fine : (e child : ℕ) → Contains (parts_of (node source e)) child → Contains (sized_parts source (node source e)) child → IsFine source e → IsFine source child
-  part_is_fine e child within sized fine = record { plain = λ f rest. fine.plain f (part within rest); laid_out = λ f rest. fine.laid_out f (inside sized rest) }
+  part_is_fine : (e child : ℕ) (form : Option CoreExpr) → node source e ≡ form → Contains (sized_parts source form) child → IsFine source e → IsFine source child
+  part_is_fine e child form is sized fine =
+      let needed : Contains (sized_parts source (node source e)) child = subst (λ given. Contains (sized_parts source given) child) (sym is) sized in
+      record { plain = λ f rest. fine.plain f (part (sized_part_is_part source (node source e) child needed) rest); laid_out = λ f rest. fine.laid_out f (inside needed rest) }
 
-  -- a part that is evaluated to an operand
-  operand_is_fine : (e : ℕ) (operation : Operation) (operands : List ℕ) (child : ℕ) → node source e ≡ Some (expr.Strict operation operands) → Contains operands child → IsFine source e → IsFineOperand source child
-  operand_is_fine e operation operands child is within fine =
-      record { plain = λ f rest. fine.plain f (part (operand_is_part source e operation operands child is within) rest); laid_out = by_truth (is_truth (node source child)) refl }
+  -- a part that is evaluated to an operand: it needs a layout where it is no truth value
+  operand_is_fine : (e child : ℕ) (form : Option CoreExpr) → node source e ≡ form → Contains (parts_of (node source e)) child → (is_truth (node source child) ≡ false → Contains (sized_parts source form) child) → IsFine source e → IsFineOperand source child
+  operand_is_fine e child form is within sized fine =
+      record { plain = λ f rest. fine.plain f (part within rest); laid_out = by_truth (is_truth (node source child)) refl }
     where
       by_truth : (test : Bool) → is_truth (node source child) ≡ test → (is_truth (node source child) ≡ true) ⊎ ((f : ℕ) → NeedsLayout source child f → IsLaidOut source (node_type source f))
       by_truth true truth = inl truth
       by_truth false truth =
-          inr (λ f rest. fine.laid_out f (inside (subst (λ form. Contains (sized_parts source form) child) (sym is) (operand_is_sized source operands child within truth)) rest))
+          inr (λ f rest. fine.laid_out f (inside (subst (λ given. Contains (sized_parts source given) child) (sym is) (sized truth)) rest))
 
   -- an operand that is no truth value is as any other expression
   fine_as_place : (e : ℕ) → is_truth (node source e) ≡ false → IsFineOperand source e → IsFine source e
@@ -184,6 +188,16 @@ module _ (source : Source) (checked : IsChecked source.world) where
         size = inl size;
       }
 
+  -- the one byte of an operand of type `bool`
+  truth_has_byte : (e : ℕ) (operand : Operand) (store : Store) → IsSized source store → node_type source e ≡ Some BoolTy → OperandFits e operand → length (operand_bytes store operand) ≡ 1
+  truth_has_byte e operand store sized is fits = let value = operand_is_value e BoolTy operand store sized is fits in value.long tt
+
+  -- is a number or is none
+  byte_decides : (number : ℕ) (bytes : List ℕ) → length bytes ≡ 1 → (test : Bool) × (is_byte number bytes ≡ Some test)
+  byte_decides number [] long = absurd (omega arith)
+  byte_decides number (byte ∷ []) long = (byte == number, refl)
+  byte_decides number (byte ∷ other ∷ rest) long = absurd (omega arith)
+
   operands_are_values : (operands : List ℕ) (types : List Ty) (given : List Operand) (store : Store) → IsSized source store → HaveTypes source operands types → OperandsFit operands given → AreValues source types (map (value_of source store) given)
   operands_are_values [] [] [] store sized have fits = tt
   operands_are_values [] [] (one ∷ others) store sized have fits = absurd fits
@@ -222,6 +236,12 @@ module _ (source : Source) (checked : IsChecked source.world) where
       subst (λ given. IsSound source Nothing (bind given path store)) (sym plain.binds)
       (put_is_sound source store (record { cell = Binding plain.binding.0 }) (store path.cell) sized (sized.holds_all path.cell ∙ ap (size_at source) (fits ∙ plain.initializer_has ∙ sym plain.binding_has)))
 
+  -- the binding that a plain assignment names has the value's type
+  assigned_is_sound : (assigned value : ℕ) (path : Path) (store : Store) → IsPlainAssign source assigned value → IsSized source store → PathFits value path → IsSound source Nothing (bind (target source assigned) path store)
+  assigned_is_sound assigned value path store plain sized fits =
+      subst (λ given. IsSound source Nothing (bind given path store)) (sym plain.names)
+      (put_is_sound source store (record { cell = Binding plain.binding.0 }) (store path.cell) sized (sized.holds_all path.cell ∙ ap (size_at source) (fits ∙ plain.value_has ∙ sym plain.binding_has)))
+
   -- what the node of a fine expression is
   form_of : (e : ℕ) (form : Option CoreExpr) → node source e ≡ form → (plain : IsPlainNode source e) → HasPlainForm source e form plain.ty
   form_of e form is plain = subst (λ given. HasPlainForm source e given plain.ty) is plain.form
@@ -229,8 +249,7 @@ module _ (source : Source) (checked : IsChecked source.world) where
   -- a statement's part, and a tail, are evaluated to places or into the block's
   block_part_is_fine : (e : ℕ) (statements : List Statement) (tail : Option ExprId) → node source e ≡ Some (expr.Block statements tail) → IsFine source e → (child : ℕ) → Contains (flat_map statement_parts statements ++ optional tail) child → IsFine source child
   block_part_is_fine e statements tail is fine child within =
-      let sized : Contains (sized_parts source (node source e)) child = subst (λ form. Contains (sized_parts source form) child) (sym is) (sized_block_parts source statements tail child within) in
-      part_is_fine e child (sized_part_is_part source (node source e) child sized) sized fine
+      part_is_fine e child (Some (expr.Block statements tail)) is (sized_block_parts source statements tail child within) fine
 
   module _ (below : Level) (sound : IsSoundLevel below) where
     place_is_sound : (e : ℕ) (form : Option CoreExpr) (store : Store) → node source e ≡ form → IsFine source e → IsSized source store → IsSound source (PathFits e) (place_of source below e form store)
@@ -261,6 +280,9 @@ module _ (source : Source) (checked : IsChecked source.world) where
         (record { long = λ scalar. subst (IsLengthOf plain.ty) (sym size) (scalar_size plain.ty (laid_at e plain.ty as_place plain.has_type) scalar); size = inl size })
     operand_is_sound e (Some (expr.Path name)) store is fine sized = as_place_is_sound e store (ap is_truth is) fine sized
     operand_is_sound e (Some (expr.Strict operation operands)) store is fine sized = as_place_is_sound e store (ap is_truth is) fine sized
+    operand_is_sound e (Some (expr.Logic op left right)) store is fine sized = as_place_is_sound e store (ap is_truth is) fine sized
+    operand_is_sound e (Some (expr.If condition then_branch else_branch)) store is fine sized = as_place_is_sound e store (ap is_truth is) fine sized
+    operand_is_sound e (Some (expr.Assign assigned value)) store is fine sized = as_place_is_sound e store (ap is_truth is) fine sized
     operand_is_sound e (Some (expr.Block statements tail)) store is fine sized = as_place_is_sound e store (ap is_truth is) fine sized
     operand_is_sound e None store is fine sized = absurd (form_of e _ is (fine.plain e itself))
 
@@ -275,7 +297,8 @@ module _ (source : Source) (checked : IsChecked source.world) where
     strict_is_sound e operation operands path store is fine sized fits =
         let plain = fine.plain e itself in
         let form = form_of e _ is plain in
-        then_do_is_sound source (OperandsFit operands) Nothing (operands_of below operands store) _ (operands_are_sound operands store (λ child within. operand_is_fine e operation operands child is within fine) sized) (λ given later sized' fit.
+        then_do_is_sound source (OperandsFit operands) Nothing (operands_of below operands store) _ (operands_are_sound operands store (λ child within.
+        operand_is_fine e child (Some (expr.Strict operation operands)) is (operand_is_part source e operation operands child is within) (operand_is_sized source operands child within) fine) sized) (λ given later sized' fit.
         put_answer_is_sound source later path _ sized'
         (subst (λ size. Fits size (answered operation (map (value_of source later) given))) (sym (ap (size_at source) (fits ∙ plain.has_type)))
         (typed_fits source operation form.types (map (value_of source later) given) plain.ty form.typed (operands_are_values operands form.types given later sized' form.operands_have fit)
@@ -303,6 +326,54 @@ module _ (source : Source) (checked : IsChecked source.world) where
     tail_is_sound (Some e) ty path store plain fits parts sized = sound.into e.0 path store (parts e.0 (first_is_contained e.0 [])) sized (fits ∙ sym plain)
     tail_is_sound None ty path store plain fits parts sized = (sized, tt)
 
+    branched_is_sound : (branch : End (Unit {0})) → IsSound source Nothing branch → IsSound source Nothing (branched branch)
+    branched_is_sound branch is =
+        after_is_sound source Nothing (turns_alone 1) _ (then_do_is_sound source Nothing Nothing branch _ is (λ done later sized done_is. (sized, tt)))
+
+    decided_is_sound : (left : Operand) (right : ℕ) (test : Bool) (path : Path) (store : Store) → IsFine source right → IsSized source store → PathFits right path → length (operand_bytes store left) ≡ cell_size source path.cell → IsSound source Nothing (decided_into source below left right (Some test) path store)
+    decided_is_sound left right true path store fine sized fits long =
+        after_is_sound source Nothing (reading_cost source left) _ (put_is_sound source store path (operand_bytes store left) sized long)
+    decided_is_sound left right false path store fine sized fits long = sound.into right path store fine sized fits
+
+    logic_is_sound : (e : ℕ) (op : LogicOp) (left right : ℕ) (path : Path) (store : Store) → node source e ≡ Some (expr.Logic op left right) → IsFine source e → IsSized source store → PathFits e path → IsSound source Nothing (logic_into source below op left right path store)
+    logic_is_sound e op left right path store is fine sized fits =
+        let plain = fine.plain e itself in
+        let form = form_of e _ is plain in
+        let is_bool : node_type source e ≡ Some BoolTy = plain.has_type ∙ ap Some form.typed in
+        let size : cell_size source path.cell ≡ 1 = ap (size_at source) (fits ∙ is_bool) ∙ scalar_size BoolTy (laid_at e BoolTy fine is_bool) tt in
+        let left_is_fine = operand_is_fine e left (Some (expr.Logic op left right)) is (logic_operand_is_part source e op left right left is (first_is_contained left (right ∷ []))) (first_is_sized source left (step.Into right ∷ [])) fine in
+        then_do_is_sound source (OperandFits left) Nothing (below.operand left store) _ (sound.operand left store left_is_fine sized) (λ given later sized' fit.
+        let long = truth_has_byte left given later sized' form.left_has fit in
+        let decides = byte_decides (deciding_byte op) (operand_bytes later given) long in
+        branched_is_sound _
+        (subst (λ test. IsSound source Nothing (decided_into source below given right test path later)) (sym decides.1)
+        (decided_is_sound given right decides.0 path later (part_is_fine e right (Some (expr.Logic op left right)) is (right_is_sized source op left right) fine) sized' (fits ∙ is_bool ∙ sym form.right_has) (long ∙ sym size))))
+
+    branch_is_sound : (then_branch : ℕ) (else_branch : Option ExprId) (test : Bool) (ty : Ty) (path : Path) (store : Store) → node_type source then_branch ≡ Some ty → IsPlainTail source else_branch ty → cell_type source path.cell ≡ Some ty → ((child : ℕ) → Contains (then_branch ∷ optional else_branch) child → IsFine source child) → IsSized source store → IsSound source Nothing (branch_into below then_branch else_branch (Some test) path store)
+    branch_is_sound then_branch else_branch true ty path store has plain fits parts sized =
+        sound.into then_branch path store (parts then_branch (first_is_contained then_branch (optional else_branch))) sized (fits ∙ sym has)
+    branch_is_sound then_branch else_branch false ty path store has plain fits parts sized =
+        tail_is_sound else_branch ty path store plain fits (λ child within. parts child (rest_is_contained then_branch (optional else_branch) child within)) sized
+
+    if_is_sound : (e condition then_branch : ℕ) (else_branch : Option ExprId) (path : Path) (store : Store) → node source e ≡ Some (expr.If condition then_branch else_branch) → IsFine source e → IsSized source store → PathFits e path → IsSound source Nothing (if_into below condition then_branch else_branch path store)
+    if_is_sound e condition then_branch else_branch path store is fine sized fits =
+        let plain = fine.plain e itself in
+        let form = form_of e _ is plain in
+        let whole = Some (expr.If condition then_branch else_branch) in
+        let condition_is_fine = operand_is_fine e condition whole is (if_part_is_part source e condition then_branch else_branch condition is (first_is_contained condition (then_branch ∷ optional else_branch))) (first_is_sized source condition (step.Into then_branch ∷ tail_steps else_branch)) fine in
+        then_do_is_sound source (OperandFits condition) Nothing (below.operand condition store) _ (sound.operand condition store condition_is_fine sized) (λ given later sized' fit.
+        let holds = byte_decides 1 (operand_bytes later given) (truth_has_byte condition given later sized' form.condition_has fit) in
+        branched_is_sound _
+        (subst (λ test. IsSound source Nothing (branch_into below then_branch else_branch test path later)) (sym holds.1)
+        (branch_is_sound then_branch else_branch holds.0 plain.ty path later form.then_has form.else_has (fits ∙ plain.has_type) (λ child within.
+        part_is_fine e child whole is (branch_is_sized source condition then_branch else_branch child within) fine) sized')))
+
+    assign_is_sound : (e assigned value : ℕ) (store : Store) → node source e ≡ Some (expr.Assign assigned value) → IsFine source e → IsSized source store → IsSound source Nothing (assign_into source below assigned value store)
+    assign_is_sound e assigned value store is fine sized =
+        let form = form_of e _ is (fine.plain e itself) in
+        let value_is_fine = part_is_fine e value (Some (expr.Assign assigned value)) is (first_is_contained value []) fine in
+        then_do_is_sound source (PathFits value) Nothing (below.place value store) _ (sound.place value store value_is_fine sized) (λ path later sized' fits. assigned_is_sound assigned value path later form sized' fits)
+
     block_is_sound : (e : ℕ) (statements : List Statement) (tail : Option ExprId) (path : Path) (store : Store) → node source e ≡ Some (expr.Block statements tail) → IsFine source e → IsSized source store → PathFits e path → IsSound source Nothing (block_into source below statements tail path store)
     block_is_sound e statements tail path store is fine sized fits =
         let plain = fine.plain e itself in
@@ -324,6 +395,9 @@ module _ (source : Source) (checked : IsChecked source.world) where
         subst (λ named. IsSound source Nothing (named_into named path store)) (sym form.named)
         (put_is_sound source store path (store (Binding form.binding.0)) sized (sized.holds_all (Binding form.binding.0) ∙ ap (size_at source) (form.binding_has ∙ sym plain.has_type ∙ sym fits)))
     into_is_sound e (Some (expr.Strict operation operands)) path store is fine sized fits = strict_is_sound e operation operands path store is fine sized fits
+    into_is_sound e (Some (expr.Logic op left right)) path store is fine sized fits = logic_is_sound e op left right path store is fine sized fits
+    into_is_sound e (Some (expr.If condition then_branch else_branch)) path store is fine sized fits = if_is_sound e condition then_branch else_branch path store is fine sized fits
+    into_is_sound e (Some (expr.Assign assigned value)) path store is fine sized fits = assign_is_sound e assigned value store is fine sized
     into_is_sound e (Some (expr.Block statements tail)) path store is fine sized fits = block_is_sound e statements tail path store is fine sized fits
     into_is_sound e None path store is fine sized fits = absurd (form_of e _ is (fine.plain e itself))
 

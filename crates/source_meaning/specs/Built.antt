@@ -3,7 +3,7 @@
 use Rattle.std.specs.Prelude.{◌≡◌, ℕ, All, Option, Some, None}
 use Rattle.source_meaning.specs.Core.{CoreExpr}
 use Rattle.source_meaning.specs.Core as expr
-use Rattle.source_meaning.specs.Source.{Source, binding_type, named_by, pattern}
+use Rattle.source_meaning.specs.Source.{Source, binding_type, named_by, pattern, target}
 use Rattle.types.specs.declared.ids.BindingId.{BindingId}
 use Rattle.types.specs.declared.ty.Ty.{Ty}
 use Rattle.world.specs.declared.body.Statement.{Statement}
@@ -27,6 +27,12 @@ pub record BindsBinding (source : Source) (pat : ℕ) : Type 0 where
   pub bound : pattern source pat ≡ Some binding
   pub there : IsBinding source binding
 
+-- the target of an assignment is a path to a binding of the body
+pub record AssignsBinding (source : Source) (assigned : ℕ) : Type 0 where
+  pub binding : BindingId
+  pub names : target source assigned ≡ Some binding
+  pub there : IsBinding source binding
+
 -- a statement that is built: a `let` of a name with an initializer and without `else`, or an expression
 abbrev pub IsBuiltStatement : Source → Statement → Type 0
 IsBuiltStatement source (statement.Let pat (Some e) None) = BindsBinding source pat.0
@@ -38,5 +44,8 @@ abbrev pub IsBuiltForm : Source → ℕ → Option CoreExpr → Type 0
 IsBuiltForm source e (Some (expr.Literal l)) = Unit {0}
 IsBuiltForm source e (Some (expr.Path name)) = NamesBinding source e
 IsBuiltForm source e (Some (expr.Strict operation operands)) = Unit {0}
+IsBuiltForm source e (Some (expr.Logic op left right)) = Unit {0}
+IsBuiltForm source e (Some (expr.If condition then_branch else_branch)) = Unit {0}
+IsBuiltForm source e (Some (expr.Assign assigned value)) = AssignsBinding source assigned
 IsBuiltForm source e (Some (expr.Block statements tail)) = All (IsBuiltStatement source) statements
 IsBuiltForm source e None = ⊥

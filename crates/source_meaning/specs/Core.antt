@@ -1,5 +1,5 @@
 -- The expressions that have a meaning so far.
-use Rattle.std.specs.Prelude.{ℕ, Bool, true, false, ◌||◌, List, [], ◌∷◌, Option, Some, None, suc, is_some, if◌then◌else◌, ℤ, pos, option_map}
+use Rattle.std.specs.Prelude.{ℕ, Bool, true, false, ◌||◌, List, [], ◌∷◌, Option, Some, None, suc, is_some, if◌then◌else◌, ℤ, pos, option_map, option_and_then}
 use Rattle.std.specs.BTreeMap.{is_at}
 use Rattle.std.specs.Map.{lookup}
 use Rattle.numbers.specs.declared.operator.Operator.{Operator}
@@ -11,6 +11,7 @@ use Rattle.types.specs.declared.ids.ExprId.{ExprId}
 use Rattle.types.specs.declared.ids.PatId.{PatId}
 use Rattle.types.specs.declared.operators.BinaryOp.{BinaryOp}
 use Rattle.types.specs.declared.operators.BinaryOp.TheVariants as binary
+use Rattle.types.specs.declared.operators.LogicOp.{LogicOp}
 use Rattle.types.specs.declared.operators.UnaryOp.{UnaryOp}
 use Rattle.types.specs.declared.operators.UnaryOp.TheVariants as unary
 use Rattle.world.specs.declared.adjust.Adjustment.{Adjustment}
@@ -39,11 +40,15 @@ pub data Operation : Type 0 where
   Combine : Operator → Operation
 
 -- An expression of a form that has a meaning. A strict form evaluates all its operands from left to right, and then
--- computes one operation.
+-- computes one operation. `&&` and `||` evaluate their right operand only where the left one doesn't decide, and `if` one of
+-- its branches. An assignment writes a value to what its target names.
 pub data CoreExpr : Type 0 where
   Literal : CoreLiteral → CoreExpr
   Path : (name : List ℕ) → CoreExpr
   Strict : Operation → (operands : List ℕ) → CoreExpr
+  Logic : LogicOp → (left right : ℕ) → CoreExpr
+  If : (condition then_branch : ℕ) → (else_branch : Option ExprId) → CoreExpr
+  Assign : (assigned value : ℕ) → CoreExpr
   Block : List Statement → (tail : Option ExprId) → CoreExpr
 
 -- a literal of a kind that has a meaning: a truth value or a whole number
@@ -59,29 +64,30 @@ unary_operation unary.Neg = Some Negate
 unary_operation unary.Not = Some Invert
 unary_operation unary.Deref = None
 
--- the operator on numbers, where an operator always evaluates both its operands
-unfoldable pub eager_operator : BinaryOp → Option Operator
-eager_operator (binary.ArithOp op) = Some (of_arith op)
-eager_operator (binary.CmpOp op) = Some (of_compare op)
-eager_operator (binary.LogicOp op) = None
-eager_operator (binary.Assignment op) = None
+-- an operator that always evaluates both its operands
+abbrev pub eager_form : ℕ → ℕ → Operator → CoreExpr
+eager_form lhs rhs op = Strict (Combine op) (lhs ∷ rhs ∷ [])
 
--- the operation of an operator on two operands, where it is there and always evaluates both
-abbrev pub binary_operation : Option BinaryOp → Option Operation
-binary_operation (Some op) = option_map Combine (eager_operator op)
-binary_operation None = None
+-- an operator on two operands: one on values, which always evaluates both, or `&&` or `||`; an assignment is none
+abbrev pub binary_form : ℕ → ℕ → BinaryOp → Option CoreExpr
+binary_form lhs rhs (binary.ArithOp op) = Some (eager_form lhs rhs (of_arith op))
+binary_form lhs rhs (binary.CmpOp op) = Some (eager_form lhs rhs (of_compare op))
+binary_form lhs rhs (binary.LogicOp op) = Some (Logic op lhs rhs)
+binary_form lhs rhs (binary.Assignment op) = None
 
--- a strict form, where the operation has a meaning
-abbrev pub strict_form : List ℕ → Option Operation → Option CoreExpr
-strict_form operands operation = option_map (λ op. Strict op operands) operation
+-- an operator on one operand, where it has a meaning
+abbrev pub unary_form : ℕ → Option Operation → Option CoreExpr
+unary_form e operation = option_map (λ op. Strict op (e ∷ [])) operation
 
 -- The form of an expression, where it is one with a meaning. A block has no label, and a path is not resolved to an
 -- item that a trait or an impl has, or to a variant.
 abbrev pub core_of : Bool → Expr → Option CoreExpr
 core_of names_item (expr.Literal given) = option_map Literal (core_literal given)
 core_of names_item (expr.Path name) = if names_item then None else Some (Path name)
-core_of names_item (expr.UnaryOp e op) = strict_form (e.0 ∷ []) (unary_operation op)
-core_of names_item (expr.BinaryOp lhs rhs op) = strict_form (lhs.0 ∷ rhs.0 ∷ []) (binary_operation op)
+core_of names_item (expr.UnaryOp e op) = unary_form e.0 (unary_operation op)
+core_of names_item (expr.BinaryOp lhs rhs op) = option_and_then (binary_form lhs.0 rhs.0) op
+core_of names_item (expr.If condition then_branch else_branch) = Some (If condition.0 then_branch.0 else_branch)
+core_of names_item (expr.Assignment target value) = Some (Assign target.0 value.0)
 core_of names_item (expr.Block statements tail None) = Some (Block statements tail)
 core_of names_item _ = None
 
@@ -118,6 +124,21 @@ unfoldable pub is_adjusted_pattern : InferenceResult → PatId → Bool
 is_adjusted_pattern infer p =
     is_by_reference (lookup (is_at (PatIdOrd.ghosts.cmp p)) infer.binding_modes)
     || is_positive (lookup (is_at (PatIdOrd.ghosts.cmp p)) infer.pat_adjustments)
+
+-- whether a pattern is a path that is resolved to an associated item or a variant
+unfoldable pub pattern_names_item : InferenceResult → PatId → Bool
+pattern_names_item infer p =
+    is_some (lookup (is_at (PatIdOrd.ghosts.cmp p)) infer.pat_assoc_res)
+    || is_some (lookup (is_at (PatIdOrd.ghosts.cmp p)) infer.pat_variant_res)
+
+-- whether a pattern dereferences the value first
+unfoldable pub is_dereferenced_pattern : InferenceResult → PatId → Bool
+is_dereferenced_pattern infer p = is_positive (lookup (is_at (PatIdOrd.ghosts.cmp p)) infer.pat_adjustments)
+
+-- the text of a pattern that is a path
+abbrev pub path_of : Pat → Option (List ℕ)
+path_of (pat.Path name) = Some name
+path_of _ = None
 
 -- the binding that a path names, where it names one
 abbrev pub local_named : ValueNs → Option BindingId

@@ -1,12 +1,15 @@
 -- What a typed body means: its value, or how else it ends, by evaluating its tree of expressions. It knows no
--- blocks. Fuel bounds how deep the evaluation goes.
-use Rattle.std.specs.Prelude.{◌≡◌, ℕ, zero, suc, Bool, cond, if◌then◌else◌, ◌==◌, List, [], ◌∷◌, length, map, Option, Some, None, option_and_then, option_map}
+-- basic blocks. Fuel bounds how deep the evaluation goes.
+use Rattle.std.specs.Prelude.{◌≡◌, ℕ, zero, suc, Bool, true, false, cond, if◌then◌else◌, ◌==◌, List, [], ◌∷◌, length, map, Option, Some, None, option_and_then, option_map}
 use Rattle.types.specs.declared.ids.BindingId.{BindingId}
 use Rattle.types.specs.declared.ids.ExprId.{ExprId}
+use Rattle.types.specs.declared.operators.LogicOp.{LogicOp}
+use Rattle.types.specs.declared.operators.LogicOp.TheVariants as logic
 use Rattle.world.specs.declared.body.Statement.{Statement}
 use Rattle.world.specs.declared.body.Statement.TheVariants as statement
 use Rattle.world.specs.declared.infer.ValueNs.{ValueNs}
 use Rattle.world.specs.declared.infer.ValueNs.TheVariants.{LocalBinding}
+use Rattle.world.specs.Lookups.{layout_of}
 use Rattle.numbers.specs.Bytes.{low_bytes}
 use Rattle.numbers.specs.declared.operator.Kind.{Kind}
 use Rattle.numbers.specs.Operators.{Answer, Computes, Panics, Undefined, computed, negated, inverted, kind_of}
@@ -15,7 +18,7 @@ use Rattle.source_meaning.specs.Core.{CoreExpr, CoreLiteral, Truth, Number, Oper
 use Rattle.source_meaning.specs.Ends.{Cost, no_cost, turns_alone, bytes_alone, End, Go, Faults, Panic, Stuck, More, after, then_do, IsOver}
 use Rattle.source_meaning.specs.Entering.{room_of, entering}
 use Rattle.source_meaning.specs.Events.{marked, marked_as_place, marked_in_block}
-use Rattle.source_meaning.specs.Source.{Source, node, node_type, node_layout, named_by, pattern, root, Result, Node, Binding, Path, Store, zeroed, with_cell_bytes, Operand, Literally, At, operand_bytes, operand_type, drops}
+use Rattle.source_meaning.specs.Source.{Source, node, node_type, node_layout, named_by, pattern, target, root, Result, Node, Binding, Path, Store, zeroed, with_cell_bytes, Operand, Literally, At, operand_bytes, operand_type, drops}
 
 -- the byte of a truth value: 1 for true
 abbrev pub truth_byte : Bool → ℕ
@@ -115,12 +118,60 @@ abbrev pub strict_into : Source → Level → Operation → List ℕ → Path �
 strict_into source below operation operands path store =
     then_do (operands_of below operands store) (λ given later. put_answer later path (answered operation (map (value_of source later) given)))
 
+-- Whether bytes are one byte, and this is the given number. Other bytes than one have no answer.
+abbrev pub is_byte : ℕ → List ℕ → Option Bool
+is_byte number (byte ∷ []) = Some (byte == number)
+is_byte number _ = None
+
+-- the byte of a left operand at which the right one isn't evaluated: 0 for `&&`, 1 for `||`
+abbrev pub deciding_byte : LogicOp → ℕ
+deciding_byte logic.And = 0
+deciding_byte logic.Or = 1
+
+-- what reading an operand takes once more: a literal is a constant again
+abbrev pub reading_cost : Source → Operand → Cost
+reading_cost source (Literally ty bytes) = bytes_alone (room_of (layout_of source.world ty))
+reading_cost source (At path) = no_cost
+
+-- An operand that decides is written. Else the right operand is evaluated into the path.
+abbrev pub decided_into : Source → Level → Operand → (right : ℕ) → Option Bool → Path → Store → End (Unit {0})
+decided_into source below left right (Some true) path store = after (reading_cost source left) (put store path (operand_bytes store left))
+decided_into source below left right (Some false) path store = below.into right path store
+decided_into source below left right None path store = Stuck
+
+-- One of two branches. Of basic blocks, one is counted for it before it is evaluated, and one where both join.
+abbrev pub branched : End (Unit {0}) → End (Unit {0})
+branched branch = after (turns_alone 1) (then_do branch (λ _ last. Go tt last (turns_alone 1)))
+
+-- the left operand, and then it or the right one is the value
+abbrev pub logic_into : Source → Level → LogicOp → (left right : ℕ) → Path → Store → End (Unit {0})
+logic_into source below op left right path store =
+    then_do (below.operand left store) (λ given later.
+    branched (decided_into source below given right (is_byte (deciding_byte op) (operand_bytes later given)) path later))
+
+-- an expression that may be left out, evaluated into a path: the tail of a block, or the second branch of an `if`
+abbrev pub tail_into : Level → Option ExprId → Path → Store → End (Unit {0})
+tail_into below (Some e) path store = below.into e.0 path store
+tail_into below None path store = Go tt store no_cost
+
+-- the first branch where the condition holds, and else the second
+abbrev pub branch_into : Level → (then_branch : ℕ) → (else_branch : Option ExprId) → Option Bool → Path → Store → End (Unit {0})
+branch_into below then_branch else_branch (Some true) path store = below.into then_branch path store
+branch_into below then_branch else_branch (Some false) path store = tail_into below else_branch path store
+branch_into below then_branch else_branch None path store = Stuck
+
+-- the condition, which holds where its byte is 1, and then a branch
+abbrev pub if_into : Level → (condition then_branch : ℕ) → (else_branch : Option ExprId) → Path → Store → End (Unit {0})
+if_into below condition then_branch else_branch path store =
+    then_do (below.operand condition store) (λ given later.
+    branched (branch_into below then_branch else_branch (is_byte 1 (operand_bytes later given)) path later))
+
 -- the bytes of what a path names
 abbrev pub named_into : Option ValueNs → Path → Store → End (Unit {0})
 named_into (Some (LocalBinding b)) path store = put store path (store (Binding b.0))
 named_into _ path store = Stuck
 
--- a name is bound: the bytes of a place go into the binding's cell
+-- a name is bound, or assigned: the bytes of a place go into the binding's cell
 abbrev pub bind : Option BindingId → Path → Store → End (Unit {0})
 bind (Some id) path store = put store (record { cell = Binding id.0 }) (store path.cell)
 bind None path store = Stuck
@@ -134,16 +185,16 @@ statement_of source below (statement.Expr e has_semi) store =
     then_do (below.place e.0 store) (λ _ later. Go tt later (turns_alone (drops source (marked_as_place source e.0))))
 statement_of source below _ store = Stuck
 
+-- the value's place, and then the name that is the target is assigned; nothing is written where the assignment itself
+-- would be
+abbrev pub assign_into : Source → Level → (target value : ℕ) → Store → End (Unit {0})
+assign_into source below assigned value store = then_do (below.place value store) (λ path later. bind (target source assigned) path later)
+
 -- statements in order
 unfoldable pub statements_of : Source → Level → List Statement → Store → End (Unit {0})
 statements_of source below [] store = Go tt store no_cost
 statements_of source below (first ∷ rest) store =
     then_do (statement_of source below first store) (λ _ later. statements_of source below rest later)
-
--- the tail of a block, where it has one
-abbrev pub tail_into : Level → Option ExprId → Path → Store → End (Unit {0})
-tail_into below (Some e) path store = below.into e.0 path store
-tail_into below None path store = Go tt store no_cost
 
 -- the statements of a block, its tail, and then what came into use in it is left
 abbrev pub block_into : Source → Level → List Statement → Option ExprId → Path → Store → End (Unit {0})
@@ -157,6 +208,9 @@ abbrev pub into_of : Source → Level → ℕ → Option CoreExpr → Path → S
 into_of source below e (Some (expr.Literal l)) path store = put_literal source e store path (literal_bytes source e l)
 into_of source below e (Some (expr.Path name)) path store = named_into (named_by source e) path store
 into_of source below e (Some (expr.Strict operation operands)) path store = strict_into source below operation operands path store
+into_of source below e (Some (expr.Logic op left right)) path store = logic_into source below op left right path store
+into_of source below e (Some (expr.If condition then_branch else_branch)) path store = if_into below condition then_branch else_branch path store
+into_of source below e (Some (expr.Assign assigned value)) path store = assign_into source below assigned value store
 into_of source below e (Some (expr.Block statements tail)) path store = block_into source below statements tail path store
 into_of source below e None path store = Stuck
 

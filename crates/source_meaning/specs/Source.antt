@@ -1,8 +1,9 @@
 -- A typed body in its world, its nodes, and the cells that hold their values.
-use Rattle.std.specs.Prelude.{◌==◌, ℕ, Bool, true, false, cond, List, [], ◌∷◌, length, filter, not, replicate, Option, Some, None, is_some, slice_get, unwrap_or, option_map, option_and_then, if◌then◌else◌}
+use Rattle.std.specs.Prelude.{◌==◌, ◌||◌, ℕ, Bool, true, false, cond, List, [], ◌∷◌, length, filter, not, replicate, Option, Some, None, is_some, slice_get, unwrap_or, option_map, option_and_then, if◌then◌else◌}
 use Rattle.std.specs.BTreeMap.{is_at}
 use Rattle.std.specs.Map.{lookup}
 use Rattle.types.specs.contracts.ids.ExprIdOrd.TheImpl as ExprIdOrd
+use Rattle.types.specs.contracts.ids.PatIdOrd.TheImpl as PatIdOrd
 use Rattle.world.specs.declared.body.Body.{Body}
 use Rattle.world.specs.declared.database.HirDatabase.{HirDatabase}
 use Rattle.world.specs.declared.infer.InferenceResult.{InferenceResult}
@@ -11,7 +12,7 @@ use Rattle.world.specs.declared.layout.Layout.{Layout}
 use Rattle.types.specs.declared.ty.Ty.{Ty}
 use Rattle.types.specs.declared.ids.BindingId.{BindingId}
 use Rattle.world.specs.Lookups.{layout_of, type_of, expr_of, is_copy}
-use Rattle.source_meaning.specs.Core.{CoreExpr, core_of, is_adjusted, is_adjusted_pattern, name_of, names_item}
+use Rattle.source_meaning.specs.Core.{CoreExpr, core_of, is_adjusted, is_adjusted_pattern, is_dereferenced_pattern, path_of, pattern_names_item, local_named, name_of, names_item}
 
 -- a typed body in its world
 pub record Source : Type 0 where
@@ -42,6 +43,22 @@ node_layout source e = option_and_then (layout_of source.world) (node_type sourc
 -- the binding that a pattern of the source binds, where it is a name that binds by value
 unfoldable pub pattern : Source → ℕ → Option BindingId
 pattern source p = if is_adjusted_pattern source.infer (record { 0 = p }) then None else option_and_then name_of (slice_get source.body.pats p)
+
+-- the path that the target of an assignment is, where it is one that isn't dereferenced, nor resolved to an item of a trait or
+-- an impl, or to a variant
+unfoldable pub target_path : Source → ℕ → Option (List ℕ)
+target_path source p =
+    if is_dereferenced_pattern source.infer (record { 0 = p }) || pattern_names_item source.infer (record { 0 = p })
+    then None
+    else option_and_then path_of (slice_get source.body.pats p)
+
+-- what the path that a pattern is names
+abbrev pub pattern_named_by : Source → ℕ → Option ValueNs
+pattern_named_by source p = lookup (is_at (PatIdOrd.ghosts.cmp (record { 0 = p }))) source.infer.pat_value_res
+
+-- the binding that the target of an assignment names, where it is a path to one
+abbrev pub target : Source → ℕ → Option BindingId
+target source p = option_and_then (λ name. option_and_then local_named (pattern_named_by source p)) (target_path source p)
 
 -- what the path that an expression is names
 abbrev pub named_by : Source → ℕ → Option ValueNs

@@ -24,6 +24,7 @@ statement_steps (statement.Let pat (Some e) None) = Place e.0 ∷ Bind pat.0 ∷
 statement_steps (statement.Expr e has_semi) = Open ∷ Place e.0 ∷ Close ∷ []
 statement_steps _ = []
 
+-- an expression that may be left out, into the place that the form is evaluated into
 abbrev pub tail_steps : Option ExprId → List Step
 tail_steps (Some e) = Into e.0 ∷ []
 tail_steps None = []
@@ -37,6 +38,9 @@ abbrev pub steps_of : CoreExpr → List Step
 steps_of (expr.Literal given) = []
 steps_of (expr.Path name) = []
 steps_of (expr.Strict operation operands) = map Operand operands
+steps_of (expr.Logic op left right) = Operand left ∷ Into right ∷ []
+steps_of (expr.If condition then_branch else_branch) = Operand condition ∷ Into then_branch ∷ tail_steps else_branch
+steps_of (expr.Assign target value) = Place value ∷ []
 steps_of (expr.Block statements tail) = Open ∷ block_steps statements tail ++ Close ∷ []
 
 -- the expression that a step evaluates

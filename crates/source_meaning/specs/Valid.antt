@@ -12,7 +12,7 @@ use Rattle.numbers.specs.declared.operator.Operator.{Operator}
 use Rattle.numbers.specs.declared.operator.Operator.TheVariants.{Add, Sub, Mul, Div, Rem, BitXor, BitAnd, BitOr, Shl, Shr, Eq, Ne, Lt, Le, Gt, Ge}
 use Rattle.source_meaning.specs.Core as expr
 use Rattle.source_meaning.specs.Core.{CoreExpr, CoreLiteral, Truth, Number, Operation, Negate, Invert, Combine, is_truth}
-use Rattle.source_meaning.specs.Source.{Source, node, node_type, binding_type, pattern, pattern_type, named_by, root}
+use Rattle.source_meaning.specs.Source.{Source, node, node_type, binding_type, pattern, pattern_type, target, named_by, root}
 use Rattle.source_meaning.specs.Steps.{Step, steps_of, step_part, parts_of}
 use Rattle.source_meaning.specs.Steps as step
 
@@ -112,10 +112,31 @@ IsPlainStatement source (statement.Let pat (Some e) None) = IsPlainLet source pa
 IsPlainStatement source (statement.Expr e has_semi) = Unit {0}
 IsPlainStatement source _ = ⊥
 
--- the tail of a block, where it has one, has the block's type
+-- the tail of a block and the second branch of an `if`, where there is one, have the type of the whole
 abbrev pub IsPlainTail : Source → Option ExprId → Ty → Type 0
 IsPlainTail source (Some e) ty = node_type source e.0 ≡ Some ty
 IsPlainTail source None ty = Unit {0}
+
+-- the operands of `&&` and `||` are of type `bool`, and so is the whole
+pub record IsPlainLogic (source : Source) (left right : ℕ) (ty : Ty) : Type 0 where
+  pub left_has : node_type source left ≡ Some BoolTy
+  pub right_has : node_type source right ≡ Some BoolTy
+  pub typed : ty ≡ BoolTy
+
+-- the condition of an `if` is of type `bool`, and each branch has the type of the whole
+pub record IsPlainIf (source : Source) (condition then_branch : ℕ) (else_branch : Option ExprId) (ty : Ty) : Type 0 where
+  pub condition_has : node_type source condition ≡ Some BoolTy
+  pub then_has : node_type source then_branch ≡ Some ty
+  pub else_has : IsPlainTail source else_branch ty
+
+-- the target of an assignment names a binding of its type, which is the value's
+pub record IsPlainAssign (source : Source) (assigned value : ℕ) : Type 0 where
+  pub binding : BindingId
+  pub ty : Ty
+  pub names : target source assigned ≡ Some binding
+  pub target_has : pattern_type source assigned ≡ Some ty
+  pub binding_has : binding_type source binding.0 ≡ Some ty
+  pub value_has : node_type source value ≡ Some ty
 
 -- a path names a binding of its type
 pub record IsPlainPath (source : Source) (e : ℕ) (ty : Ty) : Type 0 where
@@ -128,6 +149,9 @@ abbrev pub HasPlainForm : Source → ℕ → Option CoreExpr → Ty → Type 0
 HasPlainForm source e (Some (expr.Literal l)) ty = IsPlainLiteral l ty
 HasPlainForm source e (Some (expr.Path name)) ty = IsPlainPath source e ty
 HasPlainForm source e (Some (expr.Strict operation operands)) ty = IsPlainStrict source operation operands ty
+HasPlainForm source e (Some (expr.Logic op left right)) ty = IsPlainLogic source left right ty
+HasPlainForm source e (Some (expr.If condition then_branch else_branch)) ty = IsPlainIf source condition then_branch else_branch ty
+HasPlainForm source e (Some (expr.Assign assigned value)) ty = IsPlainAssign source assigned value
 HasPlainForm source e (Some (expr.Block statements tail)) ty = All (IsPlainStatement source) statements × IsPlainTail source tail ty
 HasPlainForm source e None ty = ⊥
 

@@ -5,7 +5,7 @@ use crate::Failed;
 
 /// A writer of bytes, whose contract states which bytes it wrote.
 pub trait Sink {
-    // The bytes that were written; `None` where the contract doesn't know them.
+    // The bytes that were written; `None` if the contract leaves them open.
     ghost written: { Self → Option (List ℕ) };
 
     // How many writes have failed; the count stays at the greatest `u64`.

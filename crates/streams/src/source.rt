@@ -5,7 +5,7 @@ use crate::Failed;
 
 /// A reader of bytes, whose contract states which bytes it reads.
 pub trait Source {
-    // The bytes that are not yet read; `None` where the contract doesn't know them.
+    // The bytes that are not yet read; `None` if the contract leaves them open.
     ghost left: { Self → Option (List ℕ) };
 
     // How many reads have failed; the count stays at the greatest `u64`.

@@ -26,7 +26,7 @@ use Rattle.check_layouts.specs.Layouts.{are_parts_right, is_layout_right, is_siz
 use Rattle.check_layouts.specs.Sizes.{alignments, is_alignment, is_fixed_size, is_multiple_of, known_size}
 use Rattle.check_names.specs.Known.{is_nameable, is_ty_closed}
 use Rattle.world_check.specs.Rows.{Holds, failing_place, first_failure, first_failure_among, row_failure}
-use Rattle.world_check.specs.Tables.{first_found, wrong_adts, wrong_bodies, wrong_body_ids, wrong_items, wrong_names, wrong_row, wrong_table, wrong_tree}
+use Rattle.world_check.specs.Tables.{first_found, wrong_adt, wrong_body, wrong_item, wrong_node_in, wrong_part_in, wrong_row, wrong_table, wrong_trait_or_param}
 use Rattle.world_check.specs.declared.fault.CheckRow.{CheckRow}
 use Rattle.world_check.specs.declared.fault.CheckRow.TheVariants.{C1, C2, C3, C4, C5, C6, C7}
 use Rattle.world_check.specs.declared.place.Place.{Place}
@@ -98,7 +98,7 @@ uint_size : (world : HirDatabase) (uint : UintTy) → known_size world (type.Uin
 uint_size world uint = search (the_lemmas, rules)
 
 sized : (o : Option ℕ) (known size : ℕ) → o ≡ Some known → is_fixed_size o size ≡ true → size ≡ known
-sized o known size told e = is_same size known (ap (λ p. is_fixed_size p size) (sym told) ∙ e)
+sized o known size same e = is_same size known (ap (λ p. is_fixed_size p size) (sym same) ∙ e)
 
 -- a layout has the size that is fixed for its type
 fixed : (world : HirDatabase) (ty : Ty) (size : ℕ) → is_fixed_size (known_size world ty) size ≡ true → IfSome (fixed_size ty) (λ known. size ≡ known)
@@ -120,7 +120,7 @@ no_part : (passes : Bool) (found : BodyPart) → unless passes found ≡ None �
 no_part true found e = refl
 no_part false found e = cc
 
-checked_body : (world : HirDatabase) (b : ℕ) (row : BodyRow) → wrong_body_ids world b row ≡ None → wrong_tree b row ≡ None → IsCheckedBody row.body row.infer
+checked_body : (world : HirDatabase) (b : ℕ) (row : BodyRow) → wrong_part_in world b row ≡ None → wrong_node_in b row ≡ None → IsCheckedBody row.body row.infer
 checked_body world b row ranges trees =
     let body = row.body in
     let whole = not_mapped _ (wrong_part world body row.infer) ranges in
@@ -130,8 +130,8 @@ checked_body world b row ranges trees =
     let root = (both _ (ltb body.body_expr.0 (length body.exprs)) parts.0).1 in
     let inferred = both _ _ parts.1 in
     let valued = both _ _ inferred.0 in
-    let reworked = both _ _ valued.0 in
-    let typed = both (has_type_each body row.infer) _ reworked.0 in
+    let results = both _ _ valued.0 in
+    let typed = both (has_type_each body row.infer) _ results.0 in
     let bindings = both _ (eqb (length row.infer.binding_types) (length body.bindings)) typed.0 in
     let exprs = both (eqb (length row.infer.expr_types) (length body.exprs)) (eqb (length row.infer.pat_types) (length body.pats)) bindings.0 in
     let nodes = (neither _ _ (not_mapped _ _ trees)).0 in
@@ -181,10 +181,10 @@ named_rows table test rows e i row at =
     let inside = within_table (is_nameable (length rows)) (wrong_row table test rows) (Table table) e in
     all_at test i rows row (all_pass test rows (not_mapped (Row table) _ inside.1)) at
 
-consts_named : (world : HirDatabase) → wrong_items world ≡ None → wrong_table Consts (is_const_named world) world.consts ≡ None
+consts_named : (world : HirDatabase) → wrong_item world ≡ None → wrong_table Consts (is_const_named world) world.consts ≡ None
 consts_named world e = (neither _ _ (neither _ _ (neither _ _ e).1).1).0
 
-bodies_found : (world : HirDatabase) → wrong_bodies world ≡ None → first_found (wrong_body_ids world) 0 world.bodies ≡ None
+bodies_found : (world : HirDatabase) → wrong_body world ≡ None → first_found (wrong_part_in world) 0 world.bodies ≡ None
 bodies_found world e = (within_table (is_nameable (length world.bodies)) _ (Table Bodies) (neither _ _ e).1).1
 
 -- a world without a failure is a checked world
@@ -192,13 +192,13 @@ pub IsChecked-from_passes : (world : HirDatabase) → first_failure world ≡ No
 unfolding failing_place
 IsChecked-from_passes world e =
     let holds = Holds-from_passes world e in
-    let tables = neither (wrong_items world) _ (holds.at C1) in
-    let after_adts = neither (wrong_adts world) _ tables.1 in
-    let after_names = neither (wrong_names world) _ after_adts.1 in
-    let bodies = neither (wrong_bodies world) _ after_names.1 in
+    let tables = neither (wrong_item world) _ (holds.at C1) in
+    let after_adts = neither (wrong_adt world) _ tables.1 in
+    let after_names = neither (wrong_trait_or_param world) _ after_adts.1 in
+    let bodies = neither (wrong_body world) _ after_names.1 in
     record {
       consts = λ i row at. checked_const world row (named_rows Consts (is_const_named world) world.consts (consts_named world tables.0) i row at);
-      bodies = λ i row at. checked_body world i row (found_none_at (wrong_body_ids world) i world.bodies row (bodies_found world bodies.0) at) (found_none_at wrong_tree i world.bodies row (holds.at C2) at);
+      bodies = λ i row at. checked_body world i row (found_none_at (wrong_part_in world) i world.bodies row (bodies_found world bodies.0) at) (found_none_at wrong_node_in i world.bodies row (holds.at C2) at);
       layouts = λ i row at. checked_layout world i row (passes_at (is_layout_right world) i world.layouts row (not_mapped (Row Layouts) _ (holds.at C5)) at);
     }
 

@@ -12,7 +12,7 @@ unfold_found f xs i x d h e =
     ∙ ap (λ y. option_or (f i y) (first_found f (i + 1) (drop (suc i) xs))) (sym e)
     ∙ ap (λ j. option_or (f i x) (first_found f (i + 1) (drop j xs))) (sym (add-one i))
 
--- nothing is found in a row: the loop goes on with the next
+-- nothing is found in a row: the loop continues with the next
 pub found_next : {X : Type 0} (f : ℕ → X → Option Place) (xs : List X) (i : ℕ) (x d : X) (r : Option Place) → i < length xs → x ≡ get_or xs i d → f i x ≡ None → first_found f i (drop i xs) ≡ r → first_found f (i + 1) (drop (i + 1) xs) ≡ r
 found_next f xs i x d r h e none whole =
     ap (λ o. option_or o (first_found f (i + 1) (drop (i + 1) xs))) (sym none) ∙ sym (unfold_found f xs i x d h e) ∙ whole
@@ -32,7 +32,7 @@ unfold_failing f xs i x d h e =
     ∙ ap (λ y. cond (f i y) (first_failing f (i + 1) (drop (suc i) xs)) (Some i)) (sym e)
     ∙ ap (λ j. cond (f i x) (first_failing f (i + 1) (drop j xs)) (Some i)) (sym (add-one i))
 
--- a row passes the test: the loop goes on with the next
+-- a row passes the test: the loop continues with the next
 pub failing_next : {X : Type 0} (f : ℕ → X → Bool) (xs : List X) (i : ℕ) (x d : X) (r : Option ℕ) → i < length xs → x ≡ get_or xs i d → f i x ≡ true → first_failing f i (drop i xs) ≡ r → first_failing f (i + 1) (drop (i + 1) xs) ≡ r
 failing_next f xs i x d r h e passes whole =
     ap (λ b. cond b (first_failing f (i + 1) (drop (i + 1) xs)) (Some i)) (sym passes) ∙ sym (unfold_failing f xs i x d h e) ∙ whole

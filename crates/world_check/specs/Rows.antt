@@ -3,7 +3,7 @@ use Rattle.std.specs.Prelude.{◌≡◌, ℕ, List, [], ◌∷◌, Option, None,
 use Rattle.world.specs.Checked.{IsChecked}
 use Rattle.world.specs.declared.database.HirDatabase.{HirDatabase}
 use Rattle.world_check.specs.Places.{place_text}
-use Rattle.world_check.specs.Tables.{no_label, no_tree, not_agreeing, not_closed, out_of_range, wrong_layout, wrong_tag}
+use Rattle.world_check.specs.Tables.{wrong_agreement, wrong_id, wrong_label, wrong_layout, wrong_resolution, wrong_tag, wrong_tree}
 use Rattle.world_check.specs.declared.fault.CheckFault.{CheckFault}
 use Rattle.world_check.specs.declared.fault.CheckFault.TheVariants.{InvalidWorld, NoMemory}
 use Rattle.world_check.specs.declared.fault.CheckRow.{CheckRow}
@@ -12,13 +12,13 @@ use Rattle.world_check.specs.declared.place.Place.{Place}
 
 -- the first place where a row of the check fails
 unfoldable pub failing_place : CheckRow → HirDatabase → Option Place
-failing_place C1 world = out_of_range world
-failing_place C2 world = no_tree world
-failing_place C3 world = no_label world
-failing_place C4 world = not_closed world
+failing_place C1 world = wrong_id world
+failing_place C2 world = wrong_tree world
+failing_place C3 world = wrong_label world
+failing_place C4 world = wrong_resolution world
 failing_place C5 world = wrong_layout world
 failing_place C6 world = wrong_tag world
-failing_place C7 world = not_agreeing world
+failing_place C7 world = wrong_agreement world
 
 abbrev pub all_rows : List CheckRow
 all_rows = C1 ∷ C2 ∷ C3 ∷ C4 ∷ C5 ∷ C6 ∷ C7 ∷ []

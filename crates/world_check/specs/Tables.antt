@@ -1,4 +1,5 @@
 -- For each row of the check, the first place of a world where it fails. The tables are tested in the order of the world's fields.
+-- `wrong_NOUN` is the first place that fails a test, and `wrong_NOUN_in` the first in one body.
 use Rattle.std.specs.Prelude.{ℕ, ◌+◌, ◌==◌, ◌&&◌, if◌then◌else◌, Bool, false, not, List, [], ◌∷◌, length, Option, Some, None}
 use Rattle.std.specs.List.{position}
 use Rattle.std.specs.Option.{option_map, option_or}
@@ -19,14 +20,14 @@ use Rattle.world.specs.declared.impls.ConstImplRow.{ConstImplRow}
 use Rattle.world.specs.declared.impls.ImplRow.{ImplRow}
 use Rattle.world.specs.declared.layout.Layout.{Layout}
 use Rattle.check_names.specs.Known.{is_nameable}
-use Rattle.check_items.specs.Agree.{has_all_params, is_closure_row, first_wrong_variant}
+use Rattle.check_items.specs.Agree.{has_all_params, is_closure_row, wrong_variant}
 use Rattle.check_items.specs.Closed.{is_const_impl_closed, is_impl_closed, is_normal_closed}
 use Rattle.check_items.specs.Names.{is_closure_named, is_const_impl_named, is_const_named, is_const_param_named, is_enum_named, is_function_known, is_function_named, is_impl_named, is_layout_named, is_normal_named, is_static_named, is_struct_named, is_variant_named}
 use Rattle.check_ids.specs.Parts.{wrong_part}
 use Rattle.check_ids.specs.declared.part.BodyPart.{BodyPart}
 use Rattle.check_ids.specs.declared.part.BodyPart.TheVariants as part
 use Rattle.check_trees.specs.Ellipsis.{wrong_ellipsis}
-use Rattle.check_trees.specs.Jumps.{loose_jump}
+use Rattle.check_trees.specs.Jumps.{wrong_jump}
 use Rattle.world.specs.Failing.{first_failing}
 use Rattle.check_trees.specs.Tree.{wrong_node}
 use Rattle.check_trees.specs.declared.node.BodyNode.{BodyNode}
@@ -58,8 +59,8 @@ abbrev pub in_table : TableName → ℕ → Option Place → Option Place
 in_table table entries found = if is_nameable entries then found else Some (Table table)
 
 -- the table itself if it has too many rows for ids of 32 bits
-abbrev pub too_long : TableName → ℕ → Option Place
-too_long table entries = in_table table entries None
+abbrev pub wrong_length : TableName → ℕ → Option Place
+wrong_length table entries = in_table table entries None
 
 -- the table itself if it has too many rows for ids of 32 bits, else its first row that fails a test
 abbrev pub wrong_table : {X : Type 0} → TableName → (X → Bool) → List X → Option Place
@@ -88,8 +89,8 @@ node_place b (node.Pat i) = Node b Pats i
 
 -- Ids are in range, lists are short enough for ids of 32 bits, and keys are distinct.
 
-abbrev pub wrong_body_ids : HirDatabase → ℕ → BodyRow → Option Place
-wrong_body_ids world b row = option_map (part_place b) (wrong_part world row.body row.infer)
+abbrev pub wrong_part_in : HirDatabase → ℕ → BodyRow → Option Place
+wrong_part_in world b row = option_map (part_place b) (wrong_part world row.body row.infer)
 
 -- an optional index is `n`
 abbrev pub is_number : Option ℕ → ℕ → Bool
@@ -121,83 +122,83 @@ is_impl_known world i row = is_impl_named world row && has_new_function world i 
 abbrev pub is_const_impl_known : HirDatabase → ℕ → ConstImplRow → Bool
 is_const_impl_known world i row = is_const_impl_named world row && has_new_const world i row
 
-abbrev pub wrong_items : HirDatabase → Option Place
-wrong_items world =
-    option_or (too_long Crates (length world.crates))
+abbrev pub wrong_item : HirDatabase → Option Place
+wrong_item world =
+    option_or (wrong_length Crates (length world.crates))
     (option_or (wrong_table Functions (is_function_named world) world.functions)
     (option_or (wrong_table Consts (is_const_named world) world.consts)
     (wrong_table Statics (is_static_named world) world.statics)))
 
-abbrev pub wrong_adts : HirDatabase → Option Place
-wrong_adts world =
+abbrev pub wrong_adt : HirDatabase → Option Place
+wrong_adt world =
     option_or (wrong_table Structs (is_struct_named world) world.structs)
     (option_or (wrong_table Unions (is_struct_named world) world.unions)
     (option_or (wrong_table Enums (is_enum_named world) world.enums)
     (wrong_table Variants (is_variant_named world) world.variants)))
 
-abbrev pub wrong_names : HirDatabase → Option Place
-wrong_names world =
-    option_or (too_long Traits (length world.traits))
-    (option_or (too_long Aliases (length world.aliases))
-    (option_or (too_long TypeParams (length world.type_params))
+abbrev pub wrong_trait_or_param : HirDatabase → Option Place
+wrong_trait_or_param world =
+    option_or (wrong_length Traits (length world.traits))
+    (option_or (wrong_length Aliases (length world.aliases))
+    (option_or (wrong_length TypeParams (length world.type_params))
     (wrong_table ConstParams (is_const_param_named world) world.const_params)))
 
-abbrev pub wrong_bodies : HirDatabase → Option Place
-wrong_bodies world =
+abbrev pub wrong_body : HirDatabase → Option Place
+wrong_body world =
     option_or (wrong_table Closures (is_closure_named world) world.closures)
-    (in_table Bodies (length world.bodies) (first_found (wrong_body_ids world) 0 world.bodies))
+    (in_table Bodies (length world.bodies) (first_found (wrong_part_in world) 0 world.bodies))
 
-abbrev pub wrong_keyed : HirDatabase → Option Place
-wrong_keyed world =
+abbrev pub wrong_keyed_row : HirDatabase → Option Place
+wrong_keyed_row world =
     option_or (wrong_row_at Layouts (is_layout_known world) world.layouts)
     (option_or (wrong_row_at Normals (is_normal_known world) world.normals)
     (option_or (wrong_row_at Impls (is_impl_known world) world.impls)
     (wrong_row_at ConstImpls (is_const_impl_known world) world.const_impls)))
 
 -- the place of a lang function, unless it is none or in range
-abbrev pub wrong_function : NamedFunction → HirDatabase → Option FunctionId → Option Place
-wrong_function name world id = if is_function_known world id then None else Some (Function name)
+abbrev pub wrong_lang_function : NamedFunction → HirDatabase → Option FunctionId → Option Place
+wrong_lang_function name world id = if is_function_known world id then None else Some (Function name)
 
 abbrev pub wrong_drop_or_deref : HirDatabase → Option Place
 wrong_drop_or_deref world =
-    option_or (wrong_function Drop world world.drop_fn)
-    (option_or (wrong_function Deref world world.deref_fn)
-    (wrong_function DerefMut world world.deref_mut_fn))
+    option_or (wrong_lang_function Drop world world.drop_fn)
+    (option_or (wrong_lang_function Deref world world.deref_fn)
+    (wrong_lang_function DerefMut world world.deref_mut_fn))
 
 abbrev pub wrong_call : HirDatabase → Option Place
 wrong_call world =
-    option_or (wrong_function Call world world.call_fn)
-    (option_or (wrong_function CallMut world world.call_mut_fn)
-    (wrong_function CallOnce world world.call_once_fn))
+    option_or (wrong_lang_function Call world world.call_fn)
+    (option_or (wrong_lang_function CallMut world world.call_mut_fn)
+    (wrong_lang_function CallOnce world world.call_once_fn))
 
-abbrev pub out_of_range : HirDatabase → Option Place
-out_of_range world =
-    option_or (wrong_items world)
-    (option_or (wrong_adts world)
-    (option_or (wrong_names world)
-    (option_or (wrong_bodies world)
-    (option_or (wrong_keyed world)
+abbrev pub wrong_id : HirDatabase → Option Place
+wrong_id world =
+    option_or (wrong_item world)
+    (option_or (wrong_adt world)
+    (option_or (wrong_trait_or_param world)
+    (option_or (wrong_body world)
+    (option_or (wrong_keyed_row world)
     (option_or (wrong_drop_or_deref world)
     (wrong_call world))))))
 
 -- Bodies are trees, and jumps name enclosing labels.
 
-abbrev pub wrong_tree : ℕ → BodyRow → Option Place
-wrong_tree b row = option_map (node_place b) (wrong_node row.body)
+abbrev pub wrong_node_in : ℕ → BodyRow → Option Place
+wrong_node_in b row = option_map (node_place b) (wrong_node row.body)
 
-abbrev pub no_tree : HirDatabase → Option Place
-no_tree world = first_found wrong_tree 0 world.bodies
+abbrev pub wrong_tree : HirDatabase → Option Place
+wrong_tree world = first_found wrong_node_in 0 world.bodies
 
-abbrev pub wrong_jump : ℕ → BodyRow → Option Place
-wrong_jump b row = option_map (Node b Exprs) (loose_jump row.body)
+abbrev pub wrong_jump_in : ℕ → BodyRow → Option Place
+wrong_jump_in b row = option_map (Node b Exprs) (wrong_jump row.body)
 
-abbrev pub no_label : HirDatabase → Option Place
-no_label world = first_found wrong_jump 0 world.bodies
+abbrev pub wrong_label : HirDatabase → Option Place
+wrong_label world = first_found wrong_jump_in 0 world.bodies
 
 -- Normalized types and resolved impl items have no alias and no generic parameter in them.
 
-abbrev pub not_closed : HirDatabase → Option Place
-not_closed world =
+abbrev pub wrong_resolution : HirDatabase → Option Place
+wrong_resolution world =
     option_or (wrong_row Normals is_normal_closed world.normals)
     (option_or (wrong_row Impls is_impl_closed world.impls)
     (wrong_row ConstImpls is_const_impl_closed world.const_impls))
@@ -212,12 +213,12 @@ wrong_tag world = wrong_row Layouts (is_tag_right world) world.layouts
 
 -- Functions agree with bodies, variants with enums, closures with expressions, and each `..` stands within its pattern.
 
-abbrev pub wrong_dots : ℕ → BodyRow → Option Place
-wrong_dots b row = option_map (Node b Pats) (wrong_ellipsis row.body)
+abbrev pub wrong_ellipsis_in : ℕ → BodyRow → Option Place
+wrong_ellipsis_in b row = option_map (Node b Pats) (wrong_ellipsis row.body)
 
-abbrev pub not_agreeing : HirDatabase → Option Place
-not_agreeing world =
+abbrev pub wrong_agreement : HirDatabase → Option Place
+wrong_agreement world =
     option_or (wrong_row Functions (has_all_params world) world.functions)
-    (option_or (option_map (Row Variants) (first_wrong_variant world))
+    (option_or (option_map (Row Variants) (wrong_variant world))
     (option_or (wrong_row Closures (is_closure_row world) world.closures)
-    (first_found wrong_dots 0 world.bodies)))
+    (first_found wrong_ellipsis_in 0 world.bodies)))

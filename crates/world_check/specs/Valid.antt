@@ -18,7 +18,7 @@ use Rattle.world.specs.declared.items.StaticRow.{StaticRow}
 use Rattle.check_names.specs.Known.{are_args_settled}
 use Rattle.check_ids.specs.Parts.{wrong_part}
 use Rattle.check_trees.specs.Ellipsis.{wrong_ellipsis}
-use Rattle.check_trees.specs.Jumps.{loose_jump}
+use Rattle.check_trees.specs.Jumps.{wrong_jump}
 use Rattle.check_trees.specs.Tree.{wrong_node}
 
 -- a type for a type parameter, or a constant for a const parameter
@@ -66,5 +66,5 @@ unfoldable pub is_body_right : HirDatabase → Body → InferenceResult → Bool
 is_body_right world body infer =
     is_none (wrong_part world body infer)
     && is_none (wrong_node body)
-    && is_none (loose_jump body)
+    && is_none (wrong_jump body)
     && is_none (wrong_ellipsis body)

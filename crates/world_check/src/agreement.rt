@@ -6,14 +6,14 @@ ghost use Rattle.check_items.specs.Agree.{has_all_params, is_closure_row};
 ghost use Rattle.check_items.specs.Closed.{is_const_impl_closed, is_impl_closed, is_normal_closed};
 ghost use Rattle.check_layouts.specs.Layouts.{is_layout_right};
 ghost use Rattle.check_layouts.specs.Tags.{is_tag_right};
-ghost use Rattle.world_check.specs.Tables.{first_wrong, not_agreeing, not_closed, wrong_layout, wrong_tag};
+ghost use Rattle.world_check.specs.Tables.{first_wrong, wrong_agreement, wrong_layout, wrong_resolution, wrong_tag};
 
 use crate::tables::{numbered_place, row_place};
-use crate::trees::first_wrong_dots;
+use crate::trees::wrong_ellipsis_among;
 use crate::{Place, TableName};
 use check_items::{
-    first_wrong_variant, has_all_params, is_closure_row, is_const_impl_closed, is_impl_closed,
-    is_normal_closed,
+    has_all_params, is_closure_row, is_const_impl_closed, is_impl_closed, is_normal_closed,
+    wrong_variant,
 };
 use check_layouts::{is_layout_right, is_tag_right};
 use std::alloc::Global;
@@ -23,40 +23,40 @@ use world::{
 };
 
 /// The first normalized type with an alias or a generic parameter in it.
-fn open_normal(rows: &[(AliasId, GenericArgs, Ty)]) -> Option<usize>
+fn wrong_normal_among(rows: &[(AliasId, GenericArgs, Ty)]) -> Option<usize>
     ensures { result ≡ first_wrong is_normal_closed rows.now }
 {
     rows.iter().position(|row| !is_normal_closed(row))
 }
 
 /// The first row of resolved functions with an alias or a generic parameter in its arguments.
-fn open_impl(rows: &[ImplRow]) -> Option<usize>
+fn wrong_impl_among(rows: &[ImplRow]) -> Option<usize>
     ensures { result ≡ first_wrong is_impl_closed rows.now }
 {
     rows.iter().position(|row| !is_impl_closed(row))
 }
 
 /// The first row of resolved constants with an alias or a generic parameter in its arguments.
-fn open_const_impl(rows: &[ConstImplRow]) -> Option<usize>
+fn wrong_const_impl_among(rows: &[ConstImplRow]) -> Option<usize>
     ensures { result ≡ first_wrong is_const_impl_closed rows.now }
 {
     rows.iter().position(|row| !is_const_impl_closed(row))
 }
 
 /// The first row of normalized types and resolved impl items with an alias or a generic parameter in it.
-pub(crate) fn not_closed(db: &HirDatabase) -> Option<Place>
-    ensures { result ≡ not_closed db.now }
+pub(crate) fn wrong_resolution(db: &HirDatabase) -> Option<Place>
+    ensures { result ≡ wrong_resolution db.now }
 {
-    let consts = open_const_impl(db.const_impls.as_slice());
-    let functions = open_impl(db.impls.as_slice());
-    let types = open_normal(db.normals.as_slice());
+    let consts = wrong_const_impl_among(db.const_impls.as_slice());
+    let functions = wrong_impl_among(db.impls.as_slice());
+    let types = wrong_normal_among(db.normals.as_slice());
     let last = row_place(TableName::ConstImpls, consts);
     let second = row_place(TableName::Impls, functions).or(last);
     row_place(TableName::Normals, types).or(second)
 }
 
 /// The index of the first layout that breaks a rule of all targets.
-fn first_wrong_layout(
+fn wrong_layout_among(
     alloc: Global,
     db: &HirDatabase,
     rows: &[(Ty, Layout)],
@@ -76,12 +76,12 @@ fn first_wrong_layout(
 pub(crate) fn wrong_layout(alloc: Global, db: &HirDatabase) -> Result<Option<Place>, NoMemory>
     ensures { IfOk result (λ found. found ≡ wrong_layout db.now) }
 {
-    let found = first_wrong_layout(alloc, db, db.layouts.as_slice())?;
+    let found = wrong_layout_among(alloc, db, db.layouts.as_slice())?;
     Ok(row_place(TableName::Layouts, found))
 }
 
 /// The index of the first layout whose tag doesn't fit its enum.
-fn first_wrong_tag(db: &HirDatabase, rows: &[(Ty, Layout)]) -> Option<usize>
+fn wrong_tag_among(db: &HirDatabase, rows: &[(Ty, Layout)]) -> Option<usize>
     ensures { result ≡ first_wrong (is_tag_right db.now) rows.now }
 {
     rows.iter().position(|row| !is_tag_right(db, row))
@@ -93,19 +93,19 @@ pub(crate) fn wrong_tag(db: &HirDatabase) -> Option<Place>
 {
     row_place(
         TableName::Layouts,
-        first_wrong_tag(db, db.layouts.as_slice()),
+        wrong_tag_among(db, db.layouts.as_slice()),
     )
 }
 
 /// The first function whose body has another number of parameters than its signature.
-fn first_short_function(db: &HirDatabase, rows: &[FunctionRow]) -> Option<usize>
+fn wrong_signature_among(db: &HirDatabase, rows: &[FunctionRow]) -> Option<usize>
     ensures { result ≡ first_wrong (has_all_params db.now) rows.now }
 {
     rows.iter().position(|row| !has_all_params(db, row))
 }
 
 /// The first closure's row whose expression is no closure with as many parameters.
-fn first_no_closure(db: &HirDatabase, rows: &[ClosureRow]) -> Option<usize>
+fn wrong_closure_expr_among(db: &HirDatabase, rows: &[ClosureRow]) -> Option<usize>
     ensures { result ≡ first_wrong (is_closure_row db.now) rows.now }
 {
     rows.iter().position(|row| !is_closure_row(db, row))
@@ -113,14 +113,14 @@ fn first_no_closure(db: &HirDatabase, rows: &[ClosureRow]) -> Option<usize>
 
 /// The first row that doesn't agree with its body, its enum or its expression, or the first pattern whose
 /// `..` stands past the end of its subpatterns.
-pub(crate) fn not_agreeing(alloc: Global, db: &HirDatabase) -> Result<Option<Place>, NoMemory>
-    ensures { IfOk result (λ found. found ≡ not_agreeing db.now) }
+pub(crate) fn wrong_agreement(alloc: Global, db: &HirDatabase) -> Result<Option<Place>, NoMemory>
+    ensures { IfOk result (λ found. found ≡ wrong_agreement db.now) }
 {
-    let unlisted = first_wrong_variant(alloc, db)?;
-    let closure = first_no_closure(db, db.closures.as_slice());
-    let function = first_short_function(db, db.functions.as_slice());
-    let dots = first_wrong_dots(db.bodies.as_slice());
-    let last = row_place(TableName::Closures, closure).or(dots);
+    let unlisted = wrong_variant(alloc, db)?;
+    let closure = wrong_closure_expr_among(db, db.closures.as_slice());
+    let function = wrong_signature_among(db, db.functions.as_slice());
+    let ellipsis = wrong_ellipsis_among(db.bodies.as_slice());
+    let last = row_place(TableName::Closures, closure).or(ellipsis);
     let second = numbered_place(TableName::Variants, unlisted).or(last);
     Ok(row_place(TableName::Functions, function).or(second))
 }

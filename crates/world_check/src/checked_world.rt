@@ -38,7 +38,7 @@ impl CheckedWorld {
     ghost use Rattle.world_check.specs.Valid.{is_valid};
     ghost use Rattle.check_names.specs.Known.{are_args_known, is_def_known};
 
-    /// Checks a world, as `check` does. If the check fails, the database comes back with the fault.
+    /// Checks a world, as `check` does. If the check fails, the database is returned with the fault.
     pub fn new(alloc: Global, db: HirDatabase) -> Result<CheckedWorld, (HirDatabase, CheckFault)>
         ensures same { IfOk result (λ checked. checked ≡ db) }
         ensures passes { OnOk result (first_failure db ≡ None) }

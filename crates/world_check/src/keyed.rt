@@ -1,7 +1,7 @@
 //! The tables whose rows have keys: ids are in range, and keys are distinct.
 ghost use Rattle.std.specs.Prelude.{◌≡◌};
 ghost use Rattle.world.specs.Failing.{first_failing};
-ghost use Rattle.world_check.specs.Tables.{is_number, wrong_keyed, wrong_row_at};
+ghost use Rattle.world_check.specs.Tables.{is_number, wrong_keyed_row, wrong_row_at};
 
 use crate::tables::row_place;
 use crate::{Place, TableName};
@@ -85,7 +85,7 @@ impl KeyedRow for ConstImplRow {
 }
 
 /// The index of the first row that has an id out of range, or the key of an earlier row.
-fn first_unknown<R: KeyedRow>(db: &HirDatabase, rows: &[R]) -> Option<usize>
+fn wrong_row_among<R: KeyedRow>(db: &HirDatabase, rows: &[R]) -> Option<usize>
     ensures { result ≡ first_failing (R.is_known db.now) 0 rows.now }
 {
     for (i, row) in rows.iter().enumerate() {
@@ -104,12 +104,12 @@ fn wrong_row<K: Ord, R: Row<K> + KeyedRow>(
 ) -> Option<Place>
     ensures { result ≡ wrong_row_at table (R.is_known db.now) rows.now }
 {
-    row_place(table, first_unknown(db, rows.as_slice()))
+    row_place(table, wrong_row_among(db, rows.as_slice()))
 }
 
 /// The first wrong row of the layouts, normalized types and resolved impl items.
-pub(crate) fn wrong_keyed(db: &HirDatabase) -> Option<Place>
-    ensures { result ≡ wrong_keyed db.now }
+pub(crate) fn wrong_keyed_row(db: &HirDatabase) -> Option<Place>
+    ensures { result ≡ wrong_keyed_row db.now }
 {
     let const_impls = wrong_row(db, TableName::ConstImpls, &db.const_impls);
     let impls = wrong_row(db, TableName::Impls, &db.impls).or(const_impls);

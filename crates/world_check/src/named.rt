@@ -1,10 +1,10 @@
 //! The tables whose rows are named by ids: they are short enough, and all ids in them are in range.
 ghost use Rattle.std.specs.Prelude.{◌≡◌, length};
 ghost use Rattle.check_items.specs.Names.{is_closure_named};
-ghost use Rattle.world_check.specs.Tables.{first_wrong, too_long, wrong_adts, wrong_items, wrong_names, wrong_table};
+ghost use Rattle.world_check.specs.Tables.{first_wrong, wrong_adt, wrong_item, wrong_length, wrong_table, wrong_trait_or_param};
 ghost use Rattle.world_check.specs.declared.place.TableName.TheVariants.{Closures};
 
-use crate::tables::{in_table, row_place, too_long};
+use crate::tables::{in_table, row_place, wrong_length};
 use crate::{Place, TableName};
 use check_items::{
     is_closure_named, is_const_named, is_const_param_named, is_enum_named, is_function_named,
@@ -108,7 +108,7 @@ impl NamedRow for ClosureRow {
 }
 
 /// The index of the first row that has an id out of range.
-fn first_wrong_row<R: NamedRow>(db: &HirDatabase, rows: &[R]) -> Option<usize>
+fn wrong_row_among<R: NamedRow>(db: &HirDatabase, rows: &[R]) -> Option<usize>
     ensures { result ≡ first_wrong (R.is_named db.now) rows.now }
 {
     rows.iter().position(|row| !row.is_named(db))
@@ -119,30 +119,30 @@ fn first_wrong_row<R: NamedRow>(db: &HirDatabase, rows: &[R]) -> Option<usize>
 fn wrong_table<R: NamedRow>(db: &HirDatabase, table: TableName, rows: &List<R>) -> Option<Place>
     ensures { result ≡ wrong_table table (R.is_named db.now) rows.now }
 {
-    let found = first_wrong_row(db, rows.as_slice());
+    let found = wrong_row_among(db, rows.as_slice());
     in_table(table, rows.len(), row_place(table, found))
 }
 
 /// The first wrong place among the closures.
-pub(crate) fn wrong_closures(db: &HirDatabase) -> Option<Place>
+pub(crate) fn wrong_closure(db: &HirDatabase) -> Option<Place>
     ensures { result ≡ wrong_table Closures (is_closure_named db.now) db.now.closures }
 {
     wrong_table(db, TableName::Closures, &db.closures)
 }
 
 /// The first wrong place among crates, functions, constants and statics.
-pub(crate) fn wrong_items(db: &HirDatabase) -> Option<Place>
-    ensures { result ≡ wrong_items db.now }
+pub(crate) fn wrong_item(db: &HirDatabase) -> Option<Place>
+    ensures { result ≡ wrong_item db.now }
 {
     let statics = wrong_table(db, TableName::Statics, &db.statics);
     let consts = wrong_table(db, TableName::Consts, &db.consts).or(statics);
     let functions = wrong_table(db, TableName::Functions, &db.functions).or(consts);
-    too_long(TableName::Crates, db.crates.len()).or(functions)
+    wrong_length(TableName::Crates, db.crates.len()).or(functions)
 }
 
 /// The first wrong place among structs, unions, enums and variants.
-pub(crate) fn wrong_adts(db: &HirDatabase) -> Option<Place>
-    ensures { result ≡ wrong_adts db.now }
+pub(crate) fn wrong_adt(db: &HirDatabase) -> Option<Place>
+    ensures { result ≡ wrong_adt db.now }
 {
     let variants = wrong_table(db, TableName::Variants, &db.variants);
     let enums = wrong_table(db, TableName::Enums, &db.enums).or(variants);
@@ -151,11 +151,11 @@ pub(crate) fn wrong_adts(db: &HirDatabase) -> Option<Place>
 }
 
 /// The first wrong place among traits, aliases and generic parameters.
-pub(crate) fn wrong_names(db: &HirDatabase) -> Option<Place>
-    ensures { result ≡ wrong_names db.now }
+pub(crate) fn wrong_trait_or_param(db: &HirDatabase) -> Option<Place>
+    ensures { result ≡ wrong_trait_or_param db.now }
 {
     let const_params = wrong_table(db, TableName::ConstParams, &db.const_params);
-    let type_params = too_long(TableName::TypeParams, db.type_params.len()).or(const_params);
-    let aliases = too_long(TableName::Aliases, db.aliases.len()).or(type_params);
-    too_long(TableName::Traits, db.traits.len()).or(aliases)
+    let type_params = wrong_length(TableName::TypeParams, db.type_params.len()).or(const_params);
+    let aliases = wrong_length(TableName::Aliases, db.aliases.len()).or(type_params);
+    wrong_length(TableName::Traits, db.traits.len()).or(aliases)
 }

@@ -2,10 +2,10 @@
 ghost use Rattle.std.specs.Prelude.{◌≡◌, IfOk};
 ghost use Rattle.std.specs.Option.{option_map};
 ghost use Rattle.check_ids.specs.Parts.{wrong_part};
-ghost use Rattle.world_check.specs.Tables.{first_found, out_of_range, part_place, wrong_bodies, wrong_body_ids, wrong_call, wrong_drop_or_deref, wrong_function};
+ghost use Rattle.world_check.specs.Tables.{first_found, part_place, wrong_body, wrong_call, wrong_drop_or_deref, wrong_id, wrong_lang_function, wrong_part_in};
 
-use crate::keyed::wrong_keyed;
-use crate::named::{wrong_adts, wrong_closures, wrong_items, wrong_names};
+use crate::keyed::wrong_keyed_row;
+use crate::named::{wrong_adt, wrong_closure, wrong_item, wrong_trait_or_param};
 use crate::tables::in_table;
 use crate::{NamedFunction, NodeKind, Place, TableName};
 use check_ids::{BodyPart, wrong_part};
@@ -30,13 +30,13 @@ fn part_place(b: u64, part: BodyPart) -> Place
 }
 
 /// The place of the first wrong part of body `b`, as one that has an id out of range.
-fn wrong_body_ids(
+fn wrong_part_in(
     alloc: Global,
     db: &HirDatabase,
     b: u64,
     row: &BodyRow,
 ) -> Result<Option<Place>, NoMemory>
-    ensures { IfOk result (λ found. found ≡ wrong_body_ids db.now b row.now) }
+    ensures { IfOk result (λ found. found ≡ wrong_part_in db.now b row.now) }
 {
     match wrong_part(alloc, db, &row.body, &row.infer)? {
         Some(part) => Ok(Some(part_place(b, part))),
@@ -45,15 +45,15 @@ fn wrong_body_ids(
 }
 
 /// The place of the first wrong part of these bodies.
-fn first_body_ids(
+fn wrong_part_among(
     alloc: Global,
     db: &HirDatabase,
     rows: &[BodyRow],
 ) -> Result<Option<Place>, NoMemory>
-    ensures { IfOk result (λ found. found ≡ first_found (wrong_body_ids db.now) 0 rows.now) }
+    ensures { IfOk result (λ found. found ≡ first_found (wrong_part_in db.now) 0 rows.now) }
 {
     for (i, row) in rows.iter().enumerate() {
-        if let Some(place) = wrong_body_ids(alloc, db, i as u64, row)? {
+        if let Some(place) = wrong_part_in(alloc, db, i as u64, row)? {
             return Ok(Some(place));
         }
     }
@@ -61,17 +61,21 @@ fn first_body_ids(
 }
 
 /// The first wrong place among closures and bodies.
-fn wrong_bodies(alloc: Global, db: &HirDatabase) -> Result<Option<Place>, NoMemory>
-    ensures { IfOk result (λ found. found ≡ wrong_bodies db.now) }
+fn wrong_body(alloc: Global, db: &HirDatabase) -> Result<Option<Place>, NoMemory>
+    ensures { IfOk result (λ found. found ≡ wrong_body db.now) }
 {
-    let found = first_body_ids(alloc, db, db.bodies.as_slice())?;
+    let found = wrong_part_among(alloc, db, db.bodies.as_slice())?;
     let bodies = in_table(TableName::Bodies, db.bodies.len(), found);
-    Ok(wrong_closures(db).or(bodies))
+    Ok(wrong_closure(db).or(bodies))
 }
 
 /// The place of one of the world's lang functions, as `drop_fn`, unless it is none or in range.
-fn wrong_function(name: NamedFunction, db: &HirDatabase, id: Option<FunctionId>) -> Option<Place>
-    ensures { result ≡ wrong_function name db.now id }
+fn wrong_lang_function(
+    name: NamedFunction,
+    db: &HirDatabase,
+    id: Option<FunctionId>,
+) -> Option<Place>
+    ensures { result ≡ wrong_lang_function name db.now id }
 {
     if is_function_known(db, id) {
         None
@@ -84,28 +88,28 @@ fn wrong_function(name: NamedFunction, db: &HirDatabase, id: Option<FunctionId>)
 fn wrong_drop_or_deref(db: &HirDatabase) -> Option<Place>
     ensures { result ≡ wrong_drop_or_deref db.now }
 {
-    let deref_mut = wrong_function(NamedFunction::DerefMut, db, db.deref_mut_fn);
-    let deref = wrong_function(NamedFunction::Deref, db, db.deref_fn).or(deref_mut);
-    wrong_function(NamedFunction::Drop, db, db.drop_fn).or(deref)
+    let deref_mut = wrong_lang_function(NamedFunction::DerefMut, db, db.deref_mut_fn);
+    let deref = wrong_lang_function(NamedFunction::Deref, db, db.deref_fn).or(deref_mut);
+    wrong_lang_function(NamedFunction::Drop, db, db.drop_fn).or(deref)
 }
 
 /// The first of the functions of `Fn`, `FnMut` and `FnOnce` that is out of range.
 fn wrong_call(db: &HirDatabase) -> Option<Place>
     ensures { result ≡ wrong_call db.now }
 {
-    let call_once = wrong_function(NamedFunction::CallOnce, db, db.call_once_fn);
-    let call_mut = wrong_function(NamedFunction::CallMut, db, db.call_mut_fn).or(call_once);
-    wrong_function(NamedFunction::Call, db, db.call_fn).or(call_mut)
+    let call_once = wrong_lang_function(NamedFunction::CallOnce, db, db.call_once_fn);
+    let call_mut = wrong_lang_function(NamedFunction::CallMut, db, db.call_mut_fn).or(call_once);
+    wrong_lang_function(NamedFunction::Call, db, db.call_fn).or(call_mut)
 }
 
 /// The first place with an id out of range, a list that is too long, or a key that an earlier row has.
-pub(crate) fn out_of_range(alloc: Global, db: &HirDatabase) -> Result<Option<Place>, NoMemory>
-    ensures { IfOk result (λ found. found ≡ out_of_range db.now) }
+pub(crate) fn wrong_id(alloc: Global, db: &HirDatabase) -> Result<Option<Place>, NoMemory>
+    ensures { IfOk result (λ found. found ≡ wrong_id db.now) }
 {
-    let bodies = wrong_bodies(alloc, db)?;
+    let bodies = wrong_body(alloc, db)?;
     let functions = wrong_drop_or_deref(db).or(wrong_call(db));
-    let keyed = wrong_keyed(db).or(functions);
-    let names = wrong_names(db).or(bodies.or(keyed));
-    let adts = wrong_adts(db).or(names);
-    Ok(wrong_items(db).or(adts))
+    let keyed = wrong_keyed_row(db).or(functions);
+    let names = wrong_trait_or_param(db).or(bodies.or(keyed));
+    let adts = wrong_adt(db).or(names);
+    Ok(wrong_item(db).or(adts))
 }

@@ -3,10 +3,10 @@ ghost use Rattle.std.specs.Prelude.{◌≡◌, OnOk, IfErr};
 ghost use Rattle.world.specs.Checked.{IsChecked};
 ghost use Rattle.world_check.specs.Rows.{first_failure, IsRefusal, IsRefusalAt};
 
-use crate::agreement::{not_agreeing, not_closed, wrong_layout, wrong_tag};
+use crate::agreement::{wrong_agreement, wrong_layout, wrong_resolution, wrong_tag};
 use crate::place::place_text;
-use crate::ranges::out_of_range;
-use crate::trees::{no_label, no_tree};
+use crate::ranges::wrong_id;
+use crate::trees::{wrong_label, wrong_tree};
 use crate::{CheckFault, CheckRow, InvalidWorld, Place};
 use std::alloc::Global;
 use world::HirDatabase;
@@ -29,16 +29,16 @@ pub fn check(alloc: Global, db: &HirDatabase) -> Result<(), CheckFault>
     ensures passes { OnOk result (first_failure db.now ≡ None) }
     ensures refused { IfErr result (IsRefusal db.now) }
 {
-    if let Some(place) = out_of_range(alloc, db)? {
+    if let Some(place) = wrong_id(alloc, db)? {
         return Err(refusal(alloc, CheckRow::C1, place));
     }
-    if let Some(place) = no_tree(alloc, db)? {
+    if let Some(place) = wrong_tree(alloc, db)? {
         return Err(refusal(alloc, CheckRow::C2, place));
     }
-    if let Some(place) = no_label(alloc, db)? {
+    if let Some(place) = wrong_label(alloc, db)? {
         return Err(refusal(alloc, CheckRow::C3, place));
     }
-    if let Some(place) = not_closed(db) {
+    if let Some(place) = wrong_resolution(db) {
         return Err(refusal(alloc, CheckRow::C4, place));
     }
     if let Some(place) = wrong_layout(alloc, db)? {
@@ -47,7 +47,7 @@ pub fn check(alloc: Global, db: &HirDatabase) -> Result<(), CheckFault>
     if let Some(place) = wrong_tag(db) {
         return Err(refusal(alloc, CheckRow::C6, place));
     }
-    if let Some(place) = not_agreeing(alloc, db)? {
+    if let Some(place) = wrong_agreement(alloc, db)? {
         return Err(refusal(alloc, CheckRow::C7, place));
     }
     Ok(())

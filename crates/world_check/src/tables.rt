@@ -1,7 +1,7 @@
 //! Places of tables and of their rows.
 ghost use Rattle.std.specs.Prelude.{◌≡◌};
 ghost use Rattle.std.specs.Option.{option_map};
-ghost use Rattle.world_check.specs.Tables.{in_table, too_long};
+ghost use Rattle.world_check.specs.Tables.{in_table, wrong_length};
 ghost use Rattle.world_check.specs.declared.place.Place.TheVariants.{Row};
 
 use crate::{Place, TableName};
@@ -39,8 +39,8 @@ pub(crate) fn in_table(table: TableName, entries: u64, found: Option<Place>) -> 
 }
 
 /// The table itself if it has too many rows for ids of 32 bits.
-pub(crate) fn too_long(table: TableName, entries: u64) -> Option<Place>
-    ensures { result ≡ too_long table entries }
+pub(crate) fn wrong_length(table: TableName, entries: u64) -> Option<Place>
+    ensures { result ≡ wrong_length table entries }
 {
     in_table(table, entries, None)
 }

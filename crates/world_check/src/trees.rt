@@ -1,10 +1,10 @@
 //! Tests of all bodies: they are trees, jumps name enclosing labels, and `..` stands within its pattern.
 ghost use Rattle.std.specs.Prelude.{◌≡◌, IfOk};
 ghost use Rattle.std.specs.Option.{option_map};
-ghost use Rattle.world_check.specs.Tables.{first_found, no_label, no_tree, node_place, wrong_dots, wrong_jump, wrong_tree};
+ghost use Rattle.world_check.specs.Tables.{first_found, node_place, wrong_ellipsis_in, wrong_jump_in, wrong_label, wrong_node_in, wrong_tree};
 
 use crate::{NodeKind, Place};
-use check_trees::{BodyNode, loose_jump, wrong_ellipsis, wrong_node};
+use check_trees::{BodyNode, wrong_ellipsis, wrong_jump, wrong_node};
 use std::alloc::Global;
 use world::{BodyRow, HirDatabase, NoMemory};
 
@@ -19,8 +19,8 @@ fn node_place(b: u64, node: BodyNode) -> Place
 }
 
 /// The place of the first node of body `b` that is not in order.
-fn wrong_tree(alloc: Global, b: u64, row: &BodyRow) -> Result<Option<Place>, NoMemory>
-    ensures { IfOk result (λ found. found ≡ wrong_tree b row.now) }
+fn wrong_node_in(alloc: Global, b: u64, row: &BodyRow) -> Result<Option<Place>, NoMemory>
+    ensures { IfOk result (λ found. found ≡ wrong_node_in b row.now) }
 {
     match wrong_node(alloc, &row.body)? {
         Some(node) => Ok(Some(node_place(b, node))),
@@ -29,11 +29,11 @@ fn wrong_tree(alloc: Global, b: u64, row: &BodyRow) -> Result<Option<Place>, NoM
 }
 
 /// The place of the first node of these bodies that is not in order.
-fn first_no_tree(alloc: Global, rows: &[BodyRow]) -> Result<Option<Place>, NoMemory>
-    ensures { IfOk result (λ found. found ≡ first_found wrong_tree 0 rows.now) }
+fn wrong_node_among(alloc: Global, rows: &[BodyRow]) -> Result<Option<Place>, NoMemory>
+    ensures { IfOk result (λ found. found ≡ first_found wrong_node_in 0 rows.now) }
 {
     for (i, row) in rows.iter().enumerate() {
-        if let Some(place) = wrong_tree(alloc, i as u64, row)? {
+        if let Some(place) = wrong_node_in(alloc, i as u64, row)? {
             return Ok(Some(place));
         }
     }
@@ -41,28 +41,28 @@ fn first_no_tree(alloc: Global, rows: &[BodyRow]) -> Result<Option<Place>, NoMem
 }
 
 /// The first node at which a body is not a tree.
-pub(crate) fn no_tree(alloc: Global, db: &HirDatabase) -> Result<Option<Place>, NoMemory>
-    ensures { IfOk result (λ found. found ≡ no_tree db.now) }
+pub(crate) fn wrong_tree(alloc: Global, db: &HirDatabase) -> Result<Option<Place>, NoMemory>
+    ensures { IfOk result (λ found. found ≡ wrong_tree db.now) }
 {
-    first_no_tree(alloc, db.bodies.as_slice())
+    wrong_node_among(alloc, db.bodies.as_slice())
 }
 
 /// The place of the first jump of body `b` to a label that doesn't enclose it.
-fn wrong_jump(alloc: Global, b: u64, row: &BodyRow) -> Result<Option<Place>, NoMemory>
-    ensures { IfOk result (λ found. found ≡ wrong_jump b row.now) }
+fn wrong_jump_in(alloc: Global, b: u64, row: &BodyRow) -> Result<Option<Place>, NoMemory>
+    ensures { IfOk result (λ found. found ≡ wrong_jump_in b row.now) }
 {
-    match loose_jump(alloc, &row.body)? {
+    match wrong_jump(alloc, &row.body)? {
         Some(i) => Ok(Some(Place::Node(b, NodeKind::Exprs, i))),
         None => Ok(None),
     }
 }
 
 /// The place of the first jump of these bodies to a label that doesn't enclose it.
-fn first_wrong_jump(alloc: Global, rows: &[BodyRow]) -> Result<Option<Place>, NoMemory>
-    ensures { IfOk result (λ found. found ≡ first_found wrong_jump 0 rows.now) }
+fn wrong_jump_among(alloc: Global, rows: &[BodyRow]) -> Result<Option<Place>, NoMemory>
+    ensures { IfOk result (λ found. found ≡ first_found wrong_jump_in 0 rows.now) }
 {
     for (i, row) in rows.iter().enumerate() {
-        if let Some(place) = wrong_jump(alloc, i as u64, row)? {
+        if let Some(place) = wrong_jump_in(alloc, i as u64, row)? {
             return Ok(Some(place));
         }
     }
@@ -70,15 +70,15 @@ fn first_wrong_jump(alloc: Global, rows: &[BodyRow]) -> Result<Option<Place>, No
 }
 
 /// The first jump of the world to a label that doesn't enclose it.
-pub(crate) fn no_label(alloc: Global, db: &HirDatabase) -> Result<Option<Place>, NoMemory>
-    ensures { IfOk result (λ found. found ≡ no_label db.now) }
+pub(crate) fn wrong_label(alloc: Global, db: &HirDatabase) -> Result<Option<Place>, NoMemory>
+    ensures { IfOk result (λ found. found ≡ wrong_label db.now) }
 {
-    first_wrong_jump(alloc, db.bodies.as_slice())
+    wrong_jump_among(alloc, db.bodies.as_slice())
 }
 
 /// The place of the first pattern of body `b` whose `..` stands past the end of its subpatterns.
-fn wrong_dots(b: u64, row: &BodyRow) -> Option<Place>
-    ensures { result ≡ wrong_dots b row.now }
+fn wrong_ellipsis_in(b: u64, row: &BodyRow) -> Option<Place>
+    ensures { result ≡ wrong_ellipsis_in b row.now }
 {
     match wrong_ellipsis(&row.body) {
         Some(i) => Some(Place::Node(b, NodeKind::Pats, i)),
@@ -87,11 +87,11 @@ fn wrong_dots(b: u64, row: &BodyRow) -> Option<Place>
 }
 
 /// The place of the first pattern of these bodies whose `..` stands past the end of its subpatterns.
-pub(crate) fn first_wrong_dots(rows: &[BodyRow]) -> Option<Place>
-    ensures { result ≡ first_found wrong_dots 0 rows.now }
+pub(crate) fn wrong_ellipsis_among(rows: &[BodyRow]) -> Option<Place>
+    ensures { result ≡ first_found wrong_ellipsis_in 0 rows.now }
 {
     for (i, row) in rows.iter().enumerate() {
-        if let Some(place) = wrong_dots(i as u64, row) {
+        if let Some(place) = wrong_ellipsis_in(i as u64, row) {
             return Some(place);
         }
     }

@@ -3,7 +3,7 @@ ghost use Rattle.std.specs.Prelude.{◌≡◌, IfOk};
 ghost use Rattle.world_check.specs.Valid.{is_body_right};
 
 use check_ids::wrong_part;
-use check_trees::{loose_jump, wrong_ellipsis, wrong_node};
+use check_trees::{wrong_ellipsis, wrong_jump, wrong_node};
 use std::alloc::Global;
 use world::{Body, HirDatabase, InferenceResult, NoMemory};
 
@@ -22,7 +22,7 @@ pub fn check_body(
 {
     let part = wrong_part(alloc, db, body, infer)?;
     let node = wrong_node(alloc, body)?;
-    let jump = loose_jump(alloc, body)?;
-    let dots = wrong_ellipsis(body);
-    Ok(part.is_none() && node.is_none() && jump.is_none() && dots.is_none())
+    let jump = wrong_jump(alloc, body)?;
+    let ellipsis = wrong_ellipsis(body);
+    Ok(part.is_none() && node.is_none() && jump.is_none() && ellipsis.is_none())
 }

@@ -4,30 +4,36 @@ use Rattle.std.proofs.lemmas.List.{take_more}
 use Rattle.std.proofs.lemmas.Result.{IfOk-weaker, on_ok_weaker, IfErr-weaker}
 use Rattle.mir.specs.declared.errors.MirLowerError.TheVariants as refusal
 use Rattle.mir.specs.declared.span.MirSpan.TheVariants.{ExprId}
-use Rattle.source_meaning.specs.Source.{Cell, Node, drops}
-use Rattle.source_meaning.proofs.Depth.{tail_is_part}
+use Rattle.source_meaning.specs.Source.{Cell, Node, node, drops}
 use Rattle.mir_lower.specs.Contexts.{source_of}
 use Rattle.mir_lower.specs.Graph.{Shape, shape, with_scope}
 use Rattle.mir_lower.specs.Growth.{Grows, IsReady}
 use Rattle.mir_lower.specs.Leaving.{Idles}
 use Rattle.mir_lower.specs.Lowered.{LowersOperand, LowersPlace, LowersStatements, LowersTail}
+use Rattle.mir.specs.declared.operand.Operand.{Operand}
 use Rattle.mir.specs.declared.operand.OperandKind.{OperandKind}
 use Rattle.mir.specs.declared.operand.Rvalue.TheVariants.{CheckedBinaryOp, UnaryOp as Unary}
 use Rattle.source_meaning.specs.Core.{Block, Combine}
 use Rattle.mir_lower.specs.Form.{core_value, operation_of}
 use Rattle.world.specs.declared.body.Statement.{Statement}
 use Rattle.mir_lower.specs.Refusals.{RefusesAt}
-use Rattle.std.specs.Prelude.{All}
+use Rattle.std.specs.Prelude.{All, Contains, IfSome, ℕ}
 use Rattle.std.proofs.lemmas.List.Elements.{All-nil, All-more}
 use Rattle.world.specs.Nodes.{optional}
 use Rattle.mir_lower.specs.Built.{IsBuilt, IsBuiltThrough}
-use Rattle.mir_lower.proofs.Building.{built-literal, built-strict, built-block, one-built, two-built}
+use Rattle.mir_lower.proofs.Building.{built-literal, built-path, built-strict, built-logic, built-if, built-assign, built-block, one-built, two-built}
+use Rattle.mir_lower.proofs.Assignments.{value-part, lowers-assign}
 use Rattle.mir_lower.proofs.Blocks.{idles-read, lowers-none, lowers-more, lowers-let, lowers-expr-statement, lowers-tail, lowers-no-tail, lowers-block}
-use Rattle.mir_lower.proofs.Operands.{lowers-literal-operand, lowers-place-operand, lowers-temp}
+use Rattle.mir_lower.proofs.Operands.{lowers-literal-operand, lowers-place-operand, lowers-temp, lowers-name}
 use Rattle.mir_lower.proofs.Strict.{lowers-strict, unary-computes, binary-computes, lowers-one, lowers-two, first-part, second-part}
-use Rattle.mir_lower.proofs.Refused.{refuses-here, refuses-no-memory, refuses-part, refuses-unbuilt-form, refuses-statement, without-initializer, with-else, item-is-unbuilt, refuses-pattern, refused-exit, no-literal, part-below, ready-part, ready-in, part-of-statement}
+use Rattle.mir_lower.proofs.Refused.{refuses-here, refuses-no-memory, refuses-part, refuses-unbuilt-form, refuses-statement, without-initializer, with-else, item-is-unbuilt, refuses-pattern, refuses-target, refused-exit, no-literal, part-below, ready-part, ready-in, part-of-statement}
 use Rattle.mir_lower.proofs.Growing.{grows-trans, with_scope-grows}
-use Rattle.mir_lower.proofs.Steps.{local_of-grows}
+use Rattle.mir_lower.proofs.Steps.{local_of-grows, placed-later}
+use Rattle.mir_lower.proofs.Branches.{other-reserved, join-reserved}
+use Rattle.mir_lower.proofs.Conditions.{left-part, right-part, condition-part, then-part, else-part, tail-part, lowers-if, keeps-decided, lowers-logic}
+use Rattle.mir_lower.specs.Branches.{IsForked}
+use Rattle.source_meaning.specs.Meaning.{deciding_byte}
+use Rattle.source_meaning.specs.Steps.{parts_of}
 use Rattle.mir_lower.proofs.Sound.{with_scope-sound, with_scope-open}
 use Rattle.mir_lower.proofs.lower.+lower.Goals as goal
 
@@ -59,6 +65,20 @@ lower_operand-returns-in_ok-place-in_default t c =
       refused = tt;
     }
 
+pub lower_place-returns-in-Path-clause-lowered : goal.lower_place-returns-in-Path-clause-lowered
+lower_place-returns-in-Path-clause-lowered t c =
+    IfOk-weaker c.place_named.result _ _
+    (λ place named. lowers-name (source_of c.args.context.now) (shape c.args.graph.now) c.args.e.0 place.local.0 c.in-Path.name.now c.requires.sound c.requires.«open» c.in-Path.ensures.core named)
+    c.place_named.ensures.lowered
+
+pub lower_place-returns-in-Path-clause-built : goal.lower_place-returns-in-Path-clause-built
+lower_place-returns-in-Path-clause-built t c =
+    on_ok_weaker c.place_named.result (λ named. built-path (source_of c.args.context.now) c.args.e.0 c.in-Path.name.now c.in-Path.ensures.core named) c.place_named.ensures.built
+
+pub lower_place-returns-in-Path-clause-refused : goal.lower_place-returns-in-Path-clause-refused
+lower_place-returns-in-Path-clause-refused t c =
+    IfErr-weaker c.place_named.result _ _ (λ error refused. refuses-here (source_of c.args.context.now) c.args.e.0 error refused) c.place_named.ensures.refused
+
 pub lower_temp-returns-in_err-place-clause-refused : goal.lower_temp-returns-in_err-place-clause-refused
 lower_temp-returns-in_err-place-clause-refused t c =
     refused-exit (RefusesAt (source_of c.args.context.now) c.args.e.0) _ c.from_residual.result c.from_residual.ensures.1
@@ -76,6 +96,10 @@ lower_into-returns-in-Incomplete-clause-refused t c = refuses-here (source_of c.
 
 pub lower_into-returns-in-Unbuilt-clause-refused : goal.lower_into-returns-in-Unbuilt-clause-refused
 lower_into-returns-in-Unbuilt-clause-refused t c = refuses-unbuilt-form (source_of c.args.context.now) c.args.e.0 c.form_not_built.result c.in-Unbuilt.ensures c.form_not_built.ensures
+
+-- an assignment writes nothing to the place that it is lowered into
+pub lower_into-returns-in-Assign-clause-lowered : goal.lower_into-returns-in-Assign-clause-lowered
+lower_into-returns-in-Assign-clause-lowered t c = on_ok_weaker c.lower_assignment.result (λ lowered cell found. lowered cell) c.lower_assignment.ensures.lowered
 
 -- an operator on one operand
 
@@ -158,6 +182,281 @@ pub lower_binary-returns-clause-refused : goal.lower_binary-returns-clause-refus
 lower_binary-returns-clause-refused t c =
     IfErr-weaker c.assign.result _ _ (λ error none. refuses-no-memory (source_of c.args.context.now) c.args.e.0 error none) c.assign.ensures.refused
 
+-- an `if`
+
+pub lower_if-lower_operand-requires : goal.lower_if-lower_operand-requires
+lower_if-lower_operand-requires t c =
+    let source = source_of c.args.context.now in
+    let is = condition-part source c.args.e.0 c.args.condition.0 c.args.then_branch.0 c.args.else_branch c.requires.form in
+    let below = part-below source c.args.e.0 c.args.condition.0 c.requires.ready is in
+    (omega (arith, below), ready-part source (shape c.args.graph.now) (shape c.args.graph.now) c.args.e.0 c.args.condition.0 c.requires.ready is c.requires.ready.sound c.requires.ready.«open»)
+
+pub lower_if-returns-in_err-test-clause-refused : goal.lower_if-returns-in_err-test-clause-refused
+lower_if-returns-in_err-test-clause-refused t c =
+    let source = source_of c.args.context.now in
+    refused-exit (RefusesAt source c.args.e.0) _ c.from_residual.result c.from_residual.ensures.1
+    (λ error same. subst (RefusesAt source c.args.e.0) (sym same) (refuses-part source c.args.e.0 c.args.condition.0 _ (condition-part source c.args.e.0 c.args.condition.0 c.args.then_branch.0 c.args.else_branch c.requires.form) c.in_err-test.ensures.refused))
+
+pub lower_if-returns-in_err-branches-clause-refused : goal.lower_if-returns-in_err-branches-clause-refused
+lower_if-returns-in_err-branches-clause-refused t c =
+    let source = source_of c.args.context.now in
+    refused-exit (RefusesAt source c.args.e.0) _ c.from_residual-in_err-branches.result c.from_residual-in_err-branches.ensures.1
+    (λ error same. subst (RefusesAt source c.args.e.0) (sym same) (refuses-no-memory source c.args.e.0 _ c.in_err-branches.ensures.refused))
+
+pub lower_if-lower_into-requires : goal.lower_if-lower_into-requires
+lower_if-lower_into-requires t c =
+    let source = source_of c.args.context.now in
+    let s0 = shape c.args.graph.now in
+    let s1 = shape c.lower_operand.new.graph in
+    let s2 = shape c.fork.new.graph in
+    let forked = c.in_ok-branches.ensures.forked in
+    let is = then-part source c.args.e.0 c.args.condition.0 c.args.then_branch.0 c.args.else_branch c.requires.form in
+    let below = part-below source c.args.e.0 c.args.then_branch.0 c.requires.ready is in (
+      omega (arith, below),
+      (
+        ready-part source s0 s2 c.args.e.0 c.args.then_branch.0 c.requires.ready is forked.sound forked.«open»,
+        placed-later s0 s2 (grows-trans s0 s1 s2 c.in_ok-test.ensures.lowered.keeps.grows forked.grows) c.args.place.local.0 c.requires.placed,
+      ),
+    )
+
+pub lower_if-returns-in_err-lower_into-clause-refused : goal.lower_if-returns-in_err-lower_into-clause-refused
+lower_if-returns-in_err-lower_into-clause-refused t c =
+    let source = source_of c.args.context.now in
+    refused-exit (RefusesAt source c.args.e.0) _ c.from_residual-in_err-lower_into.result c.from_residual-in_err-lower_into.ensures.1
+    (λ error same. subst (RefusesAt source c.args.e.0) (sym same) (refuses-part source c.args.e.0 c.args.then_branch.0 _ (then-part source c.args.e.0 c.args.condition.0 c.args.then_branch.0 c.args.else_branch c.requires.form) c.in_err-lower_into.ensures.refused))
+
+pub lower_if-go_on-requires : goal.lower_if-go_on-requires
+lower_if-go_on-requires t c =
+    let s0 = shape c.args.graph.now in
+    let s1 = shape c.lower_operand.new.graph in
+    let s2 = shape c.fork.new.graph in
+    let forked = c.in_ok-branches.ensures.forked in
+    let placed = placed-later s0 s2 (grows-trans s0 s1 s2 c.in_ok-test.ensures.lowered.keeps.grows forked.grows) c.args.place.local.0 c.requires.placed in
+    let one = (c.in_ok-lower_into.ensures.lowered placed.cell placed.found).keeps in
+    record { opened = one.«open»; reserved = other-reserved forked one }
+
+pub lower_if-lower_tail-requires : goal.lower_if-lower_tail-requires
+lower_if-lower_tail-requires t c =
+    let source = source_of c.args.context.now in
+    let s0 = shape c.args.graph.now in
+    let s1 = shape c.lower_operand.new.graph in
+    let s2 = shape c.fork.new.graph in
+    let s3 = shape c.lower_into.new.graph in
+    let s4 = shape c.go_on.new.graph in
+    let forked = c.in_ok-branches.ensures.forked in
+    let placed = placed-later s0 s2 (grows-trans s0 s1 s2 c.in_ok-test.ensures.lowered.keeps.grows forked.grows) c.args.place.local.0 c.requires.placed in
+    let one = (c.in_ok-lower_into.ensures.lowered placed.cell placed.found).keeps in
+    let gone = c.go_on.ensures source one.sound in (
+      omega arith,
+      (
+        ready-in source s0 s4 c.args.e.0 c.requires.ready gone.sound gone.«open»,
+        (
+          else-part source c.args.e.0 c.args.condition.0 c.args.then_branch.0 c.args.else_branch c.requires.form,
+          placed-later s2 s4 (grows-trans s2 s3 s4 one.grows gone.grows) c.args.place.local.0 placed,
+        ),
+      ),
+    )
+
+pub lower_if-go_on-requires-2 : goal.lower_if-go_on-requires-2
+lower_if-go_on-requires-2 t c =
+    let source = source_of c.args.context.now in
+    let s0 = shape c.args.graph.now in
+    let s1 = shape c.lower_operand.new.graph in
+    let s2 = shape c.fork.new.graph in
+    let s3 = shape c.lower_into.new.graph in
+    let s4 = shape c.go_on.new.graph in
+    let forked = c.in_ok-branches.ensures.forked in
+    let placed = placed-later s0 s2 (grows-trans s0 s1 s2 c.in_ok-test.ensures.lowered.keeps.grows forked.grows) c.args.place.local.0 c.requires.placed in
+    let one = (c.in_ok-lower_into.ensures.lowered placed.cell placed.found).keeps in
+    let gone = c.go_on.ensures source one.sound in
+    let placed' = placed-later s2 s4 (grows-trans s2 s3 s4 one.grows gone.grows) c.args.place.local.0 placed in
+    let two = (c.in_ok-lower_tail.ensures.lowered placed'.cell placed'.found).keeps in
+    record { opened = two.«open»; reserved = join-reserved forked one gone two }
+
+pub lower_if-returns-clause-built : goal.lower_if-returns-clause-built
+lower_if-returns-clause-built t c =
+    built-if (source_of c.args.context.now) c.args.e.0 c.args.condition.0 c.args.then_branch.0 c.args.else_branch c.requires.form c.in_ok-test.ensures.built c.in_ok-lower_into.ensures.built c.in_ok-lower_tail.ensures.built
+
+pub lower_if-returns-clause-lowered : goal.lower_if-returns-clause-lowered
+lower_if-returns-clause-lowered t c =
+    λ cell found.
+    let source = source_of c.args.context.now in
+    let s0 = shape c.args.graph.now in
+    let s1 = shape c.lower_operand.new.graph in
+    let s2 = shape c.fork.new.graph in
+    let s3 = shape c.lower_into.new.graph in
+    let s4 = shape c.go_on.new.graph in
+    let s5 = shape c.lower_tail.new.graph in
+    let s6 = shape c.go_on-2.new.graph in
+    let test = c.in_ok-test.ensures.lowered in
+    let forked = c.in_ok-branches.ensures.forked in
+    let found2 = local_of-grows s0 s2 (grows-trans s0 s1 s2 test.keeps.grows forked.grows) cell c.args.place.local.0 found in
+    let one = c.in_ok-lower_into.ensures.lowered cell found2 in
+    let gone = c.go_on.ensures source one.keeps.sound in
+    let found4 = local_of-grows s2 s4 (grows-trans s2 s3 s4 one.keeps.grows gone.grows) cell c.args.place.local.0 found2 in
+    let two = c.in_ok-lower_tail.ensures.lowered cell found4 in
+    lowers-if source s0 s1 s2 s3 s4 s5 s6 c.args.e.0 c.args.condition.0 c.args.then_branch.0 c.args.else_branch c.in_ok-test.test.kind c.in_ok-branches.branches.other.0 c.in_ok-branches.branches.join.0 cell c.requires.form test one two
+    (record { test = test.keeps; forked = forked; one = one.keeps; one_ended = gone; two = two.keeps; two_ended = c.go_on-2.ensures source two.keeps.sound }) c.requires.ready
+
+-- `&&` and `||`
+
+pub lower_logic-lower_operand-requires : goal.lower_logic-lower_operand-requires
+lower_logic-lower_operand-requires t c =
+    let source = source_of c.args.context.now in
+    let is = left-part source c.args.e.0 c.args.op c.args.lhs.0 c.args.rhs.0 c.requires.form in
+    let below = part-below source c.args.e.0 c.args.lhs.0 c.requires.ready is in
+    (omega (arith, below), ready-part source (shape c.args.graph.now) (shape c.args.graph.now) c.args.e.0 c.args.lhs.0 c.requires.ready is c.requires.ready.sound c.requires.ready.«open»)
+
+pub lower_logic-returns-in_err-left-clause-refused : goal.lower_logic-returns-in_err-left-clause-refused
+lower_logic-returns-in_err-left-clause-refused t c =
+    let source = source_of c.args.context.now in
+    refused-exit (RefusesAt source c.args.e.0) _ c.from_residual.result c.from_residual.ensures.1
+    (λ error same. subst (RefusesAt source c.args.e.0) (sym same) (refuses-part source c.args.e.0 c.args.lhs.0 _ (left-part source c.args.e.0 c.args.op c.args.lhs.0 c.args.rhs.0 c.requires.form) c.in_err-left.ensures.refused))
+
+pub lower_logic-returns-in_err-test-clause-refused : goal.lower_logic-returns-in_err-test-clause-refused
+lower_logic-returns-in_err-test-clause-refused t c =
+    refused-exit (RefusesAt (source_of c.args.context.now) c.args.e.0) _ c.from_residual-in_err-test.result c.from_residual-in_err-test.ensures.1 (refuses-no-memory (source_of c.args.context.now) c.args.e.0)
+
+pub lower_logic-returns-in_err-branches-clause-refused : goal.lower_logic-returns-in_err-branches-clause-refused
+lower_logic-returns-in_err-branches-clause-refused t c =
+    let source = source_of c.args.context.now in
+    refused-exit (RefusesAt source c.args.e.0) _ c.from_residual-in_err-branches.result c.from_residual-in_err-branches.ensures.1
+    (λ error same. subst (RefusesAt source c.args.e.0) (sym same) (refuses-no-memory source c.args.e.0 _ c.in_err-branches.ensures.refused))
+
+pub lower_logic-returns-in_err-assign-clause-refused : goal.lower_logic-returns-in_err-assign-clause-refused
+lower_logic-returns-in_err-assign-clause-refused t c =
+    let source = source_of c.args.context.now in
+    refused-exit (RefusesAt source c.args.e.0) _ c.from_residual-in_err-assign.result c.from_residual-in_err-assign.ensures.1
+    (λ error same. subst (RefusesAt source c.args.e.0) (sym same) (refuses-no-memory source c.args.e.0 _ c.in_err-assign.ensures.refused))
+
+pub lower_logic-go_on-requires : goal.lower_logic-go_on-requires
+lower_logic-go_on-requires t c =
+    let source = source_of c.args.context.now in
+    let s2 = shape c.fork.new.graph in
+    let s3 = shape c.assign.new.graph in
+    let forked = c.in_ok-branches.ensures.forked in
+    let one = keeps-decided source s2 s3 c.in_ok-left.left c.args.place (ExprId c.args.e) forked.«open» c.in_ok-assign.ensures.added forked.sound in
+    record { opened = one.«open»; reserved = other-reserved forked one }
+
+pub lower_logic-lower_into-requires : goal.lower_logic-lower_into-requires
+lower_logic-lower_into-requires t c =
+    let source = source_of c.args.context.now in
+    let s0 = shape c.args.graph.now in
+    let s1 = shape c.lower_operand.new.graph in
+    let s2 = shape c.fork.new.graph in
+    let s3 = shape c.assign.new.graph in
+    let s4 = shape c.go_on.new.graph in
+    let forked = c.in_ok-branches.ensures.forked in
+    let one = keeps-decided source s2 s3 c.in_ok-left.left c.args.place (ExprId c.args.e) forked.«open» c.in_ok-assign.ensures.added forked.sound in
+    let gone = c.go_on.ensures source one.sound in
+    let is = right-part source c.args.e.0 c.args.op c.args.lhs.0 c.args.rhs.0 c.requires.form in
+    let below = part-below source c.args.e.0 c.args.rhs.0 c.requires.ready is in
+    let grown : Grows s0 s2 = grows-trans s0 s1 s2 c.in_ok-left.ensures.lowered.keeps.grows forked.grows in (
+      omega (arith, below),
+      (
+        ready-part source s0 s4 c.args.e.0 c.args.rhs.0 c.requires.ready is gone.sound gone.«open»,
+        placed-later s0 s4 (grows-trans s0 s2 s4 grown (grows-trans s2 s3 s4 one.grows gone.grows)) c.args.place.local.0 c.requires.placed,
+      ),
+    )
+
+pub lower_logic-returns-in_err-lower_into-clause-refused : goal.lower_logic-returns-in_err-lower_into-clause-refused
+lower_logic-returns-in_err-lower_into-clause-refused t c =
+    let source = source_of c.args.context.now in
+    refused-exit (RefusesAt source c.args.e.0) _ c.from_residual-in_err-lower_into.result c.from_residual-in_err-lower_into.ensures.1
+    (λ error same. subst (RefusesAt source c.args.e.0) (sym same) (refuses-part source c.args.e.0 c.args.rhs.0 _ (right-part source c.args.e.0 c.args.op c.args.lhs.0 c.args.rhs.0 c.requires.form) c.in_err-lower_into.ensures.refused))
+
+pub lower_logic-go_on-requires-2 : goal.lower_logic-go_on-requires-2
+lower_logic-go_on-requires-2 t c =
+    let source = source_of c.args.context.now in
+    let s0 = shape c.args.graph.now in
+    let s1 = shape c.lower_operand.new.graph in
+    let s2 = shape c.fork.new.graph in
+    let s3 = shape c.assign.new.graph in
+    let s4 = shape c.go_on.new.graph in
+    let forked = c.in_ok-branches.ensures.forked in
+    let one = keeps-decided source s2 s3 c.in_ok-left.left c.args.place (ExprId c.args.e) forked.«open» c.in_ok-assign.ensures.added forked.sound in
+    let gone = c.go_on.ensures source one.sound in
+    let grown : Grows s0 s2 = grows-trans s0 s1 s2 c.in_ok-left.ensures.lowered.keeps.grows forked.grows in
+    let placed = placed-later s0 s4 (grows-trans s0 s2 s4 grown (grows-trans s2 s3 s4 one.grows gone.grows)) c.args.place.local.0 c.requires.placed in
+    let two = (c.in_ok-lower_into.ensures.lowered placed.cell placed.found).keeps in
+    record { opened = two.«open»; reserved = join-reserved forked one gone two }
+
+pub lower_logic-returns-clause-built : goal.lower_logic-returns-clause-built
+lower_logic-returns-clause-built t c =
+    built-logic (source_of c.args.context.now) c.args.e.0 c.args.op c.args.lhs.0 c.args.rhs.0 c.requires.form c.in_ok-left.ensures.built c.in_ok-lower_into.ensures.built
+
+pub lower_logic-returns-clause-lowered : goal.lower_logic-returns-clause-lowered
+lower_logic-returns-clause-lowered t c =
+    λ cell found.
+    let source = source_of c.args.context.now in
+    let left = c.in_ok-left.left in
+    let branches = c.in_ok-branches.branches in
+    let s0 = shape c.args.graph.now in
+    let s1 = shape c.lower_operand.new.graph in
+    let s2 = shape c.fork.new.graph in
+    let s3 = shape c.assign.new.graph in
+    let s4 = shape c.go_on.new.graph in
+    let s5 = shape c.lower_into.new.graph in
+    let s6 = shape c.go_on-2.new.graph in
+    let test = c.in_ok-left.ensures.lowered in
+    let forked : IsForked source s1 s2 left.kind (deciding_byte c.args.op) branches.other.0 branches.join.0 =
+    subst (λ (k : OperandKind). IsForked source s1 s2 k (deciding_byte c.args.op) branches.other.0 branches.join.0) (ap (λ (o : Operand). o.kind) c.in_ok-test.ensures)
+    (subst (λ (n : ℕ). IsForked source s1 s2 c.in_ok-test.test.kind n branches.other.0 branches.join.0) c.deciding.ensures c.in_ok-branches.ensures.forked) in
+    let one = keeps-decided source s2 s3 left c.args.place (ExprId c.args.e) forked.«open» c.in_ok-assign.ensures.added forked.sound in
+    let gone = c.go_on.ensures source one.sound in
+    let grown : Grows s0 s2 = grows-trans s0 s1 s2 test.keeps.grows forked.grows in
+    let two = c.in_ok-lower_into.ensures.lowered cell (local_of-grows s0 s4 (grows-trans s0 s2 s4 grown (grows-trans s2 s3 s4 one.grows gone.grows)) cell c.args.place.local.0 found) in
+    lowers-logic source s0 s1 s2 s3 s4 s5 s6 c.args.e.0 c.args.op c.args.lhs.0 c.args.rhs.0 left c.args.place (ExprId c.args.e) branches.other.0 branches.join.0 cell c.requires.form test c.in_ok-assign.ensures.added two
+    (record { test = test.keeps; forked = forked; one = one; one_ended = gone; two = two.keeps; two_ended = c.go_on-2.ensures source two.keeps.sound }) c.requires.ready found
+
+-- an assignment
+
+pub lower_assignment-lower_place-requires : goal.lower_assignment-lower_place-requires
+lower_assignment-lower_place-requires t c =
+    let source = source_of c.args.context.now in
+    let is = value-part source c.args.e.0 c.args.target.0 c.args.value.0 c.requires.form in
+    let below = part-below source c.args.e.0 c.args.value.0 c.requires.ready is in
+    (omega (arith, below), ready-part source (shape c.args.graph.now) (shape c.args.graph.now) c.args.e.0 c.args.value.0 c.requires.ready is c.requires.ready.sound c.requires.ready.«open»)
+
+pub lower_assignment-returns-in_err-place-clause-refused : goal.lower_assignment-returns-in_err-place-clause-refused
+lower_assignment-returns-in_err-place-clause-refused t c =
+    let source = source_of c.args.context.now in
+    refused-exit (RefusesAt source c.args.e.0) _ c.from_residual.result c.from_residual.ensures.1
+    (λ error same. subst (RefusesAt source c.args.e.0) (sym same) (refuses-part source c.args.e.0 c.args.value.0 _ (value-part source c.args.e.0 c.args.target.0 c.args.value.0 c.requires.form) c.in_err-place.ensures.refused))
+
+pub lower_assignment-returns-in_err-fake_read-clause-refused : goal.lower_assignment-returns-in_err-fake_read-clause-refused
+lower_assignment-returns-in_err-fake_read-clause-refused t c =
+    let source = source_of c.args.context.now in
+    refused-exit (RefusesAt source c.args.e.0) _ c.from_residual-in_err-fake_read.result c.from_residual-in_err-fake_read.ensures.1
+    (λ error same. subst (RefusesAt source c.args.e.0) (sym same) (refuses-no-memory source c.args.e.0 _ c.in_err-fake_read.ensures.refused))
+
+pub lower_assignment-assign_target-requires-clause-sound : goal.lower_assignment-assign_target-requires-clause-sound
+lower_assignment-assign_target-requires-clause-sound t c =
+    let place = c.in_ok-place.ensures.lowered in
+    (idles-read (source_of c.args.context.now) (shape c.lower_place.new.graph) (shape c.fake_read.new.graph) c.in_ok-place.place (ExprId c.args.value) place.keeps.sound place.keeps.«open» c.in_ok-fake_read.ensures.added).sound
+
+pub lower_assignment-assign_target-requires-clause-opened : goal.lower_assignment-assign_target-requires-clause-opened
+lower_assignment-assign_target-requires-clause-opened t c =
+    let place = c.in_ok-place.ensures.lowered in
+    (idles-read (source_of c.args.context.now) (shape c.lower_place.new.graph) (shape c.fake_read.new.graph) c.in_ok-place.place (ExprId c.args.value) place.keeps.sound place.keeps.«open» c.in_ok-fake_read.ensures.added).«open»
+
+pub lower_assignment-returns-clause-lowered : goal.lower_assignment-returns-clause-lowered
+lower_assignment-returns-clause-lowered t c =
+    let source = source_of c.args.context.now in
+    let place = c.in_ok-place.ensures.lowered in
+    on_ok_weaker c.assign_target.result
+    (λ assigning cell. lowers-assign source (shape c.args.graph.now) (shape c.lower_place.new.graph) (shape c.fake_read.new.graph) (shape c.assign_target.new.graph) c.args.e.0 c.args.target.0 c.args.value.0 c.in_ok-place.place.local.0 cell c.requires.ready c.requires.form place
+    (idles-read source (shape c.lower_place.new.graph) (shape c.fake_read.new.graph) c.in_ok-place.place (ExprId c.args.value) place.keeps.sound place.keeps.«open» c.in_ok-fake_read.ensures.added) assigning)
+    c.assign_target.ensures.lowered
+
+pub lower_assignment-returns-clause-built : goal.lower_assignment-returns-clause-built
+lower_assignment-returns-clause-built t c =
+    on_ok_weaker c.assign_target.result (λ names. built-assign (source_of c.args.context.now) c.args.e.0 c.args.target.0 c.args.value.0 c.requires.form names c.in_ok-place.ensures.built) c.assign_target.ensures.built
+
+pub lower_assignment-returns-clause-refused : goal.lower_assignment-returns-clause-refused
+lower_assignment-returns-clause-refused t c =
+    IfErr-weaker c.assign_target.result _ _ (λ error refused. refuses-target (source_of c.args.context.now) c.args.e.0 error c.args.target.0 c.args.value.0 c.requires.form refused) c.assign_target.ensures.refused
+
 -- statements in order
 
 pub lower_statements-loop-statement-init : goal.lower_statements-loop-statement-init
@@ -178,16 +477,15 @@ lower_statements-loop-statement-preserved t c =
 pub lower_tail-lower_into-requires : goal.lower_tail-lower_into-requires
 lower_tail-lower_into-requires t c =
     let source = source_of c.args.context.now in
-    let form = c.requires.form.1 ∙ ap (λ (o : Option _). Some (Block c.requires.form.0 o)) c.in-Some.is in
-    let is = tail_is_part source c.args.e.0 c.requires.form.0 c.in-Some.tail form in
+    let is = subst (λ (o : Option _). IfSome o (λ one. Contains (parts_of (node source c.args.e.0)) one.0)) c.in-Some.is c.requires.part in
     let below = part-below source c.args.e.0 c.in-Some.tail.0 c.requires.ready is in
     (omega (arith, below), (ready-part source (shape c.args.graph.now) (shape c.args.graph.now) c.args.e.0 c.in-Some.tail.0 c.requires.ready is c.requires.ready.sound c.requires.ready.«open», c.requires.placed))
 
 pub lower_tail-returns-in-Some-clause-refused : goal.lower_tail-returns-in-Some-clause-refused
 lower_tail-returns-in-Some-clause-refused t c =
     let source = source_of c.args.context.now in
-    let form = c.requires.form.1 ∙ ap (λ (o : Option _). Some (Block c.requires.form.0 o)) c.in-Some.is in
-    IfErr-weaker c.lower_into.result _ _ (λ error refused. refuses-part source c.args.e.0 c.in-Some.tail.0 error (tail_is_part source c.args.e.0 c.requires.form.0 c.in-Some.tail form) refused) c.lower_into.ensures.refused
+    let is = subst (λ (o : Option _). IfSome o (λ one. Contains (parts_of (node source c.args.e.0)) one.0)) c.in-Some.is c.requires.part in
+    IfErr-weaker c.lower_into.result _ _ (λ error refused. refuses-part source c.args.e.0 c.in-Some.tail.0 error is refused) c.lower_into.ensures.refused
 
 pub lower_tail-returns-in-Some-clause-built : goal.lower_tail-returns-in-Some-clause-built
 lower_tail-returns-in-Some-clause-built t c =
@@ -336,7 +634,6 @@ lower_expr_statement-returns-clause-lowered t c =
 pub lower_block-lower_tail-requires : goal.lower_block-lower_tail-requires
 lower_block-lower_tail-requires t c =
     let source = source_of c.args.context.now in
-    let placed = c.requires.placed in
     let s0 = shape c.args.graph.now in
     let s1 = shape c.lower_statements.new.graph in
     let kept = c.in_ok-lower_statements.ensures.lowered.keeps in
@@ -345,8 +642,8 @@ lower_block-lower_tail-requires t c =
       (
         ready-in source s0 s1 c.args.e.0 c.requires.ready kept.sound kept.«open»,
         (
-          (c.args.statements.now, c.requires.form),
-          record { cell = placed.cell; found = local_of-grows s0 s1 (grows-trans s0 (with_scope [] s0) s1 (with_scope-grows [] s0) grown) placed.cell c.args.place.local.0 placed.found },
+          tail-part source c.args.e.0 c.args.statements.now c.args.tail c.requires.form,
+          placed-later s0 s1 (grows-trans s0 (with_scope [] s0) s1 (with_scope-grows [] s0) grown) c.args.place.local.0 c.requires.placed,
         ),
       ),
     )

@@ -26,6 +26,15 @@ decreases-lower_unary l = 10 * l.e.0 + 4
 abbrev pub decreases-lower_binary : goal.decreases-lower_binary
 decreases-lower_binary l = 10 * l.e.0 + 4
 
+abbrev pub decreases-lower_logic : goal.decreases-lower_logic
+decreases-lower_logic l = 10 * l.e.0 + 4
+
+abbrev pub decreases-lower_if : goal.decreases-lower_if
+decreases-lower_if l = 10 * l.e.0 + 4
+
+abbrev pub decreases-lower_assignment : goal.decreases-lower_assignment
+decreases-lower_assignment l = 10 * l.e.0 + 4
+
 abbrev pub decreases-lower_block : goal.decreases-lower_block
 decreases-lower_block l = 10 * l.e.0 + 4
 

@@ -11,7 +11,7 @@ returns-clause-ok c =
     (sym c.in_default.is ∙ c.in_ok-place.ensures)
     (sym c.in_default-2.is ∙ c.in_ok-place-2.ensures)
     (sym c.in_default-3.is ∙ c.in_ok-place-3.ensures)
-    c.in_default-not_closed.ensures
+    c.in_default-wrong_resolution.ensures
     (sym c.in_default-4.is ∙ c.in_ok-place-4.ensures)
     c.in_default-wrong_tag.ensures
     (sym c.in_default-5.is ∙ c.in_ok-place-5.ensures))

@@ -1,5 +1,0 @@
-use Rattle.check_layouts.proofs.Found.{none_found}
-use Rattle.check_layouts.proofs.layouts.are_found_placed.Goals as goal
-
-pub are_next_placed-requires : goal.are_next_placed-requires
-are_next_placed-requires c = none_found c.args.db.now c.args.i c.args.args.now c.new-sizes.result c.new-sizes.ensures

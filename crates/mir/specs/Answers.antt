@@ -1,0 +1,32 @@
+-- What a run of a body may have to ask for, and what it was told.
+use Rattle.std.specs.Prelude.{◌≡◌, ◌≢◌, Bool, true, false, List, Option, Some, IsTrue}
+use Rattle.std.specs.BTreeMap.{is_at}
+use Rattle.std.specs.Map.{lookup}
+use Rattle.mir.specs.contracts.answers.QueryOrd.TheImpl as QueryOrd
+use Rattle.mir.specs.declared.answers.Answer.{Answer}
+use Rattle.mir.specs.declared.answers.Answer.TheVariants as answer
+use Rattle.mir.specs.declared.answers.Query.{Query}
+use Rattle.mir.specs.declared.answers.Query.TheVariants as query
+
+-- whether an answer is of the kind that a query wants: a value, a discriminant or a body; to have failed answers each
+abbrev pub answers_kind : Query → Answer → Bool
+answers_kind (query.Konst item args) (answer.Konst konst) = true
+answers_kind (query.Static item) (answer.Konst konst) = true
+answers_kind (query.Discriminant variant) (answer.Discriminant number) = true
+answers_kind (query.Body def args) (answer.Body body) = true
+answers_kind (query.Closure closure args) (answer.Body body) = true
+answers_kind _ (answer.Failed error) = true
+answers_kind _ _ = false
+
+-- the answer to a query, where there is one
+abbrev pub told : List (Query × Answer) → Query → Option Answer
+told answers q = lookup (is_at (QueryOrd.ghosts.cmp q)) answers
+
+-- each answer is of the kind that its query wants
+pub record AreOfKind (answers : List (Query × Answer)) : Type 0 where
+  pub each : (q : Query) (a : Answer) → told answers q ≡ Some a → IsTrue (answers_kind q a)
+
+-- afterwards the query has the answer, and every other one has the answer that it had before
+pub record IsToldOf (before after : List (Query × Answer)) (q : Query) (a : Answer) : Type 0 where
+  pub answered : told after q ≡ Some a
+  pub others : (other : Query) → other ≢ q → told after other ≡ told before other

@@ -1,0 +1,61 @@
+//! Where the code parts into two branches, and where these join.
+
+ghost use Rattle.std.specs.Prelude.{◌≡◌, IfOk, IfErr};
+ghost use Rattle.mir.specs.declared.errors.MirLowerError.TheVariants as refusal;
+ghost use Rattle.source_meaning.specs.Source.{Source};
+ghost use Rattle.mir_lower.specs.Branches.{IsReserved, IsForked, HasGoneOn};
+ghost use Rattle.mir_lower.specs.Contexts.{source_of};
+ghost use Rattle.mir_lower.specs.Graph.{shape};
+ghost use Rattle.mir_lower.specs.Growth.{IsSound, IsOpen};
+
+use crate::context::Context;
+use crate::graph::Graph;
+use mir::{
+    BasicBlockId, MirLowerError, MirSpan, Operand, SwitchTargets, Terminator, TerminatorKind,
+};
+use world::ExprId;
+
+/// The reserved blocks of code that parts: where the second branch begins, and where both join.
+#[derive(Clone, Copy)]
+pub(crate) struct Branches {
+    pub other: BasicBlockId,
+    pub join: BasicBlockId,
+}
+
+/// Ends the current block by a test whether an operand is a number, and opens the block for the case that it is.
+pub(crate) fn fork(
+    context: &Context<'_>,
+    graph: &mut Graph,
+    discr: Operand,
+    number: u128,
+    e: ExprId,
+) -> Result<Branches, MirLowerError>
+    requires sound { IsSound (source_of context.now) (shape graph.old) }
+    requires opened { IsOpen (shape graph.old) }
+    ensures forked { IfOk result (λ branches. IsForked (source_of context.now) (shape graph.old) (shape graph.new) discr.kind number branches.other.0 branches.join.0) }
+    ensures refused { IfErr result (λ error. error ≡ refusal.NoMemory) }
+{
+    let taken = graph.reserve_block(context.alloc)?;
+    let other = graph.reserve_block(context.alloc)?;
+    let join = graph.reserve_block(context.alloc)?;
+    let targets = SwitchTargets::static_if(context.alloc, number, taken, other);
+    graph.set_terminator(Terminator {
+        span: MirSpan::ExprId(e),
+        kind: TerminatorKind::SwitchInt { discr, targets },
+    });
+    graph.enter_block(taken);
+    Ok(Branches { other, join })
+}
+
+/// Ends the current block, which leads to a block without a test, and opens a reserved block. It takes no memory.
+pub(crate) fn go_on(graph: &mut Graph, to: BasicBlockId, next: BasicBlockId, e: ExprId)
+    requires opened { IsOpen (shape graph.old) }
+    requires reserved { IsReserved (shape graph.old) next.0 }
+    ensures { (source : Source) → IsSound source (shape graph.old) → HasGoneOn source (shape graph.old) (shape graph.new) to.0 next.0 }
+{
+    graph.set_terminator(Terminator {
+        span: MirSpan::ExprId(e),
+        kind: TerminatorKind::Goto { target: to },
+    });
+    graph.enter_block(next);
+}

@@ -1,0 +1,12 @@
+//! Parts of the program by themselves, where no run reaches what is tested: a switch and the machine alone, a body that
+//! is checked by itself, and texts that no run writes yet.
+#![tactic(auto)]
+
+#[cfg(test)]
+mod bodies;
+#[cfg(test)]
+mod goal_texts;
+#[cfg(test)]
+mod machine;
+#[cfg(test)]
+mod switches;

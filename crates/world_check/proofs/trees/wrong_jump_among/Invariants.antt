@@ -1,0 +1,6 @@
+use Rattle.std.proofs.Common.{◌≡◌, drop}
+use Rattle.world_check.specs.Tables.{first_found, wrong_jump_in}
+use Rattle.world_check.proofs.trees.wrong_jump_among.Given as goal
+
+abbrev pub invariant-loop-i : goal.invariant-loop-i
+invariant-loop-i l = first_found wrong_jump_in l.i (drop l.i l.rows) ≡ first_found wrong_jump_in 0 l.rows
