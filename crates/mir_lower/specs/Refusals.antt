@@ -75,8 +75,8 @@ IsUnbuiltTarget source p =
     (target_path source p ≡ None)
     ⊎ ((named : ValueNs) × (pattern_named_by source p ≡ Some named) × (local_named named ≡ None))
 
--- an expression that isn't built yet: by its form, as a path by what it names, as an
--- assignment by its target, or as a block by one of its statements
+-- an expression that isn't built yet: by its form, as a path by what it names, as an assignment by its target, or as a
+-- block by one of its statements
 abbrev pub IsUnbuilt : Source → ℕ → Option CoreExpr → Type 0
 IsUnbuilt source e (Some (expr.Literal l)) = ⊥
 IsUnbuilt source e (Some (expr.Path name)) = NamesNoBinding source e
@@ -127,14 +127,14 @@ RefusesNode source e (refusal.NotSupported text) = (text ≡ codes "form not bui
 RefusesNode source e refusal.InaccessibleLocal = LacksLocal source e (node source e)
 RefusesNode source e refusal.NoMemory = Unit {0}
 
--- the refusal of a pattern: it is missing, or its binding is
+-- the refusal of a pattern: it isn't a name by value, or the body lacks its binding
 abbrev pub RefusesPattern : Source → ℕ → MirLowerError → Type 0
 RefusesPattern source pat (refusal.NotSupported text) = (text ≡ codes "form not built") × (pattern source pat ≡ None)
 RefusesPattern source pat refusal.InaccessibleLocal = BindsNone source pat
 RefusesPattern source pat refusal.NoMemory = Unit {0}
 RefusesPattern source pat _ = ⊥
 
--- the refusal of an assignment's target: it isn't built, its name is resolved to nothing, or its binding is missing
+-- the refusal of an assignment's target: it isn't built, its name is resolved to nothing, or the body lacks its binding
 abbrev pub RefusesTarget : Source → ℕ → MirLowerError → Type 0
 RefusesTarget source p (refusal.NotSupported text) = (text ≡ codes "form not built") × IsUnbuiltTarget source p
 RefusesTarget source p (refusal.UnresolvedName name) = (target_path source p ≡ Some name) × (pattern_named_by source p ≡ None)

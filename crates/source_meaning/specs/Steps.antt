@@ -50,7 +50,7 @@ step_part (Place e) = e ∷ []
 step_part (Into e) = e ∷ []
 step_part _ = []
 
--- the expressions that an expression evaluates, in the order of evaluation
+-- the expressions that an expression evaluates, or may evaluate (both branches of an `if`), in the order of lowering
 abbrev pub parts_of : Option CoreExpr → List ℕ
 parts_of (Some form) = flat_map step_part (steps_of form)
 parts_of None = []

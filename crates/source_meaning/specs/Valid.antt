@@ -16,7 +16,8 @@ use Rattle.source_meaning.specs.Source.{Source, node, node_type, binding_type, p
 use Rattle.source_meaning.specs.Steps.{Step, steps_of, step_part, parts_of}
 use Rattle.source_meaning.specs.Steps as step
 
--- an expression is evaluated where another is: the other itself, and the parts of what is evaluated
+-- an expression is evaluated where another is: the other itself, and the parts of what is evaluated, whichever branch is
+-- taken
 pub data Evaluates (source : Source) : ℕ → ℕ → Type 0 where
   itself : {e : ℕ} → Evaluates source e e
   part : {e child f : ℕ} → Contains (parts_of (node source e)) child → Evaluates source child f → Evaluates source e f
