@@ -13,11 +13,13 @@ use Rattle.types.specs.declared.ty.Ty.{Ty}
 use Rattle.world.specs.Checked.{IsCheckedBody}
 use Rattle.world.specs.Nodes.{optional}
 use Rattle.numbers.specs.Operators.{Answer, Computes, Panics, Undefined}
+use Rattle.source_meaning.specs.Around.{Around, at_root, marking}
 use Rattle.source_meaning.specs.Core as expr
 use Rattle.source_meaning.specs.Core.{CoreExpr, Operation}
 use Rattle.source_meaning.specs.Ends.{Cost, turns_alone, End, Go, Jumps, Faults, Stuck, More, IsOver, after, then_do}
-use Rattle.source_meaning.specs.Meaning.{Level, constant_cost, put, put_literal, put_answer, literal_operand, literal_bytes, named_place, named_into, bind, no_fuel, place_of, operand_of, operands_of, strict_into, is_byte, deciding_byte, reading_cost, decided_into, branched, logic_into, tail_into, branch_into, if_into, assign_into, statement_of, statements_of, block_into, into_of, level_above, level_at, meaning_of}
-use Rattle.source_meaning.specs.Source.{Source, Store, Path, Binding, Operand, Literally, operand_bytes, node, node_type, named_by, pattern, target, root}
+use Rattle.source_meaning.specs.Events.{marked, marked_as_operand, marked_by_statement}
+use Rattle.source_meaning.specs.Meaning.{Level, Levels, constant_cost, put, put_literal, put_answer, literal_operand, literal_bytes, named_place, named_into, bind, no_fuel, place_of, operand_of, operands_of, strict_into, is_byte, deciding_byte, reading_cost, decided_into, branched, logic_into, tail_into, branch_into, if_into, assign_into, statement_of, statements_of, block_into, into_of, level_above, level_at, meaning_of}
+use Rattle.source_meaning.specs.Source.{Source, Store, Path, Node, Binding, Operand, Literally, operand_bytes, node, node_type, named_by, pattern, target, root}
 use Rattle.source_meaning.specs.Steps.{parts_of, statement_parts}
 use Rattle.source_meaning.proofs.Core.{part_is_below}
 use Rattle.source_meaning.proofs.Parts.{first_is_contained, rest_is_contained, strict_parts, if_parts, block_parts}
@@ -57,95 +59,100 @@ branched_agrees : (first second : End (Unit {0})) → (IsOver first → second �
 branched_agrees first second same over =
     after_agrees (turns_alone 1) _ _ (λ then_over. then_do_agrees first second _ _ same (λ done later o. refl) then_over) over
 
--- wherever a level comes to an end, another comes to the same
-pub record Agrees (below above : Level) : Type 0 where
-  pub place : (e : ℕ) (store : Store) → IsOver (below.place e store) → above.place e store ≡ below.place e store
-  pub operand : (e : ℕ) (store : Store) → IsOver (below.operand e store) → above.operand e store ≡ below.operand e store
-  pub into : (e : ℕ) (path : Path) (store : Store) → IsOver (below.into e path store) → above.into e path store ≡ below.into e path store
+-- wherever levels come to an end, others come to the same
+pub record Agrees (below above : Levels) : Type 0 where
+  pub place : (around : Around) (e : ℕ) (store : Store) → IsOver ((below around).place e store) → (above around).place e store ≡ (below around).place e store
+  pub operand : (around : Around) (e : ℕ) (store : Store) → IsOver ((below around).operand e store) → (above around).operand e store ≡ (below around).operand e store
+  pub into : (around : Around) (e : ℕ) (path : Path) (store : Store) → IsOver ((below around).into e path store) → (above around).into e path store ≡ (below around).into e path store
 
-module _ (source : Source) (below above : Level) (agrees : Agrees below above) where
-  place_agrees : (e : ℕ) (form : Option CoreExpr) (store : Store) → IsOver (place_of source below e form store) → place_of source above e form store ≡ place_of source below e form store
-  place_agrees e (Some (expr.Path name)) store over = refl
-  place_agrees e _ store over = then_do_agrees (below.into e _ store) (above.into e _ store) _ _ (agrees.into e _ store) (λ value later o. refl) over
+module _ (source : Source) (below above : Levels) (agrees : Agrees below above) where
+  place_agrees : (around : Around) (e : ℕ) (form : Option CoreExpr) (store : Store) → IsOver (place_of source below around e form store) → place_of source above around e form store ≡ place_of source below around e form store
+  place_agrees around e (Some (expr.Path name)) store over = refl
+  place_agrees around e _ store over =
+      let within = marking (Node e ∷ []) around in
+      then_do_agrees ((below within).into e _ store) ((above within).into e _ store) _ _ (agrees.into within e _ store) (λ value later o. refl) over
 
-  operand_agrees : (e : ℕ) (form : Option CoreExpr) (store : Store) → IsOver (operand_of source below e form store) → operand_of source above e form store ≡ operand_of source below e form store
-  operand_agrees e (Some (expr.Literal literal)) store over = refl
-  operand_agrees e _ store over = then_do_agrees (below.place e store) (above.place e store) _ _ (agrees.place e store) (λ value later o. refl) over
+  operand_agrees : (around : Around) (e : ℕ) (form : Option CoreExpr) (store : Store) → IsOver (operand_of source below around e form store) → operand_of source above around e form store ≡ operand_of source below around e form store
+  operand_agrees around e (Some (expr.Literal literal)) store over = refl
+  operand_agrees around e _ store over = then_do_agrees ((below around).place e store) ((above around).place e store) _ _ (agrees.place around e store) (λ value later o. refl) over
 
-  operands_agree : (operands : List ℕ) (store : Store) → IsOver (operands_of below operands store) → operands_of above operands store ≡ operands_of below operands store
+  operands_agree : (around : Around) (operands : List ℕ) (store : Store) → IsOver (operands_of source below around operands store) → operands_of source above around operands store ≡ operands_of source below around operands store
   unfolding operands_of
-  operands_agree [] store over = refl
-  operands_agree (e ∷ rest) store over =
-      then_do_agrees (below.operand e store) (above.operand e store) _ _ (agrees.operand e store) (λ first later o.
-      then_do_agrees (operands_of below rest later) (operands_of above rest later) _ _ (operands_agree rest later) (λ others last o'. refl) o) over
+  operands_agree around [] store over = refl
+  operands_agree around (e ∷ rest) store over =
+      let behind = marking (marked_as_operand source e) around in
+      then_do_agrees ((below around).operand e store) ((above around).operand e store) _ _ (agrees.operand around e store) (λ first later o.
+      then_do_agrees (operands_of source below behind rest later) (operands_of source above behind rest later) _ _ (operands_agree behind rest later) (λ others last o'. refl) o) over
 
-  strict_agrees : (operation : Operation) (operands : List ℕ) (path : Path) (store : Store) → IsOver (strict_into source below operation operands path store) → strict_into source above operation operands path store ≡ strict_into source below operation operands path store
-  strict_agrees operation operands path store over =
-      then_do_agrees (operands_of below operands store) (operands_of above operands store) _ _ (operands_agree operands store) (λ given later o. refl) over
+  strict_agrees : (around : Around) (operation : Operation) (operands : List ℕ) (path : Path) (store : Store) → IsOver (strict_into source below around operation operands path store) → strict_into source above around operation operands path store ≡ strict_into source below around operation operands path store
+  strict_agrees around operation operands path store over =
+      then_do_agrees (operands_of source below around operands store) (operands_of source above around operands store) _ _ (operands_agree around operands store) (λ given later o. refl) over
 
-  statement_agrees : (statement : Statement) (store : Store) → IsOver (statement_of source below statement store) → statement_of source above statement store ≡ statement_of source below statement store
-  statement_agrees (statement.Let pat (Some e) None) store over = then_do_agrees (below.place e.0 store) (above.place e.0 store) _ _ (agrees.place e.0 store) (λ path later o. refl) over
-  statement_agrees (statement.Expr e has_semi) store over = then_do_agrees (below.place e.0 store) (above.place e.0 store) _ _ (agrees.place e.0 store) (λ path later o. refl) over
-  statement_agrees _ store over = refl
+  statement_agrees : (around : Around) (statement : Statement) (store : Store) → IsOver (statement_of source (below around) statement store) → statement_of source (above around) statement store ≡ statement_of source (below around) statement store
+  statement_agrees around (statement.Let pat (Some e) None) store over = then_do_agrees ((below around).place e.0 store) ((above around).place e.0 store) _ _ (agrees.place around e.0 store) (λ path later o. refl) over
+  statement_agrees around (statement.Expr e has_semi) store over = then_do_agrees ((below around).place e.0 store) ((above around).place e.0 store) _ _ (agrees.place around e.0 store) (λ path later o. refl) over
+  statement_agrees around _ store over = refl
 
-  statements_agree : (statements : List Statement) (store : Store) → IsOver (statements_of source below statements store) → statements_of source above statements store ≡ statements_of source below statements store
+  statements_agree : (around : Around) (statements : List Statement) (store : Store) → IsOver (statements_of source below around statements store) → statements_of source above around statements store ≡ statements_of source below around statements store
   unfolding statements_of
-  statements_agree [] store over = refl
-  statements_agree (first ∷ rest) store over =
-      then_do_agrees (statement_of source below first store) (statement_of source above first store) _ _ (statement_agrees first store) (λ done later o. statements_agree rest later o) over
+  statements_agree around [] store over = refl
+  statements_agree around (first ∷ rest) store over =
+      let behind = marking (marked_by_statement source first) around in
+      then_do_agrees (statement_of source (below around) first store) (statement_of source (above around) first store) _ _ (statement_agrees around first store) (λ done later o. statements_agree behind rest later o) over
 
-  tail_agrees : (tail : Option ExprId) (path : Path) (store : Store) → IsOver (tail_into below tail path store) → tail_into above tail path store ≡ tail_into below tail path store
-  tail_agrees (Some e) path store over = agrees.into e.0 path store over
-  tail_agrees None path store over = refl
+  tail_agrees : (around : Around) (tail : Option ExprId) (path : Path) (store : Store) → IsOver (tail_into (below around) tail path store) → tail_into (above around) tail path store ≡ tail_into (below around) tail path store
+  tail_agrees around (Some e) path store over = agrees.into around e.0 path store over
+  tail_agrees around None path store over = refl
 
-  decided_agrees : (left : Operand) (right : ℕ) (decides : Option Bool) (path : Path) (store : Store) → IsOver (decided_into source below left right decides path store) → decided_into source above left right decides path store ≡ decided_into source below left right decides path store
-  decided_agrees left right (Some true) path store over = refl
-  decided_agrees left right (Some false) path store over = agrees.into right path store over
-  decided_agrees left right None path store over = refl
+  decided_agrees : (around : Around) (left : Operand) (right : ℕ) (decides : Option Bool) (path : Path) (store : Store) → IsOver (decided_into source (below around) left right decides path store) → decided_into source (above around) left right decides path store ≡ decided_into source (below around) left right decides path store
+  decided_agrees around left right (Some true) path store over = refl
+  decided_agrees around left right (Some false) path store over = agrees.into around right path store over
+  decided_agrees around left right None path store over = refl
 
-  logic_agrees : (op : LogicOp) (left right : ℕ) (path : Path) (store : Store) → IsOver (logic_into source below op left right path store) → logic_into source above op left right path store ≡ logic_into source below op left right path store
-  logic_agrees op left right path store over =
-      then_do_agrees (below.operand left store) (above.operand left store) _ _ (agrees.operand left store) (λ given later o.
-      branched_agrees _ _ (decided_agrees given right (is_byte (deciding_byte op) (operand_bytes later given)) path later) o) over
+  logic_agrees : (around : Around) (op : LogicOp) (left right : ℕ) (path : Path) (store : Store) → IsOver (logic_into source below around op left right path store) → logic_into source above around op left right path store ≡ logic_into source below around op left right path store
+  logic_agrees around op left right path store over =
+      then_do_agrees ((below around).operand left store) ((above around).operand left store) _ _ (agrees.operand around left store) (λ given later o.
+      branched_agrees _ _ (decided_agrees (marking (marked_as_operand source left) around) given right (is_byte (deciding_byte op) (operand_bytes later given)) path later) o) over
 
-  branch_agrees : (then_branch : ℕ) (else_branch : Option ExprId) (holds : Option Bool) (path : Path) (store : Store) → IsOver (branch_into below then_branch else_branch holds path store) → branch_into above then_branch else_branch holds path store ≡ branch_into below then_branch else_branch holds path store
-  branch_agrees then_branch else_branch (Some true) path store over = agrees.into then_branch path store over
-  branch_agrees then_branch else_branch (Some false) path store over = tail_agrees else_branch path store over
-  branch_agrees then_branch else_branch None path store over = refl
+  branch_agrees : (around : Around) (then_branch : ℕ) (else_branch : Option ExprId) (holds : Option Bool) (path : Path) (store : Store) → IsOver (branch_into source below around then_branch else_branch holds path store) → branch_into source above around then_branch else_branch holds path store ≡ branch_into source below around then_branch else_branch holds path store
+  branch_agrees around then_branch else_branch (Some true) path store over = agrees.into around then_branch path store over
+  branch_agrees around then_branch else_branch (Some false) path store over = tail_agrees (marking (marked source then_branch) around) else_branch path store over
+  branch_agrees around then_branch else_branch None path store over = refl
 
-  if_agrees : (condition then_branch : ℕ) (else_branch : Option ExprId) (path : Path) (store : Store) → IsOver (if_into below condition then_branch else_branch path store) → if_into above condition then_branch else_branch path store ≡ if_into below condition then_branch else_branch path store
-  if_agrees condition then_branch else_branch path store over =
-      then_do_agrees (below.operand condition store) (above.operand condition store) _ _ (agrees.operand condition store) (λ given later o.
-      branched_agrees _ _ (branch_agrees then_branch else_branch (is_byte 1 (operand_bytes later given)) path later) o) over
+  if_agrees : (around : Around) (condition then_branch : ℕ) (else_branch : Option ExprId) (path : Path) (store : Store) → IsOver (if_into source below around condition then_branch else_branch path store) → if_into source above around condition then_branch else_branch path store ≡ if_into source below around condition then_branch else_branch path store
+  if_agrees around condition then_branch else_branch path store over =
+      then_do_agrees ((below around).operand condition store) ((above around).operand condition store) _ _ (agrees.operand around condition store) (λ given later o.
+      branched_agrees _ _ (branch_agrees (marking (marked_as_operand source condition) around) then_branch else_branch (is_byte 1 (operand_bytes later given)) path later) o) over
 
-  assign_agrees : (assigned value : ℕ) (store : Store) → IsOver (assign_into source below assigned value store) → assign_into source above assigned value store ≡ assign_into source below assigned value store
-  assign_agrees assigned value store over = then_do_agrees (below.place value store) (above.place value store) _ _ (agrees.place value store) (λ from later o. refl) over
+  assign_agrees : (around : Around) (assigned value : ℕ) (store : Store) → IsOver (assign_into source (below around) assigned value store) → assign_into source (above around) assigned value store ≡ assign_into source (below around) assigned value store
+  assign_agrees around assigned value store over = then_do_agrees ((below around).place value store) ((above around).place value store) _ _ (agrees.place around value store) (λ from later o. refl) over
 
-  block_agrees : (statements : List Statement) (tail : Option ExprId) (path : Path) (store : Store) → IsOver (block_into source below statements tail path store) → block_into source above statements tail path store ≡ block_into source below statements tail path store
-  block_agrees statements tail path store over =
-      then_do_agrees (statements_of source below statements store) (statements_of source above statements store) _ _ (statements_agree statements store) (λ done later o.
-      then_do_agrees (tail_into below tail path later) (tail_into above tail path later) _ _ (tail_agrees tail path later) (λ done' last o'. refl) o) over
+  block_agrees : (around : Around) (statements : List Statement) (tail : Option ExprId) (path : Path) (store : Store) → IsOver (block_into source below around statements tail path store) → block_into source above around statements tail path store ≡ block_into source below around statements tail path store
+  block_agrees around statements tail path store over =
+      let behind = marking (flat_map (marked_by_statement source) statements) around in
+      then_do_agrees (statements_of source below around statements store) (statements_of source above around statements store) _ _ (statements_agree around statements store) (λ done later o.
+      then_do_agrees (tail_into (below behind) tail path later) (tail_into (above behind) tail path later) _ _ (tail_agrees behind tail path later) (λ done' last o'. refl) o) over
 
-  into_agrees : (e : ℕ) (form : Option CoreExpr) (path : Path) (store : Store) → IsOver (into_of source below e form path store) → into_of source above e form path store ≡ into_of source below e form path store
-  into_agrees e (Some (expr.Strict operation operands)) path store over = strict_agrees operation operands path store over
-  into_agrees e (Some (expr.Logic op left right)) path store over = logic_agrees op left right path store over
-  into_agrees e (Some (expr.If condition then_branch else_branch)) path store over = if_agrees condition then_branch else_branch path store over
-  into_agrees e (Some (expr.Assign assigned value)) path store over = assign_agrees assigned value store over
-  into_agrees e (Some (expr.Block statements tail)) path store over = block_agrees statements tail path store over
-  into_agrees e _ path store over = refl
+  into_agrees : (around : Around) (e : ℕ) (form : Option CoreExpr) (path : Path) (store : Store) → IsOver (into_of source below around e form path store) → into_of source above around e form path store ≡ into_of source below around e form path store
+  into_agrees around e (Some (expr.Strict operation operands)) path store over = strict_agrees around operation operands path store over
+  into_agrees around e (Some (expr.Logic op left right)) path store over = logic_agrees around op left right path store over
+  into_agrees around e (Some (expr.If condition then_branch else_branch)) path store over = if_agrees around condition then_branch else_branch path store over
+  into_agrees around e (Some (expr.Assign assigned value)) path store over = assign_agrees around assigned value store over
+  into_agrees around e (Some (expr.Block statements tail)) path store over = block_agrees around statements tail path store over
+  into_agrees around e _ path store over = refl
 
   above_agrees : Agrees (level_above source below) (level_above source above)
   above_agrees = record {
-    place = λ e store over. place_agrees e (node source e) store over;
-    operand = λ e store over. operand_agrees e (node source e) store over;
-    into = λ e path store over. into_agrees e (node source e) path store over;
+    place = λ around e store over. place_agrees around e (node source e) store over;
+    operand = λ around e store over. operand_agrees around e (node source e) store over;
+    into = λ around e path store over. into_agrees around e (node source e) path store over;
   }
 
-no_fuel_agrees : (above : Level) → Agrees no_fuel above
+no_fuel_agrees : (above : Levels) → Agrees no_fuel above
 no_fuel_agrees above = record {
-  place = λ e store over. absurd over;
-  operand = λ e store over. absurd over;
-  into = λ e path store over. absurd over;
+  place = λ around e store over. absurd over;
+  operand = λ around e store over. absurd over;
+  into = λ around e path store over. absurd over;
 }
 
 pub more_agrees : (source : Source) (fuel more : ℕ) → fuel ≤ more → Agrees (level_at source fuel) (level_at source more)
@@ -157,7 +164,7 @@ more_agrees source (suc fuel) (suc more) le = above_agrees source (level_at sour
 pub more_fuel : (source : Source) (fuel more : ℕ) → fuel ≤ more → IsOver (meaning_of source fuel) → meaning_of source more ≡ meaning_of source fuel
 unfolding meaning_of
 more_fuel source fuel more le over =
-    after_agrees _ _ _ (then_do_agrees ((level_at source fuel).into (root source) _ _) ((level_at source more).into (root source) _ _) _ _ ((more_agrees source fuel more le).into (root source) _ _) (λ value store o. refl)) over
+    after_agrees _ _ _ (then_do_agrees ((level_at source fuel at_root).into (root source) _ _) ((level_at source more at_root).into (root source) _ _) _ _ ((more_agrees source fuel more le).into at_root (root source) _ _) (λ value store o. refl)) over
 
 -- Enough fuel comes to an end.
 
@@ -209,118 +216,122 @@ bind_over : (pat : Option BindingId) (path : Path) (store : Store) → IsOver (b
 bind_over (Some id) path store = put_over store (record { cell = Binding id.0 }) (store path.cell)
 bind_over None path store = tt
 
--- an expression comes to an end at a level, in each way that it is evaluated
-record EndsIn (level : Level) (e : ℕ) : Type 0 where
-  place : (store : Store) → IsOver (level.place e store)
-  operand : (store : Store) → IsOver (level.operand e store)
-  into : (path : Path) (store : Store) → IsOver (level.into e path store)
+-- an expression comes to an end, in each way that it is evaluated, whatever stands around it
+record EndsIn (levels : Levels) (e : ℕ) : Type 0 where
+  place : (around : Around) (store : Store) → IsOver ((levels around).place e store)
+  operand : (around : Around) (store : Store) → IsOver ((levels around).operand e store)
+  into : (around : Around) (path : Path) (store : Store) → IsOver ((levels around).into e path store)
 
-place_over : (source : Source) (below : Level) (e : ℕ) (form : Option CoreExpr) (store : Store) → ((path : Path) (later : Store) → IsOver (below.into e path later)) → IsOver (place_of source below e form store)
-place_over source below e (Some (expr.Path name)) store over = named_place_over (named_by source e) store
-place_over source below e _ store over = then_do_over (below.into e _ store) _ (over _ store) (λ value later. tt)
+place_over : (source : Source) (below : Levels) (around : Around) (e : ℕ) (form : Option CoreExpr) (store : Store) → ((within : Around) (path : Path) (later : Store) → IsOver ((below within).into e path later)) → IsOver (place_of source below around e form store)
+place_over source below around e (Some (expr.Path name)) store over = named_place_over (named_by source e) store
+place_over source below around e _ store over =
+    let within = marking (Node e ∷ []) around in
+    then_do_over ((below within).into e _ store) _ (over within _ store) (λ value later. tt)
 
-operand_over : (source : Source) (below : Level) (e : ℕ) (form : Option CoreExpr) (store : Store) → ((later : Store) → IsOver (below.place e later)) → IsOver (operand_of source below e form store)
-operand_over source below e (Some (expr.Literal literal)) store over = literal_operand_over source e store (literal_bytes source e literal)
-operand_over source below e _ store over = then_do_over (below.place e store) _ (over store) (λ value later. tt)
+operand_over : (source : Source) (below : Levels) (around : Around) (e : ℕ) (form : Option CoreExpr) (store : Store) → ((later : Store) → IsOver ((below around).place e later)) → IsOver (operand_of source below around e form store)
+operand_over source below around e (Some (expr.Literal literal)) store over = literal_operand_over source e store (literal_bytes source e literal)
+operand_over source below around e _ store over = then_do_over ((below around).place e store) _ (over store) (λ value later. tt)
 
-module _ (source : Source) (below : Level) where
-  operands_over : (operands : List ℕ) (store : Store) → ((child : ℕ) → Contains operands child → EndsIn below child) → IsOver (operands_of below operands store)
+module _ (source : Source) (below : Levels) where
+  operands_over : (around : Around) (operands : List ℕ) (store : Store) → ((child : ℕ) → Contains operands child → EndsIn below child) → IsOver (operands_of source below around operands store)
   unfolding operands_of
-  operands_over [] store ends = tt
-  operands_over (e ∷ rest) store ends =
+  operands_over around [] store ends = tt
+  operands_over around (e ∷ rest) store ends =
       let first_ends = ends e (first_is_contained e rest) in
-      then_do_over (below.operand e store) _ (first_ends.operand store) (λ first later.
-      then_do_over (operands_of below rest later) _ (operands_over rest later (λ child within. ends child (rest_is_contained e rest child within))) (λ others last. tt))
+      let behind = marking (marked_as_operand source e) around in
+      then_do_over ((below around).operand e store) _ (first_ends.operand around store) (λ first later.
+      then_do_over (operands_of source below behind rest later) _ (operands_over behind rest later (λ child within. ends child (rest_is_contained e rest child within))) (λ others last. tt))
 
-  statement_over : (statement : Statement) (store : Store) → ((child : ℕ) → Contains (statement_parts statement) child → EndsIn below child) → IsOver (statement_of source below statement store)
-  statement_over (statement.Let pat (Some e) None) store ends =
+  statement_over : (around : Around) (statement : Statement) (store : Store) → ((child : ℕ) → Contains (statement_parts statement) child → EndsIn below child) → IsOver (statement_of source (below around) statement store)
+  statement_over around (statement.Let pat (Some e) None) store ends =
       let initializer_ends = ends e.0 (first_is_contained e.0 []) in
-      then_do_over (below.place e.0 store) _ (initializer_ends.place store) (λ path later. bind_over (pattern source pat.0) path later)
-  statement_over (statement.Expr e has_semi) store ends =
+      then_do_over ((below around).place e.0 store) _ (initializer_ends.place around store) (λ path later. bind_over (pattern source pat.0) path later)
+  statement_over around (statement.Expr e has_semi) store ends =
       let expression_ends = ends e.0 (first_is_contained e.0 []) in
-      then_do_over (below.place e.0 store) _ (expression_ends.place store) (λ path later. tt)
-  statement_over _ store ends = tt
+      then_do_over ((below around).place e.0 store) _ (expression_ends.place around store) (λ path later. tt)
+  statement_over around _ store ends = tt
 
-  statements_over : (statements : List Statement) (store : Store) → ((child : ℕ) → Contains (flat_map statement_parts statements) child → EndsIn below child) → IsOver (statements_of source below statements store)
+  statements_over : (around : Around) (statements : List Statement) (store : Store) → ((child : ℕ) → Contains (flat_map statement_parts statements) child → EndsIn below child) → IsOver (statements_of source below around statements store)
   unfolding statements_of
-  statements_over [] store ends = tt
-  statements_over (first ∷ rest) store ends =
-      then_do_over (statement_of source below first store) _ (statement_over first store (λ child within.
+  statements_over around [] store ends = tt
+  statements_over around (first ∷ rest) store ends =
+      then_do_over (statement_of source (below around) first store) _ (statement_over around first store (λ child within.
       ends child (Contains-append_left (statement_parts first) (flat_map statement_parts rest) child within))) (λ done later.
-      statements_over rest later (λ child within.
+      statements_over (marking (marked_by_statement source first) around) rest later (λ child within.
       ends child (Contains-append_right (statement_parts first) (flat_map statement_parts rest) child within)))
 
-  tail_over : (tail : Option ExprId) (path : Path) (store : Store) → ((child : ℕ) → Contains (optional tail) child → EndsIn below child) → IsOver (tail_into below tail path store)
-  tail_over (Some e) path store ends = let tail_ends = ends e.0 (first_is_contained e.0 []) in tail_ends.into path store
-  tail_over None path store ends = tt
+  tail_over : (around : Around) (tail : Option ExprId) (path : Path) (store : Store) → ((child : ℕ) → Contains (optional tail) child → EndsIn below child) → IsOver (tail_into (below around) tail path store)
+  tail_over around (Some e) path store ends = let tail_ends = ends e.0 (first_is_contained e.0 []) in tail_ends.into around path store
+  tail_over around None path store ends = tt
 
-  decided_over : (left : Operand) (right : ℕ) (decides : Option Bool) (path : Path) (store : Store) → EndsIn below right → IsOver (decided_into source below left right decides path store)
-  decided_over left right (Some true) path store ends = over_after (reading_cost source left) _ (put_over store path (operand_bytes store left))
-  decided_over left right (Some false) path store ends = ends.into path store
-  decided_over left right None path store ends = tt
+  decided_over : (around : Around) (left : Operand) (right : ℕ) (decides : Option Bool) (path : Path) (store : Store) → EndsIn below right → IsOver (decided_into source (below around) left right decides path store)
+  decided_over around left right (Some true) path store ends = over_after (reading_cost source left) _ (put_over store path (operand_bytes store left))
+  decided_over around left right (Some false) path store ends = ends.into around path store
+  decided_over around left right None path store ends = tt
 
-  logic_over : (op : LogicOp) (left right : ℕ) (path : Path) (store : Store) → ((child : ℕ) → Contains (left ∷ right ∷ []) child → EndsIn below child) → IsOver (logic_into source below op left right path store)
-  logic_over op left right path store ends =
+  logic_over : (around : Around) (op : LogicOp) (left right : ℕ) (path : Path) (store : Store) → ((child : ℕ) → Contains (left ∷ right ∷ []) child → EndsIn below child) → IsOver (logic_into source below around op left right path store)
+  logic_over around op left right path store ends =
       let left_ends = ends left (first_is_contained left (right ∷ [])) in
-      then_do_over (below.operand left store) _ (left_ends.operand store) (λ given later.
-      branched_over _ (decided_over given right (is_byte (deciding_byte op) (operand_bytes later given)) path later
+      then_do_over ((below around).operand left store) _ (left_ends.operand around store) (λ given later.
+      branched_over _ (decided_over (marking (marked_as_operand source left) around) given right (is_byte (deciding_byte op) (operand_bytes later given)) path later
       (ends right (rest_is_contained left (right ∷ []) right (first_is_contained right [])))))
 
-  branch_over : (then_branch : ℕ) (else_branch : Option ExprId) (holds : Option Bool) (path : Path) (store : Store) → ((child : ℕ) → Contains (then_branch ∷ optional else_branch) child → EndsIn below child) → IsOver (branch_into below then_branch else_branch holds path store)
-  branch_over then_branch else_branch (Some true) path store ends =
-      let then_ends = ends then_branch (first_is_contained then_branch (optional else_branch)) in then_ends.into path store
-  branch_over then_branch else_branch (Some false) path store ends =
-      tail_over else_branch path store (λ child within. ends child (rest_is_contained then_branch (optional else_branch) child within))
-  branch_over then_branch else_branch None path store ends = tt
+  branch_over : (around : Around) (then_branch : ℕ) (else_branch : Option ExprId) (holds : Option Bool) (path : Path) (store : Store) → ((child : ℕ) → Contains (then_branch ∷ optional else_branch) child → EndsIn below child) → IsOver (branch_into source below around then_branch else_branch holds path store)
+  branch_over around then_branch else_branch (Some true) path store ends =
+      let then_ends = ends then_branch (first_is_contained then_branch (optional else_branch)) in then_ends.into around path store
+  branch_over around then_branch else_branch (Some false) path store ends =
+      tail_over (marking (marked source then_branch) around) else_branch path store (λ child within. ends child (rest_is_contained then_branch (optional else_branch) child within))
+  branch_over around then_branch else_branch None path store ends = tt
 
-  if_over : (condition then_branch : ℕ) (else_branch : Option ExprId) (path : Path) (store : Store) → ((child : ℕ) → Contains (condition ∷ then_branch ∷ optional else_branch) child → EndsIn below child) → IsOver (if_into below condition then_branch else_branch path store)
-  if_over condition then_branch else_branch path store ends =
+  if_over : (around : Around) (condition then_branch : ℕ) (else_branch : Option ExprId) (path : Path) (store : Store) → ((child : ℕ) → Contains (condition ∷ then_branch ∷ optional else_branch) child → EndsIn below child) → IsOver (if_into source below around condition then_branch else_branch path store)
+  if_over around condition then_branch else_branch path store ends =
       let condition_ends = ends condition (first_is_contained condition (then_branch ∷ optional else_branch)) in
-      then_do_over (below.operand condition store) _ (condition_ends.operand store) (λ given later.
-      branched_over _ (branch_over then_branch else_branch (is_byte 1 (operand_bytes later given)) path later (λ child within.
+      then_do_over ((below around).operand condition store) _ (condition_ends.operand around store) (λ given later.
+      branched_over _ (branch_over (marking (marked_as_operand source condition) around) then_branch else_branch (is_byte 1 (operand_bytes later given)) path later (λ child within.
       ends child (rest_is_contained condition (then_branch ∷ optional else_branch) child within))))
 
-  block_over : (statements : List Statement) (tail : Option ExprId) (path : Path) (store : Store) → ((child : ℕ) → Contains (flat_map statement_parts statements ++ optional tail) child → EndsIn below child) → IsOver (block_into source below statements tail path store)
-  block_over statements tail path store ends =
-      then_do_over (statements_of source below statements store) _ (statements_over statements store (λ child within.
+  block_over : (around : Around) (statements : List Statement) (tail : Option ExprId) (path : Path) (store : Store) → ((child : ℕ) → Contains (flat_map statement_parts statements ++ optional tail) child → EndsIn below child) → IsOver (block_into source below around statements tail path store)
+  block_over around statements tail path store ends =
+      let behind = marking (flat_map (marked_by_statement source) statements) around in
+      then_do_over (statements_of source below around statements store) _ (statements_over around statements store (λ child within.
       ends child (Contains-append_left (flat_map statement_parts statements) (optional tail) child within))) (λ done later.
-      then_do_over (tail_into below tail path later) _ (tail_over tail path later (λ child within.
+      then_do_over (tail_into (below behind) tail path later) _ (tail_over behind tail path later (λ child within.
       ends child (Contains-append_right (flat_map statement_parts statements) (optional tail) child within))) (λ done' last. tt))
 
-  into_over : (e : ℕ) (form : Option CoreExpr) (path : Path) (store : Store) → ((child : ℕ) → Contains (parts_of form) child → EndsIn below child) → IsOver (into_of source below e form path store)
-  into_over e (Some (expr.Literal literal)) path store ends = put_literal_over source e store path (literal_bytes source e literal)
-  into_over e (Some (expr.Path name)) path store ends = named_into_over (named_by source e) path store
-  into_over e (Some (expr.Strict operation operands)) path store ends =
-      then_do_over (operands_of below operands store) _ (operands_over operands store (λ child within.
+  into_over : (around : Around) (e : ℕ) (form : Option CoreExpr) (path : Path) (store : Store) → ((child : ℕ) → Contains (parts_of form) child → EndsIn below child) → IsOver (into_of source below around e form path store)
+  into_over around e (Some (expr.Literal literal)) path store ends = put_literal_over source e store path (literal_bytes source e literal)
+  into_over around e (Some (expr.Path name)) path store ends = named_into_over (named_by source e) path store
+  into_over around e (Some (expr.Strict operation operands)) path store ends =
+      then_do_over (operands_of source below around operands store) _ (operands_over around operands store (λ child within.
       ends child (subst (λ parts. Contains parts child) (sym (strict_parts operation operands)) within))) (λ given later. put_answer_over later path _)
-  into_over e (Some (expr.Logic op left right)) path store ends = logic_over op left right path store ends
-  into_over e (Some (expr.If condition then_branch else_branch)) path store ends =
-      if_over condition then_branch else_branch path store (λ child within. ends child (subst (λ parts. Contains parts child) (sym (if_parts condition then_branch else_branch)) within))
-  into_over e (Some (expr.Assign assigned value)) path store ends =
+  into_over around e (Some (expr.Logic op left right)) path store ends = logic_over around op left right path store ends
+  into_over around e (Some (expr.If condition then_branch else_branch)) path store ends =
+      if_over around condition then_branch else_branch path store (λ child within. ends child (subst (λ parts. Contains parts child) (sym (if_parts condition then_branch else_branch)) within))
+  into_over around e (Some (expr.Assign assigned value)) path store ends =
       let value_ends = ends value (first_is_contained value []) in
-      then_do_over (below.place value store) _ (value_ends.place store) (λ from later. bind_over (target source assigned) from later)
-  into_over e (Some (expr.Block statements tail)) path store ends =
-      block_over statements tail path store (λ child within. ends child (subst (λ parts. Contains parts child) (sym (block_parts statements tail)) within))
-  into_over e None path store ends = tt
+      then_do_over ((below around).place value store) _ (value_ends.place around store) (λ from later. bind_over (target source assigned) from later)
+  into_over around e (Some (expr.Block statements tail)) path store ends =
+      block_over around statements tail path store (λ child within. ends child (subst (λ parts. Contains parts child) (sym (block_parts statements tail)) within))
+  into_over around e None path store ends = tt
 
 -- the fuel with which each expression below a number comes to an end
 pub fuel_below : ℕ → ℕ
 fuel_below zero = zero
 fuel_below (suc bound) = suc (suc (suc (fuel_below bound)))
 
--- an expression comes to an end with enough fuel, whatever path and store it is evaluated at
-pub into_ends : (source : Source) → IsCheckedBody source.body source.infer → (bound e fuel : ℕ) → e < bound → fuel_below bound ≤ fuel → (path : Path) (store : Store) → IsOver ((level_at source fuel).into e path store)
+-- an expression comes to an end with enough fuel, whatever stands around it, and whatever path and store it is evaluated at
+pub into_ends : (source : Source) → IsCheckedBody source.body source.infer → (bound e fuel : ℕ) → e < bound → fuel_below bound ≤ fuel → (around : Around) (path : Path) (store : Store) → IsOver ((level_at source fuel around).into e path store)
 unfolding level_at fuel_below
-into_ends source checked zero e fuel less enough path store = absurd (omega arith)
-into_ends source checked (suc bound) e zero less enough path store = absurd (omega arith)
-into_ends source checked (suc bound) e (suc zero) less enough path store = absurd (omega arith)
-into_ends source checked (suc bound) e (suc (suc zero)) less enough path store = absurd (omega arith)
-into_ends source checked (suc bound) e (suc (suc (suc fuel))) less enough path store =
-    into_over source (level_at source (suc (suc fuel))) e (node source e) path store (λ child within.
+into_ends source checked zero e fuel less enough around path store = absurd (omega arith)
+into_ends source checked (suc bound) e zero less enough around path store = absurd (omega arith)
+into_ends source checked (suc bound) e (suc zero) less enough around path store = absurd (omega arith)
+into_ends source checked (suc bound) e (suc (suc zero)) less enough around path store = absurd (omega arith)
+into_ends source checked (suc bound) e (suc (suc (suc fuel))) less enough around path store =
+    into_over source (level_at source (suc (suc fuel))) around e (node source e) path store (λ child within.
     let below = part_is_below source checked e child within in record {
-      place = λ later. place_over source (level_at source (suc fuel)) child (node source child) later (into_ends source checked bound child (suc fuel) (omega arith) (omega arith));
-      operand = λ later. operand_over source (level_at source (suc fuel)) child (node source child) later (λ last.
-          place_over source (level_at source fuel) child (node source child) last (into_ends source checked bound child fuel (omega arith) (omega arith)));
+      place = λ around' later. place_over source (level_at source (suc fuel)) around' child (node source child) later (into_ends source checked bound child (suc fuel) (omega arith) (omega arith));
+      operand = λ around' later. operand_over source (level_at source (suc fuel)) around' child (node source child) later (λ last.
+          place_over source (level_at source fuel) around' child (node source child) last (into_ends source checked bound child fuel (omega arith) (omega arith)));
       into = into_ends source checked bound child (suc (suc fuel)) (omega arith) (omega arith);
     })
 
@@ -328,4 +339,4 @@ pub bodies_end : (source : Source) → IsCheckedBody source.body source.infer �
 unfolding meaning_of
 bodies_end source checked =
     let fuel = fuel_below (suc (root source)) in
-    (fuel, over_after _ _ (then_do_over ((level_at source fuel).into (root source) _ _) _ (into_ends source checked (suc (root source)) (root source) fuel (omega arith) (omega arith) _ _) (λ value store. tt)))
+    (fuel, over_after _ _ (then_do_over ((level_at source fuel at_root).into (root source) _ _) _ (into_ends source checked (suc (root source)) (root source) fuel (omega arith) (omega arith) at_root _ _) (λ value store. tt)))

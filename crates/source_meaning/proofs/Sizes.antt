@@ -14,10 +14,12 @@ use Rattle.world.specs.Nodes.{optional}
 use Rattle.numbers.specs.Bytes.{low_bytes}
 use Rattle.numbers.specs.Operators.{Answer, Computes, Panics, Undefined, kind_of}
 use Rattle.numbers.proofs.Digits.{length-low_bytes}
+use Rattle.source_meaning.specs.Around.{Around, at_root, marking}
 use Rattle.source_meaning.specs.Core as expr
 use Rattle.source_meaning.specs.Core.{CoreExpr, CoreLiteral, Truth, Number, Operation, is_truth}
 use Rattle.source_meaning.specs.Ends.{Cost, no_cost, turns_alone, End, Go, Jumps, Faults, Stuck, More, JumpsNowhere, after, then_do}
-use Rattle.source_meaning.specs.Meaning.{Level, value_of, answered, truth_byte, literal_bytes, constant_cost, put, put_literal, put_answer, literal_operand, named_place, named_into, bind, operands_of, strict_into, is_byte, deciding_byte, reading_cost, decided_into, branched, logic_into, tail_into, branch_into, if_into, assign_into, statement_of, statements_of, block_into, no_fuel, place_of, operand_of, into_of, level_above, level_at, meaning_of}
+use Rattle.source_meaning.specs.Events.{marked, marked_as_operand, marked_by_statement}
+use Rattle.source_meaning.specs.Meaning.{Level, Levels, value_of, answered, truth_byte, literal_bytes, constant_cost, put, put_literal, put_answer, literal_operand, named_place, named_into, bind, operands_of, strict_into, is_byte, deciding_byte, reading_cost, decided_into, branched, logic_into, tail_into, branch_into, if_into, assign_into, statement_of, statements_of, block_into, no_fuel, place_of, operand_of, into_of, level_above, level_at, meaning_of}
 use Rattle.source_meaning.specs.Source.{Source, Store, Path, Cell, Result, Node, Binding, Operand, Literally, At, operand_bytes, same_cell, zeroed, with_cell_bytes, node, node_type, node_layout, pattern, target, root, cell_type, cell_size}
 use Rattle.source_meaning.specs.Steps.{parts_of, statement_parts, tail_steps}
 use Rattle.source_meaning.specs.Steps as step
@@ -159,8 +161,8 @@ module _ (source : Source) (checked : IsChecked source.world) where
     operand : (e : ℕ) (store : Store) → IsFineOperand source e → IsSized source store → IsSound source (OperandFits e) (level.operand e store)
     into : (e : ℕ) (path : Path) (store : Store) → IsFine source e → IsSized source store → PathFits e path → IsSound source Nothing (level.into e path store)
 
-  no_fuel_is_sound : IsSoundLevel no_fuel
-  no_fuel_is_sound = record { place = λ e store fine sized. tt; operand = λ e store fine sized. tt; into = λ e path store fine sized fits. tt }
+  no_fuel_is_sound : (around : Around) → IsSoundLevel (no_fuel around)
+  no_fuel_is_sound around = record { place = λ e store fine sized. tt; operand = λ e store fine sized. tt; into = λ e path store fine sized fits. tt }
 
   -- the values of a scalar type with a layout have a length that it may have
   scalar_size : (ty : Ty) → IsLaidOut source (Some ty) → IsScalar ty → IsLengthOf ty (size_at source (Some ty))
@@ -251,164 +253,167 @@ module _ (source : Source) (checked : IsChecked source.world) where
   block_part_is_fine e statements tail is fine child within =
       part_is_fine e child (Some (expr.Block statements tail)) is (sized_block_parts source statements tail child within) fine
 
-  module _ (below : Level) (sound : IsSoundLevel below) where
-    place_is_sound : (e : ℕ) (form : Option CoreExpr) (store : Store) → node source e ≡ form → IsFine source e → IsSized source store → IsSound source (PathFits e) (place_of source below e form store)
-    place_is_sound e (Some (expr.Path name)) store is fine sized =
+  module _ (below : Levels) (sound : (around : Around) → IsSoundLevel (below around)) where
+    place_is_sound : (around : Around) (e : ℕ) (form : Option CoreExpr) (store : Store) → node source e ≡ form → IsFine source e → IsSized source store → IsSound source (PathFits e) (place_of source below around e form store)
+    place_is_sound around e (Some (expr.Path name)) store is fine sized =
         let plain = fine.plain e itself in
         let form = form_of e _ is plain in
         subst (λ named. IsSound source (PathFits e) (named_place named store)) (sym form.named) (sized, form.binding_has ∙ sym plain.has_type)
-    place_is_sound e _ store is fine sized =
-        then_do_is_sound source Nothing (PathFits e) (below.into e _ store) _ (sound.into e _ store fine sized refl) (λ done later sized' is'. (sized', refl))
+    place_is_sound around e _ store is fine sized =
+        then_do_is_sound source Nothing (PathFits e) ((below (marking (Node e ∷ []) around)).into e _ store) _ ((sound (marking (Node e ∷ []) around)).into e _ store fine sized refl) (λ done later sized' is'. (sized', refl))
 
-    as_place_is_sound : (e : ℕ) (store : Store) → is_truth (node source e) ≡ false → IsFineOperand source e → IsSized source store → IsSound source (OperandFits e) (then_do (below.place e store) (λ path later. Go (At path) later no_cost))
-    as_place_is_sound e store truth fine sized =
+    as_place_is_sound : (around : Around) (e : ℕ) (store : Store) → is_truth (node source e) ≡ false → IsFineOperand source e → IsSized source store → IsSound source (OperandFits e) (then_do ((below around).place e store) (λ path later. Go (At path) later no_cost))
+    as_place_is_sound around e store truth fine sized =
         let as_place = fine_as_place e truth fine in
-        then_do_is_sound source (PathFits e) (OperandFits e) (below.place e store) _ (sound.place e store as_place sized) (λ path later sized' fits. (sized', (fits, as_place.laid_out e own)))
+        then_do_is_sound source (PathFits e) (OperandFits e) ((below around).place e store) _ ((sound around).place e store as_place sized) (λ path later sized' fits. (sized', (fits, as_place.laid_out e own)))
 
-    operand_is_sound : (e : ℕ) (form : Option CoreExpr) (store : Store) → node source e ≡ form → IsFineOperand source e → IsSized source store → IsSound source (OperandFits e) (operand_of source below e form store)
+    operand_is_sound : (around : Around) (e : ℕ) (form : Option CoreExpr) (store : Store) → node source e ≡ form → IsFineOperand source e → IsSized source store → IsSound source (OperandFits e) (operand_of source below around e form store)
     unfolding literal_bytes
-    operand_is_sound e (Some (expr.Literal (Truth test))) store is fine sized =
+    operand_is_sound around e (Some (expr.Literal (Truth test))) store is fine sized =
         let plain = fine.plain e itself in
         let truth = form_of e _ is plain in
         literal_operand_is_sound e plain.ty store (Some (truth_byte test ∷ [])) (truth_byte test ∷ []) sized plain.has_type refl (record { long = λ scalar. length_of_bool plain.ty truth; size = inr truth })
-    operand_is_sound e (Some (expr.Literal (Number number))) store is fine sized =
+    operand_is_sound around e (Some (expr.Literal (Number number))) store is fine sized =
         let plain = fine.plain e itself in
         let as_place = fine_as_place e (ap is_truth is) fine in
         let bytes = number_has_bytes e number as_place in
         let size : length bytes.0 ≡ size_at source (Some plain.ty) = bytes.2 ∙ ap (size_at source) plain.has_type in
         literal_operand_is_sound e plain.ty store (option_map (λ layout. low_bytes layout.size number) (node_layout source e)) bytes.0 sized plain.has_type bytes.1
         (record { long = λ scalar. subst (IsLengthOf plain.ty) (sym size) (scalar_size plain.ty (laid_at e plain.ty as_place plain.has_type) scalar); size = inl size })
-    operand_is_sound e (Some (expr.Path name)) store is fine sized = as_place_is_sound e store (ap is_truth is) fine sized
-    operand_is_sound e (Some (expr.Strict operation operands)) store is fine sized = as_place_is_sound e store (ap is_truth is) fine sized
-    operand_is_sound e (Some (expr.Logic op left right)) store is fine sized = as_place_is_sound e store (ap is_truth is) fine sized
-    operand_is_sound e (Some (expr.If condition then_branch else_branch)) store is fine sized = as_place_is_sound e store (ap is_truth is) fine sized
-    operand_is_sound e (Some (expr.Assign assigned value)) store is fine sized = as_place_is_sound e store (ap is_truth is) fine sized
-    operand_is_sound e (Some (expr.Block statements tail)) store is fine sized = as_place_is_sound e store (ap is_truth is) fine sized
-    operand_is_sound e None store is fine sized = absurd (form_of e _ is (fine.plain e itself))
+    operand_is_sound around e (Some (expr.Path name)) store is fine sized = as_place_is_sound around e store (ap is_truth is) fine sized
+    operand_is_sound around e (Some (expr.Strict operation operands)) store is fine sized = as_place_is_sound around e store (ap is_truth is) fine sized
+    operand_is_sound around e (Some (expr.Logic op left right)) store is fine sized = as_place_is_sound around e store (ap is_truth is) fine sized
+    operand_is_sound around e (Some (expr.If condition then_branch else_branch)) store is fine sized = as_place_is_sound around e store (ap is_truth is) fine sized
+    operand_is_sound around e (Some (expr.Assign assigned value)) store is fine sized = as_place_is_sound around e store (ap is_truth is) fine sized
+    operand_is_sound around e (Some (expr.Block statements tail)) store is fine sized = as_place_is_sound around e store (ap is_truth is) fine sized
+    operand_is_sound around e None store is fine sized = absurd (form_of e _ is (fine.plain e itself))
 
-    operands_are_sound : (operands : List ℕ) (store : Store) → ((e : ℕ) → Contains operands e → IsFineOperand source e) → IsSized source store → IsSound source (OperandsFit operands) (operands_of below operands store)
+    operands_are_sound : (around : Around) (operands : List ℕ) (store : Store) → ((e : ℕ) → Contains operands e → IsFineOperand source e) → IsSized source store → IsSound source (OperandsFit operands) (operands_of source below around operands store)
     unfolding operands_of
-    operands_are_sound [] store fine sized = (sized, tt)
-    operands_are_sound (e ∷ rest) store fine sized =
-        then_do_is_sound source (OperandFits e) (OperandsFit (e ∷ rest)) (below.operand e store) _ (sound.operand e store (fine e (first_is_contained e rest)) sized) (λ first later sized' fits.
-        then_do_is_sound source (OperandsFit rest) (OperandsFit (e ∷ rest)) (operands_of below rest later) _ (operands_are_sound rest later (λ child within. fine child (rest_is_contained e rest child within)) sized') (λ others last sized'' fit. (sized'', (fits, fit))))
+    operands_are_sound around [] store fine sized = (sized, tt)
+    operands_are_sound around (e ∷ rest) store fine sized =
+        then_do_is_sound source (OperandFits e) (OperandsFit (e ∷ rest)) ((below around).operand e store) _ ((sound around).operand e store (fine e (first_is_contained e rest)) sized) (λ first later sized' fits.
+        then_do_is_sound source (OperandsFit rest) (OperandsFit (e ∷ rest)) (operands_of source below (marking (marked_as_operand source e) around) rest later) _ (operands_are_sound (marking (marked_as_operand source e) around) rest later (λ child within. fine child (rest_is_contained e rest child within)) sized') (λ others last sized'' fit. (sized'', (fits, fit))))
 
-    strict_is_sound : (e : ℕ) (operation : Operation) (operands : List ℕ) (path : Path) (store : Store) → node source e ≡ Some (expr.Strict operation operands) → IsFine source e → IsSized source store → PathFits e path → IsSound source Nothing (strict_into source below operation operands path store)
-    strict_is_sound e operation operands path store is fine sized fits =
+    strict_is_sound : (around : Around) (e : ℕ) (operation : Operation) (operands : List ℕ) (path : Path) (store : Store) → node source e ≡ Some (expr.Strict operation operands) → IsFine source e → IsSized source store → PathFits e path → IsSound source Nothing (strict_into source below around operation operands path store)
+    strict_is_sound around e operation operands path store is fine sized fits =
         let plain = fine.plain e itself in
         let form = form_of e _ is plain in
-        then_do_is_sound source (OperandsFit operands) Nothing (operands_of below operands store) _ (operands_are_sound operands store (λ child within.
+        then_do_is_sound source (OperandsFit operands) Nothing (operands_of source below around operands store) _ (operands_are_sound around operands store (λ child within.
         operand_is_fine e child (Some (expr.Strict operation operands)) is (operand_is_part source e operation operands child is within) (operand_is_sized source operands child within) fine) sized) (λ given later sized' fit.
         put_answer_is_sound source later path _ sized'
         (subst (λ size. Fits size (answered operation (map (value_of source later) given))) (sym (ap (size_at source) (fits ∙ plain.has_type)))
         (typed_fits source operation form.types (map (value_of source later) given) plain.ty form.typed (operands_are_values operands form.types given later sized' form.operands_have fit)
         (λ scalar. scalar_size plain.ty (laid_at e plain.ty fine plain.has_type) scalar))))
 
-    statement_is_sound : (given : Statement) (store : Store) → IsPlainStatement source given → ((child : ℕ) → Contains (statement_parts given) child → IsFine source child) → IsSized source store → IsSound source Nothing (statement_of source below given store)
-    statement_is_sound (statement.Let pat (Some e) None) store plain parts sized =
-        then_do_is_sound source (PathFits e.0) Nothing (below.place e.0 store) _ (sound.place e.0 store (parts e.0 (first_is_contained e.0 [])) sized) (λ path later sized' fits. bind_is_sound pat.0 e.0 path later plain sized' fits)
-    statement_is_sound (statement.Let pat (Some e) (Some other)) store plain parts sized = absurd plain
-    statement_is_sound (statement.Let pat None other) store plain parts sized = absurd plain
-    statement_is_sound (statement.Expr e has_semi) store plain parts sized =
-        then_do_is_sound source (PathFits e.0) Nothing (below.place e.0 store) _ (sound.place e.0 store (parts e.0 (first_is_contained e.0 [])) sized) (λ path later sized' fits. (sized', tt))
-    statement_is_sound statement.Item store plain parts sized = absurd plain
+    statement_is_sound : (around : Around) (given : Statement) (store : Store) → IsPlainStatement source given → ((child : ℕ) → Contains (statement_parts given) child → IsFine source child) → IsSized source store → IsSound source Nothing (statement_of source (below around) given store)
+    statement_is_sound around (statement.Let pat (Some e) None) store plain parts sized =
+        then_do_is_sound source (PathFits e.0) Nothing ((below around).place e.0 store) _ ((sound around).place e.0 store (parts e.0 (first_is_contained e.0 [])) sized) (λ path later sized' fits. bind_is_sound pat.0 e.0 path later plain sized' fits)
+    statement_is_sound around (statement.Let pat (Some e) (Some other)) store plain parts sized = absurd plain
+    statement_is_sound around (statement.Let pat None other) store plain parts sized = absurd plain
+    statement_is_sound around (statement.Expr e has_semi) store plain parts sized =
+        then_do_is_sound source (PathFits e.0) Nothing ((below around).place e.0 store) _ ((sound around).place e.0 store (parts e.0 (first_is_contained e.0 [])) sized) (λ path later sized' fits. (sized', tt))
+    statement_is_sound around statement.Item store plain parts sized = absurd plain
 
-    statements_are_sound : (statements : List Statement) (store : Store) → All (IsPlainStatement source) statements → ((child : ℕ) → Contains (flat_map statement_parts statements) child → IsFine source child) → IsSized source store → IsSound source Nothing (statements_of source below statements store)
+    statements_are_sound : (around : Around) (statements : List Statement) (store : Store) → All (IsPlainStatement source) statements → ((child : ℕ) → Contains (flat_map statement_parts statements) child → IsFine source child) → IsSized source store → IsSound source Nothing (statements_of source below around statements store)
     unfolding statements_of
-    statements_are_sound [] store plain parts sized = (sized, tt)
-    statements_are_sound (first ∷ rest) store plain parts sized =
-        then_do_is_sound source Nothing Nothing (statement_of source below first store) _ (statement_is_sound first store (All-head (IsPlainStatement source) first rest plain) (λ child within.
+    statements_are_sound around [] store plain parts sized = (sized, tt)
+    statements_are_sound around (first ∷ rest) store plain parts sized =
+        then_do_is_sound source Nothing Nothing (statement_of source (below around) first store) _ (statement_is_sound around first store (All-head (IsPlainStatement source) first rest plain) (λ child within.
         parts child (Contains-append_left (statement_parts first) (flat_map statement_parts rest) child within)) sized) (λ done later sized' is.
-        statements_are_sound rest later (All-tail (IsPlainStatement source) first rest plain) (λ child within.
+        statements_are_sound (marking (marked_by_statement source first) around) rest later (All-tail (IsPlainStatement source) first rest plain) (λ child within.
         parts child (Contains-append_right (statement_parts first) (flat_map statement_parts rest) child within)) sized')
 
-    tail_is_sound : (tail : Option ExprId) (ty : Ty) (path : Path) (store : Store) → IsPlainTail source tail ty → cell_type source path.cell ≡ Some ty → ((child : ℕ) → Contains (optional tail) child → IsFine source child) → IsSized source store → IsSound source Nothing (tail_into below tail path store)
-    tail_is_sound (Some e) ty path store plain fits parts sized = sound.into e.0 path store (parts e.0 (first_is_contained e.0 [])) sized (fits ∙ sym plain)
-    tail_is_sound None ty path store plain fits parts sized = (sized, tt)
+    tail_is_sound : (around : Around) (tail : Option ExprId) (ty : Ty) (path : Path) (store : Store) → IsPlainTail source tail ty → cell_type source path.cell ≡ Some ty → ((child : ℕ) → Contains (optional tail) child → IsFine source child) → IsSized source store → IsSound source Nothing (tail_into (below around) tail path store)
+    tail_is_sound around (Some e) ty path store plain fits parts sized = (sound around).into e.0 path store (parts e.0 (first_is_contained e.0 [])) sized (fits ∙ sym plain)
+    tail_is_sound around None ty path store plain fits parts sized = (sized, tt)
 
     branched_is_sound : (branch : End (Unit {0})) → IsSound source Nothing branch → IsSound source Nothing (branched branch)
     branched_is_sound branch is =
         after_is_sound source Nothing (turns_alone 1) _ (then_do_is_sound source Nothing Nothing branch _ is (λ done later sized done_is. (sized, tt)))
 
-    decided_is_sound : (left : Operand) (right : ℕ) (test : Bool) (path : Path) (store : Store) → IsFine source right → IsSized source store → PathFits right path → length (operand_bytes store left) ≡ cell_size source path.cell → IsSound source Nothing (decided_into source below left right (Some test) path store)
-    decided_is_sound left right true path store fine sized fits long =
+    decided_is_sound : (around : Around) (left : Operand) (right : ℕ) (test : Bool) (path : Path) (store : Store) → IsFine source right → IsSized source store → PathFits right path → length (operand_bytes store left) ≡ cell_size source path.cell → IsSound source Nothing (decided_into source (below around) left right (Some test) path store)
+    decided_is_sound around left right true path store fine sized fits long =
         after_is_sound source Nothing (reading_cost source left) _ (put_is_sound source store path (operand_bytes store left) sized long)
-    decided_is_sound left right false path store fine sized fits long = sound.into right path store fine sized fits
+    decided_is_sound around left right false path store fine sized fits long = (sound around).into right path store fine sized fits
 
-    logic_is_sound : (e : ℕ) (op : LogicOp) (left right : ℕ) (path : Path) (store : Store) → node source e ≡ Some (expr.Logic op left right) → IsFine source e → IsSized source store → PathFits e path → IsSound source Nothing (logic_into source below op left right path store)
-    logic_is_sound e op left right path store is fine sized fits =
+    logic_is_sound : (around : Around) (e : ℕ) (op : LogicOp) (left right : ℕ) (path : Path) (store : Store) → node source e ≡ Some (expr.Logic op left right) → IsFine source e → IsSized source store → PathFits e path → IsSound source Nothing (logic_into source below around op left right path store)
+    logic_is_sound around e op left right path store is fine sized fits =
         let plain = fine.plain e itself in
         let form = form_of e _ is plain in
         let is_bool : node_type source e ≡ Some BoolTy = plain.has_type ∙ ap Some form.typed in
         let size : cell_size source path.cell ≡ 1 = ap (size_at source) (fits ∙ is_bool) ∙ scalar_size BoolTy (laid_at e BoolTy fine is_bool) tt in
         let left_is_fine = operand_is_fine e left (Some (expr.Logic op left right)) is (logic_operand_is_part source e op left right left is (first_is_contained left (right ∷ []))) (first_is_sized source left (step.Into right ∷ [])) fine in
-        then_do_is_sound source (OperandFits left) Nothing (below.operand left store) _ (sound.operand left store left_is_fine sized) (λ given later sized' fit.
+        then_do_is_sound source (OperandFits left) Nothing ((below around).operand left store) _ ((sound around).operand left store left_is_fine sized) (λ given later sized' fit.
         let long = truth_has_byte left given later sized' form.left_has fit in
+        let behind = marking (marked_as_operand source left) around in
         let decides = byte_decides (deciding_byte op) (operand_bytes later given) long in
         branched_is_sound _
-        (subst (λ test. IsSound source Nothing (decided_into source below given right test path later)) (sym decides.1)
-        (decided_is_sound given right decides.0 path later (part_is_fine e right (Some (expr.Logic op left right)) is (right_is_sized source op left right) fine) sized' (fits ∙ is_bool ∙ sym form.right_has) (long ∙ sym size))))
+        (subst (λ test. IsSound source Nothing (decided_into source (below behind) given right test path later)) (sym decides.1)
+        (decided_is_sound behind given right decides.0 path later (part_is_fine e right (Some (expr.Logic op left right)) is (right_is_sized source op left right) fine) sized' (fits ∙ is_bool ∙ sym form.right_has) (long ∙ sym size))))
 
-    branch_is_sound : (then_branch : ℕ) (else_branch : Option ExprId) (test : Bool) (ty : Ty) (path : Path) (store : Store) → node_type source then_branch ≡ Some ty → IsPlainTail source else_branch ty → cell_type source path.cell ≡ Some ty → ((child : ℕ) → Contains (then_branch ∷ optional else_branch) child → IsFine source child) → IsSized source store → IsSound source Nothing (branch_into below then_branch else_branch (Some test) path store)
-    branch_is_sound then_branch else_branch true ty path store has plain fits parts sized =
-        sound.into then_branch path store (parts then_branch (first_is_contained then_branch (optional else_branch))) sized (fits ∙ sym has)
-    branch_is_sound then_branch else_branch false ty path store has plain fits parts sized =
-        tail_is_sound else_branch ty path store plain fits (λ child within. parts child (rest_is_contained then_branch (optional else_branch) child within)) sized
+    branch_is_sound : (around : Around) (then_branch : ℕ) (else_branch : Option ExprId) (test : Bool) (ty : Ty) (path : Path) (store : Store) → node_type source then_branch ≡ Some ty → IsPlainTail source else_branch ty → cell_type source path.cell ≡ Some ty → ((child : ℕ) → Contains (then_branch ∷ optional else_branch) child → IsFine source child) → IsSized source store → IsSound source Nothing (branch_into source below around then_branch else_branch (Some test) path store)
+    branch_is_sound around then_branch else_branch true ty path store has plain fits parts sized =
+        (sound around).into then_branch path store (parts then_branch (first_is_contained then_branch (optional else_branch))) sized (fits ∙ sym has)
+    branch_is_sound around then_branch else_branch false ty path store has plain fits parts sized =
+        tail_is_sound (marking (marked source then_branch) around) else_branch ty path store plain fits (λ child within. parts child (rest_is_contained then_branch (optional else_branch) child within)) sized
 
-    if_is_sound : (e condition then_branch : ℕ) (else_branch : Option ExprId) (path : Path) (store : Store) → node source e ≡ Some (expr.If condition then_branch else_branch) → IsFine source e → IsSized source store → PathFits e path → IsSound source Nothing (if_into below condition then_branch else_branch path store)
-    if_is_sound e condition then_branch else_branch path store is fine sized fits =
+    if_is_sound : (around : Around) (e condition then_branch : ℕ) (else_branch : Option ExprId) (path : Path) (store : Store) → node source e ≡ Some (expr.If condition then_branch else_branch) → IsFine source e → IsSized source store → PathFits e path → IsSound source Nothing (if_into below condition then_branch else_branch path store)
+    if_is_sound around e condition then_branch else_branch path store is fine sized fits =
         let plain = fine.plain e itself in
         let form = form_of e _ is plain in
         let whole = Some (expr.If condition then_branch else_branch) in
         let condition_is_fine = operand_is_fine e condition whole is (if_part_is_part source e condition then_branch else_branch condition is (first_is_contained condition (then_branch ∷ optional else_branch))) (first_is_sized source condition (step.Into then_branch ∷ tail_steps else_branch)) fine in
-        then_do_is_sound source (OperandFits condition) Nothing (below.operand condition store) _ (sound.operand condition store condition_is_fine sized) (λ given later sized' fit.
+        then_do_is_sound source (OperandFits condition) Nothing ((below around).operand condition store) _ ((sound around).operand condition store condition_is_fine sized) (λ given later sized' fit.
+        let behind = marking (marked_as_operand source condition) around in
         let holds = byte_decides 1 (operand_bytes later given) (truth_has_byte condition given later sized' form.condition_has fit) in
         branched_is_sound _
-        (subst (λ test. IsSound source Nothing (branch_into below then_branch else_branch test path later)) (sym holds.1)
-        (branch_is_sound then_branch else_branch holds.0 plain.ty path later form.then_has form.else_has (fits ∙ plain.has_type) (λ child within.
+        (subst (λ test. IsSound source Nothing (branch_into source below behind then_branch else_branch test path later)) (sym holds.1)
+        (branch_is_sound behind then_branch else_branch holds.0 plain.ty path later form.then_has form.else_has (fits ∙ plain.has_type) (λ child within.
         part_is_fine e child whole is (branch_is_sized source condition then_branch else_branch child within) fine) sized')))
 
-    assign_is_sound : (e assigned value : ℕ) (store : Store) → node source e ≡ Some (expr.Assign assigned value) → IsFine source e → IsSized source store → IsSound source Nothing (assign_into source below assigned value store)
-    assign_is_sound e assigned value store is fine sized =
+    assign_is_sound : (around : Around) (e assigned value : ℕ) (store : Store) → node source e ≡ Some (expr.Assign assigned value) → IsFine source e → IsSized source store → IsSound source Nothing (assign_into source (below around) assigned value store)
+    assign_is_sound around e assigned value store is fine sized =
         let form = form_of e _ is (fine.plain e itself) in
         let value_is_fine = part_is_fine e value (Some (expr.Assign assigned value)) is (first_is_contained value []) fine in
-        then_do_is_sound source (PathFits value) Nothing (below.place value store) _ (sound.place value store value_is_fine sized) (λ path later sized' fits. assigned_is_sound assigned value path later form sized' fits)
+        then_do_is_sound source (PathFits value) Nothing ((below around).place value store) _ ((sound around).place value store value_is_fine sized) (λ path later sized' fits. assigned_is_sound assigned value path later form sized' fits)
 
-    block_is_sound : (e : ℕ) (statements : List Statement) (tail : Option ExprId) (path : Path) (store : Store) → node source e ≡ Some (expr.Block statements tail) → IsFine source e → IsSized source store → PathFits e path → IsSound source Nothing (block_into source below statements tail path store)
-    block_is_sound e statements tail path store is fine sized fits =
+    block_is_sound : (around : Around) (e : ℕ) (statements : List Statement) (tail : Option ExprId) (path : Path) (store : Store) → node source e ≡ Some (expr.Block statements tail) → IsFine source e → IsSized source store → PathFits e path → IsSound source Nothing (block_into source below around statements tail path store)
+    block_is_sound around e statements tail path store is fine sized fits =
         let plain = fine.plain e itself in
         let form = form_of e _ is plain in
         let parts = block_part_is_fine e statements tail is fine in
-        then_do_is_sound source Nothing Nothing (statements_of source below statements store) _ (statements_are_sound statements store form.0 (λ child within.
+        let behind = marking (flat_map (marked_by_statement source) statements) around in
+        then_do_is_sound source Nothing Nothing (statements_of source below around statements store) _ (statements_are_sound around statements store form.0 (λ child within.
         parts child (Contains-append_left (flat_map statement_parts statements) (optional tail) child within)) sized) (λ done later sized' is'.
-        then_do_is_sound source Nothing Nothing (tail_into below tail path later) _ (tail_is_sound tail plain.ty path later form.1 (fits ∙ plain.has_type) (λ child within.
+        then_do_is_sound source Nothing Nothing (tail_into (below behind) tail path later) _ (tail_is_sound behind tail plain.ty path later form.1 (fits ∙ plain.has_type) (λ child within.
         parts child (Contains-append_right (flat_map statement_parts statements) (optional tail) child within)) sized') (λ done' last sized'' is''. (sized'', tt)))
 
-    into_is_sound : (e : ℕ) (form : Option CoreExpr) (path : Path) (store : Store) → node source e ≡ form → IsFine source e → IsSized source store → PathFits e path → IsSound source Nothing (into_of source below e form path store)
-    into_is_sound e (Some (expr.Literal given)) path store is fine sized fits =
+    into_is_sound : (around : Around) (e : ℕ) (form : Option CoreExpr) (path : Path) (store : Store) → node source e ≡ form → IsFine source e → IsSized source store → PathFits e path → IsSound source Nothing (into_of source below around e form path store)
+    into_is_sound around e (Some (expr.Literal given)) path store is fine sized fits =
         let plain = fine.plain e itself in
         let bytes = literal_has_size e given plain.ty fine plain.has_type (form_of e _ is plain) in
         put_literal_is_sound e store path (literal_bytes source e given) bytes.0 sized bytes.1 (bytes.2 ∙ ap (size_at source) (sym fits))
-    into_is_sound e (Some (expr.Path name)) path store is fine sized fits =
+    into_is_sound around e (Some (expr.Path name)) path store is fine sized fits =
         let plain = fine.plain e itself in
         let form = form_of e _ is plain in
         subst (λ named. IsSound source Nothing (named_into named path store)) (sym form.named)
         (put_is_sound source store path (store (Binding form.binding.0)) sized (sized.holds_all (Binding form.binding.0) ∙ ap (size_at source) (form.binding_has ∙ sym plain.has_type ∙ sym fits)))
-    into_is_sound e (Some (expr.Strict operation operands)) path store is fine sized fits = strict_is_sound e operation operands path store is fine sized fits
-    into_is_sound e (Some (expr.Logic op left right)) path store is fine sized fits = logic_is_sound e op left right path store is fine sized fits
-    into_is_sound e (Some (expr.If condition then_branch else_branch)) path store is fine sized fits = if_is_sound e condition then_branch else_branch path store is fine sized fits
-    into_is_sound e (Some (expr.Assign assigned value)) path store is fine sized fits = assign_is_sound e assigned value store is fine sized
-    into_is_sound e (Some (expr.Block statements tail)) path store is fine sized fits = block_is_sound e statements tail path store is fine sized fits
-    into_is_sound e None path store is fine sized fits = absurd (form_of e _ is (fine.plain e itself))
+    into_is_sound around e (Some (expr.Strict operation operands)) path store is fine sized fits = strict_is_sound around e operation operands path store is fine sized fits
+    into_is_sound around e (Some (expr.Logic op left right)) path store is fine sized fits = logic_is_sound around e op left right path store is fine sized fits
+    into_is_sound around e (Some (expr.If condition then_branch else_branch)) path store is fine sized fits = if_is_sound around e condition then_branch else_branch path store is fine sized fits
+    into_is_sound around e (Some (expr.Assign assigned value)) path store is fine sized fits = assign_is_sound around e assigned value store is fine sized
+    into_is_sound around e (Some (expr.Block statements tail)) path store is fine sized fits = block_is_sound around e statements tail path store is fine sized fits
+    into_is_sound around e None path store is fine sized fits = absurd (form_of e _ is (fine.plain e itself))
 
-    above_is_sound : IsSoundLevel (level_above source below)
-    above_is_sound = record {
-      place = λ e store fine sized. place_is_sound e (node source e) store refl fine sized;
-      operand = λ e store fine sized. operand_is_sound e (node source e) store refl fine sized;
-      into = λ e path store fine sized fits. into_is_sound e (node source e) path store refl fine sized fits;
+    above_is_sound : (around : Around) → IsSoundLevel (level_above source below around)
+    above_is_sound around = record {
+      place = λ e store fine sized. place_is_sound around e (node source e) store refl fine sized;
+      operand = λ e store fine sized. operand_is_sound around e (node source e) store refl fine sized;
+      into = λ e path store fine sized fits. into_is_sound around e (node source e) path store refl fine sized fits;
     }
 
-  level_is_sound : (fuel : ℕ) → IsSoundLevel (level_at source fuel)
+  level_is_sound : (fuel : ℕ) (around : Around) → IsSoundLevel (level_at source fuel around)
   unfolding level_at
   level_is_sound zero = no_fuel_is_sound
   level_is_sound (suc fuel) = above_is_sound (level_at source fuel) (level_is_sound fuel)
@@ -416,7 +421,7 @@ module _ (source : Source) (checked : IsChecked source.world) where
 meaning_is_sound : (source : Source) (fuel : ℕ) → IsChecked source.world → IsPlain source → AreLaidOut source → IsSound source (λ bytes. Unit {0}) (meaning_of source fuel)
 unfolding meaning_of
 meaning_is_sound source fuel checked plain laid_out =
-    after_is_sound source (λ bytes. Unit {0}) _ _ (then_do_is_sound source Nothing (λ bytes. Unit {0}) ((level_at source fuel).into (root source) _ _) _ ((level_is_sound source checked fuel).into (root source) _ _ (record { plain = plain; laid_out = laid_out.nodes }) (zeroed_is_sized source) refl) (λ done store sized is. (sized, tt)))
+    after_is_sound source (λ bytes. Unit {0}) _ _ (then_do_is_sound source Nothing (λ bytes. Unit {0}) ((level_at source fuel at_root).into (root source) _ _) _ ((level_is_sound source checked fuel at_root).into (root source) _ _ (record { plain = plain; laid_out = laid_out.nodes }) (zeroed_is_sized source) refl) (λ done store sized is. (sized, tt)))
 
 pub plain_is_never_stuck : (source : Source) (fuel : ℕ) → IsChecked source.world → IsCheckedBody source.body source.infer → IsPlain source → AreLaidOut source → meaning_of source fuel ≢ Stuck
 plain_is_never_stuck source fuel checked body plain laid_out stuck = subst (IsSound source (λ bytes. Unit {0})) stuck (meaning_is_sound source fuel checked plain laid_out)

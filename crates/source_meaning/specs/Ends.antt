@@ -8,7 +8,7 @@ pub record Cost : Type 0 where
   pub turns : ℕ
   -- how many bytes are taken
   pub bytes : ℕ
-  -- how many calls are open at once, at most, beside the one that is being evaluated
+  -- how deep runs and the parts of values are nested, at most
   pub nesting : ℕ
   -- whether all that takes bytes has a size
   pub defined : Bool

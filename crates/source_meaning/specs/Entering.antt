@@ -61,6 +61,11 @@ is_cost_defined source =
     list_all (λ e. is_sized_type source (node_type source e)) (evaluated source (root source))
     && list_all (λ b. is_sized_or_none source (binding_type source b)) (below (length source.body.bindings))
 
--- the cost of entering a body
+-- how many levels a value has: its type, and the types of its parts. No form makes a value with parts yet.
+abbrev pub levels : ℕ
+levels = 1
+
+-- The cost of entering a body: a block, and the bytes of its cells. A run is one level of nesting, and on top of it stand
+-- the levels of its value.
 unfoldable pub entering : Source → Cost
-entering source = record { turns = 1; bytes = body_room source; nesting = 0; defined = is_cost_defined source }
+entering source = record { turns = 1; bytes = body_room source; nesting = suc levels; defined = is_cost_defined source }

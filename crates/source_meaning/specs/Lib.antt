@@ -1,3 +1,4 @@
+pub mod Around
 pub mod Built
 pub mod Core
 pub mod Ends

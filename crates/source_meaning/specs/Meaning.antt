@@ -1,6 +1,6 @@
 -- What a typed body means: its value, or how else it ends, by evaluating its tree of expressions. It knows no
 -- basic blocks. Fuel bounds how deep the evaluation goes.
-use Rattle.std.specs.Prelude.{◌≡◌, ℕ, zero, suc, Bool, true, false, cond, if◌then◌else◌, ◌==◌, List, [], ◌∷◌, length, map, Option, Some, None, option_and_then, option_map}
+use Rattle.std.specs.Prelude.{◌≡◌, ℕ, zero, suc, Bool, true, false, cond, if◌then◌else◌, ◌==◌, List, [], ◌∷◌, length, map, flat_map, Option, Some, None, option_and_then, option_map}
 use Rattle.types.specs.declared.ids.BindingId.{BindingId}
 use Rattle.types.specs.declared.ids.ExprId.{ExprId}
 use Rattle.types.specs.declared.operators.LogicOp.{LogicOp}
@@ -17,7 +17,8 @@ use Rattle.source_meaning.specs.Core as expr
 use Rattle.source_meaning.specs.Core.{CoreExpr, CoreLiteral, Truth, Number, Operation, Negate, Invert, Combine}
 use Rattle.source_meaning.specs.Ends.{Cost, no_cost, turns_alone, bytes_alone, End, Go, Faults, Panic, Stuck, More, after, then_do, IsOver}
 use Rattle.source_meaning.specs.Entering.{room_of, entering}
-use Rattle.source_meaning.specs.Events.{marked, marked_as_place, marked_in_block}
+use Rattle.source_meaning.specs.Around.{Around, at_root, marking}
+use Rattle.source_meaning.specs.Events.{marked, marked_as_place, marked_as_operand, marked_by_statement, marked_in_block}
 use Rattle.source_meaning.specs.Source.{Source, node, node_type, node_layout, named_by, pattern, target, root, Result, Node, Binding, Path, Store, zeroed, with_cell_bytes, Operand, Literally, At, operand_bytes, operand_type, drops}
 
 -- the byte of a truth value: 1 for true
@@ -73,9 +74,13 @@ pub record Level : Type 0 where
   pub operand : ℕ → Store → End Operand
   pub into : ℕ → Path → Store → End (Unit {0})
 
+-- the same by what an expression stands in
+abbrev pub Levels : Type 0
+Levels = Around → Level
+
 -- with no fuel nothing ends
-abbrev pub no_fuel : Level
-no_fuel = record {
+abbrev pub no_fuel : Levels
+no_fuel around = record {
   place = λ e store. More no_cost;
   operand = λ e store. More no_cost;
   into = λ e path store. More no_cost;
@@ -88,10 +93,10 @@ named_place _ store = Stuck
 
 -- a path is the place that it names; an expression that is no place goes into a cell of its own, which is then its
 -- place
-abbrev pub place_of : Source → Level → ℕ → Option CoreExpr → Store → End Path
-place_of source below e (Some (expr.Path name)) store = named_place (named_by source e) store
-place_of source below e _ store =
-    then_do (below.into e (record { cell = Node e }) store) (λ _ later. Go (record { cell = Node e }) later no_cost)
+abbrev pub place_of : Source → Levels → Around → ℕ → Option CoreExpr → Store → End Path
+place_of source below around e (Some (expr.Path name)) store = named_place (named_by source e) store
+place_of source below around e _ store =
+    then_do ((below (marking (Node e ∷ []) around)).into e (record { cell = Node e }) store) (λ _ later. Go (record { cell = Node e }) later no_cost)
 
 -- a literal is its bytes; any other expression is evaluated to a place, whose bytes the
 -- operation reads
@@ -102,21 +107,21 @@ literal_operand source e store (Some bytes) = elim (node_type source e) [
 ]
 literal_operand source e store None = Stuck
 
-abbrev pub operand_of : Source → Level → ℕ → Option CoreExpr → Store → End Operand
-operand_of source below e (Some (expr.Literal l)) store = literal_operand source e store (literal_bytes source e l)
-operand_of source below e _ store = then_do (below.place e store) (λ path later. Go (At path) later no_cost)
+abbrev pub operand_of : Source → Levels → Around → ℕ → Option CoreExpr → Store → End Operand
+operand_of source below around e (Some (expr.Literal l)) store = literal_operand source e store (literal_bytes source e l)
+operand_of source below around e _ store = then_do ((below around).place e store) (λ path later. Go (At path) later no_cost)
 
 -- operands from left to right
-unfoldable pub operands_of : Level → List ℕ → Store → End (List Operand)
-operands_of below [] store = Go [] store no_cost
-operands_of below (e ∷ rest) store =
-    then_do (below.operand e store) (λ first later.
-    then_do (operands_of below rest later) (λ others last. Go (first ∷ others) last no_cost))
+unfoldable pub operands_of : Source → Levels → Around → List ℕ → Store → End (List Operand)
+operands_of source below around [] store = Go [] store no_cost
+operands_of source below around (e ∷ rest) store =
+    then_do ((below around).operand e store) (λ first later.
+    then_do (operands_of source below (marking (marked_as_operand source e) around) rest later) (λ others last. Go (first ∷ others) last no_cost))
 
 -- the operands from left to right, and then the operation, which reads them all, computes, and writes
-abbrev pub strict_into : Source → Level → Operation → List ℕ → Path → Store → End (Unit {0})
-strict_into source below operation operands path store =
-    then_do (operands_of below operands store) (λ given later. put_answer later path (answered operation (map (value_of source later) given)))
+abbrev pub strict_into : Source → Levels → Around → Operation → List ℕ → Path → Store → End (Unit {0})
+strict_into source below around operation operands path store =
+    then_do (operands_of source below around operands store) (λ given later. put_answer later path (answered operation (map (value_of source later) given)))
 
 -- Whether bytes are one byte, and this is the given number. Other bytes than one have no answer.
 abbrev pub is_byte : ℕ → List ℕ → Option Bool
@@ -144,27 +149,28 @@ abbrev pub branched : End (Unit {0}) → End (Unit {0})
 branched branch = after (turns_alone 1) (then_do branch (λ _ last. Go tt last (turns_alone 1)))
 
 -- the left operand, and then it or the right one is the value
-abbrev pub logic_into : Source → Level → LogicOp → (left right : ℕ) → Path → Store → End (Unit {0})
-logic_into source below op left right path store =
-    then_do (below.operand left store) (λ given later.
-    branched (decided_into source below given right (is_byte (deciding_byte op) (operand_bytes later given)) path later))
+abbrev pub logic_into : Source → Levels → Around → LogicOp → (left right : ℕ) → Path → Store → End (Unit {0})
+logic_into source below around op left right path store =
+    then_do ((below around).operand left store) (λ given later.
+    branched (decided_into source (below (marking (marked_as_operand source left) around)) given right (is_byte (deciding_byte op) (operand_bytes later given)) path later))
 
 -- an expression that may be left out, evaluated into a path: the tail of a block, or the second branch of an `if`
 abbrev pub tail_into : Level → Option ExprId → Path → Store → End (Unit {0})
 tail_into below (Some e) path store = below.into e.0 path store
 tail_into below None path store = Go tt store no_cost
 
--- the first branch where the condition holds, and else the second
-abbrev pub branch_into : Level → (then_branch : ℕ) → (else_branch : Option ExprId) → Option Bool → Path → Store → End (Unit {0})
-branch_into below then_branch else_branch (Some true) path store = below.into then_branch path store
-branch_into below then_branch else_branch (Some false) path store = tail_into below else_branch path store
-branch_into below then_branch else_branch None path store = Stuck
+-- the first branch where the condition holds, and else the second; what the first one marks counts as in use in the second
+abbrev pub branch_into : Source → Levels → Around → (then_branch : ℕ) → (else_branch : Option ExprId) → Option Bool → Path → Store → End (Unit {0})
+branch_into source below around then_branch else_branch (Some true) path store = (below around).into then_branch path store
+branch_into source below around then_branch else_branch (Some false) path store =
+    tail_into (below (marking (marked source then_branch) around)) else_branch path store
+branch_into source below around then_branch else_branch None path store = Stuck
 
 -- the condition, which holds where its byte is 1, and then a branch
-abbrev pub if_into : Level → (condition then_branch : ℕ) → (else_branch : Option ExprId) → Path → Store → End (Unit {0})
-if_into below condition then_branch else_branch path store =
-    then_do (below.operand condition store) (λ given later.
-    branched (branch_into below then_branch else_branch (is_byte 1 (operand_bytes later given)) path later))
+abbrev pub if_into : Source → Levels → Around → (condition then_branch : ℕ) → (else_branch : Option ExprId) → Path → Store → End (Unit {0})
+if_into source below around condition then_branch else_branch path store =
+    then_do ((below around).operand condition store) (λ given later.
+    branched (branch_into source below (marking (marked_as_operand source condition) around) then_branch else_branch (is_byte 1 (operand_bytes later given)) path later))
 
 -- the bytes of what a path names
 abbrev pub named_into : Option ValueNs → Path → Store → End (Unit {0})
@@ -191,45 +197,46 @@ abbrev pub assign_into : Source → Level → (target value : ℕ) → Store →
 assign_into source below assigned value store = then_do (below.place value store) (λ path later. bind (target source assigned) path later)
 
 -- statements in order
-unfoldable pub statements_of : Source → Level → List Statement → Store → End (Unit {0})
-statements_of source below [] store = Go tt store no_cost
-statements_of source below (first ∷ rest) store =
-    then_do (statement_of source below first store) (λ _ later. statements_of source below rest later)
+unfoldable pub statements_of : Source → Levels → Around → List Statement → Store → End (Unit {0})
+statements_of source below around [] store = Go tt store no_cost
+statements_of source below around (first ∷ rest) store =
+    then_do (statement_of source (below around) first store) (λ _ later.
+    statements_of source below (marking (marked_by_statement source first) around) rest later)
 
 -- the statements of a block, its tail, and then what came into use in it is left
-abbrev pub block_into : Source → Level → List Statement → Option ExprId → Path → Store → End (Unit {0})
-block_into source below statements tail path store =
-    then_do (statements_of source below statements store) (λ _ later.
-    then_do (tail_into below tail path later) (λ _ last.
+abbrev pub block_into : Source → Levels → Around → List Statement → Option ExprId → Path → Store → End (Unit {0})
+block_into source below around statements tail path store =
+    then_do (statements_of source below around statements store) (λ _ later.
+    then_do (tail_into (below (marking (flat_map (marked_by_statement source) statements) around)) tail path later) (λ _ last.
     Go tt last (turns_alone (drops source (marked_in_block source statements tail)))))
 
 -- an expression evaluated into a path: the forms that have a meaning so far
-abbrev pub into_of : Source → Level → ℕ → Option CoreExpr → Path → Store → End (Unit {0})
-into_of source below e (Some (expr.Literal l)) path store = put_literal source e store path (literal_bytes source e l)
-into_of source below e (Some (expr.Path name)) path store = named_into (named_by source e) path store
-into_of source below e (Some (expr.Strict operation operands)) path store = strict_into source below operation operands path store
-into_of source below e (Some (expr.Logic op left right)) path store = logic_into source below op left right path store
-into_of source below e (Some (expr.If condition then_branch else_branch)) path store = if_into below condition then_branch else_branch path store
-into_of source below e (Some (expr.Assign assigned value)) path store = assign_into source below assigned value store
-into_of source below e (Some (expr.Block statements tail)) path store = block_into source below statements tail path store
-into_of source below e None path store = Stuck
+abbrev pub into_of : Source → Levels → Around → ℕ → Option CoreExpr → Path → Store → End (Unit {0})
+into_of source below around e (Some (expr.Literal l)) path store = put_literal source e store path (literal_bytes source e l)
+into_of source below around e (Some (expr.Path name)) path store = named_into (named_by source e) path store
+into_of source below around e (Some (expr.Strict operation operands)) path store = strict_into source below around operation operands path store
+into_of source below around e (Some (expr.Logic op left right)) path store = logic_into source below around op left right path store
+into_of source below around e (Some (expr.If condition then_branch else_branch)) path store = if_into source below around condition then_branch else_branch path store
+into_of source below around e (Some (expr.Assign assigned value)) path store = assign_into source (below around) assigned value store
+into_of source below around e (Some (expr.Block statements tail)) path store = block_into source below around statements tail path store
+into_of source below around e None path store = Stuck
 
 -- the meanings at one more unit of fuel
-abbrev pub level_above : Source → Level → Level
-level_above source below = record {
-  place = λ e store. place_of source below e (node source e) store;
-  operand = λ e store. operand_of source below e (node source e) store;
-  into = λ e path store. into_of source below e (node source e) path store;
+abbrev pub level_above : Source → Levels → Levels
+level_above source below around = record {
+  place = λ e store. place_of source below around e (node source e) store;
+  operand = λ e store. operand_of source below around e (node source e) store;
+  into = λ e path store. into_of source below around e (node source e) path store;
 }
 
-unfoldable pub level_at : Source → ℕ → Level
+unfoldable pub level_at : Source → ℕ → Levels
 level_at source zero = no_fuel
 level_at source (suc fuel) = level_above source (level_at source fuel)
 
 -- a body's bytes: from zeroed cells on, its root is evaluated into the result's cell, and what came into use is left
 unfoldable pub meaning_of : Source → ℕ → End (List ℕ)
 meaning_of source fuel =
-    after (entering source) (then_do ((level_at source fuel).into (root source) (record { cell = Result }) (zeroed source))
+    after (entering source) (then_do ((level_at source fuel at_root).into (root source) (record { cell = Result }) (zeroed source))
     (λ _ store. Go (store Result) store (turns_alone (drops source (marked source (root source))))))
 
 -- the end that a source has with enough fuel
