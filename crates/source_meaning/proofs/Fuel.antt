@@ -18,7 +18,7 @@ use Rattle.source_meaning.specs.Core as expr
 use Rattle.source_meaning.specs.Core.{CoreExpr, Operation}
 use Rattle.source_meaning.specs.Ends.{Cost, turns_alone, End, Go, Jumps, Faults, Stuck, More, IsOver, after, then_do}
 use Rattle.source_meaning.specs.Events.{marked, marked_as_operand, marked_by_statement}
-use Rattle.source_meaning.specs.Meaning.{Level, Levels, constant_cost, put, put_literal, put_answer, literal_operand, literal_bytes, named_place, named_into, bind, no_fuel, place_of, operand_of, operands_of, strict_into, is_byte, deciding_byte, reading_cost, decided_into, branched, logic_into, tail_into, branch_into, if_into, assign_into, statement_of, statements_of, block_into, into_of, level_above, level_at, meaning_of}
+use Rattle.source_meaning.specs.Meaning.{Levels, constant_cost, put, put_literal, put_answer, literal_operand, literal_bytes, named_place, named_into, bind, no_fuel, place_of, operand_of, operands_of, strict_into, is_byte, deciding_byte, reading_cost, decided_into, branched, logic_into, tail_into, branch_into, if_into, assign_into, statement_of, statements_of, block_into, into_of, level_above, level_at, meaning_of}
 use Rattle.source_meaning.specs.Source.{Source, Store, Path, Node, Binding, Operand, Literally, operand_bytes, node, node_type, named_by, pattern, target, root}
 use Rattle.source_meaning.specs.Steps.{parts_of, statement_parts}
 use Rattle.source_meaning.proofs.Core.{part_is_below}

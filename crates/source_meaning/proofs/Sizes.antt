@@ -358,7 +358,7 @@ module _ (source : Source) (checked : IsChecked source.world) where
     branch_is_sound around then_branch else_branch false ty path store has plain fits parts sized =
         tail_is_sound (marking (marked source then_branch) around) else_branch ty path store plain fits (λ child within. parts child (rest_is_contained then_branch (optional else_branch) child within)) sized
 
-    if_is_sound : (around : Around) (e condition then_branch : ℕ) (else_branch : Option ExprId) (path : Path) (store : Store) → node source e ≡ Some (expr.If condition then_branch else_branch) → IsFine source e → IsSized source store → PathFits e path → IsSound source Nothing (if_into below condition then_branch else_branch path store)
+    if_is_sound : (around : Around) (e condition then_branch : ℕ) (else_branch : Option ExprId) (path : Path) (store : Store) → node source e ≡ Some (expr.If condition then_branch else_branch) → IsFine source e → IsSized source store → PathFits e path → IsSound source Nothing (if_into source below around condition then_branch else_branch path store)
     if_is_sound around e condition then_branch else_branch path store is fine sized fits =
         let plain = fine.plain e itself in
         let form = form_of e _ is plain in
