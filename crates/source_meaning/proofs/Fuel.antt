@@ -6,6 +6,7 @@ use Rattle.world.specs.declared.body.Statement.{Statement}
 use Rattle.world.specs.declared.body.Statement.TheVariants as statement
 use Rattle.types.specs.declared.ids.BindingId.{BindingId}
 use Rattle.types.specs.declared.ids.ExprId.{ExprId}
+use Rattle.types.specs.declared.ids.LabelId.{LabelId}
 use Rattle.types.specs.declared.operators.LogicOp.{LogicOp}
 use Rattle.world.specs.declared.infer.ValueNs.{ValueNs}
 use Rattle.world.specs.declared.infer.ValueNs.TheVariants.{LocalBinding}
@@ -13,16 +14,16 @@ use Rattle.types.specs.declared.ty.Ty.{Ty}
 use Rattle.world.specs.Checked.{IsCheckedBody}
 use Rattle.world.specs.Nodes.{optional}
 use Rattle.numbers.specs.Operators.{Answer, Computes, Panics, Undefined}
-use Rattle.source_meaning.specs.Around.{Around, at_root, marking}
+use Rattle.source_meaning.specs.Around.{Around, Target, at_root, marking, inside, target_of}
 use Rattle.source_meaning.specs.Core as expr
 use Rattle.source_meaning.specs.Core.{CoreExpr, Operation}
-use Rattle.source_meaning.specs.Ends.{Cost, turns_alone, End, Go, Jumps, Faults, Stuck, More, IsOver, after, then_do}
+use Rattle.source_meaning.specs.Ends.{Cost, turns_alone, End, Go, Jumps, Jump, Break, Continue, Return, Faults, Stuck, More, IsOver, after, then_do}
 use Rattle.source_meaning.specs.Events.{marked, marked_as_operand, marked_by_statement}
-use Rattle.source_meaning.specs.Meaning.{Levels, constant_cost, put, put_literal, put_answer, literal_operand, literal_bytes, named_place, named_into, bind, no_fuel, place_of, operand_of, operands_of, strict_into, is_byte, deciding_byte, reading_cost, decided_into, branched, logic_into, tail_into, branch_into, if_into, assign_into, statement_of, statements_of, block_into, into_of, level_above, level_at, meaning_of}
+use Rattle.source_meaning.specs.Meaning.{Levels, constant_cost, put, put_literal, put_answer, literal_operand, literal_bytes, named_place, named_into, bind, no_fuel, place_of, operand_of, operands_of, strict_into, is_byte, deciding_byte, reading_cost, decided_into, branched, logic_into, tail_into, branch_into, if_into, assign_into, statement_of, statements_of, block_into, caught, labelled_into, jump_to, break_into, into_of, level_above, level_at, meaning_of}
 use Rattle.source_meaning.specs.Source.{Source, Store, Path, Node, Binding, Operand, Literally, operand_bytes, node, node_type, named_by, pattern, target, root}
 use Rattle.source_meaning.specs.Steps.{parts_of, statement_parts}
 use Rattle.source_meaning.proofs.Core.{part_is_below}
-use Rattle.source_meaning.proofs.Parts.{first_is_contained, rest_is_contained, strict_parts, if_parts, block_parts}
+use Rattle.source_meaning.proofs.Parts.{first_is_contained, rest_is_contained, strict_parts, if_parts, block_parts, tail_part}
 
 -- what is over after a cost is over
 over_before : {A : Type 0} (cost : Cost) (end : End A) → IsOver (after cost end) → IsOver end
@@ -58,6 +59,30 @@ after_agrees cost first second same over = ap (after cost) (same (over_before co
 branched_agrees : (first second : End (Unit {0})) → (IsOver first → second ≡ first) → IsOver (branched first) → branched second ≡ branched first
 branched_agrees first second same over =
     after_agrees (turns_alone 1) _ _ (λ then_over. then_do_agrees first second _ _ same (λ done later o. refl) then_over) over
+
+either_over : {A : Type 0} (test : Bool) (one other : End A) → IsOver one → IsOver other → IsOver (if test then one else other)
+either_over true one other over over' = over
+either_over false one other over over' = over'
+
+-- what catches jumps is over where what jumps is
+caught_before : (e : ℕ) (end : End (Unit {0})) → IsOver (caught e end) → IsOver end
+caught_before e (Go done store cost) over = tt
+caught_before e (Jumps to store cost) over = tt
+caught_before e (Faults fault cost) over = tt
+caught_before e Stuck over = tt
+caught_before e (More cost) over = over
+
+caught_over : (e : ℕ) (end : End (Unit {0})) → IsOver end → IsOver (caught e end)
+caught_over e (Go done store cost) over = tt
+caught_over e (Jumps (Break node) store cost) over = either_over (node == e) (Go tt store cost) (Jumps (Break node) store cost) tt tt
+caught_over e (Jumps (Continue node) store cost) over = tt
+caught_over e (Jumps Return store cost) over = tt
+caught_over e (Faults fault cost) over = tt
+caught_over e Stuck over = tt
+caught_over e (More cost) over = over
+
+caught_agrees : (e : ℕ) (first second : End (Unit {0})) → (IsOver first → second ≡ first) → IsOver (caught e first) → caught e second ≡ caught e first
+caught_agrees e first second same over = ap (caught e) (same (caught_before e first over))
 
 -- wherever levels come to an end, others come to the same
 pub record Agrees (below above : Levels) : Type 0 where
@@ -133,12 +158,23 @@ module _ (source : Source) (below above : Levels) (agrees : Agrees below above) 
       then_do_agrees (statements_of source below around statements store) (statements_of source above around statements store) _ _ (statements_agree around statements store) (λ done later o.
       then_do_agrees (tail_into (below behind) tail path later) (tail_into (above behind) tail path later) _ _ (tail_agrees behind tail path later) (λ done' last o'. refl) o) over
 
+  labelled_agrees : (around : Around) (e : ℕ) (label : LabelId) (statements : List Statement) (tail : Option ExprId) (path : Path) (store : Store) → IsOver (labelled_into source below around e label statements tail path store) → labelled_into source above around e label statements tail path store ≡ labelled_into source below around e label statements tail path store
+  labelled_agrees around e label statements tail path store over =
+      branched_agrees _ _ (λ block_over. caught_agrees e _ _ (block_agrees (inside e label path around) statements tail path store) block_over) over
+
+  jump_agrees : (around : Around) (value : Option ExprId) (target : Option Target) (store : Store) → IsOver (jump_to source below around value target store) → jump_to source above around value target store ≡ jump_to source below around value target store
+  jump_agrees around value (Some target) store over =
+      then_do_agrees (tail_into (below around) value target.path store) (tail_into (above around) value target.path store) _ _ (tail_agrees around value target.path store) (λ done later o. refl) over
+  jump_agrees around value None store over = refl
+
   into_agrees : (around : Around) (e : ℕ) (form : Option CoreExpr) (path : Path) (store : Store) → IsOver (into_of source below around e form path store) → into_of source above around e form path store ≡ into_of source below around e form path store
   into_agrees around e (Some (expr.Strict operation operands)) path store over = strict_agrees around operation operands path store over
   into_agrees around e (Some (expr.Logic op left right)) path store over = logic_agrees around op left right path store over
   into_agrees around e (Some (expr.If condition then_branch else_branch)) path store over = if_agrees around condition then_branch else_branch path store over
   into_agrees around e (Some (expr.Assign assigned value)) path store over = assign_agrees around assigned value store over
   into_agrees around e (Some (expr.Block statements tail)) path store over = block_agrees around statements tail path store over
+  into_agrees around e (Some (expr.Labelled label statements tail)) path store over = labelled_agrees around e label statements tail path store over
+  into_agrees around e (Some (expr.Break label value)) path store over = jump_agrees around value (target_of label around.targets) store over
   into_agrees around e _ path store over = refl
 
   above_agrees : Agrees (level_above source below) (level_above source above)
@@ -178,10 +214,6 @@ then_do_over (More cost) next over rest = over
 
 branched_over : (branch : End (Unit {0})) → IsOver branch → IsOver (branched branch)
 branched_over branch over = over_after (turns_alone 1) _ (then_do_over branch _ over (λ done later. tt))
-
-either_over : {A : Type 0} (test : Bool) (one other : End A) → IsOver one → IsOver other → IsOver (if test then one else other)
-either_over true one other over over' = over
-either_over false one other over over' = over'
 
 put_over : (store : Store) (path : Path) (bytes : List ℕ) → IsOver (put store path bytes)
 unfolding put
@@ -298,6 +330,15 @@ module _ (source : Source) (below : Levels) where
       then_do_over (tail_into (below behind) tail path later) _ (tail_over behind tail path later (λ child within.
       ends child (Contains-append_right (flat_map statement_parts statements) (optional tail) child within))) (λ done' last. tt))
 
+  labelled_over : (around : Around) (e : ℕ) (label : LabelId) (statements : List Statement) (tail : Option ExprId) (path : Path) (store : Store) → ((child : ℕ) → Contains (flat_map statement_parts statements ++ optional tail) child → EndsIn below child) → IsOver (labelled_into source below around e label statements tail path store)
+  labelled_over around e label statements tail path store ends =
+      branched_over _ (caught_over e _ (block_over (inside e label path around) statements tail path store ends))
+
+  jump_over : (around : Around) (value : Option ExprId) (target : Option Target) (store : Store) → ((child : ℕ) → Contains (optional value) child → EndsIn below child) → IsOver (jump_to source below around value target store)
+  jump_over around value (Some target) store ends =
+      then_do_over (tail_into (below around) value target.path store) _ (tail_over around value target.path store ends) (λ done later. tt)
+  jump_over around value None store ends = tt
+
   into_over : (around : Around) (e : ℕ) (form : Option CoreExpr) (path : Path) (store : Store) → ((child : ℕ) → Contains (parts_of form) child → EndsIn below child) → IsOver (into_of source below around e form path store)
   into_over around e (Some (expr.Literal literal)) path store ends = put_literal_over source e store path (literal_bytes source e literal)
   into_over around e (Some (expr.Path name)) path store ends = named_into_over (named_by source e) path store
@@ -312,6 +353,10 @@ module _ (source : Source) (below : Levels) where
       then_do_over ((below around).place value store) _ (value_ends.place around store) (λ from later. bind_over (target source assigned) from later)
   into_over around e (Some (expr.Block statements tail)) path store ends =
       block_over around statements tail path store (λ child within. ends child (subst (λ parts. Contains parts child) (sym (block_parts statements tail)) within))
+  into_over around e (Some (expr.Labelled label statements tail)) path store ends =
+      labelled_over around e label statements tail path store (λ child within. ends child (subst (λ parts. Contains parts child) (sym (block_parts statements tail)) within))
+  into_over around e (Some (expr.Break label value)) path store ends =
+      jump_over around value (target_of label around.targets) store (λ child within. ends child (subst (λ parts. Contains parts child) (sym (tail_part value)) within))
   into_over around e None path store ends = tt
 
 -- the fuel with which each expression below a number comes to an end

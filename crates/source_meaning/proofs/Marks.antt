@@ -5,12 +5,13 @@ use Rattle.std.proofs.lemmas.List.Concat.{flat_map-append}
 use Rattle.std.proofs.lemmas.List.Elements.{Contains-append_left, Contains-append_right}
 use Rattle.types.specs.declared.ids.BindingId.{BindingId}
 use Rattle.types.specs.declared.ids.ExprId.{ExprId}
+use Rattle.types.specs.declared.ids.LabelId.{LabelId}
 use Rattle.types.specs.declared.ids.PatId.{PatId}
 use Rattle.types.specs.declared.operators.LogicOp.{LogicOp}
 use Rattle.world.specs.declared.body.Statement.{Statement}
 use Rattle.world.specs.declared.body.Statement.TheVariants as statement
 use Rattle.world.specs.Checked.{IsCheckedBody}
-use Rattle.source_meaning.specs.Core.{CoreExpr, CoreLiteral, Operation, Literal, Path, Strict, Logic, If, Assign, Block, is_literal, is_path}
+use Rattle.source_meaning.specs.Core.{CoreExpr, CoreLiteral, Operation, Literal, Path, Strict, Logic, If, Assign, Block, Labelled, Break, is_literal, is_path}
 use Rattle.source_meaning.specs.Events.{Event, Opens, Marks, Closes, place_events, operand_events, step_events, form_events, events_in, events, events_through, Scopes, after_event, scopes_after, innermost, marks_of, marked, marked_as_place, marked_as_operand, marked_by_statement, marked_by_tail, marked_in_block}
 use Rattle.source_meaning.specs.Laws.{ScopesNest}
 use Rattle.source_meaning.specs.Source.{Source, Cell, Node, Binding, node, pattern, bound_by}
@@ -139,6 +140,9 @@ module _ (source : Source) (below : ℕ → List Event) (closed : (e : ℕ) → 
   form_is_closed (Some (Assign assigned value)) = assign_is_closed value
   form_is_closed (Some (Block statements tail)) =
       subst IsClosed (sym (block_events_are statements tail)) (scope_is_closed (flat_map (step_events source below) (block_steps statements tail)) (inner_is_closed statements tail))
+  form_is_closed (Some (Labelled label statements tail)) =
+      subst IsClosed (sym (block_events_are statements tail)) (scope_is_closed (flat_map (step_events source below) (block_steps statements tail)) (inner_is_closed statements tail))
+  form_is_closed (Some (Break label value)) = tail_is_closed value
   form_is_closed None = none_is_closed
 
 events_in_are_closed : (source : Source) (depth e : ℕ) → IsClosed (events_in depth source e)
@@ -286,6 +290,15 @@ module _ (source : Source) (checked : IsCheckedBody source.body source.infer) (e
   block_marks statements tail is =
       form_marks (Some (Block statements tail)) is ∙ ap marks_of (block_events_are source (events source) (events_are_closed source) statements tail)
       ∙ scope_marks (events_through source (block_steps statements tail)) (inner_is_closed source (events source) (events_are_closed source) statements tail)
+
+  pub labelled_marks : (label : LabelId) (statements : List Statement) (tail : Option ExprId) → node source e ≡ Some (Labelled label statements tail) → marked source e ≡ []
+  labelled_marks label statements tail is =
+      form_marks (Some (Labelled label statements tail)) is ∙ ap marks_of (block_events_are source (events source) (events_are_closed source) statements tail)
+      ∙ scope_marks (events_through source (block_steps statements tail)) (inner_is_closed source (events source) (events_are_closed source) statements tail)
+
+  pub break_marks : (label : Option LabelId) (value : Option ExprId) → node source e ≡ Some (Break label value) → marked source e ≡ marked_by_tail source value
+  unfolding marked_by_tail
+  break_marks label value is = form_marks (Some (Break label value)) is
 
 pub let_marks : (source : Source) (pat : PatId) (e : ExprId) → marked_by_statement source (statement.Let pat (Some e) None) ≡ marked_as_place source e.0 ++ bound_by (pattern source pat.0)
 unfolding marked_by_statement marked_as_place

@@ -8,7 +8,7 @@ use Rattle.types.specs.declared.ids.ExprId.{ExprId}
 use Rattle.types.specs.declared.operators.LogicOp.{LogicOp}
 use Rattle.world.specs.declared.body.Statement.TheVariants as statement
 use Rattle.world.specs.Nodes.{optional}
-use Rattle.source_meaning.specs.Core.{CoreExpr, Operation, Strict, Logic, If, Block, is_truth}
+use Rattle.source_meaning.specs.Core.{CoreExpr, Operation, Strict, Logic, If, Block, Labelled, Break, is_truth}
 use Rattle.source_meaning.specs.Source.{Source, node}
 use Rattle.source_meaning.specs.Steps.{Step, Operand, Place, Into, Bind, Open, Close, statement_steps, tail_steps, block_steps, steps_of, step_part, parts_of, statement_parts}
 use Rattle.source_meaning.specs.Valid.{sized_part, sized_parts}
@@ -52,7 +52,7 @@ operand_parts (e ∷ rest) = ap (λ others. e ∷ others) (operand_parts rest)
 pub strict_parts : (operation : Operation) (operands : List ℕ) → parts_of (Some (Strict operation operands)) ≡ operands
 strict_parts operation operands = operand_parts operands
 
-tail_part : (tail : Option ExprId) → flat_map step_part (tail_steps tail) ≡ optional tail
+pub tail_part : (tail : Option ExprId) → flat_map step_part (tail_steps tail) ≡ optional tail
 tail_part (Some e) = refl
 tail_part None = refl
 
@@ -133,7 +133,7 @@ sized_statement_part source (statement.Let pat None other) child within = within
 sized_statement_part source (statement.Expr e has_semi) child within = within
 sized_statement_part source statement.Item child within = within
 
-sized_tail : (source : Source) (tail : Option ExprId) (child : ℕ) → Contains (optional tail) child → Contains (flat_map (sized_part source) (tail_steps tail)) child
+pub sized_tail : (source : Source) (tail : Option ExprId) (child : ℕ) → Contains (optional tail) child → Contains (flat_map (sized_part source) (tail_steps tail)) child
 sized_tail source (Some e) child within = within
 sized_tail source None child within = within
 

@@ -3,10 +3,11 @@ use Rattle.std.specs.Prelude.{All, flat_map, Contains}
 use Rattle.std.proofs.Common.{⊎_elim, ◌⊎◌, inl, inr, ◌≡◌, ◌≢◌, ℕ, zero, suc, Bool, true, false, cond, if◌then◌else◌, ◌==◌, List, [], ◌∷◌, ◌++◌, length, map, Option, Some, None, unwrap_or, option_map, option_and_then, ℤ, refl, sym, ap, ◌∙◌, subst, arith, eqb-true, eq-eqb}
 use Rattle.std.proofs.lemmas.Bool.{false≢true}
 use Rattle.std.proofs.lemmas.List.{length-replicate}
-use Rattle.std.proofs.lemmas.List.Elements.{All-head, All-tail, Contains-append_left, Contains-append_right}
+use Rattle.std.proofs.lemmas.List.Elements.{All-head, All-tail, Contains-append_left, Contains-append_right, Contains-append_cases}
 use Rattle.world.specs.declared.body.Statement.{Statement}
 use Rattle.world.specs.declared.body.Statement.TheVariants as statement
 use Rattle.types.specs.declared.ids.ExprId.{ExprId}
+use Rattle.types.specs.declared.ids.LabelId.{LabelId}
 use Rattle.types.specs.declared.operators.LogicOp.{LogicOp}
 use Rattle.types.specs.declared.ty.Ty.{Ty, Bool as BoolTy, Int as IntType, Uint as UintType}
 use Rattle.world.specs.Checked.{IsChecked, IsCheckedBody}
@@ -14,20 +15,20 @@ use Rattle.world.specs.Nodes.{optional}
 use Rattle.numbers.specs.Bytes.{low_bytes}
 use Rattle.numbers.specs.Operators.{Answer, Computes, Panics, Undefined, kind_of}
 use Rattle.numbers.proofs.Digits.{length-low_bytes}
-use Rattle.source_meaning.specs.Around.{Around, at_root, marking}
+use Rattle.source_meaning.specs.Around.{Opened, Target, Around, at_root, marking, entered, inside as inside_of, is_meant, meant, target_of}
 use Rattle.source_meaning.specs.Core as expr
 use Rattle.source_meaning.specs.Core.{CoreExpr, CoreLiteral, Truth, Number, Operation, is_truth}
-use Rattle.source_meaning.specs.Ends.{Cost, no_cost, turns_alone, End, Go, Jumps, Faults, Stuck, More, JumpsNowhere, after, then_do}
+use Rattle.source_meaning.specs.Ends.{Cost, no_cost, turns_alone, End, Go, Jumps, Jump, Break, Continue, Return, Faults, Stuck, More, JumpsNowhere, after, then_do}
 use Rattle.source_meaning.specs.Events.{marked, marked_as_operand, marked_by_statement}
-use Rattle.source_meaning.specs.Meaning.{Level, Levels, value_of, answered, truth_byte, literal_bytes, constant_cost, put, put_literal, put_answer, literal_operand, named_place, named_into, bind, operands_of, strict_into, is_byte, deciding_byte, reading_cost, decided_into, branched, logic_into, tail_into, branch_into, if_into, assign_into, statement_of, statements_of, block_into, no_fuel, place_of, operand_of, into_of, level_above, level_at, meaning_of}
+use Rattle.source_meaning.specs.Meaning.{Level, Levels, value_of, answered, truth_byte, literal_bytes, constant_cost, put, put_literal, put_answer, literal_operand, named_place, named_into, bind, operands_of, strict_into, is_byte, deciding_byte, reading_cost, decided_into, branched, logic_into, tail_into, branch_into, if_into, assign_into, statement_of, statements_of, block_into, caught, labelled_into, jump_to, break_into, no_fuel, place_of, operand_of, into_of, level_above, level_at, meaning_of}
 use Rattle.source_meaning.specs.Source.{Source, Store, Path, Cell, Result, Node, Binding, Operand, Literally, At, operand_bytes, same_cell, zeroed, with_cell_bytes, node, node_type, node_layout, pattern, target, root, cell_type, cell_size}
 use Rattle.source_meaning.specs.Steps.{parts_of, statement_parts, tail_steps}
 use Rattle.source_meaning.specs.Steps as step
-use Rattle.source_meaning.specs.Valid.{Evaluates, itself, part, IsScalar, IsBool, IsPlainLiteral, HaveTypes, IsPlainLet, IsPlainStatement, IsPlainTail, IsPlainAssign, HasPlainForm, IsPlainNode, IsPlain, IsLaidOut, sized_parts, NeedsLayout, own, inside, AreLaidOut}
+use Rattle.source_meaning.specs.Valid.{Evaluates, itself, part, IsScalar, IsBool, IsPlainLiteral, HaveTypes, IsPlainLet, IsPlainStatement, IsPlainTail, IsPlainAssign, HasPlainForm, IsPlainNode, EvaluatesIn, itself_in, part_in, opened_in, HasPlainTarget, FitsAround, JumpsFit, IsPlain, IsLaidOut, sized_parts, NeedsLayout, own, inside, AreLaidOut}
 use Rattle.source_meaning.proofs.Depth.{operand_is_part, logic_operand_is_part, if_part_is_part}
 use Rattle.source_meaning.proofs.Layouts.{scalar_has_length, bool_is_scalar, bool_length_is_one}
 use Rattle.source_meaning.proofs.Operators.{Fits, IsLengthOf}
-use Rattle.source_meaning.proofs.Parts.{first_is_contained, rest_is_contained, operand_is_sized, first_is_sized, right_is_sized, branch_is_sized, sized_part_is_part, sized_block_parts}
+use Rattle.source_meaning.proofs.Parts.{first_is_contained, rest_is_contained, operand_is_sized, first_is_sized, right_is_sized, branch_is_sized, sized_part_is_part, sized_block_parts, sized_tail}
 use Rattle.source_meaning.proofs.Values.{size_at, IsValueOf, AreValues, typed_fits}
 
 -- how many bytes the values of an expression have
@@ -59,68 +60,99 @@ written_is_sized source store cell other bytes false sized fits is = sized.holds
 pub with_bytes_is_sized : (source : Source) (store : Store) (cell : Cell) (bytes : List ℕ) → IsSized source store → length bytes ≡ cell_size source cell → IsSized source (with_cell_bytes store cell bytes)
 with_bytes_is_sized source store cell bytes sized fits = record { holds_all = λ other. written_is_sized source store cell other bytes (same_cell cell other) sized fits refl }
 
--- an end that isn't stuck and is no jump, and which leaves sized cells where it is a value
-abbrev pub IsSound : {A : Type 0} → Source → (A → Type 0) → End A → Type 0
-IsSound source P (Go value store cost) = IsSized source store × P value
-IsSound source P (Jumps to store cost) = ⊥
-IsSound source P (Faults fault cost) = Unit {0}
-IsSound source P Stuck = ⊥
-IsSound source P (More cost) = Unit {0}
+-- a jump leads behind one of these targets
+abbrev pub IsTarget : List Target → Jump → Type 0
+IsTarget targets (Break node) = (target : Target) × Contains targets target × (target.opened.node ≡ node)
+IsTarget targets _ = ⊥
 
-after_is_sound : {A : Type 0} (source : Source) (P : A → Type 0) (cost : Cost) (end : End A) → IsSound source P end → IsSound source P (after cost end)
+-- an end that isn't stuck, and which leaves sized cells where it is a value, or a jump, which leads to a target
+abbrev pub IsSound : {A : Type 0} → Source → List Target → (A → Type 0) → End A → Type 0
+IsSound source targets P (Go value store cost) = IsSized source store × P value
+IsSound source targets P (Jumps to store cost) = IsSized source store × IsTarget targets to
+IsSound source targets P (Faults fault cost) = Unit {0}
+IsSound source targets P Stuck = ⊥
+IsSound source targets P (More cost) = Unit {0}
+
+after_is_sound : {A : Type 0} (source : Source) (targets : List Target) (P : A → Type 0) (cost : Cost) (end : End A) → IsSound source targets P end → IsSound source targets P (after cost end)
 unfolding after
-after_is_sound source P cost (Go value store rest) sound = sound
-after_is_sound source P cost (Jumps to store rest) sound = sound
-after_is_sound source P cost (Faults fault rest) sound = tt
-after_is_sound source P cost Stuck sound = sound
-after_is_sound source P cost (More rest) sound = tt
+after_is_sound source targets P cost (Go value store rest) sound = sound
+after_is_sound source targets P cost (Jumps to store rest) sound = sound
+after_is_sound source targets P cost (Faults fault rest) sound = tt
+after_is_sound source targets P cost Stuck sound = sound
+after_is_sound source targets P cost (More rest) sound = tt
 
-then_do_is_sound : {A B : Type 0} (source : Source) (P : A → Type 0) (Q : B → Type 0) (first : End A) (next : A → Store → End B) → IsSound source P first → ((value : A) (store : Store) → IsSized source store → P value → IsSound source Q (next value store)) → IsSound source Q (then_do first next)
+then_do_is_sound : {A B : Type 0} (source : Source) (targets : List Target) (P : A → Type 0) (Q : B → Type 0) (first : End A) (next : A → Store → End B) → IsSound source targets P first → ((value : A) (store : Store) → IsSized source store → P value → IsSound source targets Q (next value store)) → IsSound source targets Q (then_do first next)
 unfolding then_do
-then_do_is_sound source P Q (Go value store cost) next sound rest = after_is_sound source Q cost (next value store) (rest value store sound.0 sound.1)
-then_do_is_sound source P Q (Jumps to store cost) next sound rest = absurd sound
-then_do_is_sound source P Q (Faults fault cost) next sound rest = tt
-then_do_is_sound source P Q Stuck next sound rest = sound
-then_do_is_sound source P Q (More cost) next sound rest = tt
+then_do_is_sound source targets P Q (Go value store cost) next sound rest = after_is_sound source targets Q cost (next value store) (rest value store sound.0 sound.1)
+then_do_is_sound source targets P Q (Jumps to store cost) next sound rest = sound
+then_do_is_sound source targets P Q (Faults fault cost) next sound rest = tt
+then_do_is_sound source targets P Q Stuck next sound rest = sound
+then_do_is_sound source targets P Q (More cost) next sound rest = tt
 
 abbrev Nothing : Unit {0} → Type 0
 Nothing done = Unit {0}
 
-either_is_sound : (source : Source) (test : Bool) (one other : End (Unit {0})) → test ≡ true → IsSound source Nothing one → IsSound source Nothing (if test then one else other)
-either_is_sound source true one other is sound = sound
-either_is_sound source false one other is sound = absurd (false≢true is)
+either_is_sound : (source : Source) (targets : List Target) (test : Bool) (one other : End (Unit {0})) → test ≡ true → IsSound source targets Nothing one → IsSound source targets Nothing (if test then one else other)
+either_is_sound source targets true one other is sound = sound
+either_is_sound source targets false one other is sound = absurd (false≢true is)
 
-put_is_sound : (source : Source) (store : Store) (path : Path) (bytes : List ℕ) → IsSized source store → length bytes ≡ cell_size source path.cell → IsSound source Nothing (put store path bytes)
+put_is_sound : (source : Source) (targets : List Target) (store : Store) (path : Path) (bytes : List ℕ) → IsSized source store → length bytes ≡ cell_size source path.cell → IsSound source targets Nothing (put store path bytes)
 unfolding put
-put_is_sound source store path bytes sized fits =
-    either_is_sound source (length bytes == length (store path.cell)) _ Stuck (eq-eqb _ _ (fits ∙ sym (sized.holds_all path.cell))) (with_bytes_is_sized source store path.cell bytes sized fits, tt)
+put_is_sound source targets store path bytes sized fits =
+    either_is_sound source targets (length bytes == length (store path.cell)) _ Stuck (eq-eqb _ _ (fits ∙ sym (sized.holds_all path.cell))) (with_bytes_is_sized source store path.cell bytes sized fits, tt)
 
-put_answer_is_sound : (source : Source) (store : Store) (path : Path) (answer : Answer) → IsSized source store → Fits (cell_size source path.cell) answer → IsSound source Nothing (put_answer store path answer)
-put_answer_is_sound source store path (Computes bytes) sized fits = put_is_sound source store path bytes sized fits
-put_answer_is_sound source store path (Panics word) sized fits = tt
-put_answer_is_sound source store path Undefined sized fits = fits
+put_answer_is_sound : (source : Source) (targets : List Target) (store : Store) (path : Path) (answer : Answer) → IsSized source store → Fits (cell_size source path.cell) answer → IsSound source targets Nothing (put_answer store path answer)
+put_answer_is_sound source targets store path (Computes bytes) sized fits = put_is_sound source targets store path bytes sized fits
+put_answer_is_sound source targets store path (Panics word) sized fits = tt
+put_answer_is_sound source targets store path Undefined sized fits = fits
 
--- an expression all of whose parts are plain, and have layouts where they need them
-pub record IsFine (source : Source) (e : ℕ) : Type 0 where
+-- an expression all of whose parts are plain, have layouts where they need them, and jump to open blocks
+pub record IsFine (source : Source) (outer : List Opened) (e : ℕ) : Type 0 where
+  pub jumps : JumpsFit source outer e
   pub plain : (f : ℕ) → Evaluates source e f → IsPlainNode source f
   pub laid_out : (f : ℕ) → NeedsLayout source e f → IsLaidOut source (node_type source f)
 
 -- the same of an operand: a truth value needs no layout
-pub record IsFineOperand (source : Source) (e : ℕ) : Type 0 where
+pub record IsFineOperand (source : Source) (outer : List Opened) (e : ℕ) : Type 0 where
+  pub jumps : JumpsFit source outer e
   pub plain : (f : ℕ) → Evaluates source e f → IsPlainNode source f
   pub laid_out : (is_truth (node source e) ≡ true) ⊎ ((f : ℕ) → NeedsLayout source e f → IsLaidOut source (node_type source f))
 
+-- the one element of a list
+only_target : (one target : Target) → Contains (one ∷ []) target → one ≡ target
+only_target one target (zero, less, is) = is
+only_target one target (suc k, less, is) = absurd (omega arith)
+
+-- a block that is open has a target, which a jump that means it finds
+target_found : (label : Option LabelId) (targets : List Target) (opened : Opened) → meant label (map (λ target. target.opened) targets) ≡ Some opened → (target : Target) × (target_of label targets ≡ Some target) × Contains targets target × (target.opened ≡ opened)
+unfolding meant target_of
+target_found label [] opened is = absurd cc
+target_found label (first ∷ rest) opened is = by_test (target_found label rest opened) (is_meant label first.opened) refl is
+  where
+    by_test : (meant label (map (λ target. target.opened) rest) ≡ Some opened → (target : Target) × (target_of label rest ≡ Some target) × Contains rest target × (target.opened ≡ opened)) → (test : Bool) → is_meant label first.opened ≡ test → (if test then Some first.opened else meant label (map (λ target. target.opened) rest)) ≡ Some opened → (target : Target) × (target_of label (first ∷ rest) ≡ Some target) × Contains (first ∷ rest) target × (target.opened ≡ opened)
+    by_test later true means found =
+        (first, ap (λ test. if test then Some first else target_of label rest) means, (0, omega arith, refl), (let same : first.opened ≡ opened = cc in same))
+    by_test later false means found =
+        let there = later found in
+        (there.0, ap (λ test. if test then Some first else target_of label rest) means ∙ there.1, Contains-append_right (first ∷ []) rest there.0 there.2, there.3)
+
 module _ (source : Source) (checked : IsChecked source.world) where
+  -- what jumps in a part has a target, by what stands around the part
+  part_jumps : (outer : List Opened) (e child : ℕ) (form : Option CoreExpr) → node source e ≡ form → Contains (parts_of (node source e)) child → JumpsFit source outer e → JumpsFit source (opened_in e form outer) child
+  part_jumps outer e child form is contained jumps inner f evaluated =
+      jumps inner f (part_in contained (subst (λ given. EvaluatesIn source (opened_in e given outer) child inner f) (sym is) evaluated))
+
   -- a part that is evaluated to a place, or into one
-  part_is_fine : (e child : ℕ) (form : Option CoreExpr) → node source e ≡ form → Contains (sized_parts source form) child → IsFine source e → IsFine source child
-  part_is_fine e child form is sized fine =
+  part_is_fine : (outer : List Opened) (e child : ℕ) (form : Option CoreExpr) → node source e ≡ form → Contains (sized_parts source form) child → IsFine source outer e → IsFine source (opened_in e form outer) child
+  part_is_fine outer e child form is sized fine =
       let needed : Contains (sized_parts source (node source e)) child = subst (λ given. Contains (sized_parts source given) child) (sym is) sized in
-      record { plain = λ f rest. fine.plain f (part (sized_part_is_part source (node source e) child needed) rest); laid_out = λ f rest. fine.laid_out f (inside needed rest) }
+      let contained = sized_part_is_part source (node source e) child needed in
+      record { jumps = part_jumps outer e child form is contained fine.jumps; plain = λ f rest. fine.plain f (part contained rest); laid_out = λ f rest. fine.laid_out f (inside needed rest) }
 
   -- a part that is evaluated to an operand: it needs a layout where it is no truth value
-  operand_is_fine : (e child : ℕ) (form : Option CoreExpr) → node source e ≡ form → Contains (parts_of (node source e)) child → (is_truth (node source child) ≡ false → Contains (sized_parts source form) child) → IsFine source e → IsFineOperand source child
-  operand_is_fine e child form is within sized fine =
-      record { plain = λ f rest. fine.plain f (part within rest); laid_out = by_truth (is_truth (node source child)) refl }
+  operand_is_fine : (outer : List Opened) (e child : ℕ) (form : Option CoreExpr) → node source e ≡ form → Contains (parts_of (node source e)) child → (is_truth (node source child) ≡ false → Contains (sized_parts source form) child) → IsFine source outer e → IsFineOperand source (opened_in e form outer) child
+  operand_is_fine outer e child form is contained sized fine =
+      record { jumps = part_jumps outer e child form is contained fine.jumps; plain = λ f rest. fine.plain f (part contained rest); laid_out = by_truth (is_truth (node source child)) refl }
     where
       by_truth : (test : Bool) → is_truth (node source child) ≡ test → (is_truth (node source child) ≡ true) ⊎ ((f : ℕ) → NeedsLayout source child f → IsLaidOut source (node_type source f))
       by_truth true truth = inl truth
@@ -128,8 +160,8 @@ module _ (source : Source) (checked : IsChecked source.world) where
           inr (λ f rest. fine.laid_out f (inside (subst (λ given. Contains (sized_parts source given) child) (sym is) (sized truth)) rest))
 
   -- an operand that is no truth value is as any other expression
-  fine_as_place : (e : ℕ) → is_truth (node source e) ≡ false → IsFineOperand source e → IsFine source e
-  fine_as_place e is fine = record { plain = fine.plain; laid_out = ⊎_elim (λ truth. absurd (false≢true (sym is ∙ truth))) (λ laid. laid) fine.laid_out }
+  fine_as_place : (outer : List Opened) (e : ℕ) → is_truth (node source e) ≡ false → IsFineOperand source outer e → IsFine source outer e
+  fine_as_place outer e is fine = record { jumps = fine.jumps; plain = fine.plain; laid_out = ⊎_elim (λ truth. absurd (false≢true (sym is ∙ truth))) (λ laid. laid) fine.laid_out }
 
   length_of_bool : (ty : Ty) → IsBool ty → IsLengthOf ty 1
   length_of_bool BoolTy is_bool = refl
@@ -156,13 +188,21 @@ module _ (source : Source) (checked : IsChecked source.world) where
   OperandsFit (e ∷ rest) (one ∷ others) = OperandFits e one × OperandsFit rest others
   OperandsFit _ _ = ⊥
 
-  record IsSoundLevel (level : Level) : Type 0 where
-    place : (e : ℕ) (store : Store) → IsFine source e → IsSized source store → IsSound source (PathFits e) (level.place e store)
-    operand : (e : ℕ) (store : Store) → IsFineOperand source e → IsSized source store → IsSound source (OperandFits e) (level.operand e store)
-    into : (e : ℕ) (path : Path) (store : Store) → IsFine source e → IsSized source store → PathFits e path → IsSound source Nothing (level.into e path store)
+  -- the targets around an expression are the blocks that are open, and the path of each is of its type
+  record Stands (outer : List Opened) (around : Around) : Type 0 where
+    opened : map (λ target. target.opened) around.targets ≡ outer
+    fits : (target : Target) → Contains around.targets target → PathFits target.opened.node target.path
 
-  no_fuel_is_sound : (around : Around) → IsSoundLevel (no_fuel around)
-  no_fuel_is_sound around = record { place = λ e store fine sized. tt; operand = λ e store fine sized. tt; into = λ e path store fine sized fits. tt }
+  marks_stand : {outer : List Opened} {around : Around} (cells : List Cell) → Stands outer around → Stands outer (marking cells around)
+  marks_stand cells stands = record { opened = stands.opened; fits = stands.fits }
+
+  record IsSoundLevel (outer : List Opened) (targets : List Target) (level : Level) : Type 0 where
+    place : (e : ℕ) (store : Store) → IsFine source outer e → IsSized source store → IsSound source targets (PathFits e) (level.place e store)
+    operand : (e : ℕ) (store : Store) → IsFineOperand source outer e → IsSized source store → IsSound source targets (OperandFits e) (level.operand e store)
+    into : (e : ℕ) (path : Path) (store : Store) → IsFine source outer e → IsSized source store → PathFits e path → IsSound source targets Nothing (level.into e path store)
+
+  no_fuel_is_sound : (outer : List Opened) (around : Around) → IsSoundLevel outer around.targets (no_fuel around)
+  no_fuel_is_sound outer around = record { place = λ e store fine sized. tt; operand = λ e store fine sized. tt; into = λ e path store fine sized fits. tt }
 
   -- the values of a scalar type with a layout have a length that it may have
   scalar_size : (ty : Ty) → IsLaidOut source (Some ty) → IsScalar ty → IsLengthOf ty (size_at source (Some ty))
@@ -170,8 +210,8 @@ module _ (source : Source) (checked : IsChecked source.world) where
       let size : size_at source (Some ty) ≡ laid.layout.size = ap (λ given. unwrap_or (option_map (λ layout. layout.size) given) 0) laid.found in
       subst (IsLengthOf ty) (sym size) (scalar_has_length source.world ty laid.layout checked scalar laid.found)
 
-  laid_at : (e : ℕ) (ty : Ty) → IsFine source e → node_type source e ≡ Some ty → IsLaidOut source (Some ty)
-  laid_at e ty fine is = subst (IsLaidOut source) is (fine.laid_out e own)
+  laid_at : (outer : List Opened) (e : ℕ) (ty : Ty) → IsFine source outer e → node_type source e ≡ Some ty → IsLaidOut source (Some ty)
+  laid_at outer e ty fine is = subst (IsLaidOut source) is (fine.laid_out e own)
 
   -- what an operand's bytes are when the operation runs
   operand_is_value : (e : ℕ) (ty : Ty) (operand : Operand) (store : Store) → IsSized source store → node_type source e ≡ Some ty → OperandFits e operand → IsValueOf source ty (value_of source store operand)
@@ -210,225 +250,285 @@ module _ (source : Source) (checked : IsChecked source.world) where
       (operand_is_value e ty one store sized have.0 fits.0, operands_are_values rest types others store sized have.1 fits.1)
 
   -- a literal has the bytes of its type
-  number_has_bytes : (e : ℕ) (z : ℤ) → IsFine source e → (bytes : List ℕ) × (option_map (λ layout. low_bytes layout.size z) (node_layout source e) ≡ Some bytes) × (length bytes ≡ size_of source e)
-  number_has_bytes e z fine =
+  number_has_bytes : (outer : List Opened) (e : ℕ) (z : ℤ) → IsFine source outer e → (bytes : List ℕ) × (option_map (λ layout. low_bytes layout.size z) (node_layout source e) ≡ Some bytes) × (length bytes ≡ size_of source e)
+  number_has_bytes outer e z fine =
       let laid = fine.laid_out e own in
       let size : size_of source e ≡ laid.layout.size = ap (λ given. unwrap_or (option_map (λ layout. layout.size) given) 0) laid.found in
       (low_bytes laid.layout.size z, ap (option_map (λ layout. low_bytes layout.size z)) laid.found, length-low_bytes laid.layout.size z ∙ sym size)
 
-  literal_has_size : (e : ℕ) (given : CoreLiteral) (ty : Ty) → IsFine source e → node_type source e ≡ Some ty → IsPlainLiteral given ty → (bytes : List ℕ) × (literal_bytes source e given ≡ Some bytes) × (length bytes ≡ size_of source e)
+  literal_has_size : (outer : List Opened) (e : ℕ) (given : CoreLiteral) (ty : Ty) → IsFine source outer e → node_type source e ≡ Some ty → IsPlainLiteral given ty → (bytes : List ℕ) × (literal_bytes source e given ≡ Some bytes) × (length bytes ≡ size_of source e)
   unfolding literal_bytes
-  literal_has_size e (Truth test) ty fine is plain =
-      (truth_byte test ∷ [], refl, sym (ap (size_at source) is ∙ bool_length_is_one ty (size_at source (Some ty)) plain (scalar_size ty (laid_at e ty fine is) (bool_is_scalar ty plain))))
-  literal_has_size e (Number number) ty fine is plain = number_has_bytes e number fine
+  literal_has_size outer e (Truth test) ty fine is plain =
+      (truth_byte test ∷ [], refl, sym (ap (size_at source) is ∙ bool_length_is_one ty (size_at source (Some ty)) plain (scalar_size ty (laid_at outer e ty fine is) (bool_is_scalar ty plain))))
+  literal_has_size outer e (Number number) ty fine is plain = number_has_bytes outer e number fine
 
-  literal_operand_is_sound : (e : ℕ) (ty : Ty) (store : Store) (given : Option (List ℕ)) (bytes : List ℕ) → IsSized source store → node_type source e ≡ Some ty → given ≡ Some bytes → IsLiteralOf ty bytes → IsSound source (OperandFits e) (literal_operand source e store given)
-  literal_operand_is_sound e ty store given bytes sized is is' fits =
-      subst (λ g. IsSound source (OperandFits e) (literal_operand source e store g)) (sym is')
-      (subst (λ t. IsSound source (OperandFits e) (elim t [ Some found ↦ Go (Literally found bytes) store (constant_cost source e) | None ↦ Stuck ])) (sym is) (sized, (is, fits)))
+  literal_operand_is_sound : (targets : List Target) (e : ℕ) (ty : Ty) (store : Store) (given : Option (List ℕ)) (bytes : List ℕ) → IsSized source store → node_type source e ≡ Some ty → given ≡ Some bytes → IsLiteralOf ty bytes → IsSound source targets (OperandFits e) (literal_operand source e store given)
+  literal_operand_is_sound targets e ty store given bytes sized is is' fits =
+      subst (λ g. IsSound source targets (OperandFits e) (literal_operand source e store g)) (sym is')
+      (subst (λ t. IsSound source targets (OperandFits e) (elim t [ Some found ↦ Go (Literally found bytes) store (constant_cost source e) | None ↦ Stuck ])) (sym is) (sized, (is, fits)))
 
-  put_literal_is_sound : (e : ℕ) (store : Store) (path : Path) (given : Option (List ℕ)) (bytes : List ℕ) → IsSized source store → given ≡ Some bytes → length bytes ≡ cell_size source path.cell → IsSound source Nothing (put_literal source e store path given)
-  put_literal_is_sound e store path given bytes sized is fits =
-      subst (λ g. IsSound source Nothing (put_literal source e store path g)) (sym is)
-      (after_is_sound source Nothing (constant_cost source e) (put store path bytes) (put_is_sound source store path bytes sized fits))
+  put_literal_is_sound : (targets : List Target) (e : ℕ) (store : Store) (path : Path) (given : Option (List ℕ)) (bytes : List ℕ) → IsSized source store → given ≡ Some bytes → length bytes ≡ cell_size source path.cell → IsSound source targets Nothing (put_literal source e store path given)
+  put_literal_is_sound targets e store path given bytes sized is fits =
+      subst (λ g. IsSound source targets Nothing (put_literal source e store path g)) (sym is)
+      (after_is_sound source targets Nothing (constant_cost source e) (put store path bytes) (put_is_sound source targets store path bytes sized fits))
 
   -- the binding of a plain `let` has the initializer's type
-  bind_is_sound : (pat e : ℕ) (path : Path) (store : Store) → IsPlainLet source pat e → IsSized source store → PathFits e path → IsSound source Nothing (bind (pattern source pat) path store)
-  bind_is_sound pat e path store plain sized fits =
-      subst (λ given. IsSound source Nothing (bind given path store)) (sym plain.binds)
-      (put_is_sound source store (record { cell = Binding plain.binding.0 }) (store path.cell) sized (sized.holds_all path.cell ∙ ap (size_at source) (fits ∙ plain.initializer_has ∙ sym plain.binding_has)))
+  bind_is_sound : (targets : List Target) (pat e : ℕ) (path : Path) (store : Store) → IsPlainLet source pat e → IsSized source store → PathFits e path → IsSound source targets Nothing (bind (pattern source pat) path store)
+  bind_is_sound targets pat e path store plain sized fits =
+      subst (λ given. IsSound source targets Nothing (bind given path store)) (sym plain.binds)
+      (put_is_sound source targets store (record { cell = Binding plain.binding.0 }) (store path.cell) sized (sized.holds_all path.cell ∙ ap (size_at source) (fits ∙ plain.initializer_has ∙ sym plain.binding_has)))
 
   -- the binding that a plain assignment names has the value's type
-  assigned_is_sound : (assigned value : ℕ) (path : Path) (store : Store) → IsPlainAssign source assigned value → IsSized source store → PathFits value path → IsSound source Nothing (bind (target source assigned) path store)
-  assigned_is_sound assigned value path store plain sized fits =
-      subst (λ given. IsSound source Nothing (bind given path store)) (sym plain.names)
-      (put_is_sound source store (record { cell = Binding plain.binding.0 }) (store path.cell) sized (sized.holds_all path.cell ∙ ap (size_at source) (fits ∙ plain.value_has ∙ sym plain.binding_has)))
+  assigned_is_sound : (targets : List Target) (assigned value : ℕ) (path : Path) (store : Store) → IsPlainAssign source assigned value → IsSized source store → PathFits value path → IsSound source targets Nothing (bind (target source assigned) path store)
+  assigned_is_sound targets assigned value path store plain sized fits =
+      subst (λ given. IsSound source targets Nothing (bind given path store)) (sym plain.names)
+      (put_is_sound source targets store (record { cell = Binding plain.binding.0 }) (store path.cell) sized (sized.holds_all path.cell ∙ ap (size_at source) (fits ∙ plain.value_has ∙ sym plain.binding_has)))
 
   -- what the node of a fine expression is
   form_of : (e : ℕ) (form : Option CoreExpr) → node source e ≡ form → (plain : IsPlainNode source e) → HasPlainForm source e form plain.ty
   form_of e form is plain = subst (λ given. HasPlainForm source e given plain.ty) is plain.form
 
   -- a statement's part, and a tail, are evaluated to places or into the block's
-  block_part_is_fine : (e : ℕ) (statements : List Statement) (tail : Option ExprId) → node source e ≡ Some (expr.Block statements tail) → IsFine source e → (child : ℕ) → Contains (flat_map statement_parts statements ++ optional tail) child → IsFine source child
-  block_part_is_fine e statements tail is fine child within =
-      part_is_fine e child (Some (expr.Block statements tail)) is (sized_block_parts source statements tail child within) fine
+  block_part_is_fine : (outer : List Opened) (e : ℕ) (statements : List Statement) (tail : Option ExprId) → node source e ≡ Some (expr.Block statements tail) → IsFine source outer e → (child : ℕ) → Contains (flat_map statement_parts statements ++ optional tail) child → IsFine source outer child
+  block_part_is_fine outer e statements tail is fine child within =
+      part_is_fine outer e child (Some (expr.Block statements tail)) is (sized_block_parts source statements tail child within) fine
 
-  module _ (below : Levels) (sound : (around : Around) → IsSoundLevel (below around)) where
-    place_is_sound : (around : Around) (e : ℕ) (form : Option CoreExpr) (store : Store) → node source e ≡ form → IsFine source e → IsSized source store → IsSound source (PathFits e) (place_of source below around e form store)
-    place_is_sound around e (Some (expr.Path name)) store is fine sized =
+  module _ (below : Levels) (sound : (outer : List Opened) (around : Around) → Stands outer around → IsSoundLevel outer around.targets (below around)) where
+    place_is_sound : (outer : List Opened) (around : Around) (stands : Stands outer around) (e : ℕ) (form : Option CoreExpr) (store : Store) → node source e ≡ form → IsFine source outer e → IsSized source store → IsSound source around.targets (PathFits e) (place_of source below around e form store)
+    place_is_sound outer around stands e (Some (expr.Path name)) store is fine sized =
         let plain = fine.plain e itself in
         let form = form_of e _ is plain in
-        subst (λ named. IsSound source (PathFits e) (named_place named store)) (sym form.named) (sized, form.binding_has ∙ sym plain.has_type)
-    place_is_sound around e _ store is fine sized =
-        then_do_is_sound source Nothing (PathFits e) ((below (marking (Node e ∷ []) around)).into e _ store) _ ((sound (marking (Node e ∷ []) around)).into e _ store fine sized refl) (λ done later sized' is'. (sized', refl))
+        subst (λ named. IsSound source around.targets (PathFits e) (named_place named store)) (sym form.named) (sized, form.binding_has ∙ sym plain.has_type)
+    place_is_sound outer around stands e _ store is fine sized =
+        then_do_is_sound source around.targets Nothing (PathFits e) ((below (marking (Node e ∷ []) around)).into e _ store) _ ((sound outer (marking (Node e ∷ []) around) (marks_stand (Node e ∷ []) stands)).into e _ store fine sized refl) (λ done later sized' is'. (sized', refl))
 
-    as_place_is_sound : (around : Around) (e : ℕ) (store : Store) → is_truth (node source e) ≡ false → IsFineOperand source e → IsSized source store → IsSound source (OperandFits e) (then_do ((below around).place e store) (λ path later. Go (At path) later no_cost))
-    as_place_is_sound around e store truth fine sized =
-        let as_place = fine_as_place e truth fine in
-        then_do_is_sound source (PathFits e) (OperandFits e) ((below around).place e store) _ ((sound around).place e store as_place sized) (λ path later sized' fits. (sized', (fits, as_place.laid_out e own)))
+    as_place_is_sound : (outer : List Opened) (around : Around) (stands : Stands outer around) (e : ℕ) (store : Store) → is_truth (node source e) ≡ false → IsFineOperand source outer e → IsSized source store → IsSound source around.targets (OperandFits e) (then_do ((below around).place e store) (λ path later. Go (At path) later no_cost))
+    as_place_is_sound outer around stands e store truth fine sized =
+        let as_place = fine_as_place outer e truth fine in
+        then_do_is_sound source around.targets (PathFits e) (OperandFits e) ((below around).place e store) _ ((sound outer around stands).place e store as_place sized) (λ path later sized' fits. (sized', (fits, as_place.laid_out e own)))
 
-    operand_is_sound : (around : Around) (e : ℕ) (form : Option CoreExpr) (store : Store) → node source e ≡ form → IsFineOperand source e → IsSized source store → IsSound source (OperandFits e) (operand_of source below around e form store)
+    operand_is_sound : (outer : List Opened) (around : Around) (stands : Stands outer around) (e : ℕ) (form : Option CoreExpr) (store : Store) → node source e ≡ form → IsFineOperand source outer e → IsSized source store → IsSound source around.targets (OperandFits e) (operand_of source below around e form store)
     unfolding literal_bytes
-    operand_is_sound around e (Some (expr.Literal (Truth test))) store is fine sized =
+    operand_is_sound outer around stands e (Some (expr.Literal (Truth test))) store is fine sized =
         let plain = fine.plain e itself in
         let truth = form_of e _ is plain in
-        literal_operand_is_sound e plain.ty store (Some (truth_byte test ∷ [])) (truth_byte test ∷ []) sized plain.has_type refl (record { long = λ scalar. length_of_bool plain.ty truth; size = inr truth })
-    operand_is_sound around e (Some (expr.Literal (Number number))) store is fine sized =
+        literal_operand_is_sound around.targets e plain.ty store (Some (truth_byte test ∷ [])) (truth_byte test ∷ []) sized plain.has_type refl (record { long = λ scalar. length_of_bool plain.ty truth; size = inr truth })
+    operand_is_sound outer around stands e (Some (expr.Literal (Number number))) store is fine sized =
         let plain = fine.plain e itself in
-        let as_place = fine_as_place e (ap is_truth is) fine in
-        let bytes = number_has_bytes e number as_place in
+        let as_place = fine_as_place outer e (ap is_truth is) fine in
+        let bytes = number_has_bytes outer e number as_place in
         let size : length bytes.0 ≡ size_at source (Some plain.ty) = bytes.2 ∙ ap (size_at source) plain.has_type in
-        literal_operand_is_sound e plain.ty store (option_map (λ layout. low_bytes layout.size number) (node_layout source e)) bytes.0 sized plain.has_type bytes.1
-        (record { long = λ scalar. subst (IsLengthOf plain.ty) (sym size) (scalar_size plain.ty (laid_at e plain.ty as_place plain.has_type) scalar); size = inl size })
-    operand_is_sound around e (Some (expr.Path name)) store is fine sized = as_place_is_sound around e store (ap is_truth is) fine sized
-    operand_is_sound around e (Some (expr.Strict operation operands)) store is fine sized = as_place_is_sound around e store (ap is_truth is) fine sized
-    operand_is_sound around e (Some (expr.Logic op left right)) store is fine sized = as_place_is_sound around e store (ap is_truth is) fine sized
-    operand_is_sound around e (Some (expr.If condition then_branch else_branch)) store is fine sized = as_place_is_sound around e store (ap is_truth is) fine sized
-    operand_is_sound around e (Some (expr.Assign assigned value)) store is fine sized = as_place_is_sound around e store (ap is_truth is) fine sized
-    operand_is_sound around e (Some (expr.Block statements tail)) store is fine sized = as_place_is_sound around e store (ap is_truth is) fine sized
-    operand_is_sound around e None store is fine sized = absurd (form_of e _ is (fine.plain e itself))
+        literal_operand_is_sound around.targets e plain.ty store (option_map (λ layout. low_bytes layout.size number) (node_layout source e)) bytes.0 sized plain.has_type bytes.1
+        (record { long = λ scalar. subst (IsLengthOf plain.ty) (sym size) (scalar_size plain.ty (laid_at outer e plain.ty as_place plain.has_type) scalar); size = inl size })
+    operand_is_sound outer around stands e (Some (expr.Path name)) store is fine sized = as_place_is_sound outer around stands e store (ap is_truth is) fine sized
+    operand_is_sound outer around stands e (Some (expr.Strict operation operands)) store is fine sized = as_place_is_sound outer around stands e store (ap is_truth is) fine sized
+    operand_is_sound outer around stands e (Some (expr.Logic op left right)) store is fine sized = as_place_is_sound outer around stands e store (ap is_truth is) fine sized
+    operand_is_sound outer around stands e (Some (expr.If condition then_branch else_branch)) store is fine sized = as_place_is_sound outer around stands e store (ap is_truth is) fine sized
+    operand_is_sound outer around stands e (Some (expr.Assign assigned value)) store is fine sized = as_place_is_sound outer around stands e store (ap is_truth is) fine sized
+    operand_is_sound outer around stands e (Some (expr.Block statements tail)) store is fine sized = as_place_is_sound outer around stands e store (ap is_truth is) fine sized
+    operand_is_sound outer around stands e (Some (expr.Labelled label statements tail)) store is fine sized = as_place_is_sound outer around stands e store (ap is_truth is) fine sized
+    operand_is_sound outer around stands e (Some (expr.Break label value)) store is fine sized = as_place_is_sound outer around stands e store (ap is_truth is) fine sized
+    operand_is_sound outer around stands e None store is fine sized = absurd (form_of e _ is (fine.plain e itself))
 
-    operands_are_sound : (around : Around) (operands : List ℕ) (store : Store) → ((e : ℕ) → Contains operands e → IsFineOperand source e) → IsSized source store → IsSound source (OperandsFit operands) (operands_of source below around operands store)
+    operands_are_sound : (outer : List Opened) (around : Around) (stands : Stands outer around) (operands : List ℕ) (store : Store) → ((e : ℕ) → Contains operands e → IsFineOperand source outer e) → IsSized source store → IsSound source around.targets (OperandsFit operands) (operands_of source below around operands store)
     unfolding operands_of
-    operands_are_sound around [] store fine sized = (sized, tt)
-    operands_are_sound around (e ∷ rest) store fine sized =
-        then_do_is_sound source (OperandFits e) (OperandsFit (e ∷ rest)) ((below around).operand e store) _ ((sound around).operand e store (fine e (first_is_contained e rest)) sized) (λ first later sized' fits.
-        then_do_is_sound source (OperandsFit rest) (OperandsFit (e ∷ rest)) (operands_of source below (marking (marked_as_operand source e) around) rest later) _ (operands_are_sound (marking (marked_as_operand source e) around) rest later (λ child within. fine child (rest_is_contained e rest child within)) sized') (λ others last sized'' fit. (sized'', (fits, fit))))
+    operands_are_sound outer around stands [] store fine sized = (sized, tt)
+    operands_are_sound outer around stands (e ∷ rest) store fine sized =
+        then_do_is_sound source around.targets (OperandFits e) (OperandsFit (e ∷ rest)) ((below around).operand e store) _ ((sound outer around stands).operand e store (fine e (first_is_contained e rest)) sized) (λ first later sized' fits.
+        then_do_is_sound source around.targets (OperandsFit rest) (OperandsFit (e ∷ rest)) (operands_of source below (marking (marked_as_operand source e) around) rest later) _ (operands_are_sound outer (marking (marked_as_operand source e) around) (marks_stand (marked_as_operand source e) stands) rest later (λ child within. fine child (rest_is_contained e rest child within)) sized') (λ others last sized'' fit. (sized'', (fits, fit))))
 
-    strict_is_sound : (around : Around) (e : ℕ) (operation : Operation) (operands : List ℕ) (path : Path) (store : Store) → node source e ≡ Some (expr.Strict operation operands) → IsFine source e → IsSized source store → PathFits e path → IsSound source Nothing (strict_into source below around operation operands path store)
-    strict_is_sound around e operation operands path store is fine sized fits =
+    strict_is_sound : (outer : List Opened) (around : Around) (stands : Stands outer around) (e : ℕ) (operation : Operation) (operands : List ℕ) (path : Path) (store : Store) → node source e ≡ Some (expr.Strict operation operands) → IsFine source outer e → IsSized source store → PathFits e path → IsSound source around.targets Nothing (strict_into source below around operation operands path store)
+    strict_is_sound outer around stands e operation operands path store is fine sized fits =
         let plain = fine.plain e itself in
         let form = form_of e _ is plain in
-        then_do_is_sound source (OperandsFit operands) Nothing (operands_of source below around operands store) _ (operands_are_sound around operands store (λ child within.
-        operand_is_fine e child (Some (expr.Strict operation operands)) is (operand_is_part source e operation operands child is within) (operand_is_sized source operands child within) fine) sized) (λ given later sized' fit.
-        put_answer_is_sound source later path _ sized'
+        then_do_is_sound source around.targets (OperandsFit operands) Nothing (operands_of source below around operands store) _ (operands_are_sound outer around stands operands store (λ child within.
+        operand_is_fine outer e child (Some (expr.Strict operation operands)) is (operand_is_part source e operation operands child is within) (operand_is_sized source operands child within) fine) sized) (λ given later sized' fit.
+        put_answer_is_sound source around.targets later path _ sized'
         (subst (λ size. Fits size (answered operation (map (value_of source later) given))) (sym (ap (size_at source) (fits ∙ plain.has_type)))
         (typed_fits source operation form.types (map (value_of source later) given) plain.ty form.typed (operands_are_values operands form.types given later sized' form.operands_have fit)
-        (λ scalar. scalar_size plain.ty (laid_at e plain.ty fine plain.has_type) scalar))))
+        (λ scalar. scalar_size plain.ty (laid_at outer e plain.ty fine plain.has_type) scalar))))
 
-    statement_is_sound : (around : Around) (given : Statement) (store : Store) → IsPlainStatement source given → ((child : ℕ) → Contains (statement_parts given) child → IsFine source child) → IsSized source store → IsSound source Nothing (statement_of source (below around) given store)
-    statement_is_sound around (statement.Let pat (Some e) None) store plain parts sized =
-        then_do_is_sound source (PathFits e.0) Nothing ((below around).place e.0 store) _ ((sound around).place e.0 store (parts e.0 (first_is_contained e.0 [])) sized) (λ path later sized' fits. bind_is_sound pat.0 e.0 path later plain sized' fits)
-    statement_is_sound around (statement.Let pat (Some e) (Some other)) store plain parts sized = absurd plain
-    statement_is_sound around (statement.Let pat None other) store plain parts sized = absurd plain
-    statement_is_sound around (statement.Expr e has_semi) store plain parts sized =
-        then_do_is_sound source (PathFits e.0) Nothing ((below around).place e.0 store) _ ((sound around).place e.0 store (parts e.0 (first_is_contained e.0 [])) sized) (λ path later sized' fits. (sized', tt))
-    statement_is_sound around statement.Item store plain parts sized = absurd plain
+    statement_is_sound : (outer : List Opened) (around : Around) (stands : Stands outer around) (given : Statement) (store : Store) → IsPlainStatement source given → ((child : ℕ) → Contains (statement_parts given) child → IsFine source outer child) → IsSized source store → IsSound source around.targets Nothing (statement_of source (below around) given store)
+    statement_is_sound outer around stands (statement.Let pat (Some e) None) store plain parts sized =
+        then_do_is_sound source around.targets (PathFits e.0) Nothing ((below around).place e.0 store) _ ((sound outer around stands).place e.0 store (parts e.0 (first_is_contained e.0 [])) sized) (λ path later sized' fits. bind_is_sound around.targets pat.0 e.0 path later plain sized' fits)
+    statement_is_sound outer around stands (statement.Let pat (Some e) (Some other)) store plain parts sized = absurd plain
+    statement_is_sound outer around stands (statement.Let pat None other) store plain parts sized = absurd plain
+    statement_is_sound outer around stands (statement.Expr e has_semi) store plain parts sized =
+        then_do_is_sound source around.targets (PathFits e.0) Nothing ((below around).place e.0 store) _ ((sound outer around stands).place e.0 store (parts e.0 (first_is_contained e.0 [])) sized) (λ path later sized' fits. (sized', tt))
+    statement_is_sound outer around stands statement.Item store plain parts sized = absurd plain
 
-    statements_are_sound : (around : Around) (statements : List Statement) (store : Store) → All (IsPlainStatement source) statements → ((child : ℕ) → Contains (flat_map statement_parts statements) child → IsFine source child) → IsSized source store → IsSound source Nothing (statements_of source below around statements store)
+    statements_are_sound : (outer : List Opened) (around : Around) (stands : Stands outer around) (statements : List Statement) (store : Store) → All (IsPlainStatement source) statements → ((child : ℕ) → Contains (flat_map statement_parts statements) child → IsFine source outer child) → IsSized source store → IsSound source around.targets Nothing (statements_of source below around statements store)
     unfolding statements_of
-    statements_are_sound around [] store plain parts sized = (sized, tt)
-    statements_are_sound around (first ∷ rest) store plain parts sized =
-        then_do_is_sound source Nothing Nothing (statement_of source (below around) first store) _ (statement_is_sound around first store (All-head (IsPlainStatement source) first rest plain) (λ child within.
+    statements_are_sound outer around stands [] store plain parts sized = (sized, tt)
+    statements_are_sound outer around stands (first ∷ rest) store plain parts sized =
+        then_do_is_sound source around.targets Nothing Nothing (statement_of source (below around) first store) _ (statement_is_sound outer around stands first store (All-head (IsPlainStatement source) first rest plain) (λ child within.
         parts child (Contains-append_left (statement_parts first) (flat_map statement_parts rest) child within)) sized) (λ done later sized' is.
-        statements_are_sound (marking (marked_by_statement source first) around) rest later (All-tail (IsPlainStatement source) first rest plain) (λ child within.
+        statements_are_sound outer (marking (marked_by_statement source first) around) (marks_stand (marked_by_statement source first) stands) rest later (All-tail (IsPlainStatement source) first rest plain) (λ child within.
         parts child (Contains-append_right (statement_parts first) (flat_map statement_parts rest) child within)) sized')
 
-    tail_is_sound : (around : Around) (tail : Option ExprId) (ty : Ty) (path : Path) (store : Store) → IsPlainTail source tail ty → cell_type source path.cell ≡ Some ty → ((child : ℕ) → Contains (optional tail) child → IsFine source child) → IsSized source store → IsSound source Nothing (tail_into (below around) tail path store)
-    tail_is_sound around (Some e) ty path store plain fits parts sized = (sound around).into e.0 path store (parts e.0 (first_is_contained e.0 [])) sized (fits ∙ sym plain)
-    tail_is_sound around None ty path store plain fits parts sized = (sized, tt)
+    tail_is_sound : (outer : List Opened) (around : Around) (stands : Stands outer around) (tail : Option ExprId) (ty : Ty) (path : Path) (store : Store) → IsPlainTail source tail ty → cell_type source path.cell ≡ Some ty → ((child : ℕ) → Contains (optional tail) child → IsFine source outer child) → IsSized source store → IsSound source around.targets Nothing (tail_into (below around) tail path store)
+    tail_is_sound outer around stands (Some e) ty path store plain fits parts sized = (sound outer around stands).into e.0 path store (parts e.0 (first_is_contained e.0 [])) sized (fits ∙ sym plain)
+    tail_is_sound outer around stands None ty path store plain fits parts sized = (sized, tt)
 
-    branched_is_sound : (branch : End (Unit {0})) → IsSound source Nothing branch → IsSound source Nothing (branched branch)
-    branched_is_sound branch is =
-        after_is_sound source Nothing (turns_alone 1) _ (then_do_is_sound source Nothing Nothing branch _ is (λ done later sized done_is. (sized, tt)))
+    branched_is_sound : (targets : List Target) (branch : End (Unit {0})) → IsSound source targets Nothing branch → IsSound source targets Nothing (branched branch)
+    branched_is_sound targets branch is =
+        after_is_sound source targets Nothing (turns_alone 1) _ (then_do_is_sound source targets Nothing Nothing branch _ is (λ done later sized done_is. (sized, tt)))
 
-    decided_is_sound : (around : Around) (left : Operand) (right : ℕ) (test : Bool) (path : Path) (store : Store) → IsFine source right → IsSized source store → PathFits right path → length (operand_bytes store left) ≡ cell_size source path.cell → IsSound source Nothing (decided_into source (below around) left right (Some test) path store)
-    decided_is_sound around left right true path store fine sized fits long =
-        after_is_sound source Nothing (reading_cost source left) _ (put_is_sound source store path (operand_bytes store left) sized long)
-    decided_is_sound around left right false path store fine sized fits long = (sound around).into right path store fine sized fits
+    decided_is_sound : (outer : List Opened) (around : Around) (stands : Stands outer around) (left : Operand) (right : ℕ) (test : Bool) (path : Path) (store : Store) → IsFine source outer right → IsSized source store → PathFits right path → length (operand_bytes store left) ≡ cell_size source path.cell → IsSound source around.targets Nothing (decided_into source (below around) left right (Some test) path store)
+    decided_is_sound outer around stands left right true path store fine sized fits long =
+        after_is_sound source around.targets Nothing (reading_cost source left) _ (put_is_sound source around.targets store path (operand_bytes store left) sized long)
+    decided_is_sound outer around stands left right false path store fine sized fits long = (sound outer around stands).into right path store fine sized fits
 
-    logic_is_sound : (around : Around) (e : ℕ) (op : LogicOp) (left right : ℕ) (path : Path) (store : Store) → node source e ≡ Some (expr.Logic op left right) → IsFine source e → IsSized source store → PathFits e path → IsSound source Nothing (logic_into source below around op left right path store)
-    logic_is_sound around e op left right path store is fine sized fits =
+    logic_is_sound : (outer : List Opened) (around : Around) (stands : Stands outer around) (e : ℕ) (op : LogicOp) (left right : ℕ) (path : Path) (store : Store) → node source e ≡ Some (expr.Logic op left right) → IsFine source outer e → IsSized source store → PathFits e path → IsSound source around.targets Nothing (logic_into source below around op left right path store)
+    logic_is_sound outer around stands e op left right path store is fine sized fits =
         let plain = fine.plain e itself in
         let form = form_of e _ is plain in
         let is_bool : node_type source e ≡ Some BoolTy = plain.has_type ∙ ap Some form.typed in
-        let size : cell_size source path.cell ≡ 1 = ap (size_at source) (fits ∙ is_bool) ∙ scalar_size BoolTy (laid_at e BoolTy fine is_bool) tt in
-        let left_is_fine = operand_is_fine e left (Some (expr.Logic op left right)) is (logic_operand_is_part source e op left right left is (first_is_contained left (right ∷ []))) (first_is_sized source left (step.Into right ∷ [])) fine in
-        then_do_is_sound source (OperandFits left) Nothing ((below around).operand left store) _ ((sound around).operand left store left_is_fine sized) (λ given later sized' fit.
+        let size : cell_size source path.cell ≡ 1 = ap (size_at source) (fits ∙ is_bool) ∙ scalar_size BoolTy (laid_at outer e BoolTy fine is_bool) tt in
+        let left_is_fine = operand_is_fine outer e left (Some (expr.Logic op left right)) is (logic_operand_is_part source e op left right left is (first_is_contained left (right ∷ []))) (first_is_sized source left (step.Into right ∷ [])) fine in
+        then_do_is_sound source around.targets (OperandFits left) Nothing ((below around).operand left store) _ ((sound outer around stands).operand left store left_is_fine sized) (λ given later sized' fit.
         let long = truth_has_byte left given later sized' form.left_has fit in
         let behind = marking (marked_as_operand source left) around in
         let decides = byte_decides (deciding_byte op) (operand_bytes later given) long in
-        branched_is_sound _
-        (subst (λ test. IsSound source Nothing (decided_into source (below behind) given right test path later)) (sym decides.1)
-        (decided_is_sound behind given right decides.0 path later (part_is_fine e right (Some (expr.Logic op left right)) is (right_is_sized source op left right) fine) sized' (fits ∙ is_bool ∙ sym form.right_has) (long ∙ sym size))))
+        branched_is_sound around.targets _
+        (subst (λ test. IsSound source around.targets Nothing (decided_into source (below behind) given right test path later)) (sym decides.1)
+        (decided_is_sound outer behind (marks_stand _ stands) given right decides.0 path later (part_is_fine outer e right (Some (expr.Logic op left right)) is (right_is_sized source op left right) fine) sized' (fits ∙ is_bool ∙ sym form.right_has) (long ∙ sym size))))
 
-    branch_is_sound : (around : Around) (then_branch : ℕ) (else_branch : Option ExprId) (test : Bool) (ty : Ty) (path : Path) (store : Store) → node_type source then_branch ≡ Some ty → IsPlainTail source else_branch ty → cell_type source path.cell ≡ Some ty → ((child : ℕ) → Contains (then_branch ∷ optional else_branch) child → IsFine source child) → IsSized source store → IsSound source Nothing (branch_into source below around then_branch else_branch (Some test) path store)
-    branch_is_sound around then_branch else_branch true ty path store has plain fits parts sized =
-        (sound around).into then_branch path store (parts then_branch (first_is_contained then_branch (optional else_branch))) sized (fits ∙ sym has)
-    branch_is_sound around then_branch else_branch false ty path store has plain fits parts sized =
-        tail_is_sound (marking (marked source then_branch) around) else_branch ty path store plain fits (λ child within. parts child (rest_is_contained then_branch (optional else_branch) child within)) sized
+    branch_is_sound : (outer : List Opened) (around : Around) (stands : Stands outer around) (then_branch : ℕ) (else_branch : Option ExprId) (test : Bool) (ty : Ty) (path : Path) (store : Store) → node_type source then_branch ≡ Some ty → IsPlainTail source else_branch ty → cell_type source path.cell ≡ Some ty → ((child : ℕ) → Contains (then_branch ∷ optional else_branch) child → IsFine source outer child) → IsSized source store → IsSound source around.targets Nothing (branch_into source below around then_branch else_branch (Some test) path store)
+    branch_is_sound outer around stands then_branch else_branch true ty path store has plain fits parts sized =
+        (sound outer around stands).into then_branch path store (parts then_branch (first_is_contained then_branch (optional else_branch))) sized (fits ∙ sym has)
+    branch_is_sound outer around stands then_branch else_branch false ty path store has plain fits parts sized =
+        tail_is_sound outer (marking (marked source then_branch) around) (marks_stand (marked source then_branch) stands) else_branch ty path store plain fits (λ child within. parts child (rest_is_contained then_branch (optional else_branch) child within)) sized
 
-    if_is_sound : (around : Around) (e condition then_branch : ℕ) (else_branch : Option ExprId) (path : Path) (store : Store) → node source e ≡ Some (expr.If condition then_branch else_branch) → IsFine source e → IsSized source store → PathFits e path → IsSound source Nothing (if_into source below around condition then_branch else_branch path store)
-    if_is_sound around e condition then_branch else_branch path store is fine sized fits =
+    if_is_sound : (outer : List Opened) (around : Around) (stands : Stands outer around) (e condition then_branch : ℕ) (else_branch : Option ExprId) (path : Path) (store : Store) → node source e ≡ Some (expr.If condition then_branch else_branch) → IsFine source outer e → IsSized source store → PathFits e path → IsSound source around.targets Nothing (if_into source below around condition then_branch else_branch path store)
+    if_is_sound outer around stands e condition then_branch else_branch path store is fine sized fits =
         let plain = fine.plain e itself in
         let form = form_of e _ is plain in
         let whole = Some (expr.If condition then_branch else_branch) in
-        let condition_is_fine = operand_is_fine e condition whole is (if_part_is_part source e condition then_branch else_branch condition is (first_is_contained condition (then_branch ∷ optional else_branch))) (first_is_sized source condition (step.Into then_branch ∷ tail_steps else_branch)) fine in
-        then_do_is_sound source (OperandFits condition) Nothing ((below around).operand condition store) _ ((sound around).operand condition store condition_is_fine sized) (λ given later sized' fit.
+        let condition_is_fine = operand_is_fine outer e condition whole is (if_part_is_part source e condition then_branch else_branch condition is (first_is_contained condition (then_branch ∷ optional else_branch))) (first_is_sized source condition (step.Into then_branch ∷ tail_steps else_branch)) fine in
+        then_do_is_sound source around.targets (OperandFits condition) Nothing ((below around).operand condition store) _ ((sound outer around stands).operand condition store condition_is_fine sized) (λ given later sized' fit.
         let behind = marking (marked_as_operand source condition) around in
         let holds = byte_decides 1 (operand_bytes later given) (truth_has_byte condition given later sized' form.condition_has fit) in
-        branched_is_sound _
-        (subst (λ test. IsSound source Nothing (branch_into source below behind then_branch else_branch test path later)) (sym holds.1)
-        (branch_is_sound behind then_branch else_branch holds.0 plain.ty path later form.then_has form.else_has (fits ∙ plain.has_type) (λ child within.
-        part_is_fine e child whole is (branch_is_sized source condition then_branch else_branch child within) fine) sized')))
+        branched_is_sound around.targets _
+        (subst (λ test. IsSound source around.targets Nothing (branch_into source below behind then_branch else_branch test path later)) (sym holds.1)
+        (branch_is_sound outer behind (marks_stand _ stands) then_branch else_branch holds.0 plain.ty path later form.then_has form.else_has (fits ∙ plain.has_type) (λ child within.
+        part_is_fine outer e child whole is (branch_is_sized source condition then_branch else_branch child within) fine) sized')))
 
-    assign_is_sound : (around : Around) (e assigned value : ℕ) (store : Store) → node source e ≡ Some (expr.Assign assigned value) → IsFine source e → IsSized source store → IsSound source Nothing (assign_into source (below around) assigned value store)
-    assign_is_sound around e assigned value store is fine sized =
+    assign_is_sound : (outer : List Opened) (around : Around) (stands : Stands outer around) (e assigned value : ℕ) (store : Store) → node source e ≡ Some (expr.Assign assigned value) → IsFine source outer e → IsSized source store → IsSound source around.targets Nothing (assign_into source (below around) assigned value store)
+    assign_is_sound outer around stands e assigned value store is fine sized =
         let form = form_of e _ is (fine.plain e itself) in
-        let value_is_fine = part_is_fine e value (Some (expr.Assign assigned value)) is (first_is_contained value []) fine in
-        then_do_is_sound source (PathFits value) Nothing ((below around).place value store) _ ((sound around).place value store value_is_fine sized) (λ path later sized' fits. assigned_is_sound assigned value path later form sized' fits)
+        let value_is_fine = part_is_fine outer e value (Some (expr.Assign assigned value)) is (first_is_contained value []) fine in
+        then_do_is_sound source around.targets (PathFits value) Nothing ((below around).place value store) _ ((sound outer around stands).place value store value_is_fine sized) (λ path later sized' fits. assigned_is_sound around.targets assigned value path later form sized' fits)
 
-    block_is_sound : (around : Around) (e : ℕ) (statements : List Statement) (tail : Option ExprId) (path : Path) (store : Store) → node source e ≡ Some (expr.Block statements tail) → IsFine source e → IsSized source store → PathFits e path → IsSound source Nothing (block_into source below around statements tail path store)
-    block_is_sound around e statements tail path store is fine sized fits =
-        let plain = fine.plain e itself in
-        let form = form_of e _ is plain in
-        let parts = block_part_is_fine e statements tail is fine in
+    -- what stands in a block, inside its scope
+    inner_is_sound : (outer : List Opened) (around : Around) (stands : Stands outer around) (statements : List Statement) (tail : Option ExprId) (ty : Ty) (path : Path) (store : Store) → All (IsPlainStatement source) statements × IsPlainTail source tail ty → cell_type source path.cell ≡ Some ty → ((child : ℕ) → Contains (flat_map statement_parts statements ++ optional tail) child → IsFine source outer child) → IsSized source store → IsSound source around.targets Nothing (block_into source below around statements tail path store)
+    inner_is_sound outer around stands statements tail ty path store form fits parts sized =
         let behind = marking (flat_map (marked_by_statement source) statements) around in
-        then_do_is_sound source Nothing Nothing (statements_of source below around statements store) _ (statements_are_sound around statements store form.0 (λ child within.
-        parts child (Contains-append_left (flat_map statement_parts statements) (optional tail) child within)) sized) (λ done later sized' is'.
-        then_do_is_sound source Nothing Nothing (tail_into (below behind) tail path later) _ (tail_is_sound behind tail plain.ty path later form.1 (fits ∙ plain.has_type) (λ child within.
-        parts child (Contains-append_right (flat_map statement_parts statements) (optional tail) child within)) sized') (λ done' last sized'' is''. (sized'', tt)))
+        then_do_is_sound source around.targets Nothing Nothing (statements_of source below around statements store) _ (statements_are_sound outer around stands statements store form.0 (λ child contained.
+        parts child (Contains-append_left (flat_map statement_parts statements) (optional tail) child contained)) sized) (λ done later sized' is'.
+        then_do_is_sound source around.targets Nothing Nothing (tail_into (below behind) tail path later) _ (tail_is_sound outer behind (marks_stand _ stands) tail ty path later form.1 fits (λ child contained.
+        parts child (Contains-append_right (flat_map statement_parts statements) (optional tail) child contained)) sized') (λ done' last sized'' is''. (sized'', tt)))
 
-    into_is_sound : (around : Around) (e : ℕ) (form : Option CoreExpr) (path : Path) (store : Store) → node source e ≡ form → IsFine source e → IsSized source store → PathFits e path → IsSound source Nothing (into_of source below around e form path store)
-    into_is_sound around e (Some (expr.Literal given)) path store is fine sized fits =
+    block_is_sound : (outer : List Opened) (around : Around) (stands : Stands outer around) (e : ℕ) (statements : List Statement) (tail : Option ExprId) (path : Path) (store : Store) → node source e ≡ Some (expr.Block statements tail) → IsFine source outer e → IsSized source store → PathFits e path → IsSound source around.targets Nothing (block_into source below around statements tail path store)
+    block_is_sound outer around stands e statements tail path store is fine sized fits =
         let plain = fine.plain e itself in
-        let bytes = literal_has_size e given plain.ty fine plain.has_type (form_of e _ is plain) in
-        put_literal_is_sound e store path (literal_bytes source e given) bytes.0 sized bytes.1 (bytes.2 ∙ ap (size_at source) (sym fits))
-    into_is_sound around e (Some (expr.Path name)) path store is fine sized fits =
+        inner_is_sound outer around stands statements tail plain.ty path store (form_of e _ is plain) (fits ∙ plain.has_type) (block_part_is_fine outer e statements tail is fine) sized
+
+    -- a labelled block catches the jumps behind it; others lead to the targets around it
+    caught_is_sound : (targets : List Target) (target : Target) (end : End (Unit {0})) → IsSound source (target ∷ targets) Nothing end → IsSound source targets Nothing (caught target.opened.node end)
+    caught_is_sound targets target (Go done store cost) is = is
+    caught_is_sound targets target (Jumps (Break node) store cost) is = by_test (node == target.opened.node) refl
+      where
+        by_test : (test : Bool) → (node == target.opened.node) ≡ test → IsSound source targets Nothing (if test then Go tt store cost else Jumps (Break node) store cost)
+        by_test true same = (is.0, tt)
+        by_test false differs =
+            (is.0, ⊎_elim
+            (λ here. absurd (false≢true (sym differs ∙ eq-eqb _ _ (sym is.1.2 ∙ ap (λ t. t.opened.node) (sym (only_target target is.1.0 here))))))
+            (λ there. (is.1.0, there, is.1.2))
+            (Contains-append_cases (target ∷ []) targets is.1.0 is.1.1))
+    caught_is_sound targets target (Jumps (Continue node) store cost) is = absurd is.1
+    caught_is_sound targets target (Jumps Return store cost) is = absurd is.1
+    caught_is_sound targets target (Faults fault cost) is = tt
+    caught_is_sound targets target Stuck is = is
+    caught_is_sound targets target (More cost) is = tt
+
+    labelled_is_sound : (outer : List Opened) (around : Around) (stands : Stands outer around) (e : ℕ) (label : LabelId) (statements : List Statement) (tail : Option ExprId) (path : Path) (store : Store) → node source e ≡ Some (expr.Labelled label statements tail) → IsFine source outer e → IsSized source store → PathFits e path → IsSound source around.targets Nothing (labelled_into source below around e label statements tail path store)
+    labelled_is_sound outer around stands e label statements tail path store is fine sized fits =
+        let plain = fine.plain e itself in
+        let opened = record { node = e; label = label } ∷ outer in
+        let stands' : Stands opened (inside_of e label path around) = record {
+          opened = ap (λ rest. record { node = e; label = label } ∷ rest) stands.opened;
+          fits = λ target contained. ⊎_elim
+              (λ here. subst (λ t. PathFits t.opened.node t.path) (only_target (entered e label path around) target here) fits)
+              (λ there. stands.fits target there)
+              (Contains-append_cases (entered e label path around ∷ []) around.targets target contained);
+        } in
+        branched_is_sound around.targets _ (caught_is_sound around.targets (entered e label path around) _
+        (inner_is_sound opened (inside_of e label path around) stands' statements tail plain.ty path store (form_of e _ is plain) (fits ∙ plain.has_type) (λ child contained.
+        part_is_fine outer e child (Some (expr.Labelled label statements tail)) is (sized_block_parts source statements tail child contained) fine) sized))
+
+    -- a jump leads to the innermost open block that it means
+    jump_is_sound : (outer : List Opened) (around : Around) (stands : Stands outer around) (e : ℕ) (label : Option LabelId) (value : Option ExprId) (store : Store) → node source e ≡ Some (expr.Break label value) → IsFine source outer e → IsSized source store → IsSound source around.targets Nothing (break_into source below around label value store)
+    jump_is_sound outer around stands e label value store is fine sized =
+        let target : HasPlainTarget source outer label value = subst (FitsAround source outer) is (fine.jumps outer e itself_in) in
+        let found = target_found label around.targets target.target (ap (meant label) stands.opened ∙ target.means) in
+        let typed : cell_type source found.0.path.cell ≡ Some target.ty = stands.fits found.0 found.2 ∙ ap (λ o. node_type source o.node) found.3 ∙ target.target_has in
+        subst (λ given. IsSound source around.targets Nothing (jump_to source below around value given store)) (sym found.1)
+        (then_do_is_sound source around.targets Nothing Nothing (tail_into (below around) value found.0.path store) _ (tail_is_sound outer around stands value target.ty found.0.path store target.value_has typed (λ child contained.
+        part_is_fine outer e child (Some (expr.Break label value)) is (sized_tail source value child contained) fine) sized) (λ done later sized' is'. (sized', (found.0, found.2, refl))))
+
+    into_is_sound : (outer : List Opened) (around : Around) (stands : Stands outer around) (e : ℕ) (form : Option CoreExpr) (path : Path) (store : Store) → node source e ≡ form → IsFine source outer e → IsSized source store → PathFits e path → IsSound source around.targets Nothing (into_of source below around e form path store)
+    into_is_sound outer around stands e (Some (expr.Literal given)) path store is fine sized fits =
+        let plain = fine.plain e itself in
+        let bytes = literal_has_size outer e given plain.ty fine plain.has_type (form_of e _ is plain) in
+        put_literal_is_sound around.targets e store path (literal_bytes source e given) bytes.0 sized bytes.1 (bytes.2 ∙ ap (size_at source) (sym fits))
+    into_is_sound outer around stands e (Some (expr.Path name)) path store is fine sized fits =
         let plain = fine.plain e itself in
         let form = form_of e _ is plain in
-        subst (λ named. IsSound source Nothing (named_into named path store)) (sym form.named)
-        (put_is_sound source store path (store (Binding form.binding.0)) sized (sized.holds_all (Binding form.binding.0) ∙ ap (size_at source) (form.binding_has ∙ sym plain.has_type ∙ sym fits)))
-    into_is_sound around e (Some (expr.Strict operation operands)) path store is fine sized fits = strict_is_sound around e operation operands path store is fine sized fits
-    into_is_sound around e (Some (expr.Logic op left right)) path store is fine sized fits = logic_is_sound around e op left right path store is fine sized fits
-    into_is_sound around e (Some (expr.If condition then_branch else_branch)) path store is fine sized fits = if_is_sound around e condition then_branch else_branch path store is fine sized fits
-    into_is_sound around e (Some (expr.Assign assigned value)) path store is fine sized fits = assign_is_sound around e assigned value store is fine sized
-    into_is_sound around e (Some (expr.Block statements tail)) path store is fine sized fits = block_is_sound around e statements tail path store is fine sized fits
-    into_is_sound around e None path store is fine sized fits = absurd (form_of e _ is (fine.plain e itself))
+        subst (λ named. IsSound source around.targets Nothing (named_into named path store)) (sym form.named)
+        (put_is_sound source around.targets store path (store (Binding form.binding.0)) sized (sized.holds_all (Binding form.binding.0) ∙ ap (size_at source) (form.binding_has ∙ sym plain.has_type ∙ sym fits)))
+    into_is_sound outer around stands e (Some (expr.Strict operation operands)) path store is fine sized fits = strict_is_sound outer around stands e operation operands path store is fine sized fits
+    into_is_sound outer around stands e (Some (expr.Logic op left right)) path store is fine sized fits = logic_is_sound outer around stands e op left right path store is fine sized fits
+    into_is_sound outer around stands e (Some (expr.If condition then_branch else_branch)) path store is fine sized fits = if_is_sound outer around stands e condition then_branch else_branch path store is fine sized fits
+    into_is_sound outer around stands e (Some (expr.Assign assigned value)) path store is fine sized fits = assign_is_sound outer around stands e assigned value store is fine sized
+    into_is_sound outer around stands e (Some (expr.Block statements tail)) path store is fine sized fits = block_is_sound outer around stands e statements tail path store is fine sized fits
+    into_is_sound outer around stands e (Some (expr.Labelled label statements tail)) path store is fine sized fits = labelled_is_sound outer around stands e label statements tail path store is fine sized fits
+    into_is_sound outer around stands e (Some (expr.Break label value)) path store is fine sized fits = jump_is_sound outer around stands e label value store is fine sized
+    into_is_sound outer around stands e None path store is fine sized fits = absurd (form_of e _ is (fine.plain e itself))
 
-    above_is_sound : (around : Around) → IsSoundLevel (level_above source below around)
-    above_is_sound around = record {
-      place = λ e store fine sized. place_is_sound around e (node source e) store refl fine sized;
-      operand = λ e store fine sized. operand_is_sound around e (node source e) store refl fine sized;
-      into = λ e path store fine sized fits. into_is_sound around e (node source e) path store refl fine sized fits;
+    above_is_sound : (outer : List Opened) (around : Around) → Stands outer around → IsSoundLevel outer around.targets (level_above source below around)
+    above_is_sound outer around stands = record {
+      place = λ e store fine sized. place_is_sound outer around stands e (node source e) store refl fine sized;
+      operand = λ e store fine sized. operand_is_sound outer around stands e (node source e) store refl fine sized;
+      into = λ e path store fine sized fits. into_is_sound outer around stands e (node source e) path store refl fine sized fits;
     }
 
-  level_is_sound : (fuel : ℕ) (around : Around) → IsSoundLevel (level_at source fuel around)
+  level_is_sound : (fuel : ℕ) (outer : List Opened) (around : Around) → Stands outer around → IsSoundLevel outer around.targets (level_at source fuel around)
   unfolding level_at
-  level_is_sound zero = no_fuel_is_sound
-  level_is_sound (suc fuel) = above_is_sound (level_at source fuel) (level_is_sound fuel)
+  level_is_sound zero outer around stands = no_fuel_is_sound outer around
+  level_is_sound (suc fuel) outer around stands = above_is_sound (level_at source fuel) (level_is_sound fuel) outer around stands
 
-meaning_is_sound : (source : Source) (fuel : ℕ) → IsChecked source.world → IsPlain source → AreLaidOut source → IsSound source (λ bytes. Unit {0}) (meaning_of source fuel)
+  root_stands : Stands [] at_root
+  root_stands = record { opened = refl; fits = λ target contained. absurd (let less = contained.1 in omega arith) }
+
+meaning_is_sound : (source : Source) (fuel : ℕ) → IsChecked source.world → IsPlain source → AreLaidOut source → IsSound source [] (λ bytes. Unit {0}) (meaning_of source fuel)
 unfolding meaning_of
 meaning_is_sound source fuel checked plain laid_out =
-    after_is_sound source (λ bytes. Unit {0}) _ _ (then_do_is_sound source Nothing (λ bytes. Unit {0}) ((level_at source fuel at_root).into (root source) _ _) _ ((level_is_sound source checked fuel at_root).into (root source) _ _ (record { plain = plain; laid_out = laid_out.nodes }) (zeroed_is_sized source) refl) (λ done store sized is. (sized, tt)))
+    let root_is_fine : IsFine source [] (root source) = record { jumps = plain.jumps; plain = plain.nodes; laid_out = laid_out.nodes } in
+    let level = level_is_sound source checked fuel [] at_root (root_stands source checked) in
+    after_is_sound source [] (λ bytes. Unit {0}) _ _ (then_do_is_sound source [] Nothing (λ bytes. Unit {0}) ((level_at source fuel at_root).into (root source) _ _) _ (level.into (root source) _ _ root_is_fine (zeroed_is_sized source) refl) (λ done store sized is. (sized, tt)))
 
 pub plain_is_never_stuck : (source : Source) (fuel : ℕ) → IsChecked source.world → IsCheckedBody source.body source.infer → IsPlain source → AreLaidOut source → meaning_of source fuel ≢ Stuck
-plain_is_never_stuck source fuel checked body plain laid_out stuck = subst (IsSound source (λ bytes. Unit {0})) stuck (meaning_is_sound source fuel checked plain laid_out)
+plain_is_never_stuck source fuel checked body plain laid_out stuck = subst (IsSound source [] (λ bytes. Unit {0})) stuck (meaning_is_sound source fuel checked plain laid_out)
 
-no_jump : {A : Type 0} (source : Source) (P : A → Type 0) (end : End A) → IsSound source P end → JumpsNowhere end
+no_target : (to : Jump) → IsTarget [] to → ⊥
+no_target (Break node) is = let less = is.1.1 in omega arith
+no_target (Continue node) is = is
+no_target Return is = is
+
+no_jump : {A : Type 0} (source : Source) (P : A → Type 0) (end : End A) → IsSound source [] P end → JumpsNowhere end
 no_jump source P (Go value store cost) sound = tt
-no_jump source P (Jumps to store cost) sound = sound
+no_jump source P (Jumps to store cost) sound = absurd (no_target to sound.1)
 no_jump source P (Faults fault cost) sound = tt
 no_jump source P Stuck sound = tt
 no_jump source P (More cost) sound = tt

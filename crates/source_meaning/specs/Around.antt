@@ -1,15 +1,53 @@
 -- What stands around an expression while it is evaluated.
-use Rattle.std.specs.Prelude.{List, [], ◌++◌}
-use Rattle.source_meaning.specs.Source.{Cell}
+use Rattle.std.specs.Prelude.{ℕ, Bool, true, ◌==◌, List, [], ◌∷◌, ◌++◌, length, Option, Some, None, if◌then◌else◌}
+use Rattle.types.specs.declared.ids.LabelId.{LabelId}
+use Rattle.source_meaning.specs.Source.{Cell, Path}
 
--- the cells that came into use in all open scopes, in order: what a jump out of them leaves
+-- a labelled block that is being evaluated: its expression, and its label
+pub record Opened : Type 0 where
+  pub node : ℕ
+  pub label : LabelId
+
+-- where a jump out of a labelled block leads: the block, where its value goes, and how many cells were in use when it was
+-- entered
+pub record Target : Type 0 where
+  pub opened : Opened
+  pub path : Path
+  pub kept : ℕ
+
+-- the labelled blocks that are open, the innermost first, and the cells that came into use in all open scopes, in order: what
+-- a jump out of a block leaves are those behind the ones that were in use when it was entered
 pub record Around : Type 0 where
+  pub targets : List Target
   pub marks : List Cell
 
--- around the root of a body nothing is in use
+-- around the root of a body no block is open, and nothing is in use
 abbrev pub at_root : Around
-at_root = record { marks = [] }
+at_root = record { targets = []; marks = [] }
 
 -- where more cells came into use
 abbrev pub marking : List Cell → Around → Around
-marking cells around = record { marks = around.marks ++ cells }
+marking cells around = record { targets = around.targets; marks = around.marks ++ cells }
+
+-- the target that a labelled block is, where it is entered
+abbrev pub entered : ℕ → LabelId → Path → Around → Target
+entered e label path around = record { opened = record { node = e; label = label }; path = path; kept = length around.marks }
+
+-- inside a labelled block whose value goes where a path leads
+abbrev pub inside : ℕ → LabelId → Path → Around → Around
+inside e label path around = record { targets = entered e label path around ∷ around.targets; marks = around.marks }
+
+-- whether a jump means a labelled block: any block where the jump has no label
+abbrev pub is_meant : Option LabelId → Opened → Bool
+is_meant None opened = true
+is_meant (Some label) opened = label.0 == opened.label.0
+
+-- the innermost of the open blocks that a jump means
+unfoldable pub meant : Option LabelId → List Opened → Option Opened
+meant label [] = None
+meant label (opened ∷ outer) = if is_meant label opened then Some opened else meant label outer
+
+-- and where it leads
+unfoldable pub target_of : Option LabelId → List Target → Option Target
+target_of label [] = None
+target_of label (target ∷ outer) = if is_meant label target.opened then Some target else target_of label outer

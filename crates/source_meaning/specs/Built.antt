@@ -48,4 +48,6 @@ IsBuiltForm source e (Some (expr.Logic op left right)) = Unit {0}
 IsBuiltForm source e (Some (expr.If condition then_branch else_branch)) = Unit {0}
 IsBuiltForm source e (Some (expr.Assign assigned value)) = AssignsBinding source assigned
 IsBuiltForm source e (Some (expr.Block statements tail)) = All (IsBuiltStatement source) statements
+IsBuiltForm source e (Some (expr.Labelled label statements tail)) = All (IsBuiltStatement source) statements
+IsBuiltForm source e (Some (expr.Break label value)) = Unit {0}
 IsBuiltForm source e None = ⊥

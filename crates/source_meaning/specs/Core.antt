@@ -8,6 +8,7 @@ use Rattle.types.specs.contracts.ids.ExprIdOrd.TheImpl as ExprIdOrd
 use Rattle.types.specs.contracts.ids.PatIdOrd.TheImpl as PatIdOrd
 use Rattle.types.specs.declared.ids.BindingId.{BindingId}
 use Rattle.types.specs.declared.ids.ExprId.{ExprId}
+use Rattle.types.specs.declared.ids.LabelId.{LabelId}
 use Rattle.types.specs.declared.ids.PatId.{PatId}
 use Rattle.types.specs.declared.operators.BinaryOp.{BinaryOp}
 use Rattle.types.specs.declared.operators.BinaryOp.TheVariants as binary
@@ -41,7 +42,8 @@ pub data Operation : Type 0 where
 
 -- An expression of a form that has a meaning. A strict form evaluates all its operands from left to right, and then
 -- computes one operation. `&&` and `||` evaluate their right operand only where the left one doesn't decide, and `if` one of
--- its branches. An assignment writes a value to what its target names.
+-- its branches. An assignment writes a value to what its target names. A labelled block is left early by a `break` inside
+-- it, with a value or without; `core_of` gives these two to no expression yet, since they aren't lowered.
 pub data CoreExpr : Type 0 where
   Literal : CoreLiteral → CoreExpr
   Path : (name : List ℕ) → CoreExpr
@@ -50,6 +52,8 @@ pub data CoreExpr : Type 0 where
   If : (condition then_branch : ℕ) → (else_branch : Option ExprId) → CoreExpr
   Assign : (assigned value : ℕ) → CoreExpr
   Block : List Statement → (tail : Option ExprId) → CoreExpr
+  Labelled : LabelId → List Statement → (tail : Option ExprId) → CoreExpr
+  Break : (label : Option LabelId) → (value : Option ExprId) → CoreExpr
 
 -- a literal of a kind that has a meaning: a truth value or a whole number
 abbrev pub core_literal : SomeLiteral → Option CoreLiteral

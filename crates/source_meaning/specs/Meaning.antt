@@ -1,8 +1,9 @@
 -- What a typed body means: its value, or how else it ends, by evaluating its tree of expressions. It knows no
 -- basic blocks. Fuel bounds how deep the evaluation goes.
-use Rattle.std.specs.Prelude.{◌≡◌, ℕ, zero, suc, Bool, true, false, cond, if◌then◌else◌, ◌==◌, List, [], ◌∷◌, length, map, flat_map, Option, Some, None, option_and_then, option_map}
+use Rattle.std.specs.Prelude.{◌≡◌, ℕ, zero, suc, Bool, true, false, cond, if◌then◌else◌, ◌==◌, List, [], ◌∷◌, ◌++◌, length, map, flat_map, drop, Option, Some, None, option_and_then, option_map}
 use Rattle.types.specs.declared.ids.BindingId.{BindingId}
 use Rattle.types.specs.declared.ids.ExprId.{ExprId}
+use Rattle.types.specs.declared.ids.LabelId.{LabelId}
 use Rattle.types.specs.declared.operators.LogicOp.{LogicOp}
 use Rattle.types.specs.declared.operators.LogicOp.TheVariants as logic
 use Rattle.world.specs.declared.body.Statement.{Statement}
@@ -15,10 +16,10 @@ use Rattle.numbers.specs.declared.operator.Kind.{Kind}
 use Rattle.numbers.specs.Operators.{Answer, Computes, Panics, Undefined, computed, negated, inverted, kind_of}
 use Rattle.source_meaning.specs.Core as expr
 use Rattle.source_meaning.specs.Core.{CoreExpr, CoreLiteral, Truth, Number, Operation, Negate, Invert, Combine}
-use Rattle.source_meaning.specs.Ends.{Cost, no_cost, turns_alone, bytes_alone, End, Go, Faults, Panic, Stuck, More, after, then_do, IsOver}
+use Rattle.source_meaning.specs.Ends.{Cost, no_cost, turns_alone, bytes_alone, End, Go, Jumps, Break, Faults, Panic, Stuck, More, after, then_do, IsOver}
 use Rattle.source_meaning.specs.Entering.{room_of, entering}
-use Rattle.source_meaning.specs.Around.{Around, at_root, marking}
-use Rattle.source_meaning.specs.Events.{marked, marked_as_place, marked_as_operand, marked_by_statement, marked_in_block}
+use Rattle.source_meaning.specs.Around.{Around, Target, at_root, marking, inside, target_of}
+use Rattle.source_meaning.specs.Events.{marked, marked_as_place, marked_as_operand, marked_by_statement, marked_by_tail, marked_in_block}
 use Rattle.source_meaning.specs.Source.{Source, node, node_type, node_layout, named_by, pattern, target, root, Result, Node, Binding, Path, Store, zeroed, with_cell_bytes, Operand, Literally, At, operand_bytes, operand_type, drops}
 
 -- the byte of a truth value: 1 for true
@@ -210,6 +211,33 @@ block_into source below around statements tail path store =
     then_do (tail_into (below (marking (flat_map (marked_by_statement source) statements) around)) tail path later) (λ _ last.
     Go tt last (turns_alone (drops source (marked_in_block source statements tail)))))
 
+-- a jump behind a labelled block ends the block; any other end stays
+abbrev pub caught : ℕ → End (Unit {0}) → End (Unit {0})
+caught e (Jumps (Break node) store cost) = if node == e then Go tt store cost else Jumps (Break node) store cost
+caught e (Jumps to store cost) = Jumps to store cost
+caught e (Go done store cost) = Go done store cost
+caught e (Faults fault cost) = Faults fault cost
+caught e Stuck = Stuck
+caught e (More cost) = More cost
+
+-- a block that a jump inside it may leave
+abbrev pub labelled_into : Source → Levels → Around → ℕ → LabelId → List Statement → Option ExprId → Path → Store → End (Unit {0})
+labelled_into source below around e label statements tail path store =
+    branched (caught e (block_into source below (inside e label path around) statements tail path store))
+
+-- how many cells are dropped where a jump leaves all scopes inside a target, at the end of its value
+abbrev pub leaving : Source → Around → Option ExprId → Target → ℕ
+leaving source around value target = drops source (drop target.kept (around.marks ++ marked_by_tail source value))
+
+-- a value goes to the target's path, all scopes inside the target are left, and then the jump
+abbrev pub jump_to : Source → Levels → Around → Option ExprId → Option Target → Store → End (Unit {0})
+jump_to source below around value (Some target) store =
+    then_do (tail_into (below around) value target.path store) (λ _ later. Jumps (Break target.opened.node) later (turns_alone (leaving source around value target)))
+jump_to source below around value None store = Stuck
+
+abbrev pub break_into : Source → Levels → Around → Option LabelId → Option ExprId → Store → End (Unit {0})
+break_into source below around label value store = jump_to source below around value (target_of label around.targets) store
+
 -- an expression evaluated into a path: the forms that have a meaning so far
 abbrev pub into_of : Source → Levels → Around → ℕ → Option CoreExpr → Path → Store → End (Unit {0})
 into_of source below around e (Some (expr.Literal l)) path store = put_literal source e store path (literal_bytes source e l)
@@ -219,6 +247,8 @@ into_of source below around e (Some (expr.Logic op left right)) path store = log
 into_of source below around e (Some (expr.If condition then_branch else_branch)) path store = if_into source below around condition then_branch else_branch path store
 into_of source below around e (Some (expr.Assign assigned value)) path store = assign_into source (below around) assigned value store
 into_of source below around e (Some (expr.Block statements tail)) path store = block_into source below around statements tail path store
+into_of source below around e (Some (expr.Labelled label statements tail)) path store = labelled_into source below around e label statements tail path store
+into_of source below around e (Some (expr.Break label value)) path store = break_into source below around label value store
 into_of source below around e None path store = Stuck
 
 -- the meanings at one more unit of fuel

@@ -42,6 +42,8 @@ steps_of (expr.Logic op left right) = Operand left ∷ Into right ∷ []
 steps_of (expr.If condition then_branch else_branch) = Operand condition ∷ Into then_branch ∷ tail_steps else_branch
 steps_of (expr.Assign target value) = Place value ∷ []
 steps_of (expr.Block statements tail) = Open ∷ block_steps statements tail ++ Close ∷ []
+steps_of (expr.Labelled label statements tail) = Open ∷ block_steps statements tail ++ Close ∷ []
+steps_of (expr.Break label value) = tail_steps value
 
 -- the expression that a step evaluates
 abbrev pub step_part : Step → List ℕ

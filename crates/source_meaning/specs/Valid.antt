@@ -4,12 +4,14 @@ use Rattle.world.specs.declared.body.Statement.{Statement}
 use Rattle.world.specs.declared.body.Statement.TheVariants as statement
 use Rattle.types.specs.declared.ids.BindingId.{BindingId}
 use Rattle.types.specs.declared.ids.ExprId.{ExprId}
+use Rattle.types.specs.declared.ids.LabelId.{LabelId}
 use Rattle.world.specs.declared.infer.ValueNs.TheVariants.{LocalBinding}
 use Rattle.world.specs.declared.layout.Layout.{Layout}
 use Rattle.types.specs.declared.ty.Ty.{Ty, Bool as BoolTy, Int as IntTy, Uint as UintTy}
 use Rattle.world.specs.Lookups.{layout_of}
 use Rattle.numbers.specs.declared.operator.Operator.{Operator}
 use Rattle.numbers.specs.declared.operator.Operator.TheVariants.{Add, Sub, Mul, Div, Rem, BitXor, BitAnd, BitOr, Shl, Shr, Eq, Ne, Lt, Le, Gt, Ge}
+use Rattle.source_meaning.specs.Around.{Opened, meant}
 use Rattle.source_meaning.specs.Core as expr
 use Rattle.source_meaning.specs.Core.{CoreExpr, CoreLiteral, Truth, Number, Operation, Negate, Invert, Combine, is_truth}
 use Rattle.source_meaning.specs.Source.{Source, node, node_type, binding_type, pattern, pattern_type, target, named_by, root}
@@ -154,6 +156,8 @@ HasPlainForm source e (Some (expr.Logic op left right)) ty = IsPlainLogic source
 HasPlainForm source e (Some (expr.If condition then_branch else_branch)) ty = IsPlainIf source condition then_branch else_branch ty
 HasPlainForm source e (Some (expr.Assign assigned value)) ty = IsPlainAssign source assigned value
 HasPlainForm source e (Some (expr.Block statements tail)) ty = All (IsPlainStatement source) statements × IsPlainTail source tail ty
+HasPlainForm source e (Some (expr.Labelled label statements tail)) ty = All (IsPlainStatement source) statements × IsPlainTail source tail ty
+HasPlainForm source e (Some (expr.Break label value)) ty = Unit {0}
 HasPlainForm source e None ty = ⊥
 
 pub record IsPlainNode (source : Source) (e : ℕ) : Type 0 where
@@ -165,9 +169,38 @@ pub record IsPlainNode (source : Source) (e : ℕ) : Type 0 where
 abbrev pub IsPlainFrom : Source → ℕ → Type 0
 IsPlainFrom source e = (f : ℕ) → Evaluates source e f → IsPlainNode source f
 
--- each expression that is evaluated has a plain form
-abbrev pub IsPlain : Source → Type 0
-IsPlain source = IsPlainFrom source (root source)
+-- the labelled blocks that are open in an expression's parts: those around it, and itself where it is one
+abbrev pub opened_in : ℕ → Option CoreExpr → List Opened → List Opened
+opened_in e (Some (expr.Labelled label statements tail)) outer = record { node = e; label = label } ∷ outer
+opened_in e _ outer = outer
+
+-- an expression is evaluated where another is, around which some labelled blocks are open, and these are open around it
+pub data EvaluatesIn (source : Source) : List Opened → ℕ → List Opened → ℕ → Type 0 where
+  itself_in : {outer : List Opened} {e : ℕ} → EvaluatesIn source outer e outer e
+  part_in : {outer inner : List Opened} {e child f : ℕ} → Contains (parts_of (node source e)) child →
+      EvaluatesIn source (opened_in e (node source e) outer) child inner f → EvaluatesIn source outer e inner f
+
+-- a jump means an open block, and its value, where there is one, has that block's type
+pub record HasPlainTarget (source : Source) (open_around : List Opened) (label : Option LabelId) (value : Option ExprId) : Type 0 where
+  pub target : Opened
+  pub means : meant label open_around ≡ Some target
+  pub ty : Ty
+  pub target_has : node_type source target.node ≡ Some ty
+  pub value_has : IsPlainTail source value ty
+
+-- what is asked of an expression by what stands around it: a jump has a target
+abbrev pub FitsAround : Source → List Opened → Option CoreExpr → Type 0
+FitsAround source open_around (Some (expr.Break label value)) = HasPlainTarget source open_around label value
+FitsAround source open_around _ = Unit {0}
+
+-- each jump that is evaluated where an expression is has a target
+abbrev pub JumpsFit : Source → List Opened → ℕ → Type 0
+JumpsFit source outer e = (inner : List Opened) (f : ℕ) → EvaluatesIn source outer e inner f → FitsAround source inner (node source f)
+
+-- each expression that is evaluated has a plain form, and each jump has a target in the body
+pub record IsPlain (source : Source) : Type 0 where
+  pub nodes : IsPlainFrom source (root source)
+  pub jumps : JumpsFit source [] (root source)
 
 -- a type has a layout
 pub record IsLaidOut (source : Source) (ty : Option Ty) : Type 0 where
