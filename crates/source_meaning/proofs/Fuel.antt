@@ -19,10 +19,10 @@ use Rattle.source_meaning.specs.Core as expr
 use Rattle.source_meaning.specs.Core.{CoreExpr, Operation}
 use Rattle.source_meaning.specs.Ends.{Cost, turns_alone, End, Go, Jumps, Jump, Break, Continue, Return, Faults, Stuck, More, IsOver, after, then_do}
 use Rattle.source_meaning.specs.Events.{marked, marked_as_operand, marked_by_statement}
-use Rattle.source_meaning.specs.Meaning.{Levels, constant_cost, put, put_literal, put_answer, literal_operand, literal_bytes, named_place, named_into, bind, no_fuel, place_of, operand_of, operands_of, strict_into, is_byte, deciding_byte, reading_cost, decided_into, branched, logic_into, tail_into, branch_into, if_into, assign_into, statement_of, statements_of, block_into, caught, labelled_into, jump_to, break_into, into_of, level_above, level_at, meaning_of}
+use Rattle.source_meaning.specs.Meaning.{Levels, constant_cost, put, put_literal, put_answer, literal_operand, literal_bytes, named_place, named_into, bind, no_fuel, place_of, operand_of, operands_of, strict_into, is_byte, deciding_byte, reading_cost, decided_into, branched, logic_into, tail_into, branch_into, if_into, assign_into, statement_of, statements_of, block_into, caught, again_into, labelled_into, turn_of, loop_into, break_to, continue_to, into_of, level_above, level_at, meaning_of}
 use Rattle.source_meaning.specs.Source.{Source, Store, Path, Node, Binding, Operand, Literally, operand_bytes, node, node_type, named_by, pattern, target, root}
 use Rattle.source_meaning.specs.Steps.{parts_of, statement_parts}
-use Rattle.source_meaning.proofs.Core.{part_is_below}
+use Rattle.source_meaning.proofs.Core.{part_is_below, node_is_not_repeated}
 use Rattle.source_meaning.proofs.Parts.{first_is_contained, rest_is_contained, strict_parts, if_parts, block_parts, tail_part}
 
 -- what is over after a cost is over
@@ -64,25 +64,25 @@ either_over : {A : Type 0} (test : Bool) (one other : End A) → IsOver one → 
 either_over true one other over over' = over
 either_over false one other over over' = over'
 
--- what catches jumps is over where what jumps is
-caught_before : (e : ℕ) (end : End (Unit {0})) → IsOver (caught e end) → IsOver end
-caught_before e (Go done store cost) over = tt
-caught_before e (Jumps to store cost) over = tt
-caught_before e (Faults fault cost) over = tt
-caught_before e Stuck over = tt
-caught_before e (More cost) over = over
-
-caught_over : (e : ℕ) (end : End (Unit {0})) → IsOver end → IsOver (caught e end)
-caught_over e (Go done store cost) over = tt
-caught_over e (Jumps (Break node) store cost) over = either_over (node == e) (Go tt store cost) (Jumps (Break node) store cost) tt tt
-caught_over e (Jumps (Continue node) store cost) over = tt
-caught_over e (Jumps Return store cost) over = tt
-caught_over e (Faults fault cost) over = tt
-caught_over e Stuck over = tt
-caught_over e (More cost) over = over
-
-caught_agrees : (e : ℕ) (first second : End (Unit {0})) → (IsOver first → second ≡ first) → IsOver (caught e first) → caught e second ≡ caught e first
-caught_agrees e first second same over = ap (caught e) (same (caught_before e first over))
+-- what catches jumps agrees where what jumps does, and what comes after it
+caught_agrees : (e : ℕ) (again other_again ended other_ended : Store → End (Unit {0})) (first second : End (Unit {0})) →
+    ((store : Store) → IsOver (again store) → other_again store ≡ again store) → ((store : Store) → IsOver (ended store) → other_ended store ≡ ended store) →
+    (IsOver first → second ≡ first) → IsOver (caught e again ended first) → caught e other_again other_ended second ≡ caught e again ended first
+caught_agrees e again other_again ended other_ended (Go done store cost) second same_again same_ended same over =
+    ap (caught e other_again other_ended) (same tt) ∙ after_agrees cost (ended store) (other_ended store) (same_ended store) over
+caught_agrees e again other_again ended other_ended (Jumps (Break node) store cost) second same_again same_ended same over =
+    ap (caught e other_again other_ended) (same tt)
+caught_agrees e again other_again ended other_ended (Jumps (Continue node) store cost) second same_again same_ended same over =
+    ap (caught e other_again other_ended) (same tt) ∙ by_test (node == e) over
+  where
+    by_test : (test : Bool) → IsOver (if test then after cost (again store) else Jumps (Continue node) store cost) →
+        (if test then after cost (other_again store) else Jumps (Continue node) store cost) ≡ (if test then after cost (again store) else Jumps (Continue node) store cost)
+    by_test true again_over = after_agrees cost (again store) (other_again store) (same_again store) again_over
+    by_test false again_over = refl
+caught_agrees e again other_again ended other_ended (Jumps Return store cost) second same_again same_ended same over = ap (caught e other_again other_ended) (same tt)
+caught_agrees e again other_again ended other_ended (Faults fault cost) second same_again same_ended same over = ap (caught e other_again other_ended) (same tt)
+caught_agrees e again other_again ended other_ended Stuck second same_again same_ended same over = ap (caught e other_again other_ended) (same tt)
+caught_agrees e again other_again ended other_ended (More cost) second same_again same_ended same over = absurd over
 
 -- wherever levels come to an end, others come to the same
 pub record Agrees (below above : Levels) : Type 0 where
@@ -158,14 +158,28 @@ module _ (source : Source) (below above : Levels) (agrees : Agrees below above) 
       then_do_agrees (statements_of source below around statements store) (statements_of source above around statements store) _ _ (statements_agree around statements store) (λ done later o.
       then_do_agrees (tail_into (below behind) tail path later) (tail_into (above behind) tail path later) _ _ (tail_agrees behind tail path later) (λ done' last o'. refl) o) over
 
+  again_agrees : (around : Around) (e : ℕ) (path : Path) (store : Store) → IsOver (again_into below around e path store) → again_into above around e path store ≡ again_into below around e path store
+  again_agrees around e path store over = agrees.into around e path store over
+
   labelled_agrees : (around : Around) (e : ℕ) (label : LabelId) (statements : List Statement) (tail : Option ExprId) (path : Path) (store : Store) → IsOver (labelled_into source below around e label statements tail path store) → labelled_into source above around e label statements tail path store ≡ labelled_into source below around e label statements tail path store
   labelled_agrees around e label statements tail path store over =
-      branched_agrees _ _ (λ block_over. caught_agrees e _ _ (block_agrees (inside e label path around) statements tail path store) block_over) over
+      let within = inside e (Some label) path around in
+      after_agrees (turns_alone 1) _ _ (λ caught_is_over. caught_agrees e (again_into below around e path) (again_into above around e path) (λ last. Go tt last (turns_alone 1)) (λ last. Go tt last (turns_alone 1))
+      (block_into source below within statements tail path store) (block_into source above within statements tail path store) (again_agrees around e path) (λ later o. refl) (block_agrees within statements tail path store) caught_is_over) over
 
-  jump_agrees : (around : Around) (value : Option ExprId) (target : Option Target) (store : Store) → IsOver (jump_to source below around value target store) → jump_to source above around value target store ≡ jump_to source below around value target store
-  jump_agrees around value (Some target) store over =
+  turn_agrees : (around : Around) (body : ℕ) (store : Store) → IsOver (turn_of source below around body store) → turn_of source above around body store ≡ turn_of source below around body store
+  turn_agrees around body store over = then_do_agrees ((below around).place body store) ((above around).place body store) _ _ (agrees.place around body store) (λ path later o. refl) over
+
+  loop_agrees : (around : Around) (e : ℕ) (label : Option LabelId) (body : ℕ) (path : Path) (store : Store) → IsOver (loop_into source below around e label body path store) → loop_into source above around e label body path store ≡ loop_into source below around e label body path store
+  loop_agrees around e label body path store over =
+      let within = inside e label path around in
+      after_agrees (turns_alone 1) _ _ (λ caught_is_over. caught_agrees e (again_into below around e path) (again_into above around e path) (again_into below around e path) (again_into above around e path)
+      (turn_of source below within body store) (turn_of source above within body store) (again_agrees around e path) (again_agrees around e path) (turn_agrees within body store) caught_is_over) over
+
+  break_agrees : (around : Around) (value : Option ExprId) (target : Option Target) (store : Store) → IsOver (break_to source below around value target store) → break_to source above around value target store ≡ break_to source below around value target store
+  break_agrees around value (Some target) store over =
       then_do_agrees (tail_into (below around) value target.path store) (tail_into (above around) value target.path store) _ _ (tail_agrees around value target.path store) (λ done later o. refl) over
-  jump_agrees around value None store over = refl
+  break_agrees around value None store over = refl
 
   into_agrees : (around : Around) (e : ℕ) (form : Option CoreExpr) (path : Path) (store : Store) → IsOver (into_of source below around e form path store) → into_of source above around e form path store ≡ into_of source below around e form path store
   into_agrees around e (Some (expr.Strict operation operands)) path store over = strict_agrees around operation operands path store over
@@ -174,7 +188,8 @@ module _ (source : Source) (below above : Levels) (agrees : Agrees below above) 
   into_agrees around e (Some (expr.Assign assigned value)) path store over = assign_agrees around assigned value store over
   into_agrees around e (Some (expr.Block statements tail)) path store over = block_agrees around statements tail path store over
   into_agrees around e (Some (expr.Labelled label statements tail)) path store over = labelled_agrees around e label statements tail path store over
-  into_agrees around e (Some (expr.Break label value)) path store over = jump_agrees around value (target_of label around.targets) store over
+  into_agrees around e (Some (expr.Loop label body)) path store over = loop_agrees around e label body path store over
+  into_agrees around e (Some (expr.Break label value)) path store over = break_agrees around value (target_of label around.targets) store over
   into_agrees around e _ path store over = refl
 
   above_agrees : Agrees (level_above source below) (level_above source above)
@@ -330,34 +345,35 @@ module _ (source : Source) (below : Levels) where
       then_do_over (tail_into (below behind) tail path later) _ (tail_over behind tail path later (λ child within.
       ends child (Contains-append_right (flat_map statement_parts statements) (optional tail) child within))) (λ done' last. tt))
 
-  labelled_over : (around : Around) (e : ℕ) (label : LabelId) (statements : List Statement) (tail : Option ExprId) (path : Path) (store : Store) → ((child : ℕ) → Contains (flat_map statement_parts statements ++ optional tail) child → EndsIn below child) → IsOver (labelled_into source below around e label statements tail path store)
-  labelled_over around e label statements tail path store ends =
-      branched_over _ (caught_over e _ (block_over (inside e label path around) statements tail path store ends))
-
-  jump_over : (around : Around) (value : Option ExprId) (target : Option Target) (store : Store) → ((child : ℕ) → Contains (optional value) child → EndsIn below child) → IsOver (jump_to source below around value target store)
-  jump_over around value (Some target) store ends =
+  break_over : (around : Around) (value : Option ExprId) (target : Option Target) (store : Store) → ((child : ℕ) → Contains (optional value) child → EndsIn below child) → IsOver (break_to source below around value target store)
+  break_over around value (Some target) store ends =
       then_do_over (tail_into (below around) value target.path store) _ (tail_over around value target.path store ends) (λ done later. tt)
-  jump_over around value None store ends = tt
+  break_over around value None store ends = tt
 
-  into_over : (around : Around) (e : ℕ) (form : Option CoreExpr) (path : Path) (store : Store) → ((child : ℕ) → Contains (parts_of form) child → EndsIn below child) → IsOver (into_of source below around e form path store)
-  into_over around e (Some (expr.Literal literal)) path store ends = put_literal_over source e store path (literal_bytes source e literal)
-  into_over around e (Some (expr.Path name)) path store ends = named_into_over (named_by source e) path store
-  into_over around e (Some (expr.Strict operation operands)) path store ends =
+  continue_over : (around : Around) (target : Option Target) (store : Store) → IsOver (continue_to source around target store)
+  continue_over around (Some target) store = tt
+  continue_over around None store = tt
+
+  into_over : (around : Around) (e : ℕ) (form : Option CoreExpr) (path : Path) (store : Store) → node source e ≡ form → ((child : ℕ) → Contains (parts_of form) child → EndsIn below child) → IsOver (into_of source below around e form path store)
+  into_over around e (Some (expr.Literal literal)) path store is ends = put_literal_over source e store path (literal_bytes source e literal)
+  into_over around e (Some (expr.Path name)) path store is ends = named_into_over (named_by source e) path store
+  into_over around e (Some (expr.Strict operation operands)) path store is ends =
       then_do_over (operands_of source below around operands store) _ (operands_over around operands store (λ child within.
       ends child (subst (λ parts. Contains parts child) (sym (strict_parts operation operands)) within))) (λ given later. put_answer_over later path _)
-  into_over around e (Some (expr.Logic op left right)) path store ends = logic_over around op left right path store ends
-  into_over around e (Some (expr.If condition then_branch else_branch)) path store ends =
+  into_over around e (Some (expr.Logic op left right)) path store is ends = logic_over around op left right path store ends
+  into_over around e (Some (expr.If condition then_branch else_branch)) path store is ends =
       if_over around condition then_branch else_branch path store (λ child within. ends child (subst (λ parts. Contains parts child) (sym (if_parts condition then_branch else_branch)) within))
-  into_over around e (Some (expr.Assign assigned value)) path store ends =
+  into_over around e (Some (expr.Assign assigned value)) path store is ends =
       let value_ends = ends value (first_is_contained value []) in
       then_do_over ((below around).place value store) _ (value_ends.place around store) (λ from later. bind_over (target source assigned) from later)
-  into_over around e (Some (expr.Block statements tail)) path store ends =
+  into_over around e (Some (expr.Block statements tail)) path store is ends =
       block_over around statements tail path store (λ child within. ends child (subst (λ parts. Contains parts child) (sym (block_parts statements tail)) within))
-  into_over around e (Some (expr.Labelled label statements tail)) path store ends =
-      labelled_over around e label statements tail path store (λ child within. ends child (subst (λ parts. Contains parts child) (sym (block_parts statements tail)) within))
-  into_over around e (Some (expr.Break label value)) path store ends =
-      jump_over around value (target_of label around.targets) store (λ child within. ends child (subst (λ parts. Contains parts child) (sym (tail_part value)) within))
-  into_over around e None path store ends = tt
+  into_over around e (Some (expr.Labelled label statements tail)) path store is ends = absurd (node_is_not_repeated source e (expr.Labelled label statements tail) is tt)
+  into_over around e (Some (expr.Loop label body)) path store is ends = absurd (node_is_not_repeated source e (expr.Loop label body) is tt)
+  into_over around e (Some (expr.Break label value)) path store is ends =
+      break_over around value (target_of label around.targets) store (λ child within. ends child (subst (λ parts. Contains parts child) (sym (tail_part value)) within))
+  into_over around e (Some (expr.Continue label)) path store is ends = continue_over around (target_of label around.targets) store
+  into_over around e None path store is ends = tt
 
 -- the fuel with which each expression below a number comes to an end
 pub fuel_below : ℕ → ℕ
@@ -372,7 +388,7 @@ into_ends source checked (suc bound) e zero less enough around path store = absu
 into_ends source checked (suc bound) e (suc zero) less enough around path store = absurd (omega arith)
 into_ends source checked (suc bound) e (suc (suc zero)) less enough around path store = absurd (omega arith)
 into_ends source checked (suc bound) e (suc (suc (suc fuel))) less enough around path store =
-    into_over source (level_at source (suc (suc fuel))) around e (node source e) path store (λ child within.
+    into_over source (level_at source (suc (suc fuel))) around e (node source e) path store refl (λ child within.
     let below = part_is_below source checked e child within in record {
       place = λ around' later. place_over source (level_at source (suc fuel)) around' child (node source child) later (into_ends source checked bound child (suc fuel) (omega arith) (omega arith));
       operand = λ around' later. operand_over source (level_at source (suc fuel)) around' child (node source child) later (λ last.

@@ -11,7 +11,7 @@ use Rattle.types.specs.declared.operators.LogicOp.{LogicOp}
 use Rattle.world.specs.declared.body.Statement.{Statement}
 use Rattle.world.specs.declared.body.Statement.TheVariants as statement
 use Rattle.world.specs.Checked.{IsCheckedBody}
-use Rattle.source_meaning.specs.Core.{CoreExpr, CoreLiteral, Operation, Literal, Path, Strict, Logic, If, Assign, Block, Labelled, Break, is_literal, is_path}
+use Rattle.source_meaning.specs.Core.{CoreExpr, CoreLiteral, Operation, Literal, Path, Strict, Logic, If, Assign, Block, Labelled, Loop, Break, Continue, is_literal, is_path}
 use Rattle.source_meaning.specs.Events.{Event, Opens, Marks, Closes, place_events, operand_events, step_events, form_events, events_in, events, events_through, Scopes, after_event, scopes_after, innermost, marks_of, marked, marked_as_place, marked_as_operand, marked_by_statement, marked_by_tail, marked_in_block}
 use Rattle.source_meaning.specs.Laws.{ScopesNest}
 use Rattle.source_meaning.specs.Source.{Source, Cell, Node, Binding, node, pattern, bound_by}
@@ -142,7 +142,9 @@ module _ (source : Source) (below : ℕ → List Event) (closed : (e : ℕ) → 
       subst IsClosed (sym (block_events_are statements tail)) (scope_is_closed (flat_map (step_events source below) (block_steps statements tail)) (inner_is_closed statements tail))
   form_is_closed (Some (Labelled label statements tail)) =
       subst IsClosed (sym (block_events_are statements tail)) (scope_is_closed (flat_map (step_events source below) (block_steps statements tail)) (inner_is_closed statements tail))
+  form_is_closed (Some (Loop label body)) = expression_is_closed body
   form_is_closed (Some (Break label value)) = tail_is_closed value
+  form_is_closed (Some (Continue label)) = none_is_closed
   form_is_closed None = none_is_closed
 
 events_in_are_closed : (source : Source) (depth e : ℕ) → IsClosed (events_in depth source e)
@@ -295,6 +297,12 @@ module _ (source : Source) (checked : IsCheckedBody source.body source.infer) (e
   labelled_marks label statements tail is =
       form_marks (Some (Labelled label statements tail)) is ∙ ap marks_of (block_events_are source (events source) (events_are_closed source) statements tail)
       ∙ scope_marks (events_through source (block_steps statements tail)) (inner_is_closed source (events source) (events_are_closed source) statements tail)
+
+  pub loop_marks : (label : Option LabelId) (body : ℕ) → node source e ≡ Some (Loop label body) → marked source e ≡ []
+  loop_marks label body is = form_marks (Some (Loop label body)) is ∙ scope_marks (place_events source (events source) body) (place_is_closed source (events source) (events_are_closed source) body)
+
+  pub continue_marks : (label : Option LabelId) → node source e ≡ Some (Continue label) → marked source e ≡ []
+  continue_marks label is = form_marks (Some (Continue label)) is ∙ no_marks
 
   pub break_marks : (label : Option LabelId) (value : Option ExprId) → node source e ≡ Some (Break label value) → marked source e ≡ marked_by_tail source value
   unfolding marked_by_tail

@@ -18,13 +18,13 @@ use Rattle.numbers.proofs.Digits.{length-low_bytes}
 use Rattle.source_meaning.specs.Around.{Opened, Target, Around, at_root, marking, entered, inside as inside_of, is_meant, meant, target_of}
 use Rattle.source_meaning.specs.Core as expr
 use Rattle.source_meaning.specs.Core.{CoreExpr, CoreLiteral, Truth, Number, Operation, is_truth}
-use Rattle.source_meaning.specs.Ends.{Cost, no_cost, turns_alone, End, Go, Jumps, Jump, Break, Continue, Return, Faults, Stuck, More, JumpsNowhere, after, then_do}
+use Rattle.source_meaning.specs.Ends.{Cost, no_cost, turns_alone, plus, End, Go, Jumps, Jump, Break, Continue, Return, Faults, Stuck, More, JumpsNowhere, after, then_do}
 use Rattle.source_meaning.specs.Events.{marked, marked_as_operand, marked_by_statement}
-use Rattle.source_meaning.specs.Meaning.{Level, Levels, value_of, answered, truth_byte, literal_bytes, constant_cost, put, put_literal, put_answer, literal_operand, named_place, named_into, bind, operands_of, strict_into, is_byte, deciding_byte, reading_cost, decided_into, branched, logic_into, tail_into, branch_into, if_into, assign_into, statement_of, statements_of, block_into, caught, labelled_into, jump_to, break_into, no_fuel, place_of, operand_of, into_of, level_above, level_at, meaning_of}
+use Rattle.source_meaning.specs.Meaning.{Level, Levels, value_of, answered, truth_byte, literal_bytes, constant_cost, put, put_literal, put_answer, literal_operand, named_place, named_into, bind, operands_of, strict_into, is_byte, deciding_byte, reading_cost, decided_into, branched, logic_into, tail_into, branch_into, if_into, assign_into, statement_of, statements_of, block_into, caught, again_into, labelled_into, turn_of, loop_into, break_to, break_into, continue_to, continue_into, no_fuel, place_of, operand_of, into_of, level_above, level_at, meaning_of}
 use Rattle.source_meaning.specs.Source.{Source, Store, Path, Cell, Result, Node, Binding, Operand, Literally, At, operand_bytes, same_cell, zeroed, with_cell_bytes, node, node_type, node_layout, pattern, target, root, cell_type, cell_size}
 use Rattle.source_meaning.specs.Steps.{parts_of, statement_parts, tail_steps}
 use Rattle.source_meaning.specs.Steps as step
-use Rattle.source_meaning.specs.Valid.{Evaluates, itself, part, IsScalar, IsBool, IsPlainLiteral, HaveTypes, IsPlainLet, IsPlainStatement, IsPlainTail, IsPlainAssign, HasPlainForm, IsPlainNode, EvaluatesIn, itself_in, part_in, opened_in, HasPlainTarget, FitsAround, JumpsFit, IsPlain, IsLaidOut, sized_parts, NeedsLayout, own, inside, AreLaidOut}
+use Rattle.source_meaning.specs.Valid.{Evaluates, itself, part, IsScalar, IsBool, IsPlainLiteral, HaveTypes, IsPlainLet, IsPlainStatement, IsPlainTail, IsPlainAssign, HasPlainForm, IsPlainNode, EvaluatesIn, itself_in, part_in, opened_in, HasPlainTarget, HasOpenTarget, FitsAround, JumpsFit, IsPlain, IsLaidOut, sized_parts, NeedsLayout, own, inside, AreLaidOut}
 use Rattle.source_meaning.proofs.Depth.{operand_is_part, logic_operand_is_part, if_part_is_part}
 use Rattle.source_meaning.proofs.Layouts.{scalar_has_length, bool_is_scalar, bool_length_is_one}
 use Rattle.source_meaning.proofs.Operators.{Fits, IsLengthOf}
@@ -60,10 +60,15 @@ written_is_sized source store cell other bytes false sized fits is = sized.holds
 pub with_bytes_is_sized : (source : Source) (store : Store) (cell : Cell) (bytes : List ℕ) → IsSized source store → length bytes ≡ cell_size source cell → IsSized source (with_cell_bytes store cell bytes)
 with_bytes_is_sized source store cell bytes sized fits = record { holds_all = λ other. written_is_sized source store cell other bytes (same_cell cell other) sized fits refl }
 
--- a jump leads behind one of these targets
+-- one of these targets is an expression
+abbrev pub IsNode : List Target → ℕ → Type 0
+IsNode targets node = (target : Target) × Contains targets target × (target.opened.node ≡ node)
+
+-- a jump leads to one of these targets
 abbrev pub IsTarget : List Target → Jump → Type 0
-IsTarget targets (Break node) = (target : Target) × Contains targets target × (target.opened.node ≡ node)
-IsTarget targets _ = ⊥
+IsTarget targets (Break node) = IsNode targets node
+IsTarget targets (Continue node) = IsNode targets node
+IsTarget targets Return = ⊥
 
 -- an end that isn't stuck, and which leaves sized cells where it is a value, or a jump, which leads to a target
 abbrev pub IsSound : {A : Type 0} → Source → List Target → (A → Type 0) → End A → Type 0
@@ -327,6 +332,8 @@ module _ (source : Source) (checked : IsChecked source.world) where
     operand_is_sound outer around stands e (Some (expr.Assign assigned value)) store is fine sized = as_place_is_sound outer around stands e store (ap is_truth is) fine sized
     operand_is_sound outer around stands e (Some (expr.Block statements tail)) store is fine sized = as_place_is_sound outer around stands e store (ap is_truth is) fine sized
     operand_is_sound outer around stands e (Some (expr.Labelled label statements tail)) store is fine sized = as_place_is_sound outer around stands e store (ap is_truth is) fine sized
+    operand_is_sound outer around stands e (Some (expr.Loop label body)) store is fine sized = as_place_is_sound outer around stands e store (ap is_truth is) fine sized
+    operand_is_sound outer around stands e (Some (expr.Continue label)) store is fine sized = as_place_is_sound outer around stands e store (ap is_truth is) fine sized
     operand_is_sound outer around stands e (Some (expr.Break label value)) store is fine sized = as_place_is_sound outer around stands e store (ap is_truth is) fine sized
     operand_is_sound outer around stands e None store is fine sized = absurd (form_of e _ is (fine.plain e itself))
 
@@ -434,48 +441,83 @@ module _ (source : Source) (checked : IsChecked source.world) where
         let plain = fine.plain e itself in
         inner_is_sound outer around stands statements tail plain.ty path store (form_of e _ is plain) (fits ∙ plain.has_type) (block_part_is_fine outer e statements tail is fine) sized
 
-    -- a labelled block catches the jumps behind it; others lead to the targets around it
-    caught_is_sound : (targets : List Target) (target : Target) (end : End (Unit {0})) → IsSound source (target ∷ targets) Nothing end → IsSound source targets Nothing (caught target.opened.node end)
-    caught_is_sound targets target (Go done store cost) is = is
-    caught_is_sound targets target (Jumps (Break node) store cost) is = by_test (node == target.opened.node) refl
+    -- what stands around a target, of whose node a jump isn't
+    further : (targets : List Target) (target : Target) (node : ℕ) → (node == target.opened.node) ≡ false → IsNode (target ∷ targets) node → IsNode targets node
+    further targets target node differs is =
+        ⊎_elim
+        (λ here. absurd (false≢true (sym differs ∙ eq-eqb _ _ (sym is.2 ∙ ap (λ t. t.opened.node) (sym (only_target target is.0 here))))))
+        (λ there. (is.0, there, is.2))
+        (Contains-append_cases (target ∷ []) targets is.0 is.1)
+
+    -- a loop or a labelled block catches the jumps to it; others lead to the targets around it
+    caught_is_sound : (targets : List Target) (target : Target) (again ended : Store → End (Unit {0})) (end : End (Unit {0})) →
+        ((store : Store) → IsSized source store → IsSound source targets Nothing (again store)) → ((store : Store) → IsSized source store → IsSound source targets Nothing (ended store)) →
+        IsSound source (target ∷ targets) Nothing end → IsSound source targets Nothing (caught target.opened.node again ended end)
+    caught_is_sound targets target again ended (Go done store cost) again_is ended_is is = after_is_sound source targets Nothing cost (ended store) (ended_is store is.0)
+    caught_is_sound targets target again ended (Jumps (Break node) store cost) again_is ended_is is = by_test (node == target.opened.node) refl
       where
-        by_test : (test : Bool) → (node == target.opened.node) ≡ test → IsSound source targets Nothing (if test then Go tt store cost else Jumps (Break node) store cost)
+        by_test : (test : Bool) → (node == target.opened.node) ≡ test → IsSound source targets Nothing (if test then Go tt store (plus cost (turns_alone 1)) else Jumps (Break node) store cost)
         by_test true same = (is.0, tt)
-        by_test false differs =
-            (is.0, ⊎_elim
-            (λ here. absurd (false≢true (sym differs ∙ eq-eqb _ _ (sym is.1.2 ∙ ap (λ t. t.opened.node) (sym (only_target target is.1.0 here))))))
-            (λ there. (is.1.0, there, is.1.2))
-            (Contains-append_cases (target ∷ []) targets is.1.0 is.1.1))
-    caught_is_sound targets target (Jumps (Continue node) store cost) is = absurd is.1
-    caught_is_sound targets target (Jumps Return store cost) is = absurd is.1
-    caught_is_sound targets target (Faults fault cost) is = tt
-    caught_is_sound targets target Stuck is = is
-    caught_is_sound targets target (More cost) is = tt
+        by_test false differs = (is.0, further targets target node differs is.1)
+    caught_is_sound targets target again ended (Jumps (Continue node) store cost) again_is ended_is is = by_test (node == target.opened.node) refl
+      where
+        by_test : (test : Bool) → (node == target.opened.node) ≡ test → IsSound source targets Nothing (if test then after cost (again store) else Jumps (Continue node) store cost)
+        by_test true same = after_is_sound source targets Nothing cost (again store) (again_is store is.0)
+        by_test false differs = (is.0, further targets target node differs is.1)
+    caught_is_sound targets target again ended (Jumps Return store cost) again_is ended_is is = absurd is.1
+    caught_is_sound targets target again ended (Faults fault cost) again_is ended_is is = tt
+    caught_is_sound targets target again ended Stuck again_is ended_is is = is
+    caught_is_sound targets target again ended (More cost) again_is ended_is is = tt
+
+    -- inside a loop or a labelled block that is evaluated into a path of its type
+    stands_inside : {outer : List Opened} {around : Around} (stands : Stands outer around) (e : ℕ) (label : Option LabelId) (path : Path) → PathFits e path → Stands (record { node = e; label = label } ∷ outer) (inside_of e label path around)
+    stands_inside {around = around} stands e label path fits = record {
+      opened = ap (λ rest. record { node = e; label = label } ∷ rest) stands.opened;
+      fits = λ target contained. ⊎_elim
+          (λ here. subst (λ t. PathFits t.opened.node t.path) (only_target (entered e label path around) target here) fits)
+          (λ there. stands.fits target there)
+          (Contains-append_cases (entered e label path around ∷ []) around.targets target contained);
+    }
+
+    again_is_sound : (outer : List Opened) (around : Around) (stands : Stands outer around) (e : ℕ) (path : Path) → IsFine source outer e → PathFits e path → (store : Store) → IsSized source store → IsSound source around.targets Nothing (again_into below around e path store)
+    again_is_sound outer around stands e path fine fits store sized = (sound outer around stands).into e path store fine sized fits
 
     labelled_is_sound : (outer : List Opened) (around : Around) (stands : Stands outer around) (e : ℕ) (label : LabelId) (statements : List Statement) (tail : Option ExprId) (path : Path) (store : Store) → node source e ≡ Some (expr.Labelled label statements tail) → IsFine source outer e → IsSized source store → PathFits e path → IsSound source around.targets Nothing (labelled_into source below around e label statements tail path store)
     labelled_is_sound outer around stands e label statements tail path store is fine sized fits =
         let plain = fine.plain e itself in
-        let opened = record { node = e; label = label } ∷ outer in
-        let stands' : Stands opened (inside_of e label path around) = record {
-          opened = ap (λ rest. record { node = e; label = label } ∷ rest) stands.opened;
-          fits = λ target contained. ⊎_elim
-              (λ here. subst (λ t. PathFits t.opened.node t.path) (only_target (entered e label path around) target here) fits)
-              (λ there. stands.fits target there)
-              (Contains-append_cases (entered e label path around ∷ []) around.targets target contained);
-        } in
-        branched_is_sound around.targets _ (caught_is_sound around.targets (entered e label path around) _
-        (inner_is_sound opened (inside_of e label path around) stands' statements tail plain.ty path store (form_of e _ is plain) (fits ∙ plain.has_type) (λ child contained.
+        after_is_sound source around.targets Nothing (turns_alone 1) _
+        (caught_is_sound around.targets (entered e (Some label) path around) (again_into below around e path) (λ last. Go tt last (turns_alone 1)) _ (again_is_sound outer around stands e path fine fits) (λ last sized'. (sized', tt))
+        (inner_is_sound (record { node = e; label = Some label } ∷ outer) (inside_of e (Some label) path around) (stands_inside stands e (Some label) path fits) statements tail plain.ty path store (form_of e _ is plain) (fits ∙ plain.has_type) (λ child contained.
         part_is_fine outer e child (Some (expr.Labelled label statements tail)) is (sized_block_parts source statements tail child contained) fine) sized))
 
-    -- a jump leads to the innermost open block that it means
-    jump_is_sound : (outer : List Opened) (around : Around) (stands : Stands outer around) (e : ℕ) (label : Option LabelId) (value : Option ExprId) (store : Store) → node source e ≡ Some (expr.Break label value) → IsFine source outer e → IsSized source store → IsSound source around.targets Nothing (break_into source below around label value store)
-    jump_is_sound outer around stands e label value store is fine sized =
+    turn_is_sound : (outer : List Opened) (around : Around) (stands : Stands outer around) (body : ℕ) (store : Store) → IsFine source outer body → IsSized source store → IsSound source around.targets Nothing (turn_of source below around body store)
+    turn_is_sound outer around stands body store fine sized =
+        then_do_is_sound source around.targets (PathFits body) Nothing ((below around).place body store) _ ((sound outer around stands).place body store fine sized) (λ path later sized' fits. (sized', tt))
+
+    loop_is_sound : (outer : List Opened) (around : Around) (stands : Stands outer around) (e : ℕ) (label : Option LabelId) (body : ℕ) (path : Path) (store : Store) → node source e ≡ Some (expr.Loop label body) → IsFine source outer e → IsSized source store → PathFits e path → IsSound source around.targets Nothing (loop_into source below around e label body path store)
+    loop_is_sound outer around stands e label body path store is fine sized fits =
+        let again = again_is_sound outer around stands e path fine fits in
+        after_is_sound source around.targets Nothing (turns_alone 1) _
+        (caught_is_sound around.targets (entered e label path around) (again_into below around e path) (again_into below around e path) _ again again
+        (turn_is_sound (record { node = e; label = label } ∷ outer) (inside_of e label path around) (stands_inside stands e label path fits) body store
+        (part_is_fine outer e body (Some (expr.Loop label body)) is (first_is_contained body []) fine) sized))
+
+    -- a `break` leads to the innermost target that it means
+    break_is_sound : (outer : List Opened) (around : Around) (stands : Stands outer around) (e : ℕ) (label : Option LabelId) (value : Option ExprId) (store : Store) → node source e ≡ Some (expr.Break label value) → IsFine source outer e → IsSized source store → IsSound source around.targets Nothing (break_into source below around label value store)
+    break_is_sound outer around stands e label value store is fine sized =
         let target : HasPlainTarget source outer label value = subst (FitsAround source outer) is (fine.jumps outer e itself_in) in
         let found = target_found label around.targets target.target (ap (meant label) stands.opened ∙ target.means) in
         let typed : cell_type source found.0.path.cell ≡ Some target.ty = stands.fits found.0 found.2 ∙ ap (λ o. node_type source o.node) found.3 ∙ target.target_has in
-        subst (λ given. IsSound source around.targets Nothing (jump_to source below around value given store)) (sym found.1)
+        subst (λ given. IsSound source around.targets Nothing (break_to source below around value given store)) (sym found.1)
         (then_do_is_sound source around.targets Nothing Nothing (tail_into (below around) value found.0.path store) _ (tail_is_sound outer around stands value target.ty found.0.path store target.value_has typed (λ child contained.
         part_is_fine outer e child (Some (expr.Break label value)) is (sized_tail source value child contained) fine) sized) (λ done later sized' is'. (sized', (found.0, found.2, refl))))
+
+    -- and so does a `continue`
+    continue_is_sound : (outer : List Opened) (around : Around) (stands : Stands outer around) (e : ℕ) (label : Option LabelId) (store : Store) → node source e ≡ Some (expr.Continue label) → IsFine source outer e → IsSized source store → IsSound source around.targets Nothing (continue_into source around label store)
+    continue_is_sound outer around stands e label store is fine sized =
+        let target : HasOpenTarget outer label = subst (FitsAround source outer) is (fine.jumps outer e itself_in) in
+        let found = target_found label around.targets target.target (ap (meant label) stands.opened ∙ target.means) in
+        subst (λ given. IsSound source around.targets Nothing (continue_to source around given store)) (sym found.1) (sized, (found.0, found.2, refl))
 
     into_is_sound : (outer : List Opened) (around : Around) (stands : Stands outer around) (e : ℕ) (form : Option CoreExpr) (path : Path) (store : Store) → node source e ≡ form → IsFine source outer e → IsSized source store → PathFits e path → IsSound source around.targets Nothing (into_of source below around e form path store)
     into_is_sound outer around stands e (Some (expr.Literal given)) path store is fine sized fits =
@@ -493,7 +535,9 @@ module _ (source : Source) (checked : IsChecked source.world) where
     into_is_sound outer around stands e (Some (expr.Assign assigned value)) path store is fine sized fits = assign_is_sound outer around stands e assigned value store is fine sized
     into_is_sound outer around stands e (Some (expr.Block statements tail)) path store is fine sized fits = block_is_sound outer around stands e statements tail path store is fine sized fits
     into_is_sound outer around stands e (Some (expr.Labelled label statements tail)) path store is fine sized fits = labelled_is_sound outer around stands e label statements tail path store is fine sized fits
-    into_is_sound outer around stands e (Some (expr.Break label value)) path store is fine sized fits = jump_is_sound outer around stands e label value store is fine sized
+    into_is_sound outer around stands e (Some (expr.Break label value)) path store is fine sized fits = break_is_sound outer around stands e label value store is fine sized
+    into_is_sound outer around stands e (Some (expr.Loop label body)) path store is fine sized fits = loop_is_sound outer around stands e label body path store is fine sized fits
+    into_is_sound outer around stands e (Some (expr.Continue label)) path store is fine sized fits = continue_is_sound outer around stands e label store is fine sized
     into_is_sound outer around stands e None path store is fine sized fits = absurd (form_of e _ is (fine.plain e itself))
 
     above_is_sound : (outer : List Opened) (around : Around) → Stands outer around → IsSoundLevel outer around.targets (level_above source below around)
@@ -523,7 +567,7 @@ plain_is_never_stuck source fuel checked body plain laid_out stuck = subst (IsSo
 
 no_target : (to : Jump) → IsTarget [] to → ⊥
 no_target (Break node) is = let less = is.1.1 in omega arith
-no_target (Continue node) is = is
+no_target (Continue node) is = let less = is.1.1 in omega arith
 no_target Return is = is
 
 no_jump : {A : Type 0} (source : Source) (P : A → Type 0) (end : End A) → IsSound source [] P end → JumpsNowhere end

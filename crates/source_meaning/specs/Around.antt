@@ -1,27 +1,27 @@
 -- What stands around an expression while it is evaluated.
-use Rattle.std.specs.Prelude.{ℕ, Bool, true, ◌==◌, List, [], ◌∷◌, ◌++◌, length, Option, Some, None, if◌then◌else◌}
+use Rattle.std.specs.Prelude.{ℕ, Bool, true, false, ◌==◌, List, [], ◌∷◌, ◌++◌, length, Option, Some, None, if◌then◌else◌}
 use Rattle.types.specs.declared.ids.LabelId.{LabelId}
 use Rattle.source_meaning.specs.Source.{Cell, Path}
 
--- a labelled block that is being evaluated: its expression, and its label
+-- a loop or a labelled block that is being evaluated: its expression, and its label
 pub record Opened : Type 0 where
   pub node : ℕ
-  pub label : LabelId
+  pub label : Option LabelId
 
--- where a jump out of a labelled block leads: the block, where its value goes, and how many cells were in use when it was
--- entered
+-- where a jump leads: which loop or labelled block it leaves or starts again, where the value of that goes, and how many cells
+-- were in use when it was entered
 pub record Target : Type 0 where
   pub opened : Opened
   pub path : Path
   pub kept : ℕ
 
--- the labelled blocks that are open, the innermost first, and the cells that came into use in all open scopes, in order: what
--- a jump out of a block leaves are those behind the ones that were in use when it was entered
+-- the loops and labelled blocks that are open, the innermost first, and the cells that came into use in all open scopes, in
+-- order: what a jump leaves are those behind the ones that were in use when its target was entered
 pub record Around : Type 0 where
   pub targets : List Target
   pub marks : List Cell
 
--- around the root of a body no block is open, and nothing is in use
+-- around the root of a body nothing is open, and nothing is in use
 abbrev pub at_root : Around
 at_root = record { targets = []; marks = [] }
 
@@ -29,20 +29,25 @@ at_root = record { targets = []; marks = [] }
 abbrev pub marking : List Cell → Around → Around
 marking cells around = record { targets = around.targets; marks = around.marks ++ cells }
 
--- the target that a labelled block is, where it is entered
-abbrev pub entered : ℕ → LabelId → Path → Around → Target
+-- the target that a loop or a labelled block is, where it is entered
+abbrev pub entered : ℕ → Option LabelId → Path → Around → Target
 entered e label path around = record { opened = record { node = e; label = label }; path = path; kept = length around.marks }
 
--- inside a labelled block whose value goes where a path leads
-abbrev pub inside : ℕ → LabelId → Path → Around → Around
+-- inside a loop or a labelled block whose value goes where a path leads
+abbrev pub inside : ℕ → Option LabelId → Path → Around → Around
 inside e label path around = record { targets = entered e label path around ∷ around.targets; marks = around.marks }
 
--- whether a jump means a labelled block: any block where the jump has no label
+-- whether something has a label
+abbrev pub has_label : LabelId → Option LabelId → Bool
+has_label label (Some own) = label.0 == own.0
+has_label label None = false
+
+-- whether a jump means a loop or a labelled block: any, where the jump has no label
 abbrev pub is_meant : Option LabelId → Opened → Bool
 is_meant None opened = true
-is_meant (Some label) opened = label.0 == opened.label.0
+is_meant (Some label) opened = has_label label opened.label
 
--- the innermost of the open blocks that a jump means
+-- the innermost of those that are open and that a jump means
 unfoldable pub meant : Option LabelId → List Opened → Option Opened
 meant label [] = None
 meant label (opened ∷ outer) = if is_meant label opened then Some opened else meant label outer

@@ -49,5 +49,7 @@ IsBuiltForm source e (Some (expr.If condition then_branch else_branch)) = Unit {
 IsBuiltForm source e (Some (expr.Assign assigned value)) = AssignsBinding source assigned
 IsBuiltForm source e (Some (expr.Block statements tail)) = All (IsBuiltStatement source) statements
 IsBuiltForm source e (Some (expr.Labelled label statements tail)) = All (IsBuiltStatement source) statements
+IsBuiltForm source e (Some (expr.Loop label body)) = Unit {0}
 IsBuiltForm source e (Some (expr.Break label value)) = Unit {0}
+IsBuiltForm source e (Some (expr.Continue label)) = Unit {0}
 IsBuiltForm source e None = ⊥

@@ -42,8 +42,9 @@ pub data Operation : Type 0 where
 
 -- An expression of a form that has a meaning. A strict form evaluates all its operands from left to right, and then
 -- computes one operation. `&&` and `||` evaluate their right operand only where the left one doesn't decide, and `if` one of
--- its branches. An assignment writes a value to what its target names. A labelled block is left early by a `break` inside
--- it, with a value or without; `core_of` gives these two to no expression yet, since they aren't lowered.
+-- its branches. An assignment writes a value to what its target names. A `loop` evaluates its body again and again. A `break`
+-- ends a loop or a labelled block around it, with a value or without, and a `continue` starts it again. `core_of` gives these
+-- four to no expression yet, since they aren't lowered.
 pub data CoreExpr : Type 0 where
   Literal : CoreLiteral → CoreExpr
   Path : (name : List ℕ) → CoreExpr
@@ -53,7 +54,9 @@ pub data CoreExpr : Type 0 where
   Assign : (assigned value : ℕ) → CoreExpr
   Block : List Statement → (tail : Option ExprId) → CoreExpr
   Labelled : LabelId → List Statement → (tail : Option ExprId) → CoreExpr
+  Loop : (label : Option LabelId) → (body : ℕ) → CoreExpr
   Break : (label : Option LabelId) → (value : Option ExprId) → CoreExpr
+  Continue : (label : Option LabelId) → CoreExpr
 
 -- a literal of a kind that has a meaning: a truth value or a whole number
 abbrev pub core_literal : SomeLiteral → Option CoreLiteral

@@ -16,7 +16,7 @@ use Rattle.numbers.specs.declared.operator.Kind.{Kind}
 use Rattle.numbers.specs.Operators.{Answer, Computes, Panics, Undefined, computed, negated, inverted, kind_of}
 use Rattle.source_meaning.specs.Core as expr
 use Rattle.source_meaning.specs.Core.{CoreExpr, CoreLiteral, Truth, Number, Operation, Negate, Invert, Combine}
-use Rattle.source_meaning.specs.Ends.{Cost, no_cost, turns_alone, bytes_alone, End, Go, Jumps, Break, Faults, Panic, Stuck, More, after, then_do, IsOver}
+use Rattle.source_meaning.specs.Ends.{Cost, no_cost, turns_alone, bytes_alone, plus, End, Go, Jumps, Break, Continue, Return, Faults, Panic, Stuck, More, after, then_do, IsOver}
 use Rattle.source_meaning.specs.Entering.{room_of, entering}
 use Rattle.source_meaning.specs.Around.{Around, Target, at_root, marking, inside, target_of}
 use Rattle.source_meaning.specs.Events.{marked, marked_as_place, marked_as_operand, marked_by_statement, marked_by_tail, marked_in_block}
@@ -211,32 +211,58 @@ block_into source below around statements tail path store =
     then_do (tail_into (below (marking (flat_map (marked_by_statement source) statements) around)) tail path later) (λ _ last.
     Go tt last (turns_alone (drops source (marked_in_block source statements tail)))))
 
--- a jump behind a labelled block ends the block; any other end stays
-abbrev pub caught : ℕ → End (Unit {0}) → End (Unit {0})
-caught e (Jumps (Break node) store cost) = if node == e then Go tt store cost else Jumps (Break node) store cost
-caught e (Jumps to store cost) = Jumps to store cost
-caught e (Go done store cost) = Go done store cost
-caught e (Faults fault cost) = Faults fault cost
-caught e Stuck = Stuck
-caught e (More cost) = More cost
+-- What a loop or a labelled block makes of the end of what stands in it: a `break` out of it ends it, and a `continue` starts
+-- it again. One block is counted for where it ends. Jumps to others, and faults, go further out.
+abbrev pub caught : ℕ → (again ended : Store → End (Unit {0})) → End (Unit {0}) → End (Unit {0})
+caught e again ended (Go done store cost) = after cost (ended store)
+caught e again ended (Jumps (Break node) store cost) = if node == e then Go tt store (plus cost (turns_alone 1)) else Jumps (Break node) store cost
+caught e again ended (Jumps (Continue node) store cost) = if node == e then after cost (again store) else Jumps (Continue node) store cost
+caught e again ended (Jumps Return store cost) = Jumps Return store cost
+caught e again ended (Faults fault cost) = Faults fault cost
+caught e again ended Stuck = Stuck
+caught e again ended (More cost) = More cost
 
--- a block that a jump inside it may leave
+-- the same expression once more, from its beginning
+abbrev pub again_into : Levels → Around → ℕ → Path → Store → End (Unit {0})
+again_into below around e path store = (below around).into e path store
+
+-- A labelled block. One block is counted for where it begins, and one for where it ends.
 abbrev pub labelled_into : Source → Levels → Around → ℕ → LabelId → List Statement → Option ExprId → Path → Store → End (Unit {0})
 labelled_into source below around e label statements tail path store =
-    branched (caught e (block_into source below (inside e label path around) statements tail path store))
+    after (turns_alone 1) (caught e (again_into below around e path) (λ last. Go tt last (turns_alone 1))
+    (block_into source below (inside e (Some label) path around) statements tail path store))
 
--- how many cells are dropped where a jump leaves all scopes inside a target, at the end of its value
+-- one turn of a loop: its body's place, and then what came into use in it is left
+abbrev pub turn_of : Source → Levels → Around → (body : ℕ) → Store → End (Unit {0})
+turn_of source below around body store =
+    then_do ((below around).place body store) (λ _ later. Go tt later (turns_alone (drops source (marked_as_place source body))))
+
+-- A loop: one turn, and then the loop again. One block is counted for where each turn begins.
+abbrev pub loop_into : Source → Levels → Around → ℕ → Option LabelId → (body : ℕ) → Path → Store → End (Unit {0})
+loop_into source below around e label body path store =
+    after (turns_alone 1) (caught e (again_into below around e path) (again_into below around e path)
+    (turn_of source below (inside e label path around) body store))
+
+-- how many cells are dropped where a jump leaves all scopes inside its target, at the end of its value
 abbrev pub leaving : Source → Around → Option ExprId → Target → ℕ
 leaving source around value target = drops source (drop target.kept (around.marks ++ marked_by_tail source value))
 
 -- a value goes to the target's path, all scopes inside the target are left, and then the jump
-abbrev pub jump_to : Source → Levels → Around → Option ExprId → Option Target → Store → End (Unit {0})
-jump_to source below around value (Some target) store =
+abbrev pub break_to : Source → Levels → Around → Option ExprId → Option Target → Store → End (Unit {0})
+break_to source below around value (Some target) store =
     then_do (tail_into (below around) value target.path store) (λ _ later. Jumps (Break target.opened.node) later (turns_alone (leaving source around value target)))
-jump_to source below around value None store = Stuck
+break_to source below around value None store = Stuck
 
 abbrev pub break_into : Source → Levels → Around → Option LabelId → Option ExprId → Store → End (Unit {0})
-break_into source below around label value store = jump_to source below around value (target_of label around.targets) store
+break_into source below around label value store = break_to source below around value (target_of label around.targets) store
+
+-- all scopes inside the target are left, and then the jump
+abbrev pub continue_to : Source → Around → Option Target → Store → End (Unit {0})
+continue_to source around (Some target) store = Jumps (Continue target.opened.node) store (turns_alone (leaving source around None target))
+continue_to source around None store = Stuck
+
+abbrev pub continue_into : Source → Around → Option LabelId → Store → End (Unit {0})
+continue_into source around label store = continue_to source around (target_of label around.targets) store
 
 -- an expression evaluated into a path: the forms that have a meaning so far
 abbrev pub into_of : Source → Levels → Around → ℕ → Option CoreExpr → Path → Store → End (Unit {0})
@@ -248,7 +274,9 @@ into_of source below around e (Some (expr.If condition then_branch else_branch))
 into_of source below around e (Some (expr.Assign assigned value)) path store = assign_into source (below around) assigned value store
 into_of source below around e (Some (expr.Block statements tail)) path store = block_into source below around statements tail path store
 into_of source below around e (Some (expr.Labelled label statements tail)) path store = labelled_into source below around e label statements tail path store
+into_of source below around e (Some (expr.Loop label body)) path store = loop_into source below around e label body path store
 into_of source below around e (Some (expr.Break label value)) path store = break_into source below around label value store
+into_of source below around e (Some (expr.Continue label)) path store = continue_into source around label store
 into_of source below around e None path store = Stuck
 
 -- the meanings at one more unit of fuel

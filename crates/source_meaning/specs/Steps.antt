@@ -43,7 +43,9 @@ steps_of (expr.If condition then_branch else_branch) = Operand condition ∷ Int
 steps_of (expr.Assign target value) = Place value ∷ []
 steps_of (expr.Block statements tail) = Open ∷ block_steps statements tail ++ Close ∷ []
 steps_of (expr.Labelled label statements tail) = Open ∷ block_steps statements tail ++ Close ∷ []
+steps_of (expr.Loop label body) = Open ∷ Place body ∷ Close ∷ []
 steps_of (expr.Break label value) = tail_steps value
+steps_of (expr.Continue label) = []
 
 -- the expression that a step evaluates
 abbrev pub step_part : Step → List ℕ

@@ -157,7 +157,9 @@ HasPlainForm source e (Some (expr.If condition then_branch else_branch)) ty = Is
 HasPlainForm source e (Some (expr.Assign assigned value)) ty = IsPlainAssign source assigned value
 HasPlainForm source e (Some (expr.Block statements tail)) ty = All (IsPlainStatement source) statements × IsPlainTail source tail ty
 HasPlainForm source e (Some (expr.Labelled label statements tail)) ty = All (IsPlainStatement source) statements × IsPlainTail source tail ty
+HasPlainForm source e (Some (expr.Loop label body)) ty = Unit {0}
 HasPlainForm source e (Some (expr.Break label value)) ty = Unit {0}
+HasPlainForm source e (Some (expr.Continue label)) ty = Unit {0}
 HasPlainForm source e None ty = ⊥
 
 pub record IsPlainNode (source : Source) (e : ℕ) : Type 0 where
@@ -169,18 +171,20 @@ pub record IsPlainNode (source : Source) (e : ℕ) : Type 0 where
 abbrev pub IsPlainFrom : Source → ℕ → Type 0
 IsPlainFrom source e = (f : ℕ) → Evaluates source e f → IsPlainNode source f
 
--- the labelled blocks that are open in an expression's parts: those around it, and itself where it is one
+-- the loops and labelled blocks that are open in an expression's parts: those around it, and itself where it is one
 abbrev pub opened_in : ℕ → Option CoreExpr → List Opened → List Opened
-opened_in e (Some (expr.Labelled label statements tail)) outer = record { node = e; label = label } ∷ outer
+opened_in e (Some (expr.Labelled label statements tail)) outer = record { node = e; label = Some label } ∷ outer
+opened_in e (Some (expr.Loop label body)) outer = record { node = e; label = label } ∷ outer
 opened_in e _ outer = outer
 
--- an expression is evaluated where another is, around which some labelled blocks are open, and these are open around it
+-- an expression is evaluated where another is, around which some loops and labelled blocks are open, and these are open around
+-- it
 pub data EvaluatesIn (source : Source) : List Opened → ℕ → List Opened → ℕ → Type 0 where
   itself_in : {outer : List Opened} {e : ℕ} → EvaluatesIn source outer e outer e
   part_in : {outer inner : List Opened} {e child f : ℕ} → Contains (parts_of (node source e)) child →
       EvaluatesIn source (opened_in e (node source e) outer) child inner f → EvaluatesIn source outer e inner f
 
--- a jump means an open block, and its value, where there is one, has that block's type
+-- a `break` means a loop or a labelled block that is open, and its value, where there is one, has the type of that
 pub record HasPlainTarget (source : Source) (open_around : List Opened) (label : Option LabelId) (value : Option ExprId) : Type 0 where
   pub target : Opened
   pub means : meant label open_around ≡ Some target
@@ -188,9 +192,15 @@ pub record HasPlainTarget (source : Source) (open_around : List Opened) (label :
   pub target_has : node_type source target.node ≡ Some ty
   pub value_has : IsPlainTail source value ty
 
+-- a `continue` means a loop or a labelled block that is open
+pub record HasOpenTarget (open_around : List Opened) (label : Option LabelId) : Type 0 where
+  pub target : Opened
+  pub means : meant label open_around ≡ Some target
+
 -- what is asked of an expression by what stands around it: a jump has a target
 abbrev pub FitsAround : Source → List Opened → Option CoreExpr → Type 0
 FitsAround source open_around (Some (expr.Break label value)) = HasPlainTarget source open_around label value
+FitsAround source open_around (Some (expr.Continue label)) = HasOpenTarget open_around label
 FitsAround source open_around _ = Unit {0}
 
 -- each jump that is evaluated where an expression is has a target
