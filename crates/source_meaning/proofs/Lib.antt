@@ -4,6 +4,7 @@ pub mod Costs
 pub mod Defined
 pub mod Depth
 pub mod Fuel
+pub mod Lasting
 pub mod Layouts
 pub mod Marks
 mod Operators

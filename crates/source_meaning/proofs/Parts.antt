@@ -8,7 +8,7 @@ use Rattle.types.specs.declared.ids.ExprId.{ExprId}
 use Rattle.types.specs.declared.operators.LogicOp.{LogicOp}
 use Rattle.world.specs.declared.body.Statement.TheVariants as statement
 use Rattle.world.specs.Nodes.{optional}
-use Rattle.source_meaning.specs.Core.{CoreExpr, Operation, Strict, Logic, If, Block, Labelled, Loop, Break, Continue, is_truth}
+use Rattle.source_meaning.specs.Core.{CoreExpr, Operation, Strict, Logic, If, Block, is_truth}
 use Rattle.source_meaning.specs.Source.{Source, node}
 use Rattle.source_meaning.specs.Steps.{Step, Operand, Place, Into, Bind, Open, Close, statement_steps, tail_steps, block_steps, steps_of, step_part, parts_of, statement_parts}
 use Rattle.source_meaning.specs.Valid.{sized_part, sized_parts}

@@ -1,5 +1,5 @@
 -- How the evaluation of a part of a source ends, and what it costs.
-use Rattle.std.specs.Prelude.{ℕ, ◌+◌, ◌-◌, Bool, true, ◌&&◌, List}
+use Rattle.std.specs.Prelude.{ℕ, ◌+◌, ◌-◌, ◌≤◌, Bool, true, ◌&&◌, List}
 use Rattle.source_meaning.specs.Source.{Store}
 
 -- what an evaluation takes of the limits on a run
@@ -79,6 +79,14 @@ IsOver (Jumps to store cost) = Unit {0}
 IsOver (Faults fault cost) = Unit {0}
 IsOver Stuck = Unit {0}
 IsOver (More cost) = ⊥
+
+-- an end, or a lack of fuel that comes only after so many blocks were entered
+abbrev pub GoesOn : {A : Type 0} → ℕ → End A → Type 0
+GoesOn many (Go value store cost) = Unit {0}
+GoesOn many (Jumps to store cost) = Unit {0}
+GoesOn many (Faults fault cost) = Unit {0}
+GoesOn many Stuck = Unit {0}
+GoesOn many (More cost) = many ≤ cost.turns
 
 -- no end in a jump
 abbrev pub JumpsNowhere : {A : Type 0} → End A → Type 0

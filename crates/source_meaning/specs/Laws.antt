@@ -2,7 +2,7 @@
 use Rattle.std.specs.Prelude.{◌≡◌, ◌≢◌, ◌↔◌, true, ℕ, ◌≤◌, List, ◌++◌, ◌∷◌}
 use Rattle.world.specs.Checked.{IsChecked, IsCheckedBody}
 use Rattle.source_meaning.specs.Built.{IsBuiltForm}
-use Rattle.source_meaning.specs.Ends.{Cost, plus, no_cost, Stuck, IsOver, JumpsNowhere}
+use Rattle.source_meaning.specs.Ends.{Cost, plus, no_cost, Stuck, IsOver, GoesOn, JumpsNowhere}
 use Rattle.source_meaning.specs.Entering.{is_cost_defined}
 use Rattle.source_meaning.specs.Events.{Event, Scopes, scopes_after, events, marked}
 use Rattle.source_meaning.specs.Meaning.{meaning_of}
@@ -28,6 +28,11 @@ PlainJumpsNowhere =
 -- a body whose expressions stand after their operands ends, whatever they are
 abbrev pub BodiesEnd : Type 0
 BodiesEnd = (source : Source) → IsCheckedBody source.body source.infer → (fuel : ℕ) × IsOver (meaning_of source fuel)
+
+-- A checked body ends, or goes on for as many blocks as one likes. So a run of it that enters so many blocks has an end, or
+-- meets a limit.
+abbrev pub BodiesGoOn : Type 0
+BodiesGoOn = (source : Source) (many : ℕ) → IsCheckedBody source.body source.infer → (fuel : ℕ) × GoesOn many (meaning_of source fuel)
 
 -- a plain expression has a form that is built
 abbrev pub PlainIsBuilt : Type 0

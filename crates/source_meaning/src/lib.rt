@@ -2,7 +2,7 @@
 //! functions here have no code: each is a law about the definitions.
 #![tactic(auto)]
 
-ghost use Rattle.source_meaning.specs.Laws.{MoreFuelChangesNothing, PlainIsNeverStuck, PlainJumpsNowhere, BodiesEnd, PlainIsBuilt, CostsAdd, ScopesNest, CostIsDefined};
+ghost use Rattle.source_meaning.specs.Laws.{MoreFuelChangesNothing, PlainIsNeverStuck, PlainJumpsNowhere, BodiesEnd, BodiesGoOn, PlainIsBuilt, CostsAdd, ScopesNest, CostIsDefined};
 
 /// More fuel changes no end.
 pub fn more_fuel_changes_nothing()
@@ -22,6 +22,11 @@ pub fn plain_jumps_nowhere()
 /// A body whose expressions stand after their operands ends.
 pub fn bodies_end()
     ensures { BodiesEnd }
+{}
+
+/// A body whose expressions stand after their operands ends, or goes on for as many blocks as one likes.
+pub fn bodies_go_on()
+    ensures { BodiesGoOn }
 {}
 
 /// A plain expression has a form that is built.

@@ -1,0 +1,349 @@
+-- Enough fuel comes to an end, or goes on for as many blocks as one likes.
+use Rattle.std.proofs.Common.{◌≡◌, ℕ, zero, suc, ◌<◌, ◌≤◌, ◌+◌, Bool, true, false, List, [], ◌∷◌, ◌++◌, length, ◌==◌, if◌then◌else◌, Option, Some, None, refl, sym, subst, arith}
+use Rattle.std.specs.Prelude.{flat_map, Contains}
+use Rattle.std.proofs.lemmas.List.Elements.{Contains-append_left, Contains-append_right}
+use Rattle.world.specs.declared.body.Statement.{Statement}
+use Rattle.world.specs.declared.body.Statement.TheVariants as statement
+use Rattle.types.specs.declared.ids.BindingId.{BindingId}
+use Rattle.types.specs.declared.ids.ExprId.{ExprId}
+use Rattle.types.specs.declared.operators.LogicOp.{LogicOp}
+use Rattle.world.specs.declared.infer.ValueNs.{ValueNs}
+use Rattle.world.specs.declared.infer.ValueNs.TheVariants.{LocalBinding}
+use Rattle.types.specs.declared.ty.Ty.{Ty}
+use Rattle.world.specs.Checked.{IsCheckedBody}
+use Rattle.world.specs.Nodes.{optional}
+use Rattle.numbers.specs.Operators.{Answer, Computes, Panics, Undefined}
+use Rattle.source_meaning.specs.Around.{Around, Target, at_root, marking, inside, target_of}
+use Rattle.source_meaning.specs.Core as expr
+use Rattle.source_meaning.specs.Core.{CoreExpr, Operation}
+use Rattle.source_meaning.specs.Ends.{Cost, plus, turns_alone, End, Go, Jumps, Break, Continue, Return, Faults, Stuck, More, IsOver, GoesOn, after, then_do}
+use Rattle.source_meaning.specs.Events.{marked, marked_as_operand, marked_by_statement}
+use Rattle.source_meaning.specs.Meaning.{Levels, constant_cost, put, put_literal, put_answer, literal_operand, literal_bytes, named_place, named_into, bind, place_of, operand_of, operands_of, is_byte, deciding_byte, reading_cost, decided_into, branched, logic_into, tail_into, branch_into, if_into, statement_of, statements_of, block_into, caught, again_into, turn_of, break_to, continue_to, into_of, level_at, meaning_of}
+use Rattle.source_meaning.specs.Source.{Source, Store, Path, Result, Node, Binding, zeroed, Operand, Literally, operand_bytes, node, node_type, named_by, pattern, target, root}
+use Rattle.source_meaning.specs.Steps.{parts_of, statement_parts}
+use Rattle.source_meaning.proofs.Core.{IsRepeated, part_is_below, node_is_not_repeated}
+use Rattle.source_meaning.proofs.Parts.{first_is_contained, rest_is_contained, strict_parts, if_parts, block_parts, tail_part}
+
+-- a lack of fuel comes late: never, or only after so many blocks
+abbrev IsLate : Option ℕ → Cost → Type 0
+IsLate None cost = ⊥
+IsLate (Some many) cost = many ≤ cost.turns
+
+-- an end, or a lack of fuel that comes late
+abbrev Lasts : {A : Type 0} → Option ℕ → End A → Type 0
+Lasts limit (Go value store cost) = Unit {0}
+Lasts limit (Jumps to store cost) = Unit {0}
+Lasts limit (Faults fault cost) = Unit {0}
+Lasts limit Stuck = Unit {0}
+Lasts limit (More cost) = IsLate limit cost
+
+without_limit : {A : Type 0} (end : End A) → Lasts None end → IsOver end
+without_limit (Go value store cost) lasts = tt
+without_limit (Jumps to store cost) lasts = tt
+without_limit (Faults fault cost) lasts = tt
+without_limit Stuck lasts = tt
+without_limit (More cost) lasts = lasts
+
+with_limit : {A : Type 0} (many : ℕ) (end : End A) → Lasts (Some many) end → GoesOn many end
+with_limit many (Go value store cost) lasts = tt
+with_limit many (Jumps to store cost) lasts = tt
+with_limit many (Faults fault cost) lasts = tt
+with_limit many Stuck lasts = tt
+with_limit many (More cost) lasts = lasts
+
+-- no block is asked for
+none_asked : {A : Type 0} (end : End A) → Lasts (Some zero) end
+none_asked (Go value store cost) = tt
+none_asked (Jumps to store cost) = tt
+none_asked (Faults fault cost) = tt
+none_asked Stuck = tt
+none_asked (More cost) = omega arith
+
+fewer_last : {A : Type 0} (many : ℕ) (end : End A) → Lasts (Some (suc many)) end → Lasts (Some many) end
+fewer_last many (Go value store cost) lasts = tt
+fewer_last many (Jumps to store cost) lasts = tt
+fewer_last many (Faults fault cost) lasts = tt
+fewer_last many Stuck lasts = tt
+fewer_last many (More cost) lasts = omega arith
+
+-- what stands before costs more
+late_after : (limit : Option ℕ) (cost rest : Cost) → IsLate limit rest → IsLate limit (plus cost rest)
+unfolding plus
+late_after None cost rest late = late
+late_after (Some many) cost rest late = omega arith
+
+-- one block before
+late_after_one : (many : ℕ) (rest : Cost) → IsLate (Some many) rest → IsLate (Some (suc many)) (plus (turns_alone 1) rest)
+unfolding plus
+late_after_one many rest late = omega arith
+
+lasts_after_one : {A : Type 0} (many : ℕ) (end : End A) → Lasts (Some many) end → Lasts (Some (suc many)) (after (turns_alone 1) end)
+unfolding after
+lasts_after_one many (Go value store rest) lasts = tt
+lasts_after_one many (Jumps to store rest) lasts = tt
+lasts_after_one many (Faults fault rest) lasts = tt
+lasts_after_one many Stuck lasts = tt
+lasts_after_one many (More rest) lasts = late_after_one many rest lasts
+
+module _ (limit : Option ℕ) where
+  lasts_after : {A : Type 0} (cost : Cost) (end : End A) → Lasts limit end → Lasts limit (after cost end)
+  unfolding after
+  lasts_after cost (Go value store rest) lasts = tt
+  lasts_after cost (Jumps to store rest) lasts = tt
+  lasts_after cost (Faults fault rest) lasts = tt
+  lasts_after cost Stuck lasts = tt
+  lasts_after cost (More rest) lasts = late_after limit cost rest lasts
+
+  either_lasts : {A : Type 0} (test : Bool) (one other : End A) → Lasts limit one → Lasts limit other → Lasts limit (if test then one else other)
+  either_lasts true one other lasts lasts' = lasts
+  either_lasts false one other lasts lasts' = lasts'
+
+  -- what catches jumps lasts where what jumps does, and what comes after it
+  caught_lasts : (e : ℕ) (again ended : Store → End (Unit {0})) (end : End (Unit {0})) → ((store : Store) → Lasts limit (again store)) → ((store : Store) → Lasts limit (ended store)) → Lasts limit end → Lasts limit (caught e again ended end)
+  caught_lasts e again ended (Go done store cost) again_is ended_is lasts = lasts_after cost (ended store) (ended_is store)
+  caught_lasts e again ended (Jumps (Break node) store cost) again_is ended_is lasts = either_lasts (node == e) (Go tt store _) (Jumps (Break node) store cost) tt tt
+  caught_lasts e again ended (Jumps (Continue node) store cost) again_is ended_is lasts = either_lasts (node == e) (after cost (again store)) (Jumps (Continue node) store cost) (lasts_after cost (again store) (again_is store)) tt
+  caught_lasts e again ended (Jumps Return store cost) again_is ended_is lasts = tt
+  caught_lasts e again ended (Faults fault cost) again_is ended_is lasts = tt
+  caught_lasts e again ended Stuck again_is ended_is lasts = tt
+  caught_lasts e again ended (More cost) again_is ended_is lasts = lasts
+
+-- A form that is repeated lasts: with a limit, since each turn enters a block; and without one, since no expression has such a
+-- form yet.
+repeated_lasts : (limit : Option ℕ) (source : Source) (e : ℕ) (core : CoreExpr) → node source e ≡ Some core → IsRepeated core → (again ended : Store → End (Unit {0})) (end : End (Unit {0})) →
+    ((many : ℕ) → limit ≡ Some (suc many) → (store : Store) → Lasts (Some many) (again store)) → ((many : ℕ) → limit ≡ Some (suc many) → (store : Store) → Lasts (Some many) (ended store)) →
+    Lasts limit end → Lasts limit (after (turns_alone 1) (caught e again ended end))
+repeated_lasts None source e core is repeated again ended end again_is ended_is lasts = absurd (node_is_not_repeated source e core is repeated)
+repeated_lasts (Some zero) source e core is repeated again ended end again_is ended_is lasts = none_asked _
+repeated_lasts (Some (suc many)) source e core is repeated again ended end again_is ended_is lasts =
+    lasts_after_one many _ (caught_lasts (Some many) e again ended end (again_is many refl) (ended_is many refl) (fewer_last many end lasts))
+
+module _ (limit : Option ℕ) where
+  then_do_lasts : {A B : Type 0} (first : End A) (next : A → Store → End B) → Lasts limit first → ((value : A) (store : Store) → Lasts limit (next value store)) → Lasts limit (then_do first next)
+  unfolding then_do
+  then_do_lasts (Go value store cost) next over rest = lasts_after limit cost (next value store) (rest value store)
+  then_do_lasts (Jumps to store cost) next over rest = tt
+  then_do_lasts (Faults fault cost) next over rest = tt
+  then_do_lasts Stuck next over rest = tt
+  then_do_lasts (More cost) next over rest = over
+
+  branched_lasts : (branch : End (Unit {0})) → Lasts limit branch → Lasts limit (branched branch)
+  branched_lasts branch over = lasts_after limit (turns_alone 1) _ (then_do_lasts branch _ over (λ done later. tt))
+
+  put_lasts : (store : Store) (path : Path) (bytes : List ℕ) → Lasts limit (put store path bytes)
+  unfolding put
+  put_lasts store path bytes = either_lasts limit (length bytes == length (store path.cell)) (Go tt _ _) Stuck tt tt
+
+  put_literal_lasts : (source : Source) (e : ℕ) (store : Store) (path : Path) (bytes : Option (List ℕ)) → Lasts limit (put_literal source e store path bytes)
+  put_literal_lasts source e store path (Some bytes) = lasts_after limit (constant_cost source e) (put store path bytes) (put_lasts store path bytes)
+  put_literal_lasts source e store path None = tt
+
+  put_answer_lasts : (store : Store) (path : Path) (answer : Answer) → Lasts limit (put_answer store path answer)
+  put_answer_lasts store path (Computes bytes) = put_lasts store path bytes
+  put_answer_lasts store path (Panics word) = tt
+  put_answer_lasts store path Undefined = tt
+
+  literal_operand_lasts : (source : Source) (e : ℕ) (store : Store) (bytes : Option (List ℕ)) → Lasts limit (literal_operand source e store bytes)
+  literal_operand_lasts source e store (Some bytes) = by_type (node_type source e)
+    where
+      by_type : (ty : Option Ty) → Lasts limit (elim ty [ Some given ↦ Go (Literally given bytes) store (constant_cost source e) | None ↦ Stuck ])
+      by_type (Some ty) = tt
+      by_type None = tt
+  literal_operand_lasts source e store None = tt
+
+  named_place_lasts : (named : Option ValueNs) (store : Store) → Lasts limit (named_place named store)
+  named_place_lasts (Some (LocalBinding b)) store = tt
+  named_place_lasts _ store = tt
+
+  named_into_lasts : (named : Option ValueNs) (path : Path) (store : Store) → Lasts limit (named_into named path store)
+  named_into_lasts (Some (LocalBinding b)) path store = put_lasts store path (store (Binding b.0))
+  named_into_lasts _ path store = tt
+
+  bind_lasts : (pat : Option BindingId) (path : Path) (store : Store) → Lasts limit (bind pat path store)
+  bind_lasts (Some id) path store = put_lasts store (record { cell = Binding id.0 }) (store path.cell)
+  bind_lasts None path store = tt
+
+  -- an expression lasts, in each way that it is evaluated, whatever stands around it
+  record LastsIn (levels : Levels) (e : ℕ) : Type 0 where
+    place : (around : Around) (store : Store) → Lasts limit ((levels around).place e store)
+    operand : (around : Around) (store : Store) → Lasts limit ((levels around).operand e store)
+    into : (around : Around) (path : Path) (store : Store) → Lasts limit ((levels around).into e path store)
+
+  place_lasts : (source : Source) (below : Levels) (around : Around) (e : ℕ) (form : Option CoreExpr) (store : Store) → ((within : Around) (path : Path) (later : Store) → Lasts limit ((below within).into e path later)) → Lasts limit (place_of source below around e form store)
+  place_lasts source below around e (Some (expr.Path name)) store over = named_place_lasts (named_by source e) store
+  place_lasts source below around e _ store over =
+      let within = marking (Node e ∷ []) around in
+      then_do_lasts ((below within).into e _ store) _ (over within _ store) (λ value later. tt)
+
+  operand_lasts : (source : Source) (below : Levels) (around : Around) (e : ℕ) (form : Option CoreExpr) (store : Store) → ((later : Store) → Lasts limit ((below around).place e later)) → Lasts limit (operand_of source below around e form store)
+  operand_lasts source below around e (Some (expr.Literal literal)) store over = literal_operand_lasts source e store (literal_bytes source e literal)
+  operand_lasts source below around e _ store over = then_do_lasts ((below around).place e store) _ (over store) (λ value later. tt)
+
+  -- where fewer blocks are asked for, an expression lasts once more
+  abbrev Repeats : Levels → ℕ → Type 0
+  Repeats below e = (around : Around) (path : Path) (many : ℕ) → limit ≡ Some (suc many) → (store : Store) → Lasts (Some many) (again_into below around e path store)
+
+  module _ (source : Source) (below : Levels) where
+    operands_lasts : (around : Around) (operands : List ℕ) (store : Store) → ((child : ℕ) → Contains operands child → LastsIn below child) → Lasts limit (operands_of source below around operands store)
+    unfolding operands_of
+    operands_lasts around [] store ends = tt
+    operands_lasts around (e ∷ rest) store ends =
+        let first_ends = ends e (first_is_contained e rest) in
+        let behind = marking (marked_as_operand source e) around in
+        then_do_lasts ((below around).operand e store) _ (first_ends.operand around store) (λ first later.
+        then_do_lasts (operands_of source below behind rest later) _ (operands_lasts behind rest later (λ child within. ends child (rest_is_contained e rest child within))) (λ others last. tt))
+
+    statement_lasts : (around : Around) (statement : Statement) (store : Store) → ((child : ℕ) → Contains (statement_parts statement) child → LastsIn below child) → Lasts limit (statement_of source (below around) statement store)
+    statement_lasts around (statement.Let pat (Some e) None) store ends =
+        let initializer_ends = ends e.0 (first_is_contained e.0 []) in
+        then_do_lasts ((below around).place e.0 store) _ (initializer_ends.place around store) (λ path later. bind_lasts (pattern source pat.0) path later)
+    statement_lasts around (statement.Expr e has_semi) store ends =
+        let expression_ends = ends e.0 (first_is_contained e.0 []) in
+        then_do_lasts ((below around).place e.0 store) _ (expression_ends.place around store) (λ path later. tt)
+    statement_lasts around _ store ends = tt
+
+    statements_lasts : (around : Around) (statements : List Statement) (store : Store) → ((child : ℕ) → Contains (flat_map statement_parts statements) child → LastsIn below child) → Lasts limit (statements_of source below around statements store)
+    unfolding statements_of
+    statements_lasts around [] store ends = tt
+    statements_lasts around (first ∷ rest) store ends =
+        then_do_lasts (statement_of source (below around) first store) _ (statement_lasts around first store (λ child within.
+        ends child (Contains-append_left (statement_parts first) (flat_map statement_parts rest) child within))) (λ done later.
+        statements_lasts (marking (marked_by_statement source first) around) rest later (λ child within.
+        ends child (Contains-append_right (statement_parts first) (flat_map statement_parts rest) child within)))
+
+    tail_lasts : (around : Around) (tail : Option ExprId) (path : Path) (store : Store) → ((child : ℕ) → Contains (optional tail) child → LastsIn below child) → Lasts limit (tail_into (below around) tail path store)
+    tail_lasts around (Some e) path store ends = let tail_ends = ends e.0 (first_is_contained e.0 []) in tail_ends.into around path store
+    tail_lasts around None path store ends = tt
+
+    decided_lasts : (around : Around) (left : Operand) (right : ℕ) (decides : Option Bool) (path : Path) (store : Store) → LastsIn below right → Lasts limit (decided_into source (below around) left right decides path store)
+    decided_lasts around left right (Some true) path store ends = lasts_after limit (reading_cost source left) _ (put_lasts store path (operand_bytes store left))
+    decided_lasts around left right (Some false) path store ends = ends.into around path store
+    decided_lasts around left right None path store ends = tt
+
+    logic_lasts : (around : Around) (op : LogicOp) (left right : ℕ) (path : Path) (store : Store) → ((child : ℕ) → Contains (left ∷ right ∷ []) child → LastsIn below child) → Lasts limit (logic_into source below around op left right path store)
+    logic_lasts around op left right path store ends =
+        let left_ends = ends left (first_is_contained left (right ∷ [])) in
+        then_do_lasts ((below around).operand left store) _ (left_ends.operand around store) (λ given later.
+        branched_lasts _ (decided_lasts (marking (marked_as_operand source left) around) given right (is_byte (deciding_byte op) (operand_bytes later given)) path later
+        (ends right (rest_is_contained left (right ∷ []) right (first_is_contained right [])))))
+
+    branch_lasts : (around : Around) (then_branch : ℕ) (else_branch : Option ExprId) (holds : Option Bool) (path : Path) (store : Store) → ((child : ℕ) → Contains (then_branch ∷ optional else_branch) child → LastsIn below child) → Lasts limit (branch_into source below around then_branch else_branch holds path store)
+    branch_lasts around then_branch else_branch (Some true) path store ends =
+        let then_ends = ends then_branch (first_is_contained then_branch (optional else_branch)) in then_ends.into around path store
+    branch_lasts around then_branch else_branch (Some false) path store ends =
+        tail_lasts (marking (marked source then_branch) around) else_branch path store (λ child within. ends child (rest_is_contained then_branch (optional else_branch) child within))
+    branch_lasts around then_branch else_branch None path store ends = tt
+
+    if_lasts : (around : Around) (condition then_branch : ℕ) (else_branch : Option ExprId) (path : Path) (store : Store) → ((child : ℕ) → Contains (condition ∷ then_branch ∷ optional else_branch) child → LastsIn below child) → Lasts limit (if_into source below around condition then_branch else_branch path store)
+    if_lasts around condition then_branch else_branch path store ends =
+        let condition_ends = ends condition (first_is_contained condition (then_branch ∷ optional else_branch)) in
+        then_do_lasts ((below around).operand condition store) _ (condition_ends.operand around store) (λ given later.
+        branched_lasts _ (branch_lasts (marking (marked_as_operand source condition) around) then_branch else_branch (is_byte 1 (operand_bytes later given)) path later (λ child within.
+        ends child (rest_is_contained condition (then_branch ∷ optional else_branch) child within))))
+
+    block_lasts : (around : Around) (statements : List Statement) (tail : Option ExprId) (path : Path) (store : Store) → ((child : ℕ) → Contains (flat_map statement_parts statements ++ optional tail) child → LastsIn below child) → Lasts limit (block_into source below around statements tail path store)
+    block_lasts around statements tail path store ends =
+        let behind = marking (flat_map (marked_by_statement source) statements) around in
+        then_do_lasts (statements_of source below around statements store) _ (statements_lasts around statements store (λ child within.
+        ends child (Contains-append_left (flat_map statement_parts statements) (optional tail) child within))) (λ done later.
+        then_do_lasts (tail_into (below behind) tail path later) _ (tail_lasts behind tail path later (λ child within.
+        ends child (Contains-append_right (flat_map statement_parts statements) (optional tail) child within))) (λ done' last. tt))
+
+    turn_lasts : (around : Around) (body : ℕ) (store : Store) → LastsIn below body → Lasts limit (turn_of source below around body store)
+    turn_lasts around body store ends = then_do_lasts ((below around).place body store) _ (ends.place around store) (λ path later. tt)
+
+    break_lasts : (around : Around) (value : Option ExprId) (target : Option Target) (store : Store) → ((child : ℕ) → Contains (optional value) child → LastsIn below child) → Lasts limit (break_to source below around value target store)
+    break_lasts around value (Some target) store ends =
+        then_do_lasts (tail_into (below around) value target.path store) _ (tail_lasts around value target.path store ends) (λ done later. tt)
+    break_lasts around value None store ends = tt
+
+    continue_lasts : (around : Around) (target : Option Target) (store : Store) → Lasts limit (continue_to source around target store)
+    continue_lasts around (Some target) store = tt
+    continue_lasts around None store = tt
+
+    into_lasts : (around : Around) (e : ℕ) (form : Option CoreExpr) (path : Path) (store : Store) → node source e ≡ form → Repeats below e → ((child : ℕ) → Contains (parts_of form) child → LastsIn below child) → Lasts limit (into_of source below around e form path store)
+    into_lasts around e (Some (expr.Literal literal)) path store is repeats ends = put_literal_lasts source e store path (literal_bytes source e literal)
+    into_lasts around e (Some (expr.Path name)) path store is repeats ends = named_into_lasts (named_by source e) path store
+    into_lasts around e (Some (expr.Strict operation operands)) path store is repeats ends =
+        then_do_lasts (operands_of source below around operands store) _ (operands_lasts around operands store (λ child within.
+        ends child (subst (λ parts. Contains parts child) (sym (strict_parts operation operands)) within))) (λ given later. put_answer_lasts later path _)
+    into_lasts around e (Some (expr.Logic op left right)) path store is repeats ends = logic_lasts around op left right path store ends
+    into_lasts around e (Some (expr.If condition then_branch else_branch)) path store is repeats ends =
+        if_lasts around condition then_branch else_branch path store (λ child within. ends child (subst (λ parts. Contains parts child) (sym (if_parts condition then_branch else_branch)) within))
+    into_lasts around e (Some (expr.Assign assigned value)) path store is repeats ends =
+        let value_ends = ends value (first_is_contained value []) in
+        then_do_lasts ((below around).place value store) _ (value_ends.place around store) (λ from later. bind_lasts (target source assigned) from later)
+    into_lasts around e (Some (expr.Block statements tail)) path store is repeats ends =
+        block_lasts around statements tail path store (λ child within. ends child (subst (λ parts. Contains parts child) (sym (block_parts statements tail)) within))
+    into_lasts around e (Some (expr.Labelled label statements tail)) path store is repeats ends =
+        repeated_lasts limit source e (expr.Labelled label statements tail) is tt (again_into below around e path) (λ last. Go tt last (turns_alone 1)) _ (repeats around path) (λ many same later. tt)
+        (block_lasts (inside e (Some label) path around) statements tail path store (λ child within. ends child (subst (λ parts. Contains parts child) (sym (block_parts statements tail)) within)))
+    into_lasts around e (Some (expr.Loop label body)) path store is repeats ends =
+        repeated_lasts limit source e (expr.Loop label body) is tt (again_into below around e path) (again_into below around e path) _ (repeats around path) (repeats around path)
+        (turn_lasts (inside e label path around) body store (ends body (first_is_contained body [])))
+    into_lasts around e (Some (expr.Break label value)) path store is repeats ends =
+        break_lasts around value (target_of label around.targets) store (λ child within. ends child (subst (λ parts. Contains parts child) (sym (tail_part value)) within))
+    into_lasts around e (Some (expr.Continue label)) path store is repeats ends = continue_lasts around (target_of label around.targets) store
+    into_lasts around e None path store is repeats ends = tt
+
+-- the fuel with which each expression below a number comes to an end
+pub fuel_below : ℕ → ℕ
+fuel_below zero = zero
+fuel_below (suc bound) = suc (suc (suc (fuel_below bound)))
+
+-- an expression comes to an end with enough fuel, whatever stands around it, and whatever path and store it is evaluated at
+pub into_ends : (source : Source) → IsCheckedBody source.body source.infer → (bound e fuel : ℕ) → e < bound → fuel_below bound ≤ fuel → (around : Around) (path : Path) (store : Store) → Lasts None ((level_at source fuel around).into e path store)
+unfolding level_at fuel_below
+into_ends source checked zero e fuel less enough around path store = absurd (omega arith)
+into_ends source checked (suc bound) e zero less enough around path store = absurd (omega arith)
+into_ends source checked (suc bound) e (suc zero) less enough around path store = absurd (omega arith)
+into_ends source checked (suc bound) e (suc (suc zero)) less enough around path store = absurd (omega arith)
+into_ends source checked (suc bound) e (suc (suc (suc fuel))) less enough around path store =
+    into_lasts None source (level_at source (suc (suc fuel))) around e (node source e) path store refl (λ around' path' many is. absurd cc) (λ child within.
+    let below = part_is_below source checked e child within in record {
+      place = λ around' later. place_lasts None source (level_at source (suc fuel)) around' child (node source child) later (into_ends source checked bound child (suc fuel) (omega arith) (omega arith));
+      operand = λ around' later. operand_lasts None source (level_at source (suc fuel)) around' child (node source child) later (λ last.
+          place_lasts None source (level_at source fuel) around' child (node source child) last (into_ends source checked bound child fuel (omega arith) (omega arith)));
+      into = into_ends source checked bound child (suc (suc fuel)) (omega arith) (omega arith);
+    })
+
+-- the fuel with which each expression below a number comes to an end, or enters so many blocks
+fuel_for : ℕ → ℕ → ℕ
+fuel_for zero bound = zero
+fuel_for (suc many) zero = zero
+fuel_for (suc many) (suc bound) = suc (suc (suc (fuel_for (suc many) bound + fuel_for many (suc bound))))
+
+into_goes_on : (source : Source) → IsCheckedBody source.body source.infer → (many bound e fuel : ℕ) → e < bound → fuel_for many bound ≤ fuel → (around : Around) (path : Path) (store : Store) → Lasts (Some many) ((level_at source fuel around).into e path store)
+unfolding level_at fuel_for
+into_goes_on source checked zero bound e fuel less enough around path store = none_asked _
+into_goes_on source checked (suc many) zero e fuel less enough around path store = absurd (omega arith)
+into_goes_on source checked (suc many) (suc bound) e zero less enough around path store = absurd (omega arith)
+into_goes_on source checked (suc many) (suc bound) e (suc zero) less enough around path store = absurd (omega arith)
+into_goes_on source checked (suc many) (suc bound) e (suc (suc zero)) less enough around path store = absurd (omega arith)
+into_goes_on source checked (suc many) (suc bound) e (suc (suc (suc fuel))) less enough around path store =
+    into_lasts (Some (suc many)) source (level_at source (suc (suc fuel))) around e (node source e) path store refl
+    (λ around' path' fewer is later.
+    let same : many ≡ fewer = cc in
+    subst (λ n. Lasts (Some n) ((level_at source (suc (suc fuel)) around').into e path' later)) same (into_goes_on source checked many (suc bound) e (suc (suc fuel)) less (omega arith) around' path' later))
+    (λ child within.
+    let below = part_is_below source checked e child within in record {
+      place = λ around' later. place_lasts (Some (suc many)) source (level_at source (suc fuel)) around' child (node source child) later (into_goes_on source checked (suc many) bound child (suc fuel) (omega arith) (omega arith));
+      operand = λ around' later. operand_lasts (Some (suc many)) source (level_at source (suc fuel)) around' child (node source child) later (λ last.
+          place_lasts (Some (suc many)) source (level_at source fuel) around' child (node source child) last (into_goes_on source checked (suc many) bound child fuel (omega arith) (omega arith)));
+      into = into_goes_on source checked (suc many) bound child (suc (suc fuel)) (omega arith) (omega arith);
+    })
+
+-- a body lasts where its root does
+body_lasts : (source : Source) (limit : Option ℕ) (fuel : ℕ) → Lasts limit ((level_at source fuel at_root).into (root source) (record { cell = Result }) (zeroed source)) → Lasts limit (meaning_of source fuel)
+unfolding meaning_of
+body_lasts source limit fuel lasts = lasts_after limit _ _ (then_do_lasts limit _ _ lasts (λ value store. tt))
+
+pub bodies_end : (source : Source) → IsCheckedBody source.body source.infer → (fuel : ℕ) × IsOver (meaning_of source fuel)
+bodies_end source checked =
+    let fuel = fuel_below (suc (root source)) in
+    (fuel, without_limit _ (body_lasts source None fuel (into_ends source checked (suc (root source)) (root source) fuel (omega arith) (omega arith) at_root _ _)))
+
+pub bodies_go_on : (source : Source) (many : ℕ) → IsCheckedBody source.body source.infer → (fuel : ℕ) × GoesOn many (meaning_of source fuel)
+bodies_go_on source many checked =
+    let fuel = fuel_for many (suc (root source)) in
+    (fuel, with_limit many _ (body_lasts source (Some many) fuel (into_goes_on source checked many (suc (root source)) (root source) fuel (omega arith) (omega arith) at_root _ _)))
