@@ -107,11 +107,12 @@ def with_root(root):
 
 
 def source_world(row):
-    """A world of one constant, whose body is written in Rust, and whose run may have a limit on blocks."""
+    """A world of one constant, whose body is written in Rust, and whose run may have limits on blocks and on nesting."""
     copy_types = SCALARS if row.get("copies", True) else []
     made = world_of_bodies([(body_row(read(row["source"]), row["type"], copy_types), row["type"])])
-    if "blocks" in row:
-        made["goals"][0]["limits"] = {"blocks": row["blocks"], "nesting": 100, "bytes": 1000000}
+    limits = {name: row[name] for name in ("blocks", "nesting") if name in row}
+    if limits:
+        made["goals"][0]["limits"] = {"blocks": 10000000, "nesting": 100, "bytes": 1000000, **limits}
     return json_of(made)
 
 

@@ -1,15 +1,17 @@
 //! The fields of a type, at its arguments, inside the type's layout.
-ghost use Rattle.std.specs.Prelude.{◌≡◌, IfOk, OnOk, map, Some, slice_get};
-ghost use Rattle.std.specs.Option.{option_and_then, option_copied};
+ghost use Rattle.std.specs.Prelude.{◌≡◌, IfOk, OnOk, map, Option, Some, slice_get};
 ghost use Rattle.check_instances.specs.Instances.{ty_instance};
-ghost use Rattle.check_layouts.specs.Fields.{AreSizesRight, are_inside, captures_at, field_size, fields_of_variant, is_part_inside, is_placed_right, types_at, variants_of};
+ghost use Rattle.types.specs.declared.ty.Ty.{Ty};
+ghost use Rattle.check_layouts.specs.Fields.{AreSizesRight, IsPlaceOf, are_inside, captures_at, field_size, is_part_inside, is_placed_right, types_at, variants_of};
+ghost use Rattle.check_layouts.specs.Places.{capture_places, field_places, fixed_place, fixed_places};
 
+use crate::places::{FixedPlace, FixedPlaces, place_of_index, places_of_captures};
 use crate::sizes::{layout_above, layout_at};
 use check_instances::instance_place;
 use std::alloc::Global;
 use world::{
-    Capture, ClosureRow, EnumId, EnumVariantId, FieldRow, GenericArgs, HirDatabase, List, Map,
-    NoMemory, TryClone, Ty, VariantId,
+    Capture, EnumId, EnumVariantId, FieldRow, GenericArgs, HirDatabase, InternedClosureId, List,
+    Map, NoMemory, TryClone, Ty,
 };
 
 /// Whether a part has a size and, if it has an offset, ends within `size`.
@@ -42,6 +44,16 @@ fn is_type_inside(db: &HirDatabase, i: u64, size: u64, offset: Option<u64>, ty: 
     is_part_inside(size, offset, size_above(db, i, ty))
 }
 
+/// The size of a type, by the index of the row of its layout, if that is one of the first `i` rows.
+fn size_at(db: &HirDatabase, i: u64, place: Option<u64>) -> Option<u64>
+    ensures { (found : Option Ty) → IsPlaceOf db.now found place → result ≡ field_size db.now i found }
+{
+    match layout_at(db, i, place) {
+        Some(layout) => Some(layout.size),
+        None => None,
+    }
+}
+
 /// The size of a type at generic arguments, by its layout in one of the first `i` rows. The type is not
 /// made at the arguments, where it may be much larger than they and it are.
 fn instance_size(
@@ -54,10 +66,7 @@ fn instance_size(
     ensures { IfOk result (λ size. size ≡ field_size db.now i (ty_instance db.now.normals args.now ty.now)) }
 {
     let place = instance_place(alloc, &db.layouts, &db.normals, args, ty)?;
-    match layout_at(db, i, place) {
-        Some(layout) => Ok(Some(layout.size)),
-        None => Ok(None),
-    }
+    Ok(size_at(db, i, place))
 }
 
 /// The same for a type that is not yet in `sizes`: its size, if it has one, is stored there.
@@ -80,20 +89,26 @@ fn first_size(
     Ok(found)
 }
 
-/// The same for any type. Several fields of one type look up the size that was stored for the first, so
-/// that a long argument is compared with the table's types once for each row, not once for each field.
+/// The same for any type, whose place is `fixed` where the arguments don't matter: then the type is not
+/// gone through again. Several fields of one type look up the size that was stored for the first, so that a
+/// long argument is compared with the table's types once for each row, not once for each field.
 fn field_size(
     alloc: Global,
     db: &HirDatabase,
     i: u64,
     args: &GenericArgs,
     sizes: &mut Map<Ty, u64>,
+    fixed: FixedPlace,
     ty: &Ty,
 ) -> Result<Option<u64>, NoMemory>
-    requires { AreSizesRight db.now i args.now sizes.old }
+    requires sizes { AreSizesRight db.now i args.now sizes.old }
+    requires place { fixed ≡ fixed_place db.now ty.now }
     ensures size { IfOk result (λ size. size ≡ field_size db.now i (ty_instance db.now.normals args.now ty.now)) }
     ensures sizes { OnOk result (AreSizesRight db.now i args.now sizes.new) }
 {
+    if let Some(place) = fixed {
+        return Ok(size_at(db, i, place));
+    }
     if let Some(size) = sizes.get(ty) {
         return Ok(Some(*size));
     }
@@ -131,16 +146,19 @@ pub(crate) fn are_fields_inside(
     args: &GenericArgs,
     sizes: &mut Map<Ty, u64>,
     offsets: &List<u64>,
+    places: &[FixedPlace],
     fields: &List<FieldRow>,
 ) -> Result<bool, NoMemory>
-    requires { AreSizesRight db.now i args.now sizes.old }
+    requires sizes { AreSizesRight db.now i args.now sizes.old }
+    requires places { places.now ≡ field_places db.now fields.now }
     ensures inside { IfOk result (λ inside. inside ≡ are_inside db.now i size offsets.now (types_at db.now args.now fields.now)) }
     ensures sizes { OnOk result (AreSizesRight db.now i args.now sizes.new) }
 {
     let items = fields.as_slice();
     for (k, field) in items.iter().enumerate() {
         let offset = offsets.get(k as u64).copied();
-        let part = field_size(alloc, db, i, args, sizes, &field.ty)?;
+        let fixed = place_of_index(places, k);
+        let part = field_size(alloc, db, i, args, sizes, fixed, &field.ty)?;
         if !is_part_inside(size, offset, part) {
             return Ok(false);
         }
@@ -157,15 +175,18 @@ fn are_captures_inside(
     size: u64,
     args: &GenericArgs,
     offsets: &List<u64>,
+    places: &[FixedPlace],
     captures: &List<Capture>,
 ) -> Result<bool, NoMemory>
+    requires { places.now ≡ capture_places db.now captures.now }
     ensures { IfOk result (λ inside. inside ≡ are_inside db.now i size offsets.now (map (λ capture. ty_instance db.now.normals args.now capture.ty) captures.now)) }
 {
     let mut sizes = Map::new(alloc);
     let items = captures.as_slice();
     for (k, capture) in items.iter().enumerate() {
         let offset = offsets.get(k as u64).copied();
-        let part = field_size(alloc, db, i, args, &mut sizes, &capture.ty)?;
+        let fixed = place_of_index(places, k);
+        let part = field_size(alloc, db, i, args, &mut sizes, fixed, &capture.ty)?;
         if !is_part_inside(size, offset, part) {
             return Ok(false);
         }
@@ -173,20 +194,25 @@ fn are_captures_inside(
     Ok(true)
 }
 
-/// The same for the captures in a closure's row, if there is one.
+/// The same for the captures in a closure's row, if it has one.
 pub(crate) fn is_closure_inside(
     alloc: Global,
     db: &HirDatabase,
+    places: &FixedPlaces,
     i: u64,
     size: u64,
     args: &GenericArgs,
     offsets: &List<u64>,
-    row: Option<&ClosureRow>,
+    id: InternedClosureId,
 ) -> Result<bool, NoMemory>
-    ensures { IfOk result (λ inside. inside ≡ are_inside db.now i size offsets.now (captures_at db.now args.now (option_copied row.entry))) }
+    requires { places.now ≡ fixed_places db.now }
+    ensures { IfOk result (λ inside. inside ≡ are_inside db.now i size offsets.now (captures_at db.now args.now (slice_get db.now.closures id.0))) }
 {
-    match row {
-        Some(row) => are_captures_inside(alloc, db, i, size, args, offsets, &row.captures),
+    match db.closures.get(id.0 as u64) {
+        Some(row) => {
+            let own = places_of_captures(places, id);
+            are_captures_inside(alloc, db, i, size, args, offsets, own, &row.captures)
+        }
         None => Ok(true),
     }
 }
@@ -213,23 +239,18 @@ pub(crate) fn are_fields_placed(
     args: &GenericArgs,
     sizes: &mut Map<Ty, u64>,
     offsets: &List<u64>,
+    places: &[FixedPlace],
     fields: &List<FieldRow>,
 ) -> Result<bool, NoMemory>
-    requires { AreSizesRight db.now i args.now sizes.old }
+    requires sizes { AreSizesRight db.now i args.now sizes.old }
+    requires places { places.now ≡ field_places db.now fields.now }
     ensures right { IfOk result (λ right. right ≡ is_placed_right db.now i size (record { offsets = offsets.now; types = types_at db.now args.now fields.now })) }
     ensures sizes { OnOk result (AreSizesRight db.now i args.now sizes.new) }
 {
     if offsets.len() != fields.len() {
         return Ok(false);
     }
-    are_fields_inside(alloc, db, i, size, args, sizes, offsets, fields)
-}
-
-/// The fields of a variant.
-pub(crate) fn variant_fields(db: &HirDatabase, v: EnumVariantId) -> Option<&List<FieldRow>>
-    ensures { option_copied result ≡ fields_of_variant db.now v }
-{
-    db.field_types(VariantId::EnumVariantId(v))
+    are_fields_inside(alloc, db, i, size, args, sizes, offsets, places, fields)
 }
 
 /// The variants of an enum.
@@ -239,15 +260,5 @@ pub(crate) fn enum_variants(db: &HirDatabase, e: EnumId) -> &[EnumVariantId]
     match db.enums.get(e.0 as u64) {
         Some(row) => row.variants.as_slice(),
         None => &[],
-    }
-}
-
-/// The fields of the variant at a place of an enum.
-pub(crate) fn fields_at(db: &HirDatabase, e: EnumId, place: u32) -> Option<&List<FieldRow>>
-    ensures { option_copied result ≡ option_and_then (fields_of_variant db.now) (slice_get (variants_of db.now e.0) place) }
-{
-    match enum_variants(db, e).get(place as usize) {
-        Some(v) => variant_fields(db, *v),
-        None => None,
     }
 }

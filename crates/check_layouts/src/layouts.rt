@@ -1,21 +1,24 @@
 //! Layouts that follow the rules of all targets.
 ghost use Rattle.std.specs.Prelude.{◌≡◌, [], IfOk, OnOk};
 ghost use Rattle.std.specs.List.{list_all};
-ghost use Rattle.std.specs.Option.{option_copied};
+ghost use Rattle.std.specs.Option.{option_and_then, option_copied};
+ghost use Rattle.world.specs.Failing.{first_failing};
+ghost use Rattle.world.specs.Lookups.{fields_of};
 ghost use Rattle.check_layouts.specs.Fields.{AreSizesRight, fields_of_variant, is_placed_inside, is_placed_right, placed_captures, placed_fields, placed_of, placed_of_each, placed_of_enum, unplaced_fields, unplaced_of_each};
 ghost use Rattle.check_layouts.specs.Layouts.{are_parts_right, is_layout_right, is_size_right, is_tag_inside, is_tag_size};
+ghost use Rattle.check_layouts.specs.Places.{fixed_places};
 
 use crate::arrays::is_array_size;
 use crate::fields::{
-    are_fields_inside, are_fields_placed, enum_variants, fields_at, is_closure_inside,
-    is_tuple_placed, variant_fields,
+    are_fields_inside, are_fields_placed, enum_variants, is_closure_inside, is_tuple_placed,
 };
+use crate::places::{FixedPlaces, fixed_places, places_of_fields};
 use crate::sizes::{is_alignment, is_fixed_size, is_multiple_of, known_size};
 use check_names::is_ty_closed;
 use std::alloc::Global;
 use world::{
-    AdtId, EnumId, EnumVariantId, FieldRow, GenericArgs, HirDatabase, Layout, List, Map, NoMemory,
-    Ty, VariantId, Variants,
+    AdtId, EnumId, EnumVariantId, GenericArgs, HirDatabase, Layout, List, Map, NoMemory, Ty,
+    VariantId, Variants,
 };
 
 /// Whether a tag has the size of an integer.
@@ -49,24 +52,29 @@ fn is_size_right(db: &HirDatabase, ty: &Ty, layout: &Layout) -> bool
         && is_fixed_size(known_size(db, ty), layout.size)
 }
 
-/// Whether optional fields have one offset each, and each ends within `size`. `sizes` has the sizes of
-/// field types that were found before.
-fn are_optional_fields_placed(
+/// Whether the fields of a struct, union or variant have one offset each, and each ends within `size`.
+/// `sizes` has the sizes of field types that were found before.
+fn are_item_fields_placed(
     alloc: Global,
     db: &HirDatabase,
+    places: &FixedPlaces,
     i: u64,
     size: u64,
     args: &GenericArgs,
     sizes: &mut Map<Ty, u64>,
     offsets: &List<u64>,
-    fields: Option<&List<FieldRow>>,
+    v: VariantId,
 ) -> Result<bool, NoMemory>
-    requires { AreSizesRight db.now i args.now sizes.old }
-    ensures right { IfOk result (λ right. right ≡ list_all (is_placed_right db.now i size) (placed_of db.now args.now offsets.now (option_copied fields.entry))) }
+    requires sizes { AreSizesRight db.now i args.now sizes.old }
+    requires places { places.now ≡ fixed_places db.now }
+    ensures right { IfOk result (λ right. right ≡ list_all (is_placed_right db.now i size) (placed_of db.now args.now offsets.now (fields_of db.now v))) }
     ensures sizes { OnOk result (AreSizesRight db.now i args.now sizes.new) }
 {
-    match fields {
-        Some(fields) => are_fields_placed(alloc, db, i, size, args, sizes, offsets, fields),
+    match db.field_types(v) {
+        Some(fields) => {
+            let own = places_of_fields(places, v);
+            are_fields_placed(alloc, db, i, size, args, sizes, offsets, own, fields)
+        }
         None => Ok(true),
     }
 }
@@ -75,16 +83,18 @@ fn are_optional_fields_placed(
 fn are_only_fields_placed(
     alloc: Global,
     db: &HirDatabase,
+    places: &FixedPlaces,
     i: u64,
     size: u64,
     args: &GenericArgs,
     offsets: &List<u64>,
-    fields: Option<&List<FieldRow>>,
+    v: VariantId,
 ) -> Result<bool, NoMemory>
-    ensures { IfOk result (λ right. right ≡ list_all (is_placed_right db.now i size) (placed_of db.now args.now offsets.now (option_copied fields.entry))) }
+    requires { places.now ≡ fixed_places db.now }
+    ensures { IfOk result (λ right. right ≡ list_all (is_placed_right db.now i size) (placed_of db.now args.now offsets.now (fields_of db.now v))) }
 {
     let mut sizes = Map::new(alloc);
-    are_optional_fields_placed(alloc, db, i, size, args, &mut sizes, offsets, fields)
+    are_item_fields_placed(alloc, db, places, i, size, args, &mut sizes, offsets, v)
 }
 
 /// Whether the fields of each variant have one offset each, by the list of the variant, and each ends
@@ -92,12 +102,14 @@ fn are_only_fields_placed(
 fn are_variants_placed(
     alloc: Global,
     db: &HirDatabase,
+    places: &FixedPlaces,
     i: u64,
     size: u64,
     args: &GenericArgs,
     lists: &List<List<u64>>,
     ids: &[EnumVariantId],
 ) -> Result<bool, NoMemory>
+    requires { places.now ≡ fixed_places db.now }
     ensures { IfOk result (λ right. right ≡ list_all (is_placed_right db.now i size) (placed_of_each db.now args.now lists.now ids.now)) }
 {
     let mut sizes = Map::new(alloc);
@@ -106,12 +118,36 @@ fn are_variants_placed(
         if k >= ids.len() {
             return Ok(true);
         }
-        let fields = variant_fields(db, ids[k]);
-        if !are_optional_fields_placed(alloc, db, i, size, args, &mut sizes, offsets, fields)? {
+        let v = VariantId::EnumVariantId(ids[k]);
+        if !are_item_fields_placed(alloc, db, places, i, size, args, &mut sizes, offsets, v)? {
             return Ok(false);
         }
     }
     Ok(true)
+}
+
+/// Whether the fields of an enum's only inhabited variant, which stands at an index of the enum, have one
+/// offset each, and each ends within `size`.
+fn is_variant_placed(
+    alloc: Global,
+    db: &HirDatabase,
+    places: &FixedPlaces,
+    i: u64,
+    size: u64,
+    args: &GenericArgs,
+    offsets: &List<u64>,
+    variant: Option<&EnumVariantId>,
+) -> Result<bool, NoMemory>
+    requires { places.now ≡ fixed_places db.now }
+    ensures { IfOk result (λ right. right ≡ list_all (is_placed_right db.now i size) (placed_of db.now args.now offsets.now (option_and_then (fields_of_variant db.now) (option_copied variant.entry)))) }
+{
+    match variant {
+        Some(v) => {
+            let v = VariantId::EnumVariantId(*v);
+            are_only_fields_placed(alloc, db, places, i, size, args, offsets, v)
+        }
+        None => Ok(true),
+    }
 }
 
 /// Whether the fields of an enum's only inhabited variant, or of every variant, have one offset each, and
@@ -119,23 +155,25 @@ fn are_variants_placed(
 fn is_enum_placed(
     alloc: Global,
     db: &HirDatabase,
+    places: &FixedPlaces,
     i: u64,
     id: EnumId,
     args: &GenericArgs,
     layout: &Layout,
 ) -> Result<bool, NoMemory>
+    requires { places.now ≡ fixed_places db.now }
     ensures { IfOk result (λ right. right ≡ list_all (is_placed_right db.now i layout.now.size) (placed_of_enum db.now id.0 args.now layout.now.offsets layout.now.variants)) }
 {
     let size = layout.size;
+    let ids = enum_variants(db, id);
     match &layout.variants {
         Variants::Empty => Ok(true),
         Variants::Single(v) => {
-            let fields = fields_at(db, id, *v);
-            are_only_fields_placed(alloc, db, i, size, args, &layout.offsets, fields)
+            let variant = ids.get(*v as usize);
+            is_variant_placed(alloc, db, places, i, size, args, &layout.offsets, variant)
         }
         Variants::Multiple(multiple) => {
-            let ids = enum_variants(db, id);
-            are_variants_placed(alloc, db, i, size, args, &multiple.variants, ids)
+            are_variants_placed(alloc, db, places, i, size, args, &multiple.variants, ids)
         }
     }
 }
@@ -145,10 +183,12 @@ fn is_enum_placed(
 fn are_type_fields_placed(
     alloc: Global,
     db: &HirDatabase,
+    places: &FixedPlaces,
     i: u64,
     ty: &Ty,
     layout: &Layout,
 ) -> Result<bool, NoMemory>
+    requires { places.now ≡ fixed_places db.now }
     ensures { IfOk result (λ right. right ≡ list_all (is_placed_right db.now i layout.now.size) (placed_fields db.now ty.now layout.now)) }
 {
     let size = layout.size;
@@ -156,35 +196,43 @@ fn are_type_fields_placed(
     match ty {
         Ty::Tuple(parts) => Ok(is_tuple_placed(db, i, size, offsets, parts)),
         Ty::Adt(AdtId::StructId(id), args) => {
-            let fields = db.field_types(VariantId::StructId(*id));
-            are_only_fields_placed(alloc, db, i, size, args, offsets, fields)
+            let v = VariantId::StructId(*id);
+            are_only_fields_placed(alloc, db, places, i, size, args, offsets, v)
         }
         Ty::Adt(AdtId::UnionId(id), args) => {
-            let fields = db.field_types(VariantId::UnionId(*id));
-            are_only_fields_placed(alloc, db, i, size, args, offsets, fields)
+            let v = VariantId::UnionId(*id);
+            are_only_fields_placed(alloc, db, places, i, size, args, offsets, v)
         }
-        Ty::Adt(AdtId::EnumId(id), args) => is_enum_placed(alloc, db, i, *id, args, layout),
+        Ty::Adt(AdtId::EnumId(id), args) => {
+            is_enum_placed(alloc, db, places, i, *id, args, layout)
+        }
         _ => Ok(true),
     }
 }
 
-/// Whether the types of optional fields have layouts in the first `i` rows.
-fn are_optional_fields_known(
+/// Whether the types of the fields of a variant have layouts in the first `i` rows.
+fn are_variant_fields_known(
     alloc: Global,
     db: &HirDatabase,
+    places: &FixedPlaces,
     i: u64,
     size: u64,
     args: &GenericArgs,
     sizes: &mut Map<Ty, u64>,
-    fields: Option<&List<FieldRow>>,
+    id: EnumVariantId,
 ) -> Result<bool, NoMemory>
-    requires { AreSizesRight db.now i args.now sizes.old }
-    ensures known { IfOk result (λ known. known ≡ list_all (is_placed_inside db.now i size) (placed_of db.now args.now [] (option_copied fields.entry))) }
+    requires sizes { AreSizesRight db.now i args.now sizes.old }
+    requires places { places.now ≡ fixed_places db.now }
+    ensures known { IfOk result (λ known. known ≡ list_all (is_placed_inside db.now i size) (placed_of db.now args.now [] (fields_of_variant db.now id))) }
     ensures sizes { OnOk result (AreSizesRight db.now i args.now sizes.new) }
 {
     let nowhere = List::new(alloc);
-    match fields {
-        Some(fields) => are_fields_inside(alloc, db, i, size, args, sizes, &nowhere, fields),
+    let v = VariantId::EnumVariantId(id);
+    match db.field_types(v) {
+        Some(fields) => {
+            let own = places_of_fields(places, v);
+            are_fields_inside(alloc, db, i, size, args, sizes, &nowhere, own, fields)
+        }
         None => Ok(true),
     }
 }
@@ -193,17 +241,18 @@ fn are_optional_fields_known(
 fn are_variants_known(
     alloc: Global,
     db: &HirDatabase,
+    places: &FixedPlaces,
     i: u64,
     size: u64,
     args: &GenericArgs,
     ids: &[EnumVariantId],
 ) -> Result<bool, NoMemory>
+    requires { places.now ≡ fixed_places db.now }
     ensures { IfOk result (λ known. known ≡ list_all (is_placed_inside db.now i size) (unplaced_of_each db.now args.now ids.now)) }
 {
     let mut sizes = Map::new(alloc);
     for id in ids {
-        let fields = variant_fields(db, *id);
-        if !are_optional_fields_known(alloc, db, i, size, args, &mut sizes, fields)? {
+        if !are_variant_fields_known(alloc, db, places, i, size, args, &mut sizes, *id)? {
             return Ok(false);
         }
     }
@@ -215,15 +264,17 @@ fn are_variants_known(
 fn are_enum_fields_known(
     alloc: Global,
     db: &HirDatabase,
+    places: &FixedPlaces,
     i: u64,
     size: u64,
     ty: &Ty,
 ) -> Result<bool, NoMemory>
+    requires { places.now ≡ fixed_places db.now }
     ensures { IfOk result (λ known. known ≡ list_all (is_placed_inside db.now i size) (unplaced_fields db.now ty.now)) }
 {
     match ty {
         Ty::Adt(AdtId::EnumId(id), args) => {
-            are_variants_known(alloc, db, i, size, args, enum_variants(db, *id))
+            are_variants_known(alloc, db, places, i, size, args, enum_variants(db, *id))
         }
         _ => Ok(true),
     }
@@ -233,16 +284,26 @@ fn are_enum_fields_known(
 fn are_captures_placed(
     alloc: Global,
     db: &HirDatabase,
+    places: &FixedPlaces,
     i: u64,
     ty: &Ty,
     layout: &Layout,
 ) -> Result<bool, NoMemory>
+    requires { places.now ≡ fixed_places db.now }
     ensures { IfOk result (λ inside. inside ≡ list_all (is_placed_inside db.now i layout.now.size) (placed_captures db.now ty.now layout.now)) }
 {
     match ty {
         Ty::Closure(id, args) => {
-            let row = db.closures.get(id.0 as u64);
-            is_closure_inside(alloc, db, i, layout.size, args, &layout.offsets, row)
+            is_closure_inside(
+                alloc,
+                db,
+                places,
+                i,
+                layout.size,
+                args,
+                &layout.offsets,
+                *id,
+            )
         }
         _ => Ok(true),
     }
@@ -253,19 +314,21 @@ fn are_captures_placed(
 fn are_parts_right(
     alloc: Global,
     db: &HirDatabase,
+    places: &FixedPlaces,
     i: u64,
     ty: &Ty,
     layout: &Layout,
 ) -> Result<bool, NoMemory>
+    requires { places.now ≡ fixed_places db.now }
     ensures { IfOk result (λ right. right ≡ are_parts_right db.now i ty.now layout.now) }
 {
-    if !are_type_fields_placed(alloc, db, i, ty, layout)? {
+    if !are_type_fields_placed(alloc, db, places, i, ty, layout)? {
         return Ok(false);
     }
-    if !are_enum_fields_known(alloc, db, i, layout.size, ty)? {
+    if !are_enum_fields_known(alloc, db, places, i, layout.size, ty)? {
         return Ok(false);
     }
-    if !are_captures_placed(alloc, db, i, ty, layout)? {
+    if !are_captures_placed(alloc, db, places, i, ty, layout)? {
         return Ok(false);
     }
     Ok(is_array_size(db, i, ty, layout.size) && is_tag_inside(layout.size, &layout.variants))
@@ -273,16 +336,33 @@ fn are_parts_right(
 
 /// Whether the layout in row `i` of `layouts` follows the rules of all targets. It fails only for want of
 /// memory.
-pub fn is_layout_right(
+fn is_layout_right(
     alloc: Global,
     db: &HirDatabase,
+    places: &FixedPlaces,
     i: u64,
     row: &(Ty, Layout),
 ) -> Result<bool, NoMemory>
+    requires { places.now ≡ fixed_places db.now }
     ensures { IfOk result (λ right. right ≡ is_layout_right db.now i row.now) }
 {
     if !is_ty_closed(&row.0) || !is_size_right(db, &row.0, &row.1) {
         return Ok(false);
     }
-    are_parts_right(alloc, db, i, &row.0, &row.1)
+    are_parts_right(alloc, db, places, i, &row.0, &row.1)
+}
+
+/// The index of the first layout that breaks a rule of all targets. It fails only for want of memory.
+pub fn first_wrong_layout(alloc: Global, db: &HirDatabase) -> Result<Option<usize>, NoMemory>
+    ensures { IfOk result (λ found. found ≡ first_failing (is_layout_right db.now) 0 db.now.layouts) }
+{
+    let places = fixed_places(alloc, db)?;
+    let rows = db.layouts.as_slice();
+    for (i, row) in rows.iter().enumerate() {
+        let right = is_layout_right(alloc, db, &places, i as u64, row)?;
+        if !right {
+            return Ok(Some(i));
+        }
+    }
+    Ok(None)
 }

@@ -5,8 +5,9 @@
 mod arrays;
 mod fields;
 mod layouts;
+mod places;
 mod sizes;
 mod tags;
 
-pub use layouts::is_layout_right;
+pub use layouts::first_wrong_layout;
 pub use tags::is_tag_right;

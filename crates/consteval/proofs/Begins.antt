@@ -3,6 +3,7 @@ use Rattle.std.proofs.Common.{◌≡◌, ℕ, suc, Bool, true, false, cond, List
 use Rattle.std.specs.Prelude.{slice_get, option_and_then, codes}
 use Rattle.world.specs.declared.database.HirDatabase.{HirDatabase}
 use Rattle.world.specs.declared.layout.Layout.{Layout}
+use Rattle.world.specs.declared.limits.Limits.{Limits}
 use Rattle.types.specs.declared.ty.Ty.{Ty}
 use Rattle.world.specs.Lookups.{layout_of}
 use Rattle.world.specs.Checked.{IsChecked}
@@ -71,22 +72,22 @@ begins source body simulates cost =
       sized : (l : ℕ) (local : Local) → slice_get body.locals l ≡ Some local → HasLayout source.world local
       sized l local there = let cell = simulates.cells l local there in by-cell local cell.0 cell.1 cell.2
 
-module _ (source : Source) (blocks : ℕ) where
+module _ (source : Source) (limits : Limits) where
   abbrev World : HirDatabase
   World = source.world
 
   -- a refusal is for a type without a layout or without a size
   abbrev FailsForType : {A : Type 0} → Result A MirEvalError → Type 0
   FailsForType (Ok a) = Unit {0}
-  FailsForType (Err e) = EndsEvaluation source blocks e
+  FailsForType (Err e) = EndsEvaluation source limits e
 
   placed-fails : (ty : Ty) (found : Option Layout) (memory : Memory) → layout_of World ty ≡ found → FailsForType (placed ty found memory)
   unfolding placed
-  placed-fails ty None memory is = without-layout source blocks ty is
+  placed-fails ty None memory is = without-layout source limits ty is
   placed-fails ty (Some layout) memory is = by-size layout.sized refl where
     by-size : (b : Bool) → layout.sized ≡ b → FailsForType (cond b (Ok (with_cell layout memory)) (Err (error.TypeIsUnsized ty (codes "no unsized local in extending stack"))))
     by-size true sized = tt
-    by-size false sized = without-size source blocks ty (codes "no unsized local in extending stack") (layout, is, sized)
+    by-size false sized = without-size source limits ty (codes "no unsized local in extending stack") (layout, is, sized)
 
   before-fails : (cell : Interval) (rest : Result (List Interval × Memory) MirEvalError) → FailsForType rest → FailsForType (cell_before cell rest)
   before-fails cell (Ok all) h = tt
@@ -108,5 +109,5 @@ module _ (source : Source) (blocks : ℕ) where
   begun-fails body = then-fails (cells_of World body.locals first_memory) _ (cells-fail body.locals first_memory) (λ all. tt)
 
   -- a body can't begin for a local whose type has no layout or no size
-  pub begun-refusal : (body : MirBody) (e : MirEvalError) → begun World body ≡ Err e → EndsEvaluation source blocks e
+  pub begun-refusal : (body : MirBody) (e : MirEvalError) → begun World body ≡ Err e → EndsEvaluation source limits e
   begun-refusal body e is = subst (λ (r : Result (Frame × Memory) MirEvalError). FailsForType r) is (begun-fails body)

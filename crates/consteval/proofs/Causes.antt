@@ -2,6 +2,7 @@
 use Rattle.std.proofs.Common.{◌≡◌, ℕ, ◌⊎◌, ⊎_elim, inl, inr, [], Result, Ok, Err, refl, sym, ap, subst, arith}
 use Rattle.std.specs.Prelude.{Contains, IfOk}
 use Rattle.world.specs.declared.database.HirDatabase.{HirDatabase}
+use Rattle.world.specs.declared.limits.Limits.{Limits}
 use Rattle.types.specs.declared.ids.DefWithBodyId.{DefWithBodyId}
 use Rattle.types.specs.declared.ty.Const.{Const}
 use Rattle.types.specs.declared.ty.GenericArgs.{GenericArgs}
@@ -18,45 +19,46 @@ use Rattle.consteval.specs.Kept.{IsValueOf, Kept, Lowered, Ran, Stays}
 use Rattle.consteval.proofs.Keeping.{contains-stays}
 
 -- a refusal to lower a body
-pub cause-refused : (kept : Kept) (world : HirDatabase) (def : DefWithBodyId) (args : GenericArgs) (blocks : ℕ) (e : MirLowerError) → kept.world ≡ world → (e ≡ refusal.NoMemory) ⊎ RefusesBody world def args e → HasCause kept def args blocks 0 (Err (from_lower_error e))
-cause-refused kept world def args blocks e same refuses =
+pub cause-refused : (kept : Kept) (world : HirDatabase) (def : DefWithBodyId) (args : GenericArgs) (limits : Limits) (e : MirLowerError) → kept.world ≡ world → (e ≡ refusal.NoMemory) ⊎ RefusesBody world def args e → HasCause kept def args limits 0 (Err (from_lower_error e))
+cause-refused kept world def args limits e same refuses =
     inr (record { none = refl; fault = e; is = refl; refuses = subst (λ w. (e ≡ refusal.NoMemory) ⊎ RefusesBody w def args e) (sym same) refuses })
 
 -- an answer of a kept body
-pub cause-answered : (kept : Kept) (world : HirDatabase) (def : DefWithBodyId) (args : GenericArgs) (blocks turns : ℕ) (body : MirBody) (answer : Result Const ConstEvalError) → kept.world ≡ world → args.0 ≡ [] → Contains kept.entries (Lowered def body) → AnswersBody world def body blocks turns answer → HasCause kept def args blocks turns answer
-cause-answered kept world def args blocks turns body answer same given found answers =
-    inl (record { given = given; body = body; found = found; answers = subst (λ w. AnswersBody w def body blocks turns answer) (sym same) answers })
+pub cause-answered : (kept : Kept) (world : HirDatabase) (def : DefWithBodyId) (args : GenericArgs) (limits : Limits) (turns : ℕ) (body : MirBody) (answer : Result Const ConstEvalError) → kept.world ≡ world → args.0 ≡ [] → Contains kept.entries (Lowered def body) → AnswersBody world def body limits turns answer → HasCause kept def args limits turns answer
+cause-answered kept world def args limits turns body answer same given found answers =
+    inl (record { given = given; body = body; found = found; answers = subst (λ w. AnswersBody w def body limits turns answer) (sym same) answers })
 
-module _ (before after : Kept) (stays : Stays before after) (def : DefWithBodyId) (args : GenericArgs) (blocks turns : ℕ) where
-  answers-stay : (answer : Result Const ConstEvalError) → AnswersKept before def args blocks turns answer → AnswersKept after def args blocks turns answer
+module _ (before after : Kept) (stays : Stays before after) (def : DefWithBodyId) (args : GenericArgs) (limits : Limits) (turns : ℕ) where
+  answers-stay : (answer : Result Const ConstEvalError) → AnswersKept before def args limits turns answer → AnswersKept after def args limits turns answer
   answers-stay answer answers =
       record {
         given = answers.given;
         body = answers.body;
         found = contains-stays before after stays (Lowered def answers.body) answers.found;
-        answers = subst (λ w. AnswersBody w def answers.body blocks turns answer) (sym stays.world) answers.answers;
+        answers = subst (λ w. AnswersBody w def answers.body limits turns answer) (sym stays.world) answers.answers;
       }
 
   -- a cause stays one where more is kept
-  pub cause-stays : (answer : Result Const ConstEvalError) → HasCause before def args blocks turns answer → HasCause after def args blocks turns answer
+  pub cause-stays : (answer : Result Const ConstEvalError) → HasCause before def args limits turns answer → HasCause after def args limits turns answer
   cause-stays answer =
       ⊎_elim (λ answers. inl (answers-stay answer answers)) (λ refused. inr (subst (λ w. NeverLowered w def args turns answer) (sym stays.world) refused))
 
   -- where memory runs out once an answer is there, no more blocks were entered
-  body-out : (body : MirBody) (answer : Result Const ConstEvalError) → AnswersBody before.world def body blocks turns answer → AnswersBody before.world def body blocks turns (Err constant.NoMemory)
+  body-out : (body : MirBody) (answer : Result Const ConstEvalError) → AnswersBody before.world def body limits turns answer → AnswersBody before.world def body limits turns (Err constant.NoMemory)
   body-out body answer =
       ⊎_elim
       (λ runs. inr (inr (record {
         pointers = runs.pointers;
+        nests = runs.ran.nests;
         start = runs.ran.start;
         began = runs.ran.began;
         entered = (let is = runs.ran.entered in omega arith);
         is = refl;
       })))
       (⊎_elim (λ never. inr (inl (record { none = never.none; fault = error.NoMemory; is = refl; refuses = inl refl })))
-      (λ out. inr (inr (record { pointers = out.pointers; start = out.start; began = out.began; entered = out.entered; is = refl }))))
+      (λ out. inr (inr (record { pointers = out.pointers; nests = out.nests; start = out.start; began = out.began; entered = out.entered; is = refl }))))
 
-  pub cause-out : (answer : Result Const ConstEvalError) → HasCause before def args blocks turns answer → HasCause after def args blocks turns (Err constant.NoMemory)
+  pub cause-out : (answer : Result Const ConstEvalError) → HasCause before def args limits turns answer → HasCause after def args limits turns (Err constant.NoMemory)
   cause-out answer cause =
       cause-stays (Err constant.NoMemory)
       (⊎_elim (λ answers. inl (record { given = answers.given; body = answers.body; found = answers.found; answers = body-out answers.body answer answers.answers }))
@@ -68,17 +70,17 @@ carried-value (Ok value) konst h = let same : konst ≡ value = cc in ap Ok same
 carried-value (Err e) konst h = absurd cc
 
 -- a value that is answered is what a run of the kept body returned
-pub cause-value : (kept : Kept) (def : DefWithBodyId) (args : GenericArgs) (blocks turns : ℕ) (answer : Result Const ConstEvalError) → HasCause kept def args blocks turns answer → IfOk answer (IsValueOf kept def)
-cause-value kept def args blocks turns (Err e) cause = tt
-cause-value kept def args blocks turns (Ok konst) cause = ⊎_elim (λ answers. by-body answers.body answers.found answers.answers) (λ refused. let is = refused.is in absurd cc) cause where
-  by-body : (body : MirBody) → Contains kept.entries (Lowered def body) → AnswersBody kept.world def body blocks turns (Ok konst) → IsValueOf kept def konst
+pub cause-value : (kept : Kept) (def : DefWithBodyId) (args : GenericArgs) (limits : Limits) (turns : ℕ) (answer : Result Const ConstEvalError) → HasCause kept def args limits turns answer → IfOk answer (IsValueOf kept def)
+cause-value kept def args limits turns (Err e) cause = tt
+cause-value kept def args limits turns (Ok konst) cause = ⊎_elim (λ answers. by-body answers.body answers.found answers.answers) (λ refused. let is = refused.is in absurd cc) cause where
+  by-body : (body : MirBody) → Contains kept.entries (Lowered def body) → AnswersBody kept.world def body limits turns (Ok konst) → IsValueOf kept def konst
   by-body body found =
       ⊎_elim
       (λ runs. record {
         body = body;
         from = found;
-        blocks = blocks;
+        limits = limits;
         turns = turns;
-        ran = subst (Ran kept.world body blocks turns) (sym (carried-value runs.outcome konst runs.is)) runs.ran;
+        ran = subst (Ran kept.world body limits turns) (sym (carried-value runs.outcome konst runs.is)) runs.ran;
       })
       (⊎_elim (λ never. let is = never.is in absurd cc) (λ out. let is = out.is in absurd cc))

@@ -1,12 +1,13 @@
 -- The faults that a valid definition can end in, and the words of panics among them.
-use Rattle.std.proofs.Common.{◌≡◌, ℕ, List, Option, Some, None, refl, sym, ap, ◌∙◌, subst}
+use Rattle.std.proofs.Common.{◌≡◌, ℕ, ◌<◌, List, Option, Some, None, refl, sym, ap, ◌∙◌, subst}
 use Rattle.std.proofs.lemmas.Option.{none-some}
 use Rattle.types.specs.declared.ty.Ty.{Ty}
 use Rattle.world.specs.Lookups.{layout_of}
+use Rattle.world.specs.declared.limits.Limits.{Limits}
 use Rattle.mir.specs.declared.errors.MirEvalError.{MirEvalError, MirEvalError-F, fold-roll-MirEvalError, map-MirEvalError, out-MirEvalError}
 use Rattle.mir.specs.declared.errors.MirEvalError.TheOpen as layer
 use Rattle.mir.specs.declared.errors.MirEvalError.TheViews.{out-roll-MirEvalError, roll-out-MirEvalError}
-use Rattle.mir.specs.declared.errors.MirEvalError.TheVariants.{rolls-InFunction, rolls-LayoutError, rolls-TypeIsUnsized, rolls-Panic, rolls-UndefinedBehavior, rolls-ExecutionLimitExceeded}
+use Rattle.mir.specs.declared.errors.MirEvalError.TheVariants.{rolls-InFunction, rolls-LayoutError, rolls-TypeIsUnsized, rolls-Panic, rolls-UndefinedBehavior, rolls-ExecutionLimitExceeded, rolls-StackOverflow}
 use Rattle.mir.specs.declared.errors.MirEvalError as error
 use Rattle.mir.specs.declared.errors.MirLowerError.{MirLowerError}
 use Rattle.mir.specs.declared.errors.MirLowerError.TheVariants as refusal
@@ -14,30 +15,36 @@ use Rattle.mir.specs.declared.errors.TrailEntry.{TrailEntry}
 use Rattle.mir.specs.Errors.{from_eval_error, from_lower_error, layout_error_of}
 use Rattle.source_meaning.specs.Source.{Source}
 use Rattle.consteval.specs.Answers.{EndsEvaluation, EndsFrame, EndsIn, EndsLayer, EndsLowering, GivesPanic, IsUnsized, panic_layer, panic_word}
+use Rattle.consteval.proofs.Nesting.{passes-nesting}
 
 -- a frame's fault, wrapped in it
-pub framed : (source : Source) (blocks : ℕ) (inner : MirEvalError) (trail : List TrailEntry) → EndsFrame source blocks inner → EndsEvaluation source blocks (error.InFunction inner trail)
-framed source blocks inner trail ends =
-    subst (EndsLayer source blocks) (sym (ap out-MirEvalError (sym (rolls-InFunction inner trail)) ∙ out-roll-MirEvalError (layer.InFunction inner trail))) ends
+pub framed : (source : Source) (limits : Limits) (inner : MirEvalError) (trail : List TrailEntry) → EndsFrame source limits inner → EndsEvaluation source limits (error.InFunction inner trail)
+framed source limits inner trail ends =
+    subst (EndsLayer source limits) (sym (ap out-MirEvalError (sym (rolls-InFunction inner trail)) ∙ out-roll-MirEvalError (layer.InFunction inner trail))) ends
 
 -- a type without a layout, or without a size
-pub without-layout : (source : Source) (blocks : ℕ) (ty : Ty) → layout_of source.world ty ≡ None → EndsEvaluation source blocks (error.LayoutError (layout_error_of ty) ty)
-without-layout source blocks ty none =
+pub without-layout : (source : Source) (limits : Limits) (ty : Ty) → layout_of source.world ty ≡ None → EndsEvaluation source limits (error.LayoutError (layout_error_of ty) ty)
+without-layout source limits ty none =
     let e = layout_error_of ty in
-    subst (EndsLayer source blocks) (sym (ap out-MirEvalError (sym (rolls-LayoutError e ty)) ∙ out-roll-MirEvalError (layer.LayoutError e ty))) (refl, none)
+    subst (EndsLayer source limits) (sym (ap out-MirEvalError (sym (rolls-LayoutError e ty)) ∙ out-roll-MirEvalError (layer.LayoutError e ty))) (refl, none)
 
-pub without-size : (source : Source) (blocks : ℕ) (ty : Ty) (text : List ℕ) → IsUnsized source.world ty → EndsEvaluation source blocks (error.TypeIsUnsized ty text)
-without-size source blocks ty text ends =
-    subst (EndsLayer source blocks) (sym (ap out-MirEvalError (sym (rolls-TypeIsUnsized ty text)) ∙ out-roll-MirEvalError (layer.TypeIsUnsized ty text))) ends
+pub without-size : (source : Source) (limits : Limits) (ty : Ty) (text : List ℕ) → IsUnsized source.world ty → EndsEvaluation source limits (error.TypeIsUnsized ty text)
+without-size source limits ty text ends =
+    subst (EndsLayer source limits) (sym (ap out-MirEvalError (sym (rolls-TypeIsUnsized ty text)) ∙ out-roll-MirEvalError (layer.TypeIsUnsized ty text))) ends
+
+-- a limit on nesting that every run passes
+pub overflowed : (source : Source) (limits : Limits) → limits.nesting < 2 → EndsEvaluation source limits error.StackOverflow
+overflowed source limits less =
+    subst (EndsLayer source limits) (sym (ap out-MirEvalError (sym rolls-StackOverflow) ∙ out-roll-MirEvalError layer.StackOverflow)) (passes-nesting source limits.nesting less)
 
 -- faults and refusals, as they are carried
-pub carried-fault : (source : Source) (blocks : ℕ) (e : MirEvalError) → EndsEvaluation source blocks e → EndsIn source blocks (from_eval_error e)
-carried-fault source blocks error.NoMemory ends = tt
-carried-fault source blocks _ ends = ends
+pub carried-fault : (source : Source) (limits : Limits) (e : MirEvalError) → EndsEvaluation source limits e → EndsIn source limits (from_eval_error e)
+carried-fault source limits error.NoMemory ends = tt
+carried-fault source limits _ ends = ends
 
-pub carried-refusal : (source : Source) (blocks : ℕ) (e : MirLowerError) → EndsLowering source e → EndsIn source blocks (from_lower_error e)
-carried-refusal source blocks refusal.NoMemory ends = tt
-carried-refusal source blocks _ ends = ends
+pub carried-refusal : (source : Source) (limits : Limits) (e : MirLowerError) → EndsLowering source e → EndsIn source limits (from_lower_error e)
+carried-refusal source limits refusal.NoMemory ends = tt
+carried-refusal source limits _ ends = ends
 
 word-panic : (word : List ℕ) → panic_word (error.Panic word) ≡ Some word
 unfolding panic_word
@@ -52,24 +59,25 @@ unfolding panic_word
 word-limit = ap panic_word (sym rolls-ExecutionLimitExceeded) ∙ fold-roll-MirEvalError (Option (List ℕ)) panic_layer layer.ExecutionLimitExceeded
 
 -- a panic that a valid definition ends in is one that its source means
-frame-panic : (source : Source) (blocks : ℕ) (inner : MirEvalError) (word : List ℕ) → EndsFrame source blocks inner → panic_word inner ≡ Some word → GivesPanic source word
-frame-panic source blocks (error.Panic said) word ends says =
+frame-panic : (source : Source) (limits : Limits) (inner : MirEvalError) (word : List ℕ) → EndsFrame source limits inner → panic_word inner ≡ Some word → GivesPanic source word
+frame-panic source limits (error.Panic said) word ends says =
     let both : Some said ≡ Some word = sym (word-panic said) ∙ says in
     let same : said ≡ word = cc in
     subst (GivesPanic source) same ends
-frame-panic source blocks error.ExecutionLimitExceeded word ends says = absurd (none-some word (sym word-limit ∙ says))
-frame-panic source blocks (error.UndefinedBehavior text) word ends says = absurd (none-some word (sym (word-undefined text) ∙ says))
-frame-panic source blocks _ word ends says = absurd ends
+frame-panic source limits error.ExecutionLimitExceeded word ends says = absurd (none-some word (sym word-limit ∙ says))
+frame-panic source limits (error.UndefinedBehavior text) word ends says = absurd (none-some word (sym (word-undefined text) ∙ says))
+frame-panic source limits _ word ends says = absurd ends
 
 -- the word of an error is that of its layer
 word-by-layer : (e : MirEvalError) → panic_word e ≡ panic_layer (map-MirEvalError MirEvalError (Option (List ℕ)) panic_word (out-MirEvalError e))
 unfolding panic_word
 word-by-layer e = ap panic_word (sym (roll-out-MirEvalError e)) ∙ fold-roll-MirEvalError (Option (List ℕ)) panic_layer (out-MirEvalError e)
 
-pub ends-in-panic : (source : Source) (blocks : ℕ) (e : MirEvalError) (word : List ℕ) → EndsEvaluation source blocks e → panic_word e ≡ Some word → GivesPanic source word
-ends-in-panic source blocks e word ends says = by (out-MirEvalError e) ends (sym (word-by-layer e) ∙ says) where
-  by : (l : MirEvalError-F MirEvalError) → EndsLayer source blocks l → panic_layer (map-MirEvalError MirEvalError (Option (List ℕ)) panic_word l) ≡ Some word → GivesPanic source word
-  by (layer.InFunction inner trail) ends says = frame-panic source blocks inner word ends says
+pub ends-in-panic : (source : Source) (limits : Limits) (e : MirEvalError) (word : List ℕ) → EndsEvaluation source limits e → panic_word e ≡ Some word → GivesPanic source word
+ends-in-panic source limits e word ends says = by (out-MirEvalError e) ends (sym (word-by-layer e) ∙ says) where
+  by : (l : MirEvalError-F MirEvalError) → EndsLayer source limits l → panic_layer (map-MirEvalError MirEvalError (Option (List ℕ)) panic_word l) ≡ Some word → GivesPanic source word
+  by (layer.InFunction inner trail) ends says = frame-panic source limits inner word ends says
+  by layer.StackOverflow ends says = absurd (none-some word says)
   by (layer.LayoutError e ty) ends says = absurd (none-some word says)
   by (layer.TypeIsUnsized ty text) ends says = absurd (none-some word says)
   by _ ends says = absurd ends

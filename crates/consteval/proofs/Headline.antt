@@ -1,8 +1,9 @@
 -- What the answer to a definition says of its source.
-use Rattle.std.proofs.Common.{◌≡◌, ◌≢◌, ℕ, ◌⊎◌, ⊎_elim, inl, inr, List, Option, Some, None, Result, Ok, Err, refl, sym, ap, ◌∙◌, subst}
+use Rattle.std.proofs.Common.{◌≡◌, ◌≢◌, ℕ, ◌⊎◌, ⊎_elim, inl, inr, List, Option, Some, None, Result, Ok, Err, refl, sym, ap, ◌∙◌, subst, arith}
 use Rattle.std.specs.Prelude.{Contains, IfErr, slice_get, option_and_then}
 use Rattle.world.specs.declared.database.BodyRow.{BodyRow}
 use Rattle.world.specs.declared.database.HirDatabase.{HirDatabase}
+use Rattle.world.specs.declared.limits.Limits.{Limits}
 use Rattle.types.specs.declared.ids.DefWithBodyId.{DefWithBodyId}
 use Rattle.types.specs.declared.ty.Const.{Const}
 use Rattle.types.specs.declared.ty.GenericArgs.{GenericArgs}
@@ -16,21 +17,22 @@ use Rattle.mir.specs.declared.errors.MirLowerError.{MirLowerError}
 use Rattle.mir.specs.declared.errors.MirLowerError.TheVariants as refusal
 use Rattle.mir.specs.Errors.{from_lower_error, from_eval_error}
 use Rattle.mir_lower.specs.Simulates.{Simulates}
-use Rattle.source_meaning.proofs.Fuel.{bodies_end}
+use Rattle.source_meaning.proofs.Lasting.{bodies_end}
 use Rattle.source_meaning.proofs.Sizes.{plain_is_never_stuck, plain_jumps_nowhere}
-use Rattle.source_meaning.specs.Ends.{Stuck, IsOver, JumpsNowhere}
+use Rattle.source_meaning.specs.Ends.{Panic, Stuck, IsOver, JumpsNowhere}
 use Rattle.source_meaning.specs.Meaning.{meaning_of}
 use Rattle.source_meaning.specs.Source.{Source}
 use Rattle.source_meaning.specs.Valid.{AreLaidOut, HasDefinedCost}
-use Rattle.consteval.specs.Answers.{GivesValue, GivesPanic, AnswersWithin, EndsIn, HasCause, AnswersBody, RunsTo, RefusesBody, carried, panic_word}
+use Rattle.consteval.specs.Answers.{GivesValue, CountsBlocks, GivesPanic, AnswersWithin, EndsIn, HasCause, AnswersBody, RunsTo, RefusesBody, carried, panic_word}
 use Rattle.consteval.specs.Kept.{Kept, Lowered, IsSound, IsLowered, Ran, source_of}
 use Rattle.consteval.specs.Valid.{IsValid}
 use Rattle.consteval.proofs.Begins.{has-layouts}
 use Rattle.consteval.proofs.Causes.{carried-value}
-use Rattle.consteval.proofs.Ends.{completes-value, completes-panic, gives-value, gives-fault}
+use Rattle.consteval.proofs.Ends.{completes-value, completes-panic, gives-value, counts-value, gives-fault}
 use Rattle.consteval.proofs.Faults.{carried-fault, carried-refusal, ends-in-panic}
 use Rattle.consteval.proofs.Keeping.{kept-body-lowered}
-use Rattle.consteval.proofs.Refused.{run-refusal, run-is-not-refused, lowering-refusal, lowering-is-not-refused}
+use Rattle.consteval.proofs.Nesting.{fault-nests, value-nests}
+use Rattle.consteval.proofs.Refused.{run-refusal, run-is-refused-by-nesting, lowering-refusal, lowering-is-not-refused}
 
 -- the body of a definition of a checked world is checked
 pub checked-body : (world : HirDatabase) (def : DefWithBodyId) (row : BodyRow) → IsChecked world → body_row world def ≡ Some row → IsCheckedBody row.body row.infer
@@ -56,88 +58,116 @@ module _ (world : HirDatabase) (checked : IsChecked world) (def : DefWithBodyId)
       let body = checked-body world def row checked valid.body in
       (plain_is_never_stuck Of fuel checked body valid.plain laid, plain_jumps_nowhere Of fuel checked body valid.plain laid)
 
-  module _ (blocks turns : ℕ) (answer : Result Const ConstEvalError) where
-    run-value : (body : MirBody) → IsLowered world def body → RunsTo world def body blocks turns answer → (konst : Const) → answer ≡ Ok konst → GivesValue Of konst
+  module _ (limits : Limits) (turns : ℕ) (answer : Result Const ConstEvalError) where
+    run-value : (body : MirBody) → IsLowered world def body → RunsTo world def body limits turns answer → (konst : Const) → answer ≡ Ok konst → GivesValue Of konst
     run-value body lowered runs konst is =
         let simulates = simulated body lowered in
         let ran = runs.ran in
         let laid = has-layouts Of body ran.start checked simulates ran.began valid.plain in
         let end = ended in
-        gives-value Of body simulates ran.start ran.began blocks (meaning_of Of end.0) (record { fuel = end.0; reached = refl; over = end.1 }) (ends-well laid end.0) konst
+        gives-value Of body simulates ran.start ran.began limits ran.nests (meaning_of Of end.0) (record { fuel = end.0; reached = refl; over = end.1 }) (ends-well laid end.0) konst
         (carried-value runs.outcome konst (sym is ∙ runs.is) ∙ ran.ended)
 
-    run-closed : (body : MirBody) → IsLowered world def body → RunsTo world def body blocks turns answer → IfErr answer (EndsIn Of blocks)
-    run-closed body lowered runs = subst (λ a. IfErr a (EndsIn Of blocks)) (sym runs.is) (by runs.outcome runs.ran) where
-      by : (outcome : Result Const MirEvalError) → Ran world body blocks turns outcome → IfErr (carried outcome) (EndsIn Of blocks)
+    run-counts : (body : MirBody) → IsLowered world def body → RunsTo world def body limits turns answer → (konst : Const) → answer ≡ Ok konst → CountsBlocks Of turns
+    run-counts body lowered runs konst is =
+        let simulates = simulated body lowered in
+        let ran = runs.ran in
+        let laid = has-layouts Of body ran.start checked simulates ran.began valid.plain in
+        let end = ended in
+        subst (CountsBlocks Of) (sym ran.entered)
+        (counts-value Of body simulates ran.start ran.began limits ran.nests (meaning_of Of end.0) (record { fuel = end.0; reached = refl; over = end.1 }) (ends-well laid end.0) konst
+        (carried-value runs.outcome konst (sym is ∙ runs.is) ∙ ran.ended))
+
+    run-closed : (body : MirBody) → IsLowered world def body → RunsTo world def body limits turns answer → IfErr answer (EndsIn Of limits)
+    run-closed body lowered runs = subst (λ a. IfErr a (EndsIn Of limits)) (sym runs.is) (by runs.outcome runs.ran) where
+      by : (outcome : Result Const MirEvalError) → Ran world body limits turns outcome → IfErr (carried outcome) (EndsIn Of limits)
       by (Ok konst) ran = tt
       by (Err e) ran =
           let simulates = simulated body lowered in
           let laid = has-layouts Of body ran.start checked simulates ran.began valid.plain in
           let end = ended in
-          carried-fault Of blocks e
-          (gives-fault Of body simulates ran.start ran.began blocks (meaning_of Of end.0) (record { fuel = end.0; reached = refl; over = end.1 }) (ends-well laid end.0) e ran.ended)
+          carried-fault Of limits e
+          (gives-fault Of body simulates ran.start ran.began limits ran.nests (meaning_of Of end.0) (record { fuel = end.0; reached = refl; over = end.1 }) (ends-well laid end.0) e ran.ended)
 
-    run-completes : (body : MirBody) → IsLowered world def body → RunsTo world def body blocks turns answer → AnswersWithin Of blocks answer
+    run-completes : (body : MirBody) → IsLowered world def body → RunsTo world def body limits turns answer → AnswersWithin Of limits answer
     run-completes body lowered runs =
         let simulates = simulated body lowered in
         let ran = runs.ran in
         record {
-          value = λ ty bytes store cost typed gives le. inl (runs.is ∙ ap carried (ran.ended ∙ completes-value Of body simulates ran.start ran.began blocks ty bytes store cost typed gives le));
-          panic = λ word cost gives le. inl (runs.is ∙ ap carried (ran.ended ∙ completes-panic Of body simulates ran.start ran.began blocks word cost gives le));
+          value = λ ty bytes store cost typed gives within. inl (runs.is ∙ ap carried (ran.ended ∙ completes-value Of body simulates ran.start ran.began limits ran.nests ty bytes store cost typed gives within));
+          panic = λ word cost gives within. inl (runs.is ∙ ap carried (ran.ended ∙ completes-panic Of body simulates ran.start ran.began limits ran.nests word cost gives within));
         }
 
-    out-of-memory : answer ≡ Err constant.NoMemory → AnswersWithin Of blocks answer
-    out-of-memory none = record { value = λ ty bytes store cost typed gives le. inr none; panic = λ word cost gives le. inr none }
+    out-of-memory : answer ≡ Err constant.NoMemory → AnswersWithin Of limits answer
+    out-of-memory none = record { value = λ ty bytes store cost typed gives within. inr none; panic = λ word cost gives within. inr none }
+
+    -- where there is no level of nesting for the run, no cost is within the limits
+    without-level : limits.nesting ≡ 0 → AnswersWithin Of limits answer
+    without-level none =
+        record {
+          value = λ ty bytes store cost typed gives within. absurd (let nests = value-nests Of bytes store cost gives in let bound = within.nesting in omega arith);
+          panic = λ word cost gives within. absurd (let nests = fault-nests Of (Panic word) cost gives in let bound = within.nesting in omega arith);
+        }
 
     abbrev Closed : Result Const ConstEvalError → Type 0
-    Closed a = IfErr a (EndsIn Of blocks)
+    Closed a = IfErr a (EndsIn Of limits)
 
-    body-value : (body : MirBody) → IsLowered world def body → AnswersBody world def body blocks turns answer → (konst : Const) → answer ≡ Ok konst → GivesValue Of konst
+    body-value : (body : MirBody) → IsLowered world def body → AnswersBody world def body limits turns answer → (konst : Const) → answer ≡ Ok konst → GivesValue Of konst
     body-value body lowered answers konst is =
         ⊎_elim (λ runs. run-value body lowered runs konst is)
         (⊎_elim (λ never. let err = never.is in absurd cc) (λ out. let err = out.is in absurd cc)) answers
 
-    body-closed : (body : MirBody) → IsLowered world def body → AnswersBody world def body blocks turns answer → Closed answer
+    body-counts : (body : MirBody) → IsLowered world def body → AnswersBody world def body limits turns answer → (konst : Const) → answer ≡ Ok konst → CountsBlocks Of turns
+    body-counts body lowered answers konst is =
+        ⊎_elim (λ runs. run-counts body lowered runs konst is)
+        (⊎_elim (λ never. let err = never.is in absurd cc) (λ out. let err = out.is in absurd cc)) answers
+
+    body-closed : (body : MirBody) → IsLowered world def body → AnswersBody world def body limits turns answer → Closed answer
     body-closed body lowered =
         ⊎_elim (run-closed body lowered)
         (⊎_elim
         (λ never. subst Closed (sym never.is)
-        (⊎_elim (λ none. subst (λ e. EndsIn Of blocks (from_eval_error e)) (sym none) tt) (λ refuses. carried-fault Of blocks never.fault (run-refusal world def args row blocks body never.fault valid refuses)) never.refuses))
+        (⊎_elim (λ none. subst (λ e. EndsIn Of limits (from_eval_error e)) (sym none) tt) (λ refuses. carried-fault Of limits never.fault (run-refusal world def args row limits body never.fault valid refuses)) never.refuses))
         (λ out. subst Closed (sym out.is) tt))
 
-    body-completes : (body : MirBody) → IsLowered world def body → HasDefinedCost Of → AnswersBody world def body blocks turns answer → AnswersWithin Of blocks answer
+    body-completes : (body : MirBody) → IsLowered world def body → HasDefinedCost Of → AnswersBody world def body limits turns answer → AnswersWithin Of limits answer
     body-completes body lowered cost answers =
         ⊎_elim (λ runs. run-completes body lowered runs)
         (⊎_elim
-        (λ never. ⊎_elim (λ none. out-of-memory (never.is ∙ ap (λ e. Err (from_eval_error e)) none)) (λ refuses. absurd (run-is-not-refused world def args row body never.fault valid (simulated body lowered) cost refuses)) never.refuses)
+        (λ never. ⊎_elim (λ none. out-of-memory (never.is ∙ ap (λ e. Err (from_eval_error e)) none)) (λ refuses. without-level (run-is-refused-by-nesting world def args row limits body never.fault valid (simulated body lowered) cost refuses)) never.refuses)
         (λ out. out-of-memory out.is)) answers
 
     module _ (kept : Kept) (same : kept.world ≡ world) (sound : IsSound kept) where
       lowered-from : (body : MirBody) → Contains kept.entries (Lowered def body) → IsLowered world def body
       lowered-from body found = subst (λ w. IsLowered w def body) same (kept-body-lowered kept sound def body found)
 
-      answers-in : (body : MirBody) → AnswersBody kept.world def body blocks turns answer → AnswersBody world def body blocks turns answer
-      answers-in body answers = subst (λ w. AnswersBody w def body blocks turns answer) same answers
+      answers-in : (body : MirBody) → AnswersBody kept.world def body limits turns answer → AnswersBody world def body limits turns answer
+      answers-in body answers = subst (λ w. AnswersBody w def body limits turns answer) same answers
 
       refusal-in : (e : MirLowerError) → (e ≡ refusal.NoMemory) ⊎ RefusesBody kept.world def args e → (e ≡ refusal.NoMemory) ⊎ RefusesBody world def args e
       refusal-in e refuses = subst (λ w. (e ≡ refusal.NoMemory) ⊎ RefusesBody w def args e) same refuses
 
-      pub answer-value : HasCause kept def args blocks turns answer → (konst : Const) → answer ≡ Ok konst → GivesValue Of konst
+      pub answer-value : HasCause kept def args limits turns answer → (konst : Const) → answer ≡ Ok konst → GivesValue Of konst
       answer-value cause konst is =
           ⊎_elim (λ has. body-value has.body (lowered-from has.body has.found) (answers-in has.body has.answers) konst is)
           (λ never. let err = never.is in absurd cc) cause
 
-      pub answer-closed : HasCause kept def args blocks turns answer → Closed answer
+      pub answer-counts : HasCause kept def args limits turns answer → (konst : Const) → answer ≡ Ok konst → CountsBlocks Of turns
+      answer-counts cause konst is =
+          ⊎_elim (λ has. body-counts has.body (lowered-from has.body has.found) (answers-in has.body has.answers) konst is)
+          (λ never. let err = never.is in absurd cc) cause
+
+      pub answer-closed : HasCause kept def args limits turns answer → Closed answer
       answer-closed =
           ⊎_elim (λ has. body-closed has.body (lowered-from has.body has.found) (answers-in has.body has.answers))
           (λ never. subst Closed (sym never.is)
-          (⊎_elim (λ none. subst (λ e. EndsIn Of blocks (from_lower_error e)) (sym none) tt) (carried-refusal Of blocks never.fault)
+          (⊎_elim (λ none. subst (λ e. EndsIn Of limits (from_lower_error e)) (sym none) tt) (carried-refusal Of limits never.fault)
           (lowering-refusal world def args row never.fault checked valid (refusal-in never.fault never.refuses))))
 
-      pub answer-panic : HasCause kept def args blocks turns answer → (e : MirEvalError) (word : List ℕ) → answer ≡ Err (constant.MirEvalError e) → panic_word e ≡ Some word → GivesPanic Of word
-      answer-panic cause e word is says = ends-in-panic Of blocks e word (subst Closed is (answer-closed cause)) says
+      pub answer-panic : HasCause kept def args limits turns answer → (e : MirEvalError) (word : List ℕ) → answer ≡ Err (constant.MirEvalError e) → panic_word e ≡ Some word → GivesPanic Of word
+      answer-panic cause e word is says = ends-in-panic Of limits e word (subst Closed is (answer-closed cause)) says
 
-      pub answer-completes : HasDefinedCost Of → HasCause kept def args blocks turns answer → AnswersWithin Of blocks answer
+      pub answer-completes : HasDefinedCost Of → HasCause kept def args limits turns answer → AnswersWithin Of limits answer
       answer-completes cost =
           ⊎_elim (λ has. body-completes has.body (lowered-from has.body has.found) cost (answers-in has.body has.answers))
           (λ never. out-of-memory (never.is ∙ ap (λ e. Err (from_lower_error e)) (lowering-is-not-refused world def args row never.fault checked valid cost (refusal-in never.fault never.refuses))))

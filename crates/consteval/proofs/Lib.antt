@@ -7,6 +7,7 @@ pub mod Finding
 pub mod Headline
 pub mod Keeping
 pub mod Keys
+pub mod Nesting
 pub mod Refused
 pub mod Rows
 pub mod Starting

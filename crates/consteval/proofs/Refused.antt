@@ -1,13 +1,14 @@
 -- What a valid body is refused for: a type without a layout or without a size, or want of memory, and that alone where its cost is defined.
-use Rattle.std.proofs.Common.{◌≡◌, ℕ, ◌<◌, ◌≤◌, ◌⊎◌, ⊎_elim, inl, inr, eqb-true, Bool, true, false, List, [], Option, Some, None, refl, sym, ap, ◌∙◌, subst, arith}
+use Rattle.std.proofs.Common.{◌≡◌, ℕ, ◌<◌, ◌≤◌, ◌⊎◌, ⊎_elim, inl, inr, eqb-true, Bool, true, false, List, [], Option, Some, refl, sym, ap, ◌∙◌, subst, arith}
 use Rattle.std.specs.Prelude.{option_and_then, option_map, not, ◌==◌, ◌||◌}
-use Rattle.source_meaning.specs.Core.{CoreExpr, Truth, Number}
+use Rattle.source_meaning.specs.Core.{CoreExpr, Number}
 use Rattle.source_meaning.specs.Core as expr
 use Rattle.world.specs.declared.items.ConstRow.{ConstRow}
 use Rattle.types.specs.declared.ids.DefWithBodyId.TheVariants.{ConstId, FunctionId, StaticId, VariantId}
 use Rattle.types.specs.declared.ids.GenericParamId.{GenericParamId}
 use Rattle.world.specs.declared.database.BodyRow.{BodyRow}
 use Rattle.world.specs.declared.database.HirDatabase.{HirDatabase}
+use Rattle.world.specs.declared.limits.Limits.{Limits}
 use Rattle.types.specs.declared.ids.DefWithBodyId.{DefWithBodyId}
 use Rattle.types.specs.declared.ty.GenericArgs.{GenericArgs}
 use Rattle.types.specs.declared.ty.Ty.{Ty}
@@ -31,18 +32,23 @@ use Rattle.types.specs.declared.ty.GenericArg.{GenericArg}
 use Rattle.consteval.specs.Kept.{source_of}
 use Rattle.consteval.specs.Valid.{IsValid}
 use Rattle.consteval.proofs.Begins.{begins, begun-refusal}
+use Rattle.consteval.proofs.Faults.{overflowed}
 
--- a run of a valid body is not refused but for a type without a layout or without a size
-pub run-refusal : (world : HirDatabase) (def : DefWithBodyId) (args : GenericArgs) (row : BodyRow) (blocks : ℕ) (body : MirBody) (e : MirEvalError) → IsValid world def args row → RefusesRun world def body e → EndsEvaluation (source_of world row) blocks e
-run-refusal world def args row blocks body e valid =
+-- a run of a valid body is not refused but for the limit on nesting, or for a type without a layout or without a size
+pub run-refusal : (world : HirDatabase) (def : DefWithBodyId) (args : GenericArgs) (row : BodyRow) (limits : Limits) (body : MirBody) (e : MirEvalError) → IsValid world def args row → RefusesRun world def body limits e → EndsEvaluation (source_of world row) limits e
+run-refusal world def args row limits body e valid =
     ⊎_elim (λ none. let is = none.1 in let there = valid.pointers in absurd cc)
-    (⊎_elim (λ other. absurd (let is = other.2 in let there = valid.pointers in other.3 cc)) (λ refused. begun-refusal (source_of world row) blocks body e refused.1))
+    (⊎_elim (λ other. absurd (let is = other.2 in let there = valid.pointers in other.3 cc))
+    (⊎_elim
+    (λ deep. let none = deep.2 in subst (EndsEvaluation (source_of world row) limits) (sym deep.0) (overflowed (source_of world row) limits (omega arith)))
+    (λ refused. begun-refusal (source_of world row) limits body e refused.2)))
 
--- a valid body with a defined cost can begin
-pub run-is-not-refused : (world : HirDatabase) (def : DefWithBodyId) (args : GenericArgs) (row : BodyRow) (body : MirBody) (e : MirEvalError) → IsValid world def args row → Simulates (source_of world row) body → HasDefinedCost (source_of world row) → RefusesRun world def body e → ⊥
-run-is-not-refused world def args row body e valid simulates cost =
-    ⊎_elim (λ none. let is = none.1 in let there = valid.pointers in cc)
-    (⊎_elim (λ other. let is = other.2 in let there = valid.pointers in other.3 cc) (λ refused. let can = begins (source_of world row) body simulates cost in let is = can.1 in let other = refused.1 in cc))
+-- a valid body with a defined cost can begin where there is a level of nesting for its run
+pub run-is-refused-by-nesting : (world : HirDatabase) (def : DefWithBodyId) (args : GenericArgs) (row : BodyRow) (limits : Limits) (body : MirBody) (e : MirEvalError) → IsValid world def args row → Simulates (source_of world row) body → HasDefinedCost (source_of world row) → RefusesRun world def body limits e → limits.nesting ≡ 0
+run-is-refused-by-nesting world def args row limits body e valid simulates cost =
+    ⊎_elim (λ none. let is = none.1 in let there = valid.pointers in absurd cc)
+    (⊎_elim (λ other. absurd (let is = other.2 in let there = valid.pointers in other.3 cc))
+    (⊎_elim (λ deep. deep.2) (λ refused. absurd (let can = begins (source_of world row) body simulates cost in let is = can.1 in let other = refused.2 in cc))))
 
 -- two numbers that differ are told apart
 not-by : (size width : ℕ) (b : Bool) → (size == width) ≡ b → width < size → b ≡ false
@@ -68,14 +74,7 @@ wide-is-no-width size is wide =
 -- a number literal of a plain form is of an integer type
 number-is-integer : (source : Source) (e : ℕ) (form : Option CoreExpr) (ty : Ty) → HasPlainForm source e form ty → IsNumber form → IsInteger ty
 number-is-integer source e (Some (expr.Literal (Number n))) ty plain number = plain
-number-is-integer source e (Some (expr.Literal (Truth test))) ty plain number = absurd number
-number-is-integer source e (Some (expr.Path name)) ty plain number = absurd number
-number-is-integer source e (Some (expr.Strict operation operands)) ty plain number = absurd number
-number-is-integer source e (Some (expr.Logic op left right)) ty plain number = absurd number
-number-is-integer source e (Some (expr.If condition then_branch else_branch)) ty plain number = absurd number
-number-is-integer source e (Some (expr.Assign assigned value)) ty plain number = absurd number
-number-is-integer source e (Some (expr.Block statements tail)) ty plain number = absurd number
-number-is-integer source e None ty plain number = absurd number
+number-is-integer source e _ ty plain number = absurd number
 
 -- a plain form is refused for want of memory, or as a number literal whose type has no layout
 refuses-node : (source : Source) (e : ℕ) (error : MirLowerError) → IsChecked source.world → IsPlainNode source e → Evaluates source (root source) e → RefusesNode source e error → (error ≡ refusal.NoMemory) ⊎ EndsLowering source error
@@ -126,7 +125,7 @@ lowering-refusal world def args row e checked valid =
     (⊎_elim (λ none. absurd (let is = none.missing in let there = valid.body in cc)) (λ refused.
     let same : refused.row ≡ row = (let is = refused.found in let there = valid.body in cc) in
     ⊎_elim (λ drops. absurd (valid.dropless drops.1))
-    (λ at. refuses-node (source_of world row) at.0 e checked (valid.plain at.0 at.1) at.1 at.2)
+    (λ at. refuses-node (source_of world row) at.0 e checked (valid.plain.nodes at.0 at.1) at.1 at.2)
     (subst (λ (r : BodyRow). RefusesInferred (source_of world r) e) same refused.refuses)))))
 
 -- a valid body with a defined cost is lowered, but for want of memory

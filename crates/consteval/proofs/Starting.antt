@@ -2,6 +2,7 @@
 use Rattle.std.proofs.Common.{◌≡◌, ◌≢◌, ℕ, ◌-◌, ◌≤◌, ⊎_elim, inl, inr, eqb-true, Bool, true, false, if◌then◌else◌, Option, Some, None, Result, Ok, Err, refl, sym, ap, ◌∙◌, subst, arith}
 use Rattle.std.specs.Prelude.{IsSome, codes}
 use Rattle.world.specs.declared.database.HirDatabase.{HirDatabase}
+use Rattle.world.specs.declared.limits.Limits.{Limits}
 use Rattle.types.specs.declared.ids.DefWithBodyId.{DefWithBodyId}
 use Rattle.types.specs.declared.ty.Const.{Const}
 use Rattle.mir.specs.declared.body.MirBody.{MirBody}
@@ -10,15 +11,16 @@ use Rattle.mir.specs.declared.errors.MirEvalError as error
 use Rattle.mir.specs.Memory.{Memory}
 use Rattle.mir.specs.Run.{Frame, begun, entering}
 use Rattle.mir_eval.specs.Evaluators.{outcome, Became}
-use Rattle.mir_eval.specs.Machine.{Machine, State, Fresh, Going, Over, pointer_bytes, outcome_of, finished, blocks_left, left_in, turns_of}
+use Rattle.mir_eval.specs.Machine.{Machine, State, Fresh, Going, Over, on_a_level, pointer_bytes, outcome_of, finished, blocks_left, left_in, levels_held, nesting_left, turns_of}
 use Rattle.mir_eval.specs.Start.{is_own_width, started, start_of}
 use Rattle.mir_lower.proofs.Whole.{begun-cells}
 use Rattle.consteval.specs.Answers.{AnswersBody, RefusesRun, carried}
 use Rattle.consteval.specs.Kept.{HasBegun, run_of}
+use Rattle.consteval.proofs.Nesting.{made-on-level, refused-on-level}
 
 -- the machine of a body's owner before it begins
-abbrev pub fresh : HirDatabase → DefWithBodyId → ℕ → Machine
-fresh world def blocks = record { world = world; owner = def; blocks = blocks; state = Fresh }
+abbrev pub fresh : HirDatabase → DefWithBodyId → Limits → Machine
+fresh world def limits = record { world = world; owner = def; blocks = limits.blocks; nesting = limits.nesting; state = Fresh }
 
 own-width : (width : Option ℕ) → is_own_width width ≡ true → width ≡ Some 8
 own-width (Some width) own = ap Some (eqb-true width 8 own)
@@ -36,70 +38,97 @@ started-going : (r : Result (Frame × Memory) MirEvalError) (block blocks : ℕ)
 started-going (Ok start) block blocks state h = (start, refl, (let same : Going start.0 start.1 block blocks ≡ state = cc in sym same))
 started-going (Err e) block blocks state h = cc
 
+-- what a machine begins with, by the size of a pointer of its owner's crate
+abbrev BeginsBy : Bool → HirDatabase → MirBody → Limits → Result State MirEvalError
+BeginsBy own world body limits =
+    if own
+    then on_a_level limits.nesting (started (begun world body) body.start_block.0 limits.blocks)
+    else Err (error.NotSupported (codes "targets with different pointer size from host"))
+
 -- why a machine doesn't begin
-pub start-refused : (world : HirDatabase) (def : DefWithBodyId) (body : MirBody) (blocks : ℕ) (e : MirEvalError) → IsSome (pointer_bytes world def) → start_of (fresh world def blocks) body ≡ Err e → RefusesRun world def body e
+pub start-refused : (world : HirDatabase) (def : DefWithBodyId) (body : MirBody) (limits : Limits) (e : MirEvalError) → IsSome (pointer_bytes world def) → start_of (fresh world def limits) body ≡ Err e → RefusesRun world def body limits e
 unfolding start_of
-start-refused world def body blocks e there is = by-width (is_own_width (pointer_bytes world def)) refl is where
-  by-width : (own : Bool) → is_own_width (pointer_bytes world def) ≡ own → ◌≡◌ {A = Result State MirEvalError} (if own then started (begun world body) body.start_block.0 blocks else Err (error.NotSupported (codes "targets with different pointer size from host"))) (Err e) → RefusesRun world def body e
-  by-width true own h = inr (inr (own-width (pointer_bytes world def) own, started-refused (begun world body) body.start_block.0 blocks e h))
+start-refused world def body limits e there is = by-width (is_own_width (pointer_bytes world def)) refl is where
+  by-width : (own : Bool) → is_own_width (pointer_bytes world def) ≡ own → BeginsBy own world body limits ≡ Err e → RefusesRun world def body limits e
+  by-width true own h =
+      let pointers = own-width (pointer_bytes world def) own in
+      ⊎_elim (λ deep. inr (inr (inl (deep.0, pointers, deep.1))))
+      (λ refused. inr (inr (inr (pointers, refused.0, started-refused (begun world body) body.start_block.0 limits.blocks e refused.1))))
+      (refused-on-level limits.nesting (started (begun world body) body.start_block.0 limits.blocks) e h)
   by-width false own h =
       let same : error.NotSupported (codes "targets with different pointer size from host") ≡ e = cc in
       let width = other-width (pointer_bytes world def) own there in
       inr (inl (sym same, width.0, width.1, width.2))
 
 -- where a machine begins
-pub start-begun : (world : HirDatabase) (def : DefWithBodyId) (body : MirBody) (blocks : ℕ) (after : Machine) → start_of (fresh world def blocks) body ≡ Ok after.state → after.blocks ≡ blocks → HasBegun world def body blocks after
+pub start-begun : (world : HirDatabase) (def : DefWithBodyId) (body : MirBody) (limits : Limits) (after : Machine) → start_of (fresh world def limits) body ≡ Ok after.state → after.blocks ≡ limits.blocks → after.nesting ≡ limits.nesting → HasBegun world def body limits after
 unfolding start_of
-start-begun world def body blocks after is limit = by-width (is_own_width (pointer_bytes world def)) refl is where
-  by-width : (own : Bool) → is_own_width (pointer_bytes world def) ≡ own → ◌≡◌ {A = Result State MirEvalError} (if own then started (begun world body) body.start_block.0 blocks else Err (error.NotSupported (codes "targets with different pointer size from host"))) (Ok after.state) → HasBegun world def body blocks after
+start-begun world def body limits after is blocks nesting = by-width (is_own_width (pointer_bytes world def)) refl is where
+  by-width : (own : Bool) → is_own_width (pointer_bytes world def) ≡ own → BeginsBy own world body limits ≡ Ok after.state → HasBegun world def body limits after
   by-width true own h =
-      let going = started-going (begun world body) body.start_block.0 blocks after.state h in
-      record { pointers = own-width (pointer_bytes world def) own; start = going.0; began = going.1; limit = limit; state = going.2 }
+      let made = made-on-level limits.nesting (started (begun world body) body.start_block.0 limits.blocks) after.state h in
+      let going = started-going (begun world body) body.start_block.0 limits.blocks after.state made.1 in
+      record {
+        pointers = own-width (pointer_bytes world def) own;
+        nests = made.0;
+        start = going.0;
+        began = going.1;
+        blocks = blocks;
+        nesting = nesting;
+        state = going.2;
+      }
   by-width false own h = absurd cc
 
 -- a run that ended, as its machine tells it
-finished-going : (frame : Frame) (memory : Memory) (block left : ℕ) → finished (Going frame memory block left) ≡ Over (outcome_of frame.body (entering left frame memory block).ending) (entering left frame memory block).left
+finished-going : (levels : ℕ) (frame : Frame) (memory : Memory) (block left : ℕ) → finished levels (Going frame memory block left) ≡ Over (outcome_of levels frame.body (entering left frame memory block).ending) (entering left frame memory block).left
 unfolding finished
-finished-going frame memory block left = refl
+finished-going levels frame memory block left = refl
 
 same-outcome : (told result : Result Const MirEvalError) → ◌≡◌ {A = Option (Result Const MirEvalError)} (Some told) (Some result) → told ≡ result
 same-outcome told result h = cc
 
 -- what a machine that began answers at its end
-pub run-answers : (world : HirDatabase) (def : DefWithBodyId) (body : MirBody) (blocks turns : ℕ) (before after : Machine) (told : Result Const MirEvalError) → HasBegun world def body blocks before → Became before after (finished before.state) → Some told ≡ outcome after.state → turns ≡ turns_of after → AnswersBody world def body blocks turns (carried told)
-run-answers world def body blocks turns before after told has became tells counts = ⊎_elim ended exhausted became where
-  over : finished before.state ≡ Over (outcome_of has.start.0.body (run_of body has.start blocks).ending) (run_of body has.start blocks).left
-  over = ap finished has.state ∙ finished-going has.start.0 has.start.1 body.start_block.0 blocks
+pub run-answers : (world : HirDatabase) (def : DefWithBodyId) (body : MirBody) (limits : Limits) (turns : ℕ) (before after : Machine) (told : Result Const MirEvalError) → HasBegun world def body limits before → Became before after (finished (nesting_left before) before.state) → Some told ≡ outcome after.state → turns ≡ turns_of after → AnswersBody world def body limits turns (carried told)
+run-answers world def body limits turns before after told has became tells counts = ⊎_elim ended exhausted became where
+  levels : nesting_left before ≡ limits.nesting - 1
+  levels = ap (λ (n : ℕ). n - levels_held before.state) has.nesting ∙ ap (λ (s : State). limits.nesting - levels_held s) has.state
+
+  over : finished (nesting_left before) before.state ≡ Over (outcome_of (limits.nesting - 1) has.start.0.body (run_of body has.start limits.blocks).ending) (run_of body has.start limits.blocks).left
+  over =
+      ap (λ (n : ℕ). finished n before.state) levels ∙ ap (finished (limits.nesting - 1)) has.state
+      ∙ finished-going (limits.nesting - 1) has.start.0 has.start.1 body.start_block.0 limits.blocks
 
   own-body : has.start.0.body ≡ body
   own-body =
       let cells = begun-cells world body has.start has.began in
       ap (λ (s : Frame × Memory). s.0.body) cells.2
 
-  ended : after ≡ record before { state = finished before.state } → AnswersBody world def body blocks turns (carried told)
+  ended : after ≡ record before { state = finished (nesting_left before) before.state } → AnswersBody world def body limits turns (carried told)
   ended same =
-      let state : after.state ≡ Over (outcome_of has.start.0.body (run_of body has.start blocks).ending) (run_of body has.start blocks).left = ap (λ (m : Machine). m.state) same ∙ over in
-      let limit : after.blocks ≡ blocks = ap (λ (m : Machine). m.blocks) same ∙ has.limit in
+      let state : after.state ≡ Over (outcome_of (limits.nesting - 1) has.start.0.body (run_of body has.start limits.blocks).ending) (run_of body has.start limits.blocks).left = ap (λ (m : Machine). m.state) same ∙ over in
+      let limit : after.blocks ≡ limits.blocks = ap (λ (m : Machine). m.blocks) same ∙ has.blocks in
       inl (record {
         pointers = has.pointers;
         outcome = told;
         ran = record {
+          nests = has.nests;
           start = has.start;
           began = has.began;
-          ended = same-outcome told _ (tells ∙ ap outcome state) ∙ ap (λ (b : MirBody). outcome_of b (run_of body has.start blocks).ending) own-body;
-          entered = counts ∙ ap (λ s. after.blocks - blocks_left after.blocks s) state ∙ ap (λ n. n - (run_of body has.start blocks).left) limit;
+          ended = same-outcome told _ (tells ∙ ap outcome state) ∙ ap (λ (b : MirBody). outcome_of (limits.nesting - 1) b (run_of body has.start limits.blocks).ending) own-body;
+          entered = counts ∙ ap (λ s. after.blocks - blocks_left after.blocks s) state ∙ ap (λ n. n - (run_of body has.start limits.blocks).left) limit;
         };
         is = refl;
       })
 
-  exhausted : (left : ℕ) × (left_in (finished before.state) ≤ left) × (after ≡ record before { state = Over (Err error.NoMemory) left }) → AnswersBody world def body blocks turns (carried told)
+  exhausted : (left : ℕ) × (left_in (finished (nesting_left before) before.state) ≤ left) × (after ≡ record before { state = Over (Err error.NoMemory) left }) → AnswersBody world def body limits turns (carried told)
   exhausted none =
       let state : after.state ≡ Over (Err error.NoMemory) none.0 = ap (λ (m : Machine). m.state) none.2 in
-      let limit : after.blocks ≡ blocks = ap (λ (m : Machine). m.blocks) none.2 ∙ has.limit in
-      let fewer : (run_of body has.start blocks).left ≤ none.0 = subst (λ s. left_in s ≤ none.0) over none.1 in
-      let entered : turns ≡ blocks - none.0 = counts ∙ ap (λ s. after.blocks - blocks_left after.blocks s) state ∙ ap (λ n. n - none.0) limit in
+      let limit : after.blocks ≡ limits.blocks = ap (λ (m : Machine). m.blocks) none.2 ∙ has.blocks in
+      let fewer : (run_of body has.start limits.blocks).left ≤ none.0 = subst (λ s. left_in s ≤ none.0) over none.1 in
+      let entered : turns ≡ limits.blocks - none.0 = counts ∙ ap (λ s. after.blocks - blocks_left after.blocks s) state ∙ ap (λ n. n - none.0) limit in
       inr (inr (record {
         pointers = has.pointers;
+        nests = has.nests;
         start = has.start;
         began = has.began;
         entered = omega arith;

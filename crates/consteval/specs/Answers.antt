@@ -12,6 +12,7 @@ use Rattle.types.specs.declared.ty.MemoryMap.TheVariants.{Empty}
 use Rattle.types.specs.declared.ty.Ty.{Ty}
 use Rattle.world.specs.Lookups.{body_row, layout_of}
 use Rattle.world.specs.declared.layout.Layout.{Layout}
+use Rattle.world.specs.declared.limits.Limits.{Limits}
 use Rattle.mir.specs.declared.body.MirBody.{MirBody}
 use Rattle.mir.specs.declared.errors.ConstEvalError.{ConstEvalError}
 use Rattle.mir.specs.declared.errors.ConstEvalError.TheVariants as constant
@@ -27,7 +28,7 @@ use Rattle.mir_eval.specs.Evaluators.{crate_or_first}
 use Rattle.mir_eval.specs.Machine.{pointer_bytes}
 use Rattle.mir_lower.specs.Refusals.{RefusesAt, RefusesInferred}
 use Rattle.world.specs.declared.infer.InferenceResult.{InferenceResult}
-use Rattle.source_meaning.specs.Ends.{Cost, End, Go, Jumps, Faults, Stuck, More, Panic, Undefined}
+use Rattle.source_meaning.specs.Ends.{Cost, no_cost, End, Go, Jumps, Faults, Stuck, More, Panic, Undefined}
 use Rattle.source_meaning.specs.Meaning.{Gives, meaning_of}
 use Rattle.source_meaning.specs.Source.{Source, Store, node_type, root}
 use Rattle.consteval.specs.Kept.{Kept, Lowered, Ran, run_of, source_of}
@@ -50,6 +51,14 @@ pub record GivesValue (source : Source) (konst : Const) : Type 0 where
   pub gives : Gives source (Go bytes store cost)
   pub same : konst ≡ constant_of ty bytes
 
+-- the source means a value, and counts exactly so many blocks for it
+pub record CountsBlocks (source : Source) (turns : ℕ) : Type 0 where
+  pub bytes : List ℕ
+  pub store : Store
+  pub cost : Cost
+  pub gives : Gives source (Go bytes store cost)
+  pub same : turns ≡ cost.turns
+
 -- the source means a panic that says the word
 pub record GivesPanic (source : Source) (word : List ℕ) : Type 0 where
   pub cost : Cost
@@ -70,17 +79,21 @@ panic_layer _ = None
 unfoldable pub panic_word : MirEvalError → Option (List ℕ)
 panic_word = fold-MirEvalError (Option (List ℕ)) panic_layer
 
--- the blocks that a part of an evaluation counts
-abbrev pub turns_in : End (List ℕ) → ℕ
-turns_in (Go bytes store cost) = cost.turns
-turns_in (Jumps to store cost) = cost.turns
-turns_in (Faults fault cost) = cost.turns
-turns_in Stuck = 0
-turns_in (More cost) = cost.turns
+-- what a part of an evaluation costs
+abbrev pub cost_in : End (List ℕ) → Cost
+cost_in (Go bytes store cost) = cost
+cost_in (Jumps to store cost) = cost
+cost_in (Faults fault cost) = cost
+cost_in Stuck = no_cost
+cost_in (More cost) = cost
 
 -- at some amount of fuel the source counts more blocks than a limit
 abbrev pub PassesBlocks : Source → ℕ → Type 0
-PassesBlocks source blocks = (fuel : ℕ) × (blocks < turns_in (meaning_of source fuel))
+PassesBlocks source blocks = (fuel : ℕ) × (blocks < (cost_in (meaning_of source fuel)).turns)
+
+-- at some amount of fuel the source counts deeper nesting than a limit
+abbrev pub PassesNesting : Source → ℕ → Type 0
+PassesNesting source nesting = (fuel : ℕ) × (nesting < (cost_in (meaning_of source fuel)).nesting)
 
 -- a type has a layout without a size
 abbrev pub IsUnsized : HirDatabase → Ty → Type 0
@@ -88,23 +101,24 @@ IsUnsized world ty = (layout : Layout) × (layout_of world ty ≡ Some layout) �
 
 -- how a frame of a valid definition can end: in a panic or in undefined behavior that its source means, or past the limit
 -- on blocks
-abbrev pub EndsFrame : Source → ℕ → MirEvalError → Type 0
-EndsFrame source blocks (error.Panic word) = GivesPanic source word
-EndsFrame source blocks (error.UndefinedBehavior text) = GivesUndefined source text
-EndsFrame source blocks error.ExecutionLimitExceeded = PassesBlocks source blocks
-EndsFrame source blocks _ = ⊥
+abbrev pub EndsFrame : Source → Limits → MirEvalError → Type 0
+EndsFrame source limits (error.Panic word) = GivesPanic source word
+EndsFrame source limits (error.UndefinedBehavior text) = GivesUndefined source text
+EndsFrame source limits error.ExecutionLimitExceeded = PassesBlocks source limits.blocks
+EndsFrame source limits _ = ⊥
 
 -- the outermost part of such an error
-abbrev pub EndsLayer : Source → ℕ → MirEvalError-F MirEvalError → Type 0
-EndsLayer source blocks (layer.InFunction inner trail) = EndsFrame source blocks inner
-EndsLayer source blocks (layer.LayoutError e ty) = (e ≡ layout_error_of ty) × (layout_of source.world ty ≡ None)
-EndsLayer source blocks (layer.TypeIsUnsized ty text) = IsUnsized source.world ty
-EndsLayer source blocks _ = ⊥
+abbrev pub EndsLayer : Source → Limits → MirEvalError-F MirEvalError → Type 0
+EndsLayer source limits (layer.InFunction inner trail) = EndsFrame source limits inner
+EndsLayer source limits layer.StackOverflow = PassesNesting source limits.nesting
+EndsLayer source limits (layer.LayoutError e ty) = (e ≡ layout_error_of ty) × (layout_of source.world ty ≡ None)
+EndsLayer source limits (layer.TypeIsUnsized ty text) = IsUnsized source.world ty
+EndsLayer source limits _ = ⊥
 
--- how the evaluation of a valid definition's body can end without a value: with its frame, or for a local whose type has no
--- layout or no size
-abbrev pub EndsEvaluation : Source → ℕ → MirEvalError → Type 0
-EndsEvaluation source blocks e = EndsLayer source blocks (out-MirEvalError e)
+-- how the evaluation of a valid definition's body can end without a value: with its frame, past the limit on nesting, or for
+-- a local whose type has no layout or no size
+abbrev pub EndsEvaluation : Source → Limits → MirEvalError → Type 0
+EndsEvaluation source limits e = EndsLayer source limits (out-MirEvalError e)
 
 -- how the lowering of a valid definition's body can end without a graph: for a number literal whose type has no layout
 abbrev pub EndsLowering : Source → MirLowerError → Type 0
@@ -112,20 +126,25 @@ EndsLowering source (refusal.LayoutError e) = RefusesAt source (root source) (re
 EndsLowering source _ = ⊥
 
 -- Every error that a valid definition can end in. Want of memory needs no cause.
-abbrev pub EndsIn : Source → ℕ → ConstEvalError → Type 0
-EndsIn source blocks (constant.MirLowerError e) = EndsLowering source e
-EndsIn source blocks (constant.MirEvalError e) = EndsEvaluation source blocks e
-EndsIn source blocks constant.NoMemory = Unit {0}
+abbrev pub EndsIn : Source → Limits → ConstEvalError → Type 0
+EndsIn source limits (constant.MirLowerError e) = EndsLowering source e
+EndsIn source limits (constant.MirEvalError e) = EndsEvaluation source limits e
+EndsIn source limits constant.NoMemory = Unit {0}
 
 -- an answer is this one, or want of memory
 abbrev pub OrNoMemory : Result Const ConstEvalError → Result Const ConstEvalError → Type 0
 OrNoMemory answer expected = (answer ≡ expected) ⊎ (answer ≡ Err constant.NoMemory)
 
--- within so many blocks the answer is what the source means, or want of memory
-pub record AnswersWithin (source : Source) (blocks : ℕ) (answer : Result Const ConstEvalError) : Type 0 where
+-- a cost is within the limits on blocks and on nesting
+pub record IsWithinLimits (cost : Cost) (limits : Limits) : Type 0 where
+  pub turns : cost.turns ≤ limits.blocks
+  pub nesting : cost.nesting ≤ limits.nesting
+
+-- within the limits the answer is what the source means, or want of memory
+pub record AnswersWithin (source : Source) (limits : Limits) (answer : Result Const ConstEvalError) : Type 0 where
   pub value : (ty : Ty) (bytes : List ℕ) (store : Store) (cost : Cost) → node_type source (root source) ≡ Some ty →
-      Gives source (Go bytes store cost) → cost.turns ≤ blocks → OrNoMemory answer (Ok (constant_of ty bytes))
-  pub panic : (word : List ℕ) (cost : Cost) → Gives source (Faults (Panic word) cost) → cost.turns ≤ blocks → OrNoMemory answer (Err (panic_of word))
+      Gives source (Go bytes store cost) → IsWithinLimits cost limits → OrNoMemory answer (Ok (constant_of ty bytes))
+  pub panic : (word : List ℕ) (cost : Cost) → Gives source (Faults (Panic word) cost) → IsWithinLimits cost limits → OrNoMemory answer (Err (panic_of word))
 
 -- a machine's outcome as an answer
 abbrev pub carried : Result Const MirEvalError → Result Const ConstEvalError
@@ -133,10 +152,10 @@ carried (Ok konst) = Ok konst
 carried (Err e) = Err (from_eval_error e)
 
 -- the body ran to the answer, over so many blocks, and the pointers of its definition's crate have 8 bytes
-pub record RunsTo (world : HirDatabase) (def : DefWithBodyId) (body : MirBody) (blocks turns : ℕ) (answer : Result Const ConstEvalError) : Type 0 where
+pub record RunsTo (world : HirDatabase) (def : DefWithBodyId) (body : MirBody) (limits : Limits) (turns : ℕ) (answer : Result Const ConstEvalError) : Type 0 where
   pub pointers : pointer_bytes world def ≡ Some 8
   pub outcome : Result Const MirEvalError
-  pub ran : Ran world body blocks turns outcome
+  pub ran : Ran world body limits turns outcome
   pub is : answer ≡ carried outcome
 
 abbrev pub is_empty : {X : Type 0} → List X → Bool
@@ -197,40 +216,42 @@ abbrev pub RefusesBody : HirDatabase → DefWithBodyId → GenericArgs → MirLo
 RefusesBody world def args e =
     RefusesErrors world def e ⊎ RefusesUnbuilt world def args e ⊎ RefusesMissing world def args e ⊎ RefusesLowering world def args e
 
--- A body could not begin: the size of the crate's pointers isn't known, or it is another than 8 bytes, or else a local
--- can have no cell.
-abbrev pub RefusesRun : HirDatabase → DefWithBodyId → MirBody → MirEvalError → Type 0
-RefusesRun world def body e =
+-- A body could not begin: the size of the crate's pointers isn't known, or it is another than 8 bytes, or else there is no
+-- level of nesting for the run, or else a local can have no cell.
+abbrev pub RefusesRun : HirDatabase → DefWithBodyId → MirBody → Limits → MirEvalError → Type 0
+RefusesRun world def body limits e =
     ((e ≡ error.TargetDataLayoutNotAvailable (crate_or_first world def)) × (pointer_bytes world def ≡ None))
     ⊎ ((e ≡ error.NotSupported (codes "targets with different pointer size from host")) × (width : ℕ) × (pointer_bytes world def ≡ Some width) × (width ≢ 8))
-    ⊎ ((pointer_bytes world def ≡ Some 8) × (begun world body ≡ Err e))
+    ⊎ ((e ≡ error.StackOverflow) × (pointer_bytes world def ≡ Some 8) × (limits.nesting ≡ 0))
+    ⊎ ((pointer_bytes world def ≡ Some 8) × (0 < limits.nesting) × (begun world body ≡ Err e))
 
 -- no run of a body began, for want of memory or for a cause that the answer tells
-pub record NeverBegins (world : HirDatabase) (def : DefWithBodyId) (body : MirBody) (turns : ℕ) (answer : Result Const ConstEvalError) : Type 0 where
+pub record NeverBegins (world : HirDatabase) (def : DefWithBodyId) (body : MirBody) (limits : Limits) (turns : ℕ) (answer : Result Const ConstEvalError) : Type 0 where
   pub none : turns ≡ 0
   pub fault : MirEvalError
   pub is : answer ≡ Err (from_eval_error fault)
-  pub refuses : (fault ≡ error.NoMemory) ⊎ RefusesRun world def body fault
+  pub refuses : (fault ≡ error.NoMemory) ⊎ RefusesRun world def body limits fault
 
 -- memory ran out in a run of a body or at its end: no more blocks are counted than the whole run enters
-pub record RunsOut (world : HirDatabase) (def : DefWithBodyId) (body : MirBody) (blocks turns : ℕ) (answer : Result Const ConstEvalError) : Type 0 where
+pub record RunsOut (world : HirDatabase) (def : DefWithBodyId) (body : MirBody) (limits : Limits) (turns : ℕ) (answer : Result Const ConstEvalError) : Type 0 where
   pub pointers : pointer_bytes world def ≡ Some 8
+  pub nests : 0 < limits.nesting
   pub start : Frame × Memory
   pub began : begun world body ≡ Ok start
-  pub entered : turns ≤ blocks - (run_of body start blocks).left
+  pub entered : turns ≤ limits.blocks - (run_of body start limits.blocks).left
   pub is : answer ≡ Err constant.NoMemory
 
 -- the answer of a body: that of its run, or why none began, or want of memory
-abbrev pub AnswersBody : HirDatabase → DefWithBodyId → MirBody → ℕ → ℕ → Result Const ConstEvalError → Type 0
-AnswersBody world def body blocks turns answer =
-    RunsTo world def body blocks turns answer ⊎ NeverBegins world def body turns answer ⊎ RunsOut world def body blocks turns answer
+abbrev pub AnswersBody : HirDatabase → DefWithBodyId → MirBody → Limits → ℕ → Result Const ConstEvalError → Type 0
+AnswersBody world def body limits turns answer =
+    RunsTo world def body limits turns answer ⊎ NeverBegins world def body limits turns answer ⊎ RunsOut world def body limits turns answer
 
 -- the answer is that of the definition's kept body, which is given no arguments
-pub record AnswersKept (kept : Kept) (def : DefWithBodyId) (args : GenericArgs) (blocks turns : ℕ) (answer : Result Const ConstEvalError) : Type 0 where
+pub record AnswersKept (kept : Kept) (def : DefWithBodyId) (args : GenericArgs) (limits : Limits) (turns : ℕ) (answer : Result Const ConstEvalError) : Type 0 where
   pub given : args.0 ≡ []
   pub body : MirBody
   pub found : Contains kept.entries (Lowered def body)
-  pub answers : AnswersBody kept.world def body blocks turns answer
+  pub answers : AnswersBody kept.world def body limits turns answer
 
 -- the definition's body could not be lowered, for want of memory or for a cause that the answer tells, and no run began
 pub record NeverLowered (world : HirDatabase) (def : DefWithBodyId) (args : GenericArgs) (turns : ℕ) (answer : Result Const ConstEvalError) : Type 0 where
@@ -240,6 +261,6 @@ pub record NeverLowered (world : HirDatabase) (def : DefWithBodyId) (args : Gene
   pub refuses : (fault ≡ refusal.NoMemory) ⊎ RefusesBody world def args fault
 
 -- every answer is that of the kept body, without arguments, or the refusal to lower one
-abbrev pub HasCause : Kept → DefWithBodyId → GenericArgs → ℕ → ℕ → Result Const ConstEvalError → Type 0
-HasCause kept def args blocks turns answer =
-    AnswersKept kept def args blocks turns answer ⊎ NeverLowered kept.world def args turns answer
+abbrev pub HasCause : Kept → DefWithBodyId → GenericArgs → Limits → ℕ → Result Const ConstEvalError → Type 0
+HasCause kept def args limits turns answer =
+    AnswersKept kept def args limits turns answer ⊎ NeverLowered kept.world def args turns answer

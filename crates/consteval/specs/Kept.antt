@@ -1,7 +1,8 @@
 -- What is kept of finished evaluations, as its callers see it.
-use Rattle.std.specs.Prelude.{◌≡◌, ℕ, ◌-◌, List, [], ◌∷◌, ◌++◌, take, Some, Result, Ok, Contains, map, slice_get}
+use Rattle.std.specs.Prelude.{◌≡◌, ℕ, ◌-◌, ◌<◌, List, [], ◌∷◌, ◌++◌, take, Some, Result, Ok, Contains, map, slice_get}
 use Rattle.world.specs.declared.database.HirDatabase.{HirDatabase}
 use Rattle.world.specs.declared.database.BodyRow.{BodyRow}
+use Rattle.world.specs.declared.limits.Limits.{Limits}
 use Rattle.types.specs.declared.ids.DefWithBodyId.{DefWithBodyId}
 use Rattle.types.specs.declared.ty.Const.{Const}
 use Rattle.world.specs.Lookups.{body_row}
@@ -67,28 +68,33 @@ pub record IsLowered (world : HirDatabase) (def : DefWithBodyId) (body : MirBody
 abbrev pub run_of : MirBody → Frame × Memory → ℕ → Ended
 run_of body start blocks = entering blocks start.0 start.1 body.start_block.0
 
--- a machine is about to enter the body's first block, and the pointers of its owner's crate have 8 bytes
-pub record HasBegun (world : HirDatabase) (def : DefWithBodyId) (body : MirBody) (blocks : ℕ) (machine : Machine) : Type 0 where
+-- a machine is about to enter the body's first block, there is a level of nesting for its run, and the pointers of its
+-- owner's crate have 8 bytes
+pub record HasBegun (world : HirDatabase) (def : DefWithBodyId) (body : MirBody) (limits : Limits) (machine : Machine) : Type 0 where
   pub pointers : pointer_bytes world def ≡ Some 8
+  pub nests : 0 < limits.nesting
   pub start : Frame × Memory
   pub began : begun world body ≡ Ok start
-  pub limit : machine.blocks ≡ blocks
-  pub state : machine.state ≡ Going start.0 start.1 body.start_block.0 blocks
+  pub blocks : machine.blocks ≡ limits.blocks
+  pub nesting : machine.nesting ≡ limits.nesting
+  pub state : machine.state ≡ Going start.0 start.1 body.start_block.0 limits.blocks
 
--- a run of a kept body came to this outcome, over so many blocks
-pub record Ran (world : HirDatabase) (body : MirBody) (blocks turns : ℕ) (outcome : Result Const _) : Type 0 where
+-- A run of a kept body came to this outcome, over so many blocks. It took one level of nesting for itself, and handed out
+-- its value from those that were left.
+pub record Ran (world : HirDatabase) (body : MirBody) (limits : Limits) (turns : ℕ) (outcome : Result Const _) : Type 0 where
+  pub nests : 0 < limits.nesting
   pub start : Frame × Memory
   pub began : begun world body ≡ Ok start
-  pub ended : outcome ≡ outcome_of body (run_of body start blocks).ending
-  pub entered : turns ≡ blocks - (run_of body start blocks).left
+  pub ended : outcome ≡ outcome_of (limits.nesting - 1) body (run_of body start limits.blocks).ending
+  pub entered : turns ≡ limits.blocks - (run_of body start limits.blocks).left
 
 -- a value is what a run of a kept body of its definition returned
 pub record IsValueOf (kept : Kept) (def : DefWithBodyId) (konst : Const) : Type 0 where
   pub body : MirBody
   pub from : Contains kept.entries (Lowered def body)
-  pub blocks : ℕ
+  pub limits : Limits
   pub turns : ℕ
-  pub ran : Ran kept.world body blocks turns (Ok konst)
+  pub ran : Ran kept.world body limits turns (Ok konst)
 
 -- an answer is right by its world and by the answers that were kept before it
 abbrev pub RestsOn : Kept → Entry → Type 0

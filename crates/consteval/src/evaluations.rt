@@ -72,7 +72,7 @@ impl<'w> Evaluations<'w> {
     ghost use Rattle.consteval.specs.declared.kept.Key.TheVariants as key;
     ghost use Rattle.consteval.specs.Kept.{Lowered, Value, IsKept, IsLowered, IsSound, IsValueOf, RestsOn, Stays, entry_of, key_of, source_of, with_entry};
     ghost use Rattle.consteval.specs.Valid.{IsValid};
-    ghost use Rattle.consteval.specs.Answers.{GivesValue, GivesPanic, AnswersWithin, EndsIn, HasCause, RefusesBody, panic_word};
+    ghost use Rattle.consteval.specs.Answers.{GivesValue, CountsBlocks, GivesPanic, AnswersWithin, EndsIn, HasCause, RefusesBody, panic_word};
 
     /// Evaluations that have kept nothing yet. It takes no memory.
     pub fn new(alloc: Global, world: &'w CheckedWorld) -> Result<Evaluations<'w>, NoMemory>
@@ -185,7 +185,7 @@ impl<'w> Evaluations<'w> {
     fn answer(&mut self, def: DefWithBodyId, args: &GenericArgs, limits: &Limits) -> Evaluated
         requires { IsWithin limits.now }
         ensures printed { result.output ≡ ([], []) }
-        ensures cause { HasCause self.new def args.now limits.now.blocks result.turns result.result }
+        ensures cause { HasCause self.new def args.now limits.now result.turns result.result }
         ensures turns { result.turns ≤ limits.now.blocks }
         ensures stays { Stays self.old self.new }
         ensures sound { IsSound self.new }
@@ -239,12 +239,13 @@ impl<'w> Evaluations<'w> {
         requires { IsWithin limits.now }
         ensures printed { result.output ≡ ([], []) }
         ensures value { (row : _) (konst : _) → IsValid self.old.world def args.now row → result.result ≡ Ok konst → GivesValue (source_of self.old.world row) konst }
+        ensures counts { (row : _) (konst : _) → IsValid self.old.world def args.now row → result.result ≡ Ok konst → CountsBlocks (source_of self.old.world row) result.turns }
         ensures panic { (row : _) (e : _) (word : _) → IsValid self.old.world def args.now row → result.result ≡ Err (constant.MirEvalError e) → panic_word e ≡ Some word
             → GivesPanic (source_of self.old.world row) word }
-        ensures closed { (row : _) → IsValid self.old.world def args.now row → IfErr result.result (EndsIn (source_of self.old.world row) limits.now.blocks) }
+        ensures closed { (row : _) → IsValid self.old.world def args.now row → IfErr result.result (EndsIn (source_of self.old.world row) limits.now) }
         ensures complete { (row : _) → IsValid self.old.world def args.now row → HasDefinedCost (source_of self.old.world row)
-            → AnswersWithin (source_of self.old.world row) limits.now.blocks result.result }
-        ensures cause { HasCause self.new def args.now limits.now.blocks result.turns result.result }
+            → AnswersWithin (source_of self.old.world row) limits.now result.result }
+        ensures cause { HasCause self.new def args.now limits.now result.turns result.result }
         ensures turns { result.turns ≤ limits.now.blocks }
         ensures stays { Stays self.old self.new }
         ensures kept { IsOk result.result → (konst : _) × Contains self.new.entries (Value def konst) }

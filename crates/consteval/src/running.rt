@@ -44,8 +44,8 @@ fn begun<'a>(
     limits: &Limits,
 ) -> Result<Evaluator<'a>, MirEvalError>
     requires { IsWithin limits.now }
-    ensures began { IfOk result (λ evaluator. HasBegun db.now def body.value limits.now.blocks (machine_of evaluator)) }
-    ensures refused { IfErr result (λ e. (e ≡ error.NoMemory) ⊎ RefusesRun db.now def body.value e) }
+    ensures began { IfOk result (λ evaluator. HasBegun db.now def body.value limits.now (machine_of evaluator)) }
+    ensures refused { IfErr result (λ e. (e ≡ error.NoMemory) ⊎ RefusesRun db.now def body.value limits.now e) }
 {
     let mut evaluator = match Evaluator::new(alloc, db, def, false, limits) {
         Ok(evaluator) => evaluator,
@@ -67,7 +67,7 @@ pub(crate) fn run_body(
 ) -> Evaluated
     requires { IsWithin limits.now }
     ensures printed { result.output ≡ ([], []) }
-    ensures answered { AnswersBody db.now def body.value limits.now.blocks result.turns result.result }
+    ensures answered { AnswersBody db.now def body.value limits.now result.turns result.result }
     ensures turns { result.turns ≤ limits.now.blocks }
 {
     match begun(alloc, db, def, body, limits) {

@@ -48,10 +48,7 @@ pub trait MayBeAbsent<By>: Sized {
 pub fn here(alloc: Global) -> NotAWorld
     ensures { IsHere result }
 {
-    match Text::from_str(alloc, "") {
-        Ok(path) => NotAWorld::At(path),
-        Err(_) => NotAWorld::NoMemory,
-    }
+    Text::from_str(alloc, "").map_or(NotAWorld::NoMemory, |path| NotAWorld::At(path))
 }
 
 /// The error of the value at a key, with the path from the object.

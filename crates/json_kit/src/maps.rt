@@ -18,10 +18,7 @@ use types::Map;
 fn rises<K: Ord + Copy>(last: Option<K>, key: K) -> bool
     ensures { result ≡ rises K.cmp last key }
 {
-    match last {
-        None => true,
-        Some(last) => last.cmp(&key) == Ordering::Less,
-    }
+    last.is_none_or(|last| last.cmp(&key) == Ordering::Less)
 }
 
 /// An entry, whose key has to be greater than the one before it.

@@ -102,12 +102,6 @@ impl FromJson<JsonKit> for i128 {
     ghost reads = { i128_of };
 
     fn from_json(alloc: Global, tree: &Value) -> Result<i128, NotAWorld> {
-        match tree.as_str() {
-            Some(text) => match signed(text) {
-                Some(number) => Ok(number),
-                None => Err(here(alloc)),
-            },
-            None => Err(here(alloc)),
-        }
+        tree.as_str().and_then(signed).ok_or_else(|| here(alloc))
     }
 }

@@ -14,10 +14,8 @@ impl FromJson<JsonKit> for u32 {
     ghost reads = { u32_of };
 
     fn from_json(alloc: Global, tree: &Value) -> Result<u32, NotAWorld> {
-        match tree.as_u64() {
-            Some(n) if n < 1 << 32 => Ok(n as u32),
-            _ => Err(here(alloc)),
-        }
+        let n = tree.as_u64().ok_or_else(|| here(alloc))?;
+        u32::try_from(n).map_err(|_| here(alloc))
     }
 }
 

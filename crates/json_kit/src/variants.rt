@@ -40,13 +40,11 @@ fn only_member<'a>(alloc: Global, members: &'a Map<String, Value>) -> Result<Var
     if members.len() != 1 {
         return Err(here(alloc));
     }
-    match members.first_key_value() {
-        Some((name, part)) => Ok(Variant {
-            name: name.as_str(),
-            payload: Some(part),
-        }),
-        None => Err(here(alloc)),
-    }
+    let (name, part) = members.first_key_value().ok_or_else(|| here(alloc))?;
+    Ok(Variant {
+        name: name.as_str(),
+        payload: Some(part),
+    })
 }
 
 impl<'a> Variant<'a> {

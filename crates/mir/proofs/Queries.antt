@@ -11,7 +11,7 @@ use Rattle.types.specs.contracts.ids.DefWithBodyIdPartialEq.TheImpl as DefWithBo
 use Rattle.types.specs.contracts.ids.InternedClosureIdPartialEq.TheImpl as InternedClosureIdPartialEq
 use Rattle.types.specs.declared.ids.DefWithBodyId.{DefWithBodyId}
 use Rattle.types.specs.declared.ids.DefWithBodyId.TheVariants.{FunctionId, StaticId, ConstId, VariantId}
-use Rattle.mir.specs.Answers.{AreOfKind, IsToldOf, answers_kind, told}
+use Rattle.mir.specs.Answers.{AreOfKind, IsAfterPut, answer_to, answers_kind}
 use Rattle.mir.specs.contracts.answers.QueryEq.TheImpl.Laws as equal
 use Rattle.mir.specs.contracts.answers.QueryOrd.TheImpl as QueryOrd
 use Rattle.mir.specs.contracts.answers.QueryOrd.TheImpl.Laws as ordered
@@ -63,30 +63,30 @@ pub order_decides : (a b : Query) → Decides (is_eq (QueryOrd.ghosts.cmp a b)) 
 order_decides a b = subst (λ r. Decides r (a ≡ b)) (ordered.matches_eq-law a b) (query_decides a b)
 
 -- the answer that is found is of the kind that the query wants
-pub found_kind : {R : Type 0} (now : R → Answer) (answers : List (Query × Answer)) (q : Query) (r : Option R) → option_map now r ≡ told answers q
+pub found_kind : {R : Type 0} (now : R → Answer) (answers : List (Query × Answer)) (q : Query) (r : Option R) → option_map now r ≡ answer_to answers q
     → AreOfKind answers → IfSome r (λ a. IsTrue (answers_kind q (now a)))
 found_kind now answers q None is kept = tt
 found_kind now answers q (Some x) is kept = kept.each q (now x) (sym is)
 
--- what each query is told after an answer to one of them was put in
+-- the answer to each query after an answer to one of them was put in
 abbrev pub IsUpdated : List (Query × Answer) → List (Query × Answer) → Query → Answer → Type 0
-IsUpdated before after q a = (other : Query) → told after other ≡ cond (is_eq (QueryOrd.ghosts.cmp q other)) (Some a) (told before other)
+IsUpdated before after q a = (other : Query) → answer_to after other ≡ cond (is_eq (QueryOrd.ghosts.cmp q other)) (Some a) (answer_to before other)
 
 pub kind_stays : (before after : List (Query × Answer)) (q : Query) (a : Answer) → IsUpdated before after q a → IsTrue (answers_kind q a)
     → AreOfKind before → AreOfKind after
 kind_stays before after q a updated right kept = record { each = λ other b is. at other b is (is_eq (QueryOrd.ghosts.cmp q other)) refl } where
-  at : (other : Query) (b : Answer) → told after other ≡ Some b → (r : Bool) → is_eq (QueryOrd.ghosts.cmp q other) ≡ r → IsTrue (answers_kind other b)
+  at : (other : Query) (b : Answer) → answer_to after other ≡ Some b → (r : Bool) → is_eq (QueryOrd.ghosts.cmp q other) ≡ r → IsTrue (answers_kind other b)
   at other b is true e =
       let same : q ≡ other = (order_decides q other).0 e in
-      let found : told after other ≡ Some a = updated other ∙ ap (λ r. cond r (Some a) (told before other)) e in
+      let found : answer_to after other ≡ Some a = updated other ∙ ap (λ r. cond r (Some a) (answer_to before other)) e in
       let one : a ≡ b = cc in
       subst (λ o. IsTrue (answers_kind o b)) same (subst (λ x. IsTrue (answers_kind q x)) one right)
-  at other b is false e = kept.each other b (sym (updated other ∙ ap (λ r. cond r (Some a) (told before other)) e) ∙ is)
+  at other b is false e = kept.each other b (sym (updated other ∙ ap (λ r. cond r (Some a) (answer_to before other)) e) ∙ is)
 
-pub told_of : (before after : List (Query × Answer)) (q : Query) (a : Answer) → IsUpdated before after q a → told after q ≡ Some a → IsToldOf before after q a
-told_of before after q a updated answered =
+pub after_put : (before after : List (Query × Answer)) (q : Query) (a : Answer) → IsUpdated before after q a → answer_to after q ≡ Some a → IsAfterPut before after q a
+after_put before after q a updated answered =
     record { answered = answered; others = λ other apart. at other apart (is_eq (QueryOrd.ghosts.cmp q other)) refl }
   where
-    at : (other : Query) → (other ≡ q → ⊥) → (r : Bool) → is_eq (QueryOrd.ghosts.cmp q other) ≡ r → told after other ≡ told before other
+    at : (other : Query) → (other ≡ q → ⊥) → (r : Bool) → is_eq (QueryOrd.ghosts.cmp q other) ≡ r → answer_to after other ≡ answer_to before other
     at other apart true e = absurd (apart (sym ((order_decides q other).0 e)))
-    at other apart false e = updated other ∙ ap (λ r. cond r (Some a) (told before other)) e
+    at other apart false e = updated other ∙ ap (λ r. cond r (Some a) (answer_to before other)) e

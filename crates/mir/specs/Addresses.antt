@@ -13,7 +13,7 @@ usize_of (Stack place) = place + 2 ^ 60
 usize_of (Heap place) = place + 2 ^ 59
 usize_of (Invalid n) = n
 
--- the address so many bytes further on
+-- the address that is a number of bytes further on
 abbrev pub moved : Address → ℕ → Address
 moved (Stack place) by = Stack (place + by)
 moved (Heap place) by = Heap (place + by)

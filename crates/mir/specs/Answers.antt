@@ -1,4 +1,4 @@
--- What a run of a body may have to ask for, and what it was told.
+-- The queries at which a run of a body stops, and the answers to them.
 use Rattle.std.specs.Prelude.{◌≡◌, ◌≢◌, Bool, true, false, List, Option, Some, IsTrue}
 use Rattle.std.specs.BTreeMap.{is_at}
 use Rattle.std.specs.Map.{lookup}
@@ -19,14 +19,14 @@ answers_kind _ (answer.Failed error) = true
 answers_kind _ _ = false
 
 -- the answer to a query, where there is one
-abbrev pub told : List (Query × Answer) → Query → Option Answer
-told answers q = lookup (is_at (QueryOrd.ghosts.cmp q)) answers
+abbrev pub answer_to : List (Query × Answer) → Query → Option Answer
+answer_to answers q = lookup (is_at (QueryOrd.ghosts.cmp q)) answers
 
 -- each answer is of the kind that its query wants
 pub record AreOfKind (answers : List (Query × Answer)) : Type 0 where
-  pub each : (q : Query) (a : Answer) → told answers q ≡ Some a → IsTrue (answers_kind q a)
+  pub each : (q : Query) (a : Answer) → answer_to answers q ≡ Some a → IsTrue (answers_kind q a)
 
--- afterwards the query has the answer, and every other one has the answer that it had before
-pub record IsToldOf (before after : List (Query × Answer)) (q : Query) (a : Answer) : Type 0 where
-  pub answered : told after q ≡ Some a
-  pub others : (other : Query) → other ≢ q → told after other ≡ told before other
+-- answers after an answer to a query was put among them: the query has that answer, and every other query has the answer that it had before
+pub record IsAfterPut (before after : List (Query × Answer)) (q : Query) (a : Answer) : Type 0 where
+  pub answered : answer_to after q ≡ Some a
+  pub others : (other : Query) → other ≢ q → answer_to after other ≡ answer_to before other

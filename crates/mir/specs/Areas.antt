@@ -31,11 +31,11 @@ pub record IsBounded (areas : Areas) : Type 0 where
   pub heap_kept : taken areas.heap ≤ areas.limit
   pub limit : areas.limit ≤ 2 ^ 59
 
--- the bytes of an area from a place on, where the area has so many there
+-- a number of bytes of an area from a place on, where the area has that many there
 unfoldable pub part_of : List ℕ → ℕ → ℕ → Option (List ℕ)
 part_of area place size = if nat_le (place + size) (length area) then Some (take size (drop place area)) else None
 
--- the area with other bytes from a place on, where it has so many there
+-- the area with other bytes from a place on, where it has as many bytes there
 unfoldable pub with_part : List ℕ → ℕ → List ℕ → Option (List ℕ)
 with_part area place bytes =
     if nat_le (place + length bytes) (length area)
@@ -95,7 +95,7 @@ after_copy areas to from =
 abbrev pub grown_to : ℕ → List ℕ → List ℕ
 grown_to end area = area ++ replicate (end - length area) 0
 
--- where a cell begins that is placed behind so many bytes: at the first place from there on that its alignment divides
+-- where a cell begins that is placed behind `end` bytes: at the first place from there on that its alignment divides
 abbrev pub start_behind : ℕ → CellSize → ℕ
 start_behind end cell = next_multiple_of end cell.align
 
@@ -103,7 +103,7 @@ start_behind end cell = next_multiple_of end cell.align
 abbrev pub end_behind : ℕ → CellSize → ℕ
 end_behind end cell = start_behind end cell + cell.size
 
--- the intervals of cells that are placed in order behind so many bytes of the stack
+-- the intervals of cells that are placed in order behind `end` bytes of the stack
 unfoldable pub cells_behind : ℕ → List CellSize → List Interval
 cells_behind end [] = []
 cells_behind end (cell ∷ cells) = record { addr = Stack (start_behind end cell); size = cell.size } ∷ cells_behind (end_behind end cell) cells

@@ -175,7 +175,7 @@ pub record Ended : Type 0 where
 abbrev pub out_of_blocks : Ended
 out_of_blocks = record { ending = Faulted error.ExecutionLimitExceeded; left = 0 }
 
--- the run that enters a block and may enter so many blocks: each block entered takes one
+-- the run from the entry of a block on, within a limit on the blocks that it enters: each block entered takes one
 unfoldable pub entering : ℕ → Frame → Memory → ℕ → Ended
 entering zero frame memory block = out_of_blocks
 entering (suc budget) frame memory block =

@@ -1,8 +1,8 @@
-//! What a run of a body may have to ask for, and what it was told.
+//! The queries at which a run of a body stops, and the answers to them.
 
 ghost use Rattle.std.specs.Prelude.{◌≡◌, ◌≢◌, [], Some, IsTrue, IfSome, OnOk, OnErr};
 ghost use Rattle.std.specs.Option.{option_copied};
-ghost use Rattle.mir.specs.Answers.{answers_kind, told, IsToldOf};
+ghost use Rattle.mir.specs.Answers.{answer_to, answers_kind, IsAfterPut};
 
 use crate::{ConstEvalError, MirBody};
 use std::alloc::Global;
@@ -14,8 +14,8 @@ use world::{
     StaticId, TryClone,
 };
 
-/// What a run of a body may want to know before it can go on. It stops with the query, whoever runs
-/// it finds the answer and tells it, and then it goes on.
+/// What a run of a body may want to know before it can go on. It stops with the query; its caller
+/// finds the answer and puts it among the `Answers`; then the run goes on.
 #[derive(PartialEq, Eq, PartialOrd, Ord)]
 pub enum Query {
     /// The value of a constant, given generic arguments.
@@ -65,7 +65,7 @@ impl Drop for Answer {
     }
 }
 
-/// The answers that a run of a body was told, at most one to each query. Each is of the kind that
+/// The answers that a run of a body was given, at most one to each query. Each is of the kind that
 /// its query wants. Contracts see them as pairs of a query and its answer, in the order of the
 /// queries.
 pub struct Answers {
@@ -108,7 +108,7 @@ impl Answers {
 
     /// The answer to the query, where there is one. It is of the kind that the query wants.
     pub fn get(&self, query: &Query) -> Option<&Answer>
-        ensures value { option_copied result ≡ told self.now query.now }
+        ensures value { option_copied result ≡ answer_to self.now query.now }
         ensures kind { IfSome result (λ answer. IsTrue (answers_kind query.now answer.now)) }
     {
         self.entries.get(query)
@@ -118,7 +118,7 @@ impl Answers {
     /// the answer that it had before. Without memory it is `NoMemory`, and no answer changes.
     pub fn put(&mut self, query: Query, answer: Answer) -> Result<(), NoMemory>
         requires { IsTrue (answers_kind query answer) }
-        ensures ok { OnOk result (IsToldOf self.old self.new query answer) }
+        ensures ok { OnOk result (IsAfterPut self.old self.new query answer) }
         ensures err { OnErr result (self.new ≡ self.old) }
     {
         self.entries.insert(query, answer)?;

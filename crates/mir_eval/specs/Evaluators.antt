@@ -16,7 +16,13 @@ use Rattle.mir_eval.specs.Machine.{Machine, State, Fresh, Going, Over, left_in}
 -- the machine that an evaluator is
 abbrev pub machine_of : Evaluator → Machine
 machine_of evaluator =
-    record { world = evaluator.db.now; owner = evaluator.owner; blocks = evaluator.blocks; state = state_of evaluator.phase }
+    record {
+      world = evaluator.db.now;
+      owner = evaluator.owner;
+      blocks = evaluator.blocks;
+      nesting = evaluator.nesting;
+      state = state_of evaluator.phase;
+    }
 
 -- the crate of what has a body, and the first crate where the world has no row of it
 abbrev pub crate_or_first : HirDatabase → DefWithBodyId → Crate

@@ -24,6 +24,8 @@ pub record Machine : Type 0 where
   pub owner : DefWithBodyId
   -- how many blocks a run may enter
   pub blocks : ℕ
+  -- how deep runs and the parts of values may be nested
+  pub nesting : ℕ
   pub state : State
 
 -- the size of a pointer of the owner's crate, where it is known
@@ -39,29 +41,35 @@ value_of body bytes =
       | None ↦ Err (error.InFunction bad_read [])
     ]
 
--- what a run hands out at its end: the value, or the fault, wrapped once for the frame that it ended
-unfoldable pub outcome_of : MirBody → Ending → Result Const MirEvalError
-outcome_of body (Returned bytes) = value_of body bytes
-outcome_of body (Faulted e) = Err (error.InFunction e [])
+-- what takes one of so many levels of nesting: it is refused where there is none
+abbrev pub on_a_level : {A : Type 0} → ℕ → Result A MirEvalError → Result A MirEvalError
+on_a_level zero result = Err error.StackOverflow
+on_a_level (suc levels) result = result
 
--- the state after one block
-unfoldable pub stepped : State → State
-stepped (Going frame memory block zero) = Over (outcome_of frame.body out_of_blocks.ending) 0
-stepped (Going frame memory block (suc left)) =
+-- What a run hands out at its end: the value, or the fault, wrapped once for the frame that it ended. A value takes one of
+-- the levels of nesting that are left, for its type; where none is left, that is the outcome, and no frame's fault.
+unfoldable pub outcome_of : (levels : ℕ) → MirBody → Ending → Result Const MirEvalError
+outcome_of levels body (Returned bytes) = on_a_level levels (value_of body bytes)
+outcome_of levels body (Faulted e) = Err (error.InFunction e [])
+
+-- the state after one block, with so many levels of nesting left for the value
+unfoldable pub stepped : (levels : ℕ) → State → State
+stepped levels (Going frame memory block zero) = Over (outcome_of levels frame.body out_of_blocks.ending) 0
+stepped levels (Going frame memory block (suc left)) =
     elim (next_from frame memory (slice_get frame.body.basic_blocks block) 0) [
-      | Stops ending ↦ Over (outcome_of frame.body ending) left
+      | Stops ending ↦ Over (outcome_of levels frame.body ending) left
       | GoesTo after target ↦ Going frame after target left
     ]
-stepped Fresh = Fresh
-stepped (Over result left) = Over result left
+stepped levels Fresh = Fresh
+stepped levels (Over result left) = Over result left
 
--- the state at the end of the run
-unfoldable pub finished : State → State
-finished (Going frame memory block left) =
+-- the state at the end of the run, with so many levels of nesting left for the value
+unfoldable pub finished : (levels : ℕ) → State → State
+finished levels (Going frame memory block left) =
     let ended = entering left frame memory block in
-    Over (outcome_of frame.body ended.ending) ended.left
-finished Fresh = Fresh
-finished (Over result left) = Over result left
+    Over (outcome_of levels frame.body ended.ending) ended.left
+finished levels Fresh = Fresh
+finished levels (Over result left) = Over result left
 
 -- how many blocks a run that has begun may still enter
 abbrev pub left_in : State → ℕ
@@ -82,3 +90,14 @@ blocks_left blocks (Over result left) = left
 -- how many blocks were entered
 abbrev pub turns_of : Machine → ℕ
 turns_of machine = machine.blocks - blocks_left machine.blocks machine.state
+
+-- how many levels of nesting a run holds: one from its beginning on, until it ended in a value
+abbrev pub levels_held : State → ℕ
+levels_held Fresh = 0
+levels_held (Going frame memory block left) = 1
+levels_held (Over (Ok value) left) = 0
+levels_held (Over (Err e) left) = 1
+
+-- how many levels of nesting are left
+abbrev pub nesting_left : Machine → ℕ
+nesting_left machine = machine.nesting - levels_held machine.state

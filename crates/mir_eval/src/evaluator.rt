@@ -27,6 +27,7 @@ pub struct Evaluator<'a> {
     db: &'a HirDatabase,
     owner: DefWithBodyId,
     blocks: u64,
+    nesting: u32,
     phase: Phase,
 }
 
@@ -65,7 +66,7 @@ fn other_width(alloc: Global) -> MirEvalError
 
 impl<'a> Evaluator<'a> {
     ghost use Rattle.world.specs.Limits.{IsWithin};
-    ghost use Rattle.mir_eval.specs.Machine.{Fresh, pointer_bytes, stepped, finished, turns_of};
+    ghost use Rattle.mir_eval.specs.Machine.{Fresh, nesting_left, pointer_bytes, stepped, finished, turns_of};
     ghost use Rattle.mir_eval.specs.Start.{start_of};
     ghost use Rattle.mir_eval.specs.Evaluators.{machine_of, crate_or_first, is_fresh, is_going, is_over, turned, outcome, Became};
 
@@ -80,7 +81,7 @@ impl<'a> Evaluator<'a> {
         limits: &Limits,
     ) -> Result<Evaluator<'a>, MirEvalError>
         requires { IsWithin limits.now }
-        ensures made { IfOk result (λ evaluator. machine_of evaluator ≡ record { world = db.now; owner = owner; blocks = limits.now.blocks; state = Fresh }) }
+        ensures made { IfOk result (λ evaluator. machine_of evaluator ≡ record { world = db.now; owner = owner; blocks = limits.now.blocks; nesting = limits.now.nesting; state = Fresh }) }
         ensures refused { IfErr result (λ e. e ≡ error.TargetDataLayoutNotAvailable (crate_or_first db.now owner)) }
         ensures variant { IsOk result ↔ IsSome (pointer_bytes db.now owner) }
     {
@@ -91,14 +92,16 @@ impl<'a> Evaluator<'a> {
                 db,
                 owner,
                 blocks: limits.blocks,
+                nesting: limits.nesting,
                 phase: Phase::Fresh,
             }),
             None => Err(MirEvalError::TargetDataLayoutNotAvailable(krate.unwrap_or(Crate(0)))),
         }
     }
 
-    /// Begins a run of the body. The refusals, in this order: `NotSupported` where the pointers of the
-    /// owner's crate have another size than 8 bytes; `LayoutError` or `TypeIsUnsized` for the first
+    /// Begins a run of the body, which takes one level of nesting for itself. The refusals, in this
+    /// order: `NotSupported` where the pointers of the owner's crate have another size than 8 bytes;
+    /// `StackOverflow` where the limit on nesting is 0; `LayoutError` or `TypeIsUnsized` for the first
     /// local whose type has no layout or no size; `NoMemory`. After a refusal nothing was begun.
     #[tactic(auto, unfolding(crate::specs::Start::start_of))]
     pub fn begin(&mut self, body: Rc<MirBody>) -> Result<(), MirEvalError>
@@ -112,6 +115,9 @@ impl<'a> Evaluator<'a> {
         if !is_own_width(pointer_bytes(self.db, self.db.crate_of(self.owner))) {
             return Err(other_width(self.alloc));
         }
+        if self.nesting == 0 {
+            return Err(MirEvalError::StackOverflow);
+        }
         match Run::start(self.alloc, self.db, body, self.blocks) {
             Ok(run) => {
                 self.phase = Phase::Going(run);
@@ -121,15 +127,17 @@ impl<'a> Evaluator<'a> {
         }
     }
 
-    /// Runs one block to its end. Want of memory ends the run.
+    /// Runs one block to its end. Want of memory ends the run, and so does a value for which no level
+    /// of nesting is left.
     pub fn advance(&mut self)
         requires { IsTrue (is_going (machine_of self.old).state) }
-        ensures { Became (machine_of self.old) (machine_of self.new) (stepped (machine_of self.old).state) }
+        ensures { Became (machine_of self.old) (machine_of self.new) (stepped (nesting_left (machine_of self.old)) (machine_of self.old).state) }
     {
         let alloc = self.alloc;
+        let levels = self.nesting_left();
         match &mut self.phase {
             Phase::Going(run) => {
-                if let Some(phase) = run.step(alloc) {
+                if let Some(phase) = run.step(alloc, levels) {
                     self.phase = phase;
                 }
             }
@@ -138,17 +146,20 @@ impl<'a> Evaluator<'a> {
         }
     }
 
-    /// Runs to the end, and tells whether that is a value or a fault. Want of memory is a fault.
+    /// Runs to the end, and tells whether that is a value or a fault. A value takes one of the levels of
+    /// nesting that are left: where there is none, the end is `StackOverflow`, a fault that isn't the
+    /// body's own. Want of memory is a fault.
     #[tactic(auto, unfolding(crate::specs::Machine::finished))]
     pub fn run(&mut self) -> Turned
         requires { IsTrue (is_going (machine_of self.old).state) }
-        ensures ended { Became (machine_of self.old) (machine_of self.new) (finished (machine_of self.old).state) }
+        ensures ended { Became (machine_of self.old) (machine_of self.new) (finished (nesting_left (machine_of self.old)) (machine_of self.old).state) }
         ensures over { IsTrue (is_over (machine_of self.new).state) }
         ensures told { result ≡ turned (machine_of self.new).state }
     {
         let alloc = self.alloc;
+        let levels = self.nesting_left();
         let phase = match &mut self.phase {
-            Phase::Going(run) => run.finish(alloc),
+            Phase::Going(run) => run.finish(alloc, levels),
             Phase::Fresh => unreachable!(),
             Phase::Over { .. } => unreachable!(),
         };
@@ -168,6 +179,18 @@ impl<'a> Evaluator<'a> {
             Phase::Fresh => 0,
             Phase::Going(run) => self.blocks.saturating_sub(run.left),
             Phase::Over { left, .. } => self.blocks.saturating_sub(*left),
+        }
+    }
+
+    /// How many levels of nesting are left: the limit, less the one that the run holds from its
+    /// beginning on, until it ended in a value. It takes no memory.
+    pub fn nesting_left(&self) -> u32
+        ensures { result ≡ nesting_left (machine_of self.now) }
+    {
+        match &self.phase {
+            Phase::Fresh => self.nesting,
+            Phase::Over { outcome: Ok(_), .. } => self.nesting,
+            _ => self.nesting.saturating_sub(1),
         }
     }
 

@@ -2,7 +2,7 @@
 
 ghost use Rattle.std.specs.Prelude.{◌≡◌, [], Err, IfOk};
 ghost use Rattle.mir.specs.declared.errors.MirEvalError as error;
-ghost use Rattle.mir_eval.specs.Machine.{value_of, outcome_of};
+ghost use Rattle.mir_eval.specs.Machine.{on_a_level, value_of, outcome_of};
 ghost use Rattle.mir_eval.specs.Steps.{error_of, ending_of};
 
 use crate::cells::{Cell, cell_of, read};
@@ -31,14 +31,18 @@ fn copy_of(alloc: Global, bytes: &[u8]) -> Result<Bytes, NoMemory>
     Ok(copy)
 }
 
-/// The value of a body whose return slot has these bytes.
+/// The value of a body whose return slot has these bytes, with so many levels of nesting left for it.
 fn returned(
     alloc: Global,
     body: &MirBody,
     bytes: &[u8],
+    levels: u32,
 ) -> Result<Result<Const, MirEvalError>, NoMemory>
-    ensures { IfOk result (λ r. r ≡ value_of body.now bytes.now) }
+    ensures { IfOk result (λ r. r ≡ on_a_level levels (value_of body.now bytes.now)) }
 {
+    if levels == 0 {
+        return Ok(Err(MirEvalError::StackOverflow));
+    }
     match body.locals.get(0) {
         Some(slot) => {
             let ty = slot.ty.try_clone(alloc)?;
@@ -54,7 +58,7 @@ fn returned(
     }
 }
 
-/// What a run hands out at its end.
+/// What a run hands out at its end, with so many levels of nesting left for its value.
 #[tactic(auto, unfolding(crate::specs::Machine::outcome_of))]
 pub(crate) fn outcome(
     alloc: Global,
@@ -62,13 +66,14 @@ pub(crate) fn outcome(
     cells: &[Cell],
     stack: &[u8],
     end: Result<(), Fault>,
+    levels: u32,
 ) -> Result<Result<Const, MirEvalError>, NoMemory>
-    ensures { IfOk result (λ r. r ≡ outcome_of body.now (ending_of cells.now stack.now end)) }
+    ensures { IfOk result (λ r. r ≡ outcome_of levels body.now (ending_of cells.now stack.now end)) }
 {
     match end {
         Ok(()) => match cell_of(cells, LocalId(0)) {
             Some(cell) => match read(stack, cell) {
-                Some(bytes) => returned(alloc, body, bytes),
+                Some(bytes) => returned(alloc, body, bytes, levels),
                 None => faulted(alloc, Fault::BadRead),
             },
             None => faulted(alloc, Fault::BadRead),

@@ -70,9 +70,9 @@ impl Run {
         }
     }
 
-    /// The run, over.
-    fn over(&self, alloc: Global, end: Result<(), Fault>, left: u64) -> Phase
-        ensures { Reached result (Over (outcome_of self.now.body.value (ending_of self.now.cells.items self.now.stack.items end)) left) }
+    /// The run, over, with so many levels of nesting left for its value.
+    fn over(&self, alloc: Global, levels: u32, end: Result<(), Fault>, left: u64) -> Phase
+        ensures { Reached result (Over (outcome_of levels self.now.body.value (ending_of self.now.cells.items self.now.stack.items end)) left) }
     {
         match outcome(
             alloc,
@@ -80,6 +80,7 @@ impl Run {
             self.cells.as_slice(),
             self.stack.as_slice(),
             end,
+            levels,
         ) {
             Ok(outcome) => Phase::Over { outcome, left },
             Err(_) => Phase::Over {
@@ -89,14 +90,15 @@ impl Run {
         }
     }
 
-    /// Runs one block, and is over where that ends the run.
+    /// Runs one block, and is over where that ends the run. So many levels of nesting are left for its
+    /// value.
     #[tactic(auto, unfolding(crate::specs::Machine::stepped))]
-    pub(crate) fn step(&mut self, alloc: Global) -> Option<Phase>
-        ensures on { IfNone result (going self.new ≡ stepped (going self.old)) }
-        ensures over { IfSome result (λ phase. Reached phase (stepped (going self.old))) }
+    pub(crate) fn step(&mut self, alloc: Global, levels: u32) -> Option<Phase>
+        ensures on { IfNone result (going self.new ≡ stepped levels (going self.old)) }
+        ensures over { IfSome result (λ phase. Reached phase (stepped levels (going self.old))) }
     {
         if self.left == 0 {
-            return Some(self.over(alloc, Err(Fault::OutOfBlocks), 0));
+            return Some(self.over(alloc, levels, Err(Fault::OutOfBlocks), 0));
         }
         let left = self.left - 1;
         match enter(
@@ -110,15 +112,15 @@ impl Run {
                 self.left = left;
                 None
             }
-            Ok(Exit::Returns) => Some(self.over(alloc, Ok(()), left)),
-            Err(fault) => Some(self.over(alloc, Err(fault), left)),
+            Ok(Exit::Returns) => Some(self.over(alloc, levels, Ok(()), left)),
+            Err(fault) => Some(self.over(alloc, levels, Err(fault), left)),
         }
     }
 
-    /// Runs to the end.
+    /// Runs to the end, with so many levels of nesting left for its value.
     #[tactic(auto, unfolding(crate::specs::Machine::finished))]
-    pub(crate) fn finish(&mut self, alloc: Global) -> Phase
-        ensures { Reached result (finished (going self.old)) }
+    pub(crate) fn finish(&mut self, alloc: Global, levels: u32) -> Phase
+        ensures { Reached result (finished levels (going self.old)) }
     {
         let stop = enter_all(
             self.body.as_ref(),
@@ -127,6 +129,6 @@ impl Run {
             self.block,
             self.left,
         );
-        self.over(alloc, stop.end, stop.left)
+        self.over(alloc, levels, stop.end, stop.left)
     }
 }

@@ -1,5 +1,5 @@
 -- Assignments: the value as a place, and then the name that is the target is assigned.
-use Rattle.std.proofs.Common.{◌≡◌, ℕ, List, ◌++◌, Contains, Option, Some, option_and_then, sym, ap, ◌∙◌, subst, append-nil}
+use Rattle.std.proofs.Common.{◌≡◌, ℕ, List, ◌++◌, Contains, Option, Some, option_and_then, refl, sym, ap, ◌∙◌, subst, append-nil}
 use Rattle.source_meaning.specs.Core as expr
 use Rattle.source_meaning.specs.Core.{local_named}
 use Rattle.world.specs.declared.infer.ValueNs.{ValueNs}
@@ -17,7 +17,7 @@ use Rattle.source_meaning.specs.Valid.{IsPlainFrom, IsLaidOut, NeedsLayout, own,
 use Rattle.source_meaning.proofs.Depth.{assigned_is_part}
 use Rattle.source_meaning.proofs.Marks.{assign_marks}
 use Rattle.source_meaning.proofs.Parts.{sized_part_is_part}
-use Rattle.mir_lower.specs.Does.{here, Holds, Reaches, LeadsTo}
+use Rattle.mir_lower.specs.Does.{here, Reaches, Nothing, LeadsTo}
 use Rattle.mir_lower.specs.Graph.{Shape, with_statement, local_of}
 use Rattle.mir_lower.specs.Growth.{Grows, IsSound, IsOpen, IsReady}
 use Rattle.mir_lower.specs.Leaving.{Idles}
@@ -27,7 +27,7 @@ use Rattle.mir_lower.proofs.Laid.{layouts-before, plain-part, one-of}
 use Rattle.mir_lower.proofs.Operations.{assignment, keeps-assigned, local-later, name-computes}
 use Rattle.mir_lower.proofs.Reaching.{reaches-then}
 use Rattle.mir_lower.proofs.Sparing.{spares-trans}
-use Rattle.mir_lower.proofs.Steps.{local_of-grows, Done, assigned-bytes, reaches-from, does-form}
+use Rattle.mir_lower.proofs.Steps.{local_of-grows, assigned-bytes, reaches-from, does-form}
 
 -- the value is a part
 pub value-part : (source : Source) (e assigned value : ℕ) → node source e ≡ Some (expr.Assign assigned value) → Contains (parts_of (node source e)) value
@@ -48,11 +48,11 @@ assigns-target source s new assigned place from operand span sound opened target
     (record {
       keeps = keeps-assigned source s st sound opened;
       does = record {
-        reaches = λ whole frame grows whole-sound is fuel store memory holds.
+        reaches = λ whole frame grows whole-sound is lands around stands fuel store memory holds.
             let to = local-later s whole st opened grows b place.local.0 targeted.found in
             let at = local-later s whole st opened grows c from.local.0 found in
-            subst (λ (p : Option BindingId). Reaches frame (here s) (here (with_statement st s)) memory (Done whole frame) (bind p (record { cell = c }) store)) (sym targeted.names)
-            (assigned-bytes source s whole frame place (Use operand) span opened whole-sound is grows b to store memory holds (store c)
+            subst (λ (p : Option BindingId). Reaches whole lands frame (here s) (here (with_statement st s)) memory (Nothing whole frame) (bind p (record { cell = c }) store)) (sym targeted.names)
+            (assigned-bytes source s whole frame place (Use operand) span opened whole-sound is lands grows b to store memory holds (store c)
             (name-computes source whole frame c from operand copies whole-sound is at store memory holds));
       };
     })
@@ -82,14 +82,14 @@ lowers-assign source s0 s1 s2 s3 e assigned value local c ready form place idles
             ∙ ap (λ m. s0.scope ++ m) (sym (assign_marks source ready.checked e ready.within assigned value form));
       };
       does = does-form source s0 s3 e c (Some (expr.Assign assigned value)) form (record {
-        reaches = λ whole frame grows sound is fuel store memory holds.
+        reaches = λ whole frame grows sound is lands around stands fuel store memory holds.
             let grown : Grows s2 whole = grows-trans s2 s3 whole assigns.keeps.grows grows in
-            reaches-then frame (here s0) (here s1) (here s3) memory (λ path after later. Holds whole frame after later × LeadsTo from whole frame path) (Done whole frame) ((level_at source fuel).place value store) _
-            (place.does.does.reaches whole frame (grows-trans s1 s2 whole idles.grows grown) sound is fuel store memory holds)
+            reaches-then whole lands frame (here s0) (here s1) (here s3) memory (LeadsTo from whole frame) (Nothing whole frame) ((level_at source fuel around).place value store) _
+            (place.does.does.reaches whole frame (grows-trans s1 s2 whole idles.grows grown) sound is lands around stands fuel store memory holds)
             (λ path store1 memory1 claims.
-            subst (λ (p : Path). Reaches frame (here s1) (here s3) memory1 (Done whole frame) (bind (target source assigned) p store1)) (sym claims.1)
-            (reaches-from frame (here s1) (here s2) (here s3) memory1 (Done whole frame) (idles.comes whole frame grown is memory1) _
-            (assigns.does.reaches whole frame grows sound is fuel store1 memory1 claims.0)));
+            subst (λ (p : Path). Reaches whole lands frame (here s1) (here s3) memory1 (Nothing whole frame) (bind (target source assigned) p store1)) (sym claims.1)
+            (reaches-from whole lands frame (here s1) (here s2) (here s3) memory1 (Nothing whole frame) (idles.comes whole frame grown is memory1) _
+            (assigns.does.reaches whole frame grows sound is lands (record around { marks = s2.scope }) refl fuel store1 memory1 claims.0)));
       });
       laid = lays-assign source s0 s1 s3 e assigned value local form place later;
     }

@@ -9,7 +9,7 @@ use Rattle.mir.specs.declared.body.Local.{Local}
 use Rattle.mir.specs.declared.ids.LocalId.{LocalId}
 use Rattle.source_meaning.specs.Source.{Source, Cell, Result, Node, Binding, binding_type, cell_type, node_type, root}
 use Rattle.mir_lower.specs.Graph.{Shape, no_statements, first_shape, local_at, local_of, local_of_type, binding_local, temp_of, with_binding}
-use Rattle.mir_lower.specs.Growth.{terminator_at, IsUsed, IsFirst, IsSound, IsOpen}
+use Rattle.mir_lower.specs.Growth.{terminator_at, IsStored, IsFirst, IsSound, IsOpen}
 use Rattle.mir_lower.specs.Order.{first_locals, local_if_any}
 use Rattle.mir_lower.proofs.Lists.{slice_get-front, slice_get-last, slice_get-more, slice_get_below}
 use Rattle.mir_lower.proofs.Sound.{no-more-allotted, one-more-allotted}
@@ -44,8 +44,8 @@ first-none source ty nodes many typed =
         cells = only;
       };
     } where
-      only : (l : ℕ) (local : Local) → slice_get (local_of_type ty ∷ []) l ≡ Some local → (cell : Cell) × IsUsed source cell × (cell_type source cell ≡ Some local.ty)
-      only zero local h = (let same : local_of_type ty ≡ local = cc in (Result, tt, typed ∙ ap (λ (l : Local). Some l.ty) same))
+      only : (l : ℕ) (local : Local) → slice_get (local_of_type ty ∷ []) l ≡ Some local → (cell : Cell) × IsStored source cell × (local_of (first_shape ty nodes) cell ≡ Some l) × (cell_type source cell ≡ Some local.ty)
+      only zero local h = (let same : local_of_type ty ≡ local = cc in (Result, tt, refl, typed ∙ ap (λ (l : Local). Some l.ty) same))
       only (suc l) local h = cc
 
 -- a table with one more place
@@ -85,6 +85,16 @@ bound-cells ty s (Binding b) l h =
     ⊎_elim (λ last. inl (ap Binding last.0, (let is = last.1 in let same : length s.locals ≡ l = cc in sym same))) (λ front. inr front)
     (at-more s.bindings (Some (record { 0 = length s.locals })) b l h)
 
+-- each cell keeps its local
+kept-cells : (ty : Option Ty) (s : Shape) (c : Cell) (l : ℕ) → local_of s c ≡ Some l → local_of (with_binding ty s) c ≡ Some l
+unfolding with_binding temp_of binding_local
+kept-cells None s Result l h = h
+kept-cells None s (Node e) l h = h
+kept-cells None s (Binding b) l h = at-front s.bindings None b l h
+kept-cells (Some ty) s Result l h = h
+kept-cells (Some ty) s (Node e) l h = h
+kept-cells (Some ty) s (Binding b) l h = at-front s.bindings (Some (record { 0 = length s.locals })) b l h
+
 -- the bindings up to one, and that one
 up-to : (b n : ℕ) → b < n + 1 → (b < n) ⊎ (b ≡ n)
 up-to b n less = ⊎_elim (λ before. inl before) (λ past. inr (omega arith)) (cases_lt b n)
@@ -113,7 +123,7 @@ first-more source s n first = by-type (binding_type source n) refl where
             (λ before. let at = first.bound b t before h in (at.0, at-front s.bindings None b at.0 at.1))
             (λ same. let h' : binding_type source n ≡ Some t = ap (binding_type source) (sym same) ∙ h in absurd cc)
             (up-to b n less);
-        allotted = no-more-allotted source s (with_binding None s) refl (unbound-cells s) first.allotted;
+        allotted = no-more-allotted source s (with_binding None s) refl (unbound-cells s) (kept-cells None s) first.allotted;
       }
   by-type (Some ty) is =
       let long = length-append s.bindings (Some (record { 0 = length s.locals }) ∷ []) in
@@ -129,11 +139,11 @@ first-more source s n first = by-type (binding_type source n) refl where
             (λ before. let at = first.bound b t before h in (at.0, at-front s.bindings (Some (record { 0 = length s.locals })) b at.0 at.1))
             (λ same. (length s.locals, ap (local_at (s.bindings ++ Some (record { 0 = length s.locals }) ∷ [])) (same ∙ sym many) ∙ at-last s.bindings (record { 0 = length s.locals })))
             (up-to b n less);
-        allotted = one-more-allotted source s (with_binding (Some ty) s) (Binding (length s.bindings)) ty refl tt (ap (binding_type source) many ∙ is) (bound-cells ty s) first.allotted;
+        allotted = one-more-allotted source s (with_binding (Some ty) s) (Binding (length s.bindings)) ty refl tt (at-last s.bindings (record { 0 = length s.locals })) (ap (binding_type source) many ∙ is) (bound-cells ty s) (kept-cells (Some ty) s) first.allotted;
       }
 
 -- a binding with a type is one of the body's list
-typed-below : (source : Source) (b : ℕ) (ty : Ty) → binding_type source b ≡ Some ty → b < length source.body.bindings
+pub typed-below : (source : Source) (b : ℕ) (ty : Ty) → binding_type source b ≡ Some ty → b < length source.body.bindings
 unfolding binding_type
 typed-below source b ty h =
     option_and_then_some (λ binding. if is_some binding.owner then None else slice_get source.infer.binding_types b) (slice_get source.body.bindings b) ty h

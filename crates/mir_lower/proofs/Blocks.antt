@@ -18,29 +18,31 @@ use Rattle.mir.specs.declared.statement.Statement.{Statement as MirStatement}
 use Rattle.mir.specs.declared.statement.StatementKind.TheVariants.{FakeRead}
 use Rattle.mir.specs.Memory.{Memory}
 use Rattle.mir.specs.Run.{Frame, after_statement}
+use Rattle.source_meaning.specs.Around.{Around, marking}
 use Rattle.source_meaning.specs.Ends.{no_cost, End, Go, then_do}
 use Rattle.source_meaning.specs.Events.{marked_as_place, marked_by_statement, marked_by_tail, marked_in_block}
-use Rattle.source_meaning.specs.Meaning.{Level, level_at, put, bind, statement_of, statements_of, tail_into}
+use Rattle.source_meaning.specs.Meaning.{Levels, level_at, put, bind, statement_of, statements_of, tail_into}
 use Rattle.source_meaning.specs.Source.{Source, node, node_type, pattern, Cell, Binding, Path, Store, bound_by, drops}
 use Rattle.source_meaning.specs.Steps.{parts_of, statement_parts}
 use Rattle.source_meaning.specs.Valid.{itself, HasPlainForm, IsPlainNode, IsPlainFrom, IsPlainTail, IsLaidOut, NeedsLayout, own, inside}
 use Rattle.source_meaning.proofs.Costs.{then-then, then-same, then-go}
 use Rattle.source_meaning.proofs.Marks.{let_marks, expression_marks, tail_marks, no_tail_marks, inner_marks, block_marks}
 use Rattle.source_meaning.proofs.Parts.{block_parts, sized_part_is_part}
-use Rattle.mir_lower.specs.Does.{Point, here, IsFrameOf, Holds, Comes, Reaches, Performs, Nothing, LeadsTo, DoesStatements}
+use Rattle.mir_lower.specs.Does.{Point, here, IsFrameOf, Comes, Reaches, Performs, Nothing, LeadsTo, DoesStatements}
 use Rattle.mir_lower.specs.Graph.{Shape, with_statement, with_scope, local_of}
-use Rattle.mir_lower.specs.Growth.{count_at, Grows, IsSound, IsOpen, IsReady}
+use Rattle.mir_lower.specs.Growth.{Grows, IsSound, IsOpen, IsReady}
 use Rattle.mir_lower.specs.Leaving.{Idles}
 use Rattle.mir_lower.specs.Lowered.{Keeps, LaysOut, IsGiven, Binds, LowersInto, LowersPlace, LowersStatements, LowersTail}
 use Rattle.mir_lower.proofs.Growing.{grows-refl, grows-trans, with_statement-grows, with_scope-grows}
 use Rattle.mir_lower.proofs.Laid.{layouts-before, plain-part, one-of}
 use Rattle.mir_lower.proofs.Leaving.{here-scope}
 use Rattle.mir_lower.proofs.Operations.{assignment, name-computes}
-use Rattle.mir_lower.proofs.Reaching.{comes-refl, comes-trans, reaches-then}
+use Rattle.mir_lower.proofs.Reaching.{comes-refl, comes-from, reaches-then}
 use Rattle.mir_lower.proofs.Running.{comes-statement}
 use Rattle.mir_lower.proofs.Sound.{with_statement-sound, with_statement-open, with_statement-scope}
 use Rattle.mir_lower.proofs.Sparing.{spares-refl, spares-trans, with_statement-spares, scoped-spares}
-use Rattle.mir_lower.proofs.Steps.{local_of-grows, Done, assigned-bytes, reaches-from, does-form}
+use Rattle.mir_lower.proofs.Standing.{marking-fits, marking-none, marking-more}
+use Rattle.mir_lower.proofs.Steps.{local_of-grows, assigned-bytes, reaches-from, does-form}
 
 -- noting that a value was named leaves everything as it is
 read-does-nothing : (frame : Frame) (memory : Memory) (place : Place) → after_statement frame memory (FakeRead place) ≡ Ok memory
@@ -76,35 +78,41 @@ binds-name source s0 s1 new pat id place from operand span binds given copies sa
         scope = with_statement-scope st s1 opened ∙ given.keeps.scope ∙ ap (λ p. s0.scope ++ bound_by p) (sym binds);
       };
       does = record {
-        reaches = λ whole frame grows sound is fuel store memory holds.
+        reaches = λ whole frame grows sound is lands around stands fuel store memory holds.
             let grown : Grows s1 whole = grows-trans s1 (with_statement st s1) whole last grows in
             let to = local_of-grows s1 whole grown (Binding id.0) place.local.0 given.found in
             let at = local_of-grows s0 whole (grows-trans s0 s1 whole given.keeps.grows grown) c from.local.0 found in
-            subst (λ (p : Option BindingId). Reaches frame (here s0) (here (with_statement st s1)) memory (Done whole frame) (bind p (record { cell = c }) store)) (sym binds)
-            (reaches-from frame (here s0) (here s1) (here (with_statement st s1)) memory (Done whole frame) (given.comes whole frame grown is memory) (put store (record { cell = Binding id.0 }) (store c))
-            (assigned-bytes source s1 whole frame place (Use operand) span opened sound is grows (Binding id.0) to store memory holds (store c)
+            subst (λ (p : Option BindingId). Reaches whole lands frame (here s0) (here (with_statement st s1)) memory (Nothing whole frame) (bind p (record { cell = c }) store)) (sym binds)
+            (reaches-from whole lands frame (here s0) (here s1) (here (with_statement st s1)) memory (Nothing whole frame) (given.comes whole frame grown is memory) (put store (record { cell = Binding id.0 }) (store c))
+            (assigned-bytes source s1 whole frame place (Use operand) span opened sound is lands grows (Binding id.0) to store memory holds (store c)
             (name-computes source whole frame c from operand copies sound is at store memory holds)));
       };
     })
 
 -- Statements in order.
 
-no-statements : (source : Source) (below : Level) (store : Store) → statements_of source below [] store ≡ Go tt store no_cost
+no-statements : (source : Source) (below : Levels) (around : Around) (store : Store) → statements_of source below around [] store ≡ Go tt store no_cost
 unfolding statements_of
-no-statements source below store = refl
+no-statements source below around store = refl
 
-first-statement : (source : Source) (below : Level) (first : Statement) (rest : List Statement) (store : Store) → statements_of source below (first ∷ rest) store ≡ then_do (statement_of source below first store) (λ _ later. statements_of source below rest later)
+first-statement : (source : Source) (below : Levels) (around : Around) (first : Statement) (rest : List Statement) (store : Store) → statements_of source below around (first ∷ rest) store ≡ then_do (statement_of source (below around) first store) (λ _ later. statements_of source below (marking (marked_by_statement source first) around) rest later)
 unfolding statements_of
-first-statement source below first rest store = refl
+first-statement source below around first rest store = refl
 
-statements-append : (source : Source) (below : Level) (xs ys : List Statement) (store : Store) → statements_of source below (xs ++ ys) store ≡ then_do (statements_of source below xs store) (λ _ later. statements_of source below ys later)
-statements-append source below [] ys store =
-    sym (ap (λ (end : End (Unit {0})). then_do end (λ _ later. statements_of source below ys later)) (no-statements source below store) ∙ then-go tt store (λ _ later. statements_of source below ys later))
-statements-append source below (x ∷ xs) ys store =
-    first-statement source below x (xs ++ ys) store
-    ∙ then-same (statement_of source below x store) (λ _ later. statements_of source below (xs ++ ys) later) (λ _ later. then_do (statements_of source below xs later) (λ _ last. statements_of source below ys last)) (λ _ later. statements-append source below xs ys later)
-    ∙ sym (then-then (statement_of source below x store) (λ _ later. statements_of source below xs later) (λ _ last. statements_of source below ys last))
-    ∙ sym (ap (λ (end : End (Unit {0})). then_do end (λ _ last. statements_of source below ys last)) (first-statement source below x xs store))
+statements-append : (source : Source) (below : Levels) (around : Around) (xs ys : List Statement) (store : Store) → statements_of source below around (xs ++ ys) store ≡ then_do (statements_of source below around xs store) (λ _ later. statements_of source below (marking (flat_map (marked_by_statement source) xs) around) ys later)
+statements-append source below around [] ys store =
+    sym (ap (λ (end : End (Unit {0})). then_do end (λ _ later. statements_of source below (marking [] around) ys later)) (no-statements source below around store)
+    ∙ then-go tt store (λ _ later. statements_of source below (marking [] around) ys later)
+    ∙ ap (λ (a : Around). statements_of source below a ys store) (marking-none around))
+statements-append source below around (x ∷ xs) ys store =
+    let inner : Around = marking (marked_by_statement source x) around in
+    let behind : Around = marking (flat_map (marked_by_statement source) xs) inner in
+    let all : Around = marking (flat_map (marked_by_statement source) (x ∷ xs)) around in
+    first-statement source below around x (xs ++ ys) store
+    ∙ then-same (statement_of source (below around) x store) (λ _ later. statements_of source below inner (xs ++ ys) later) (λ _ later. then_do (statements_of source below inner xs later) (λ _ last. statements_of source below behind ys last)) (λ _ later. statements-append source below inner xs ys later)
+    ∙ sym (then-then (statement_of source (below around) x store) (λ _ later. statements_of source below inner xs later) (λ _ last. statements_of source below behind ys last))
+    ∙ sym (ap (λ (end : End (Unit {0})). then_do end (λ _ last. statements_of source below behind ys last)) (first-statement source below around x xs store))
+    ∙ ap (λ (a : Around). then_do (statements_of source below around (x ∷ xs) store) (λ _ last. statements_of source below a ys last)) (marking-more (marked_by_statement source x) (flat_map (marked_by_statement source) xs) around)
 
 -- no statements were lowered
 pub lowers-none : (source : Source) (s : Shape) → IsSound source s → IsOpen s → LowersStatements source s s []
@@ -112,24 +120,24 @@ lowers-none source s sound opened =
     record {
       keeps = record { grows = grows-refl s; spares = spares-refl s; sound = sound; «open» = opened; scope = sym (append-nil s.scope) };
       does = record {
-        reaches = λ whole frame grows whole-sound is fuel store memory holds.
-            subst (Reaches frame (here s) (here s) memory (Done whole frame)) (sym (no-statements source (level_at source fuel) store))
-            (0, memory, omega arith, comes-refl frame (here s) memory, (holds, tt));
+        reaches = λ whole frame grows whole-sound is lands around stands fuel store memory holds.
+            subst (Reaches whole lands frame (here s) (here s) memory (Nothing whole frame)) (sym (no-statements source (level_at source fuel) around store))
+            (memory, comes-refl frame (here s) memory, holds, tt);
       };
       laid = λ child within. absurd (let below = within.1 in omega arith);
     }
 
 -- one statement was lowered, by what it does
-one-statement : (source : Source) (old new : Shape) (st : Statement) → Performs source old new Nothing (λ fuel store. statement_of source (level_at source fuel) st store) → DoesStatements source old new (st ∷ [])
+one-statement : (source : Source) (old new : Shape) (st : Statement) → Performs source old new Nothing (λ around fuel store. statement_of source (level_at source fuel around) st store) → DoesStatements source old new (st ∷ [])
 one-statement source old new st performs =
     record {
-      reaches = λ whole frame grows sound is fuel store memory holds.
-          subst (Reaches frame (here old) (here new) memory (Done whole frame)) (sym (first-statement source (level_at source fuel) st [] store))
-          (reaches-then frame (here old) (here new) (here new) memory (Done whole frame) (Done whole frame) (statement_of source (level_at source fuel) st store) _
-          (performs.reaches whole frame grows sound is fuel store memory holds)
+      reaches = λ whole frame grows sound is lands around stands fuel store memory holds.
+          subst (Reaches whole lands frame (here old) (here new) memory (Nothing whole frame)) (sym (first-statement source (level_at source fuel) around st [] store))
+          (reaches-then whole lands frame (here old) (here new) (here new) memory (Nothing whole frame) (Nothing whole frame) (statement_of source (level_at source fuel around) st store) _
+          (performs.reaches whole frame grows sound is lands around stands fuel store memory holds)
           (λ value store1 memory1 claims.
-          subst (Reaches frame (here new) (here new) memory1 (Done whole frame)) (sym (no-statements source (level_at source fuel) store1))
-          (0, memory1, omega arith, comes-refl frame (here new) memory1, claims)));
+          subst (Reaches whole lands frame (here new) (here new) memory1 (Nothing whole frame)) (sym (no-statements source (level_at source fuel) (marking (marked_by_statement source st) around) store1))
+          (memory1, comes-refl frame (here new) memory1, claims.0, claims.1)));
     }
 
 -- statements, and then others
@@ -147,11 +155,11 @@ lowers-more source s0 s1 s2 xs ys first second =
             ∙ ap (λ m. s0.scope ++ m) (sym (flat_map-append (marked_by_statement source) xs ys));
       };
       does = record {
-        reaches = λ whole frame grows sound is fuel store memory holds.
-            subst (Reaches frame (here s0) (here s2) memory (Done whole frame)) (sym (statements-append source (level_at source fuel) xs ys store))
-            (reaches-then frame (here s0) (here s1) (here s2) memory (Done whole frame) (Done whole frame) (statements_of source (level_at source fuel) xs store) _
-            (first.does.reaches whole frame (grows-trans s1 s2 whole second.keeps.grows grows) sound is fuel store memory holds)
-            (λ value store1 memory1 claims. second.does.reaches whole frame grows sound is fuel store1 memory1 claims.0));
+        reaches = λ whole frame grows sound is lands around stands fuel store memory holds.
+            subst (Reaches whole lands frame (here s0) (here s2) memory (Nothing whole frame)) (sym (statements-append source (level_at source fuel) around xs ys store))
+            (reaches-then whole lands frame (here s0) (here s1) (here s2) memory (Nothing whole frame) (Nothing whole frame) (statements_of source (level_at source fuel) around xs store) _
+            (first.does.reaches whole frame (grows-trans s1 s2 whole second.keeps.grows grows) sound is lands around stands fuel store memory holds)
+            (λ value store1 memory1 claims. second.does.reaches whole frame grows sound is lands (marking (flat_map (marked_by_statement source) xs) around) (marking-fits first.keeps around stands) fuel store1 memory1 claims.0));
       };
       laid = λ child within plain layouts. ⊎_elim
           (λ one. first.laid child one plain (layouts-before source s1 s2 second.keeps.grows layouts))
@@ -177,51 +185,48 @@ lowers-let source s0 s1 s2 s3 pat e local place idles binding =
             ∙ ap (λ m. s0.scope ++ m) (sym (append-nil (marked_by_statement source (statement.Let pat (Some e) None)) ∙ let_marks source pat e));
       };
       does = one-statement source s0 s3 (statement.Let pat (Some e) None) (record {
-        reaches = λ whole frame grows sound is fuel store memory holds.
+        reaches = λ whole frame grows sound is lands around stands fuel store memory holds.
             let grown : Grows s2 whole = grows-trans s2 s3 whole binds.keeps.grows grows in
-            reaches-then frame (here s0) (here s1) (here s3) memory (λ path after later. Holds whole frame after later × LeadsTo c whole frame path) (Done whole frame) ((level_at source fuel).place e.0 store) _
-            (place.does.does.reaches whole frame (grows-trans s1 s2 whole idles.grows grown) sound is fuel store memory holds)
+            reaches-then whole lands frame (here s0) (here s1) (here s3) memory (LeadsTo c whole frame) (Nothing whole frame) ((level_at source fuel around).place e.0 store) _
+            (place.does.does.reaches whole frame (grows-trans s1 s2 whole idles.grows grown) sound is lands around stands fuel store memory holds)
             (λ path store1 memory1 claims.
-            subst (λ (p : Path). Reaches frame (here s1) (here s3) memory1 (Done whole frame) (bind (pattern source pat.0) p store1)) (sym claims.1)
-            (reaches-from frame (here s1) (here s2) (here s3) memory1 (Done whole frame) (idles.comes whole frame grown is memory1) _
-            (binds.does.reaches whole frame grows sound is fuel store1 memory1 claims.0)));
+            subst (λ (p : Path). Reaches whole lands frame (here s1) (here s3) memory1 (Nothing whole frame) (bind (pattern source pat.0) p store1)) (sym claims.1)
+            (reaches-from whole lands frame (here s1) (here s2) (here s3) memory1 (Nothing whole frame) (idles.comes whole frame grown is memory1) _
+            (binds.does.reaches whole frame grows sound is lands (record around { marks = s2.scope }) refl fuel store1 memory1 claims.0)));
       });
       laid = λ child within plain layouts f needs.
           let same : e.0 ≡ child = one-of e.0 child within in
           place.laid (subst (IsPlainFrom source) (sym same) plain) (layouts-before source s1 s3 later layouts) f (subst (λ x. NeedsLayout source x f) (sym same) needs);
     }
 
--- a scope that was opened inside another, and left: what idles behind it
-scope-left : (s : Shape) (outer : List Cell) (source : Source) (new : Shape) (turns : ℕ) → Idles source (with_scope outer s) new turns → (whole : Shape) (frame : Frame) → Grows new whole → IsFrameOf whole frame → (memory : Memory) → Comes frame turns (here s) memory (here new) memory
-scope-left s outer source new turns idles whole frame grows is memory =
+-- behind a scope that was left the run goes on
+scope-idles : (s : Shape) (outer : List Cell) (source : Source) (new : Shape) (turns : ℕ) → Idles source (with_scope outer s) new turns → (whole : Shape) (frame : Frame) → Grows new whole → IsFrameOf whole frame → (memory : Memory) → Comes frame turns (here s) memory (here new) memory
+scope-idles s outer source new turns idles whole frame grows is memory =
     subst (λ (p : Point). Comes frame turns p memory (here new) memory) (here-scope s outer) (idles.comes whole frame grows is memory)
 
 -- an expression statement: its place, in a scope of its own, which is then left
-pub lowers-expr-statement : (source : Source) (s0 s1 s2 s3 : Shape) (e : ExprId) (has_semi : _) (local : ℕ) → LowersPlace source (with_scope [] s0) s1 e.0 local → Idles source s1 s2 0 → Idles source (with_scope s0.scope s2) s3 (drops source s2.scope) → LowersStatements source s0 s3 (statement.Expr e has_semi ∷ [])
-unfolding count_at
+pub lowers-expr-statement : (source : Source) (s0 s1 s2 s3 : Shape) (e : ExprId) (has_semi : _) (local : ℕ) → LowersPlace source s0 s1 e.0 local → Idles source s1 s2 0 → Idles source (with_scope s0.scope s2) s3 (drops source (marked_as_place source e.0)) → LowersStatements source s0 s3 (statement.Expr e has_semi ∷ [])
 lowers-expr-statement source s0 s1 s2 s3 e has_semi local place read left =
-    let inner : s2.scope ≡ marked_as_place source e.0 = read.scope ∙ place.keeps.scope in
     let into : Grows s1 s3 = grows-trans s1 s2 s3 read.grows (grows-trans s2 (with_scope s0.scope s2) s3 (with_scope-grows s0.scope s2) left.grows) in
+    let turns = drops source (marked_as_place source e.0) in
     record {
       keeps = record {
-        grows = grows-trans s0 (with_scope [] s0) s3 (with_scope-grows [] s0) (grows-trans (with_scope [] s0) s1 s3 place.keeps.grows into);
-        spares = scoped-spares s0 s2 s3 [] (spares-trans (with_scope [] s0) s1 s2 place.keeps.spares read.spares) s0.scope left.spares;
+        grows = grows-trans s0 s1 s3 place.keeps.grows into;
+        spares = scoped-spares s0 s2 s3 (spares-trans s0 s1 s2 place.keeps.spares read.spares) s0.scope left.spares;
         sound = left.sound;
         «open» = left.«open»;
         scope = left.scope ∙ sym (append-nil s0.scope) ∙ ap (λ m. s0.scope ++ m) (sym (append-nil (marked_by_statement source (statement.Expr e has_semi)) ∙ expression_marks source e has_semi));
       };
       does = one-statement source s0 s3 (statement.Expr e has_semi) (record {
-        reaches = λ whole frame grows sound is fuel store memory holds.
+        reaches = λ whole frame grows sound is lands around stands fuel store memory holds.
             let grown2 : Grows s2 whole = grows-trans s2 (with_scope s0.scope s2) whole (with_scope-grows s0.scope s2) (grows-trans (with_scope s0.scope s2) s3 whole left.grows grows) in
-            reaches-then frame (here s0) (here s1) (here s3) memory (λ path after later. Holds whole frame after later × LeadsTo place.does.cell whole frame path) (Done whole frame) ((level_at source fuel).place e.0 store) _
-            (place.does.does.reaches whole frame (grows-trans s1 s2 whole read.grows grown2) sound is fuel store memory holds)
-            (λ path store1 memory1 claims.
-            let turns : drops source s2.scope ≡ drops source (marked_as_place source e.0) = ap (drops source) inner in (
-              0 + drops source s2.scope,
+            reaches-then whole lands frame (here s0) (here s1) (here s3) memory (LeadsTo place.does.cell whole frame) (Nothing whole frame) ((level_at source fuel around).place e.0 store) _
+            (place.does.does.reaches whole frame (grows-trans s1 s2 whole read.grows grown2) sound is lands around stands fuel store memory holds)
+            (λ path store1 memory1 claims. (
               memory1,
-              omega (arith, turns),
-              comes-trans frame 0 (drops source s2.scope) (here s1) (here s2) memory1 memory1 (read.comes whole frame grown2 is memory1) (here s3) memory1 (scope-left s2 s0.scope source s3 (drops source s2.scope) left whole frame grows is memory1),
-              (claims.0, tt),
+              comes-from frame turns (here s1) (here s2) (here s3) memory1 memory1 memory1 (read.comes whole frame grown2 is memory1) (scope-idles s2 s0.scope source s3 turns left whole frame grows is memory1),
+              claims.0,
+              tt,
             ));
       });
       laid = λ child within plain layouts f needs.
@@ -242,7 +247,7 @@ pub lowers-no-tail : (source : Source) (s : Shape) (c : Cell) → IsSound source
 lowers-no-tail source s c sound opened =
     record {
       keeps = record { grows = grows-refl s; spares = spares-refl s; sound = sound; «open» = opened; scope = sym (ap (λ m. s.scope ++ m) (no_tail_marks source) ∙ append-nil s.scope) };
-      does = record { reaches = λ whole frame grows whole-sound is fuel store memory holds. (0, memory, omega arith, comes-refl frame (here s) memory, (holds, tt)) };
+      does = record { reaches = λ whole frame grows whole-sound is lands around stands fuel store memory holds. (memory, comes-refl frame (here s) memory, holds, tt) };
       laid = λ e same. absurd cc;
     }
 
@@ -265,38 +270,38 @@ lays-block source s0 s1 s2 new e statements tail c form first last grows1 grows2
           last.laid t is (subst (IsLaidOut source) (sym (tail-type t is (plain e itself) (subst (λ n. HasPlainForm source e n (plain e itself).ty) form (plain e itself).form))) laid)
           (subst (IsPlainFrom source) (sym same) (plain-part source e child (sized_part_is_part source (node source e) child within) plain)) (layouts-before source s2 new grows2 layouts) f (subst (λ x. NeedsLayout source x f) (sym same) rest)
 
+-- what came into use in a block: in its statements and in its tail
+pub block-inner : (source : Source) (s0 s1 s2 : Shape) (statements : List Statement) (tail : Option ExprId) (c : Cell) → LowersStatements source s0 s1 statements → LowersTail source s1 s2 tail c → s2.scope ≡ s0.scope ++ marked_in_block source statements tail
+block-inner source s0 s1 s2 statements tail c first last =
+    last.keeps.scope ∙ ap (λ scope. scope ++ marked_by_tail source tail) first.keeps.scope
+    ∙ append_assoc s0.scope (flat_map (marked_by_statement source) statements) (marked_by_tail source tail)
+    ∙ ap (λ m. s0.scope ++ m) (sym (inner_marks source statements tail))
+
 -- a block: its statements and its tail, in a scope of their own, which is then left
-pub lowers-block : (source : Source) (s0 s1 s2 s3 : Shape) (e : ℕ) (statements : List Statement) (tail : Option ExprId) (c : Cell) → IsReady source s0 e → node source e ≡ Some (expr.Block statements tail) → LowersStatements source (with_scope [] s0) s1 statements → LowersTail source s1 s2 tail c → Idles source (with_scope s0.scope s2) s3 (drops source s2.scope) → LowersInto source s0 s3 e c
-unfolding count_at
+pub lowers-block : (source : Source) (s0 s1 s2 s3 : Shape) (e : ℕ) (statements : List Statement) (tail : Option ExprId) (c : Cell) → IsReady source s0 e → node source e ≡ Some (expr.Block statements tail) → LowersStatements source s0 s1 statements → LowersTail source s1 s2 tail c → Idles source (with_scope s0.scope s2) s3 (drops source (marked_in_block source statements tail)) → LowersInto source s0 s3 e c
 lowers-block source s0 s1 s2 s3 e statements tail c ready form first last left =
-    let inner : s2.scope ≡ marked_in_block source statements tail = last.keeps.scope ∙ ap (λ scope. scope ++ marked_by_tail source tail) first.keeps.scope ∙ sym (inner_marks source statements tail) in
     let into2 : Grows s2 s3 = grows-trans s2 (with_scope s0.scope s2) s3 (with_scope-grows s0.scope s2) left.grows in
     let into1 : Grows s1 s3 = grows-trans s1 s2 s3 last.keeps.grows into2 in
+    let turns = drops source (marked_in_block source statements tail) in
     record {
       keeps = record {
-        grows = grows-trans s0 (with_scope [] s0) s3 (with_scope-grows [] s0) (grows-trans (with_scope [] s0) s1 s3 first.keeps.grows into1);
-        spares = scoped-spares s0 s2 s3 [] (spares-trans (with_scope [] s0) s1 s2 first.keeps.spares last.keeps.spares) s0.scope left.spares;
+        grows = grows-trans s0 s1 s3 first.keeps.grows into1;
+        spares = scoped-spares s0 s2 s3 (spares-trans s0 s1 s2 first.keeps.spares last.keeps.spares) s0.scope left.spares;
         sound = left.sound;
         «open» = left.«open»;
         scope = left.scope ∙ sym (append-nil s0.scope) ∙ ap (λ m. s0.scope ++ m) (sym (block_marks source ready.checked e ready.within statements tail form));
       };
       does = does-form source s0 s3 e c (Some (expr.Block statements tail)) form (record {
-        reaches = λ whole frame grows sound is fuel store memory holds.
+        reaches = λ whole frame grows sound is lands around stands fuel store memory holds.
             let grown2 : Grows s2 whole = grows-trans s2 s3 whole into2 grows in
             let below = level_at source fuel in
-            reaches-then frame (here s0) (here s1) (here s3) memory (Done whole frame) (Done whole frame) (statements_of source below statements store) _
-            (first.does.reaches whole frame (grows-trans s1 s2 whole last.keeps.grows grown2) sound is fuel store memory holds)
+            let behind : Around = marking (flat_map (marked_by_statement source) statements) around in
+            reaches-then whole lands frame (here s0) (here s1) (here s3) memory (Nothing whole frame) (Nothing whole frame) (statements_of source below around statements store) _
+            (first.does.reaches whole frame (grows-trans s1 s2 whole last.keeps.grows grown2) sound is lands around stands fuel store memory holds)
             (λ value store1 memory1 claims1.
-            reaches-then frame (here s1) (here s2) (here s3) memory1 (Done whole frame) (Done whole frame) (tail_into below tail (record { cell = c }) store1) _
-            (last.does.reaches whole frame grown2 sound is fuel store1 memory1 claims1.0)
-            (λ value store2 memory2 claims2.
-            let turns : drops source s2.scope ≡ drops source (marked_in_block source statements tail) = ap (drops source) inner in (
-              drops source s2.scope,
-              memory2,
-              omega (arith, turns),
-              scope-left s2 s0.scope source s3 (drops source s2.scope) left whole frame grows is memory2,
-              (claims2.0, tt),
-            )));
+            reaches-then whole lands frame (here s1) (here s2) (here s3) memory1 (Nothing whole frame) (Nothing whole frame) (tail_into (below behind) tail (record { cell = c }) store1) _
+            (last.does.reaches whole frame grown2 sound is lands behind (marking-fits first.keeps around stands) fuel store1 memory1 claims1.0)
+            (λ value store2 memory2 claims2. (memory2, scope-idles s2 s0.scope source s3 turns left whole frame grows is memory2, claims2.0, tt)));
       });
-      laid = lays-block source (with_scope [] s0) s1 s2 s3 e statements tail c form first last into1 into2;
+      laid = lays-block source s0 s1 s2 s3 e statements tail c form first last into1 into2;
     }

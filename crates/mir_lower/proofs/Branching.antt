@@ -13,44 +13,43 @@ use Rattle.source_meaning.specs.Source.{Source, node, node_type, Cell}
 use Rattle.source_meaning.specs.Steps.{Operand}
 use Rattle.source_meaning.specs.Valid.{IsPlainFrom, IsLaidOut, NeedsLayout, sized_part}
 use Rattle.source_meaning.proofs.Parts.{sized_operand}
-use Rattle.mir_lower.specs.Does.{here, IsFrameOf, Comes, Reaches}
+use Rattle.mir_lower.specs.Does.{here, IsFrameOf, Comes, Landings, Reaches, Nothing}
 use Rattle.mir_lower.specs.Graph.{Shape}
 use Rattle.mir_lower.specs.Growth.{Grows}
 use Rattle.mir_lower.specs.Lowered.{HasLayouts, LowersInto, LowersOperand}
 use Rattle.mir_lower.proofs.Branches.{IsBranched, comes-first, comes-second, first-joins, second-joins}
 use Rattle.mir_lower.proofs.Laid.{layouts-before, one-of}
 use Rattle.mir_lower.proofs.Reaching.{reaches-after, reaches-then}
-use Rattle.mir_lower.proofs.Steps.{Done}
 
 -- one byte as a number
 one-byte : (byte : ℕ) → value_of (byte ∷ []) ≡ byte
 unfolding value_of
 one-byte byte = omega arith
 
-module _ {source : Source} {s0 s1 s2 s3 s4 s5 s6 : Shape} {operand : OperandKind} {number other join : ℕ} {tested first second : List Cell} (parts : IsBranched source s0 s1 s2 s3 s4 s5 s6 operand number other join tested first second) (whole : Shape) (frame : Frame) (grows : Grows s6 whole) (is : IsFrameOf whole frame) (memory : Memory) where
+module _ {source : Source} {s0 s1 s2 s3 s4 s5 s6 : Shape} {operand : OperandKind} {number other join : ℕ} {tested first second : List Cell} (parts : IsBranched source s0 s1 s2 s3 s4 s5 s6 operand number other join tested first second) (whole : Shape) (frame : Frame) (grows : Grows s6 whole) (is : IsFrameOf whole frame) (lands : Landings) (memory : Memory) where
   -- what a branch does, and a block on the way to it and one on the way to the join
-  one-branch : (from to : Shape) (end : End (Unit {0})) → Comes frame 1 (here s1) memory (here from) memory → ((later : Memory) → Comes frame 1 (here to) later (here s6) later) → Reaches frame (here from) (here to) memory (Done whole frame) end → Reaches frame (here s1) (here s6) memory (Done whole frame) (branched end)
+  one-branch : (from to : Shape) (end : End (Unit {0})) → Comes frame 1 (here s1) memory (here from) memory → ((later : Memory) → Comes frame 1 (here to) later (here s6) later) → Reaches whole lands frame (here from) (here to) memory (Nothing whole frame) end → Reaches whole lands frame (here s1) (here s6) memory (Nothing whole frame) (branched end)
   one-branch from to end enters leaves does =
-      reaches-after frame 1 (here s1) (here from) (here s6) memory memory (Done whole frame) (turns_alone 1) (omega arith) enters (then_do end (λ _ last. Go tt last (turns_alone 1)))
-      (reaches-then frame (here from) (here to) (here s6) memory (Done whole frame) (Done whole frame) end (λ _ last. Go tt last (turns_alone 1)) does
-      (λ value store later claims. (1, later, omega arith, leaves later, claims)))
+      reaches-after whole lands frame (here s1) (here from) (here s6) memory memory (Nothing whole frame) (turns_alone 1) enters (then_do end (λ _ last. Go tt last (turns_alone 1)))
+      (reaches-then whole lands frame (here from) (here to) (here s6) memory (Nothing whole frame) (Nothing whole frame) end (λ _ last. Go tt last (turns_alone 1)) does
+      (λ value store later claims. (later, leaves later, claims.0, claims.1)))
 
-  stuck-branch : Reaches frame (here s1) (here s6) memory (Done whole frame) (branched Stuck)
+  stuck-branch : Reaches whole lands frame (here s1) (here s6) memory (Nothing whole frame) (branched Stuck)
   unfolding after then_do
   stuck-branch = tt
 
-  module _ (branch : Option Bool → End (Unit {0})) (stuck : branch None ≡ Stuck) (one : Reaches frame (here s2) (here s3) memory (Done whole frame) (branch (Some true))) (two : Reaches frame (here s4) (here s5) memory (Done whole frame) (branch (Some false))) where
-    by-test : (byte : ℕ) → mir_bytes frame memory operand ≡ Some (byte ∷ []) → (test : Bool) → eqb byte number ≡ test → Reaches frame (here s1) (here s6) memory (Done whole frame) (branched (branch (Some test)))
+  module _ (branch : Option Bool → End (Unit {0})) (stuck : branch None ≡ Stuck) (one : Reaches whole lands frame (here s2) (here s3) memory (Nothing whole frame) (branch (Some true))) (two : Reaches whole lands frame (here s4) (here s5) memory (Nothing whole frame) (branch (Some false))) where
+    by-test : (byte : ℕ) → mir_bytes frame memory operand ≡ Some (byte ∷ []) → (test : Bool) → eqb byte number ≡ test → Reaches whole lands frame (here s1) (here s6) memory (Nothing whole frame) (branched (branch (Some test)))
     by-test byte has true same =
         one-branch s2 s3 (branch (Some true)) (comes-first parts whole frame grows is memory (byte ∷ []) has (omega arith) (one-byte byte ∙ eqb-true byte number same)) (λ later. first-joins parts whole frame grows is later) one
     by-test byte has false differs =
         one-branch s4 s5 (branch (Some false)) (comes-second parts whole frame grows is memory (byte ∷ []) has (omega arith) (λ same. eqb-false byte number differs (sym (one-byte byte) ∙ same))) (λ later. second-joins parts whole frame grows is later) two
 
-    without : Reaches frame (here s1) (here s6) memory (Done whole frame) (branched (branch None))
-    without = subst (λ (end : End (Unit {0})). Reaches frame (here s1) (here s6) memory (Done whole frame) (branched end)) (sym stuck) stuck-branch
+    without : Reaches whole lands frame (here s1) (here s6) memory (Nothing whole frame) (branched (branch None))
+    without = subst (λ (end : End (Unit {0})). Reaches whole lands frame (here s1) (here s6) memory (Nothing whole frame) (branched end)) (sym stuck) stuck-branch
 
     -- by the operand's byte one of the branches is taken; other bytes than one have no meaning
-    pub reaches-branched : (bytes : List ℕ) → mir_bytes frame memory operand ≡ Some bytes → Reaches frame (here s1) (here s6) memory (Done whole frame) (branched (branch (is_byte number bytes)))
+    pub reaches-branched : (bytes : List ℕ) → mir_bytes frame memory operand ≡ Some bytes → Reaches whole lands frame (here s1) (here s6) memory (Nothing whole frame) (branched (branch (is_byte number bytes)))
     reaches-branched [] has = without
     reaches-branched (byte ∷ []) has = by-test byte has (eqb byte number) refl
     reaches-branched (byte ∷ more ∷ rest) has = without

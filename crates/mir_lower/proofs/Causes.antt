@@ -67,6 +67,11 @@ built-is-no-unbuilt source e (Some (expr.If condition then_branch else_branch)) 
 built-is-no-unbuilt source e (Some (expr.Assign assigned value)) built unbuilt = target-is-no-unbuilt source assigned built unbuilt
 built-is-no-unbuilt source e (Some (expr.Block statements tail)) built unbuilt =
     built-statement source unbuilt.0 (All-contains (IsBuiltStatement source) statements unbuilt.0 built unbuilt.1) unbuilt.2
+built-is-no-unbuilt source e (Some (expr.Labelled label statements tail)) built unbuilt =
+    built-statement source unbuilt.0 (All-contains (IsBuiltStatement source) statements unbuilt.0 built unbuilt.1) unbuilt.2
+built-is-no-unbuilt source e (Some (expr.Loop label body)) built unbuilt = unbuilt
+built-is-no-unbuilt source e (Some (expr.Break label value)) built unbuilt = unbuilt
+built-is-no-unbuilt source e (Some (expr.Continue label)) built unbuilt = unbuilt
 built-is-no-unbuilt source e None built unbuilt = built
 
 -- two bindings that stand in one place are one
@@ -90,6 +95,11 @@ built-has-local source e (Some (expr.Assign assigned value)) built lacks =
     one-binding source built.binding lacks.0 built.there.ty (let one = built.names in let other = lacks.1 in let same : built.binding ≡ lacks.0 = cc in same) built.there.typed lacks.2
 built-has-local source e (Some (expr.Block statements tail)) built lacks =
     statement-binds source lacks.0 (All-contains (IsBuiltStatement source) statements lacks.0 built lacks.1) lacks.2
+built-has-local source e (Some (expr.Labelled label statements tail)) built lacks =
+    statement-binds source lacks.0 (All-contains (IsBuiltStatement source) statements lacks.0 built lacks.1) lacks.2
+built-has-local source e (Some (expr.Loop label body)) built lacks = lacks
+built-has-local source e (Some (expr.Break label value)) built lacks = lacks
+built-has-local source e (Some (expr.Continue label)) built lacks = lacks
 built-has-local source e (Some (expr.Literal l)) built lacks = lacks
 built-has-local source e (Some (expr.Strict operation operands)) built lacks = lacks
 built-has-local source e (Some (expr.Logic op left right)) built lacks = lacks
@@ -108,4 +118,8 @@ built-is-resolved source e (Some (expr.Strict operation operands)) name built un
 built-is-resolved source e (Some (expr.Logic op left right)) name built unresolved = unresolved
 built-is-resolved source e (Some (expr.If condition then_branch else_branch)) name built unresolved = unresolved
 built-is-resolved source e (Some (expr.Block statements tail)) name built unresolved = unresolved
+built-is-resolved source e (Some (expr.Labelled label statements tail)) name built unresolved = unresolved
+built-is-resolved source e (Some (expr.Loop label body)) name built unresolved = unresolved
+built-is-resolved source e (Some (expr.Break label value)) name built unresolved = unresolved
+built-is-resolved source e (Some (expr.Continue label)) name built unresolved = unresolved
 built-is-resolved source e None name built unresolved = unresolved

@@ -1,5 +1,5 @@
 -- `if`, `&&` and `||`: an operand that is tested, and two branches.
-use Rattle.std.proofs.Common.{◌≡◌, ℕ, List, [], ◌∷◌, Contains, Option, Some, None, Ok, refl, sym, ap, ◌∙◌, subst, arith, ⊎_elim}
+use Rattle.std.proofs.Common.{◌≡◌, ℕ, List, [], ◌∷◌, Contains, Option, Some, None, Ok, refl, sym, ap, ◌∙◌, subst, arith, append-nil, ⊎_elim}
 use Rattle.std.specs.Prelude.{IfSome, flat_map}
 use Rattle.std.proofs.lemmas.List.Elements.{Contains-append_cases}
 use Rattle.source_meaning.specs.Core as expr
@@ -12,17 +12,18 @@ use Rattle.mir.specs.declared.operand.Rvalue.TheVariants.{Use}
 use Rattle.mir.specs.declared.span.MirSpan.{MirSpan}
 use Rattle.mir.specs.Memory.{Memory}
 use Rattle.mir.specs.Run.{Frame, rvalue_bytes, read}
+use Rattle.source_meaning.specs.Around.{Around, marking}
 use Rattle.source_meaning.specs.Ends.{after}
 use Rattle.source_meaning.specs.Events.{marked, marked_as_operand, marked_by_tail}
 use Rattle.source_meaning.specs.Meaning.{level_at, put, deciding_byte, reading_cost, decided_into, branch_into}
-use Rattle.source_meaning.specs.Source.{Source, node, node_type, Cell, Store, Operand, operand_bytes}
+use Rattle.source_meaning.specs.Source.{Source, node, node_type, Cell, Store, Operand, Literally, At, operand_bytes}
 use Rattle.source_meaning.specs.Steps.{parts_of, tail_steps}
 use Rattle.source_meaning.specs.Steps as step
 use Rattle.source_meaning.specs.Valid.{itself, own, inside, sized_part, sized_parts, HasPlainForm, IsPlainNode, IsPlainTail, IsPlainLogic, IsPlainIf, IsPlainFrom, IsLaidOut, NeedsLayout}
 use Rattle.source_meaning.proofs.Depth.{logic_operand_is_part, if_part_is_part, tail_is_part}
 use Rattle.source_meaning.proofs.Marks.{logic_marks, if_marks}
 use Rattle.source_meaning.proofs.Parts.{sized_part_is_part}
-use Rattle.mir_lower.specs.Does.{here, IsFrameOf, Holds, Reaches, Fits}
+use Rattle.mir_lower.specs.Does.{here, IsFrameOf, Holds, Comes, Landings, Reaches, Nothing, Fits}
 use Rattle.mir_lower.specs.Graph.{Shape, with_statement, local_of}
 use Rattle.mir_lower.specs.Growth.{Grows, IsSound, IsOpen, IsReady}
 use Rattle.mir_lower.specs.Lowered.{Keeps, HasLayouts, LaysOut, LowersInto, LowersOperand, LowersTail}
@@ -32,7 +33,8 @@ use Rattle.mir_lower.proofs.Growing.{grows-trans}
 use Rattle.mir_lower.proofs.Laid.{layouts-before, plain-part, one-of}
 use Rattle.mir_lower.proofs.Operations.{assignment, keeps-assigned}
 use Rattle.mir_lower.proofs.Reaching.{comes-refl, reaches-after, reaches-then}
-use Rattle.mir_lower.proofs.Steps.{local_of-grows, Done, assigned-bytes, does-form}
+use Rattle.mir_lower.proofs.Standing.{marking-fits}
+use Rattle.mir_lower.proofs.Steps.{local_of-grows, assigned-bytes, does-form}
 
 -- What is lowered is a part: the operands of `&&` and `||`, the condition and the branches of an `if`, and what may be left out.
 
@@ -55,11 +57,6 @@ else-part source e condition then_branch None form = tt
 pub tail-part : (source : Source) (e : ℕ) (statements : List _) (tail : Option ExprId) → node source e ≡ Some (expr.Block statements tail) → IfSome tail (λ one. Contains (parts_of (node source e)) one.0)
 tail-part source e statements (Some one) form = tail_is_part source e statements one form
 tail-part source e statements None form = tt
-
--- What is tested, as all lemmas below have it.
-
-abbrev Tested : Source → OperandKind → Shape → Frame → Operand → Store → Memory → Type 0
-Tested source operand whole frame given after later = Holds whole frame after later × Fits source operand whole frame given
 
 -- `if`.
 
@@ -91,18 +88,22 @@ module _ (source : Source) (s0 s1 s2 s3 s4 s5 s6 : Shape) (e condition then_bran
       record {
         keeps = subst (λ (m : List Cell). Keeps source s0 s6 m) (sym (if_marks source ready.checked e ready.within condition then_branch else_branch form)) (branched-keeps parts);
         does = does-form source s0 s6 e c (Some (expr.If condition then_branch else_branch)) form (record {
-          reaches = λ whole frame grows sound is fuel store memory holds.
+          reaches = λ whole frame grows sound is lands around stands fuel store memory holds.
               let below = level_at source fuel in
               let grown3 : Grows s3 whole = grows-trans s3 s6 whole (grows3 parts) grows in
               let grown5 : Grows s5 whole = grows-trans s5 s6 whole (grows5 parts) grows in
               let grown1 : Grows s1 whole = grows-trans s1 s6 whole (grows1 parts) grows in
-              reaches-then frame (here s0) (here s1) (here s6) memory (Tested source operand whole frame) (Done whole frame) (below.operand condition store) _
-              (tested.does.reaches whole frame grown1 sound is fuel store memory holds)
+              let around1 : Around = marking (marked_as_operand source condition) around in
+              let stands1 : around1.marks ≡ s2.scope = marking-fits parts.test around stands ∙ sym parts.forked.scope in
+              let around2 : Around = marking (marked source then_branch) around1 in
+              let stands2 : around2.marks ≡ s4.scope = marking-fits parts.one around1 stands1 ∙ sym parts.one_ended.scope in
+              reaches-then whole lands frame (here s0) (here s1) (here s6) memory (Fits source operand whole frame) (Nothing whole frame) ((below around).operand condition store) _
+              (tested.does.reaches whole frame grown1 sound is lands around stands fuel store memory holds)
               (λ given store1 memory1 claims.
-              reaches-branched parts whole frame grows is memory1
-              (λ test. branch_into below then_branch else_branch test (record { cell = c }) store1) refl
-              (first.does.reaches whole frame grown3 sound is fuel store1 memory1 claims.0)
-              (second.does.reaches whole frame grown5 sound is fuel store1 memory1 claims.0)
+              reaches-branched parts whole frame grows is lands memory1
+              (λ test. branch_into source below around1 then_branch else_branch test (record { cell = c }) store1) refl
+              (first.does.reaches whole frame grown3 sound is lands around1 stands1 fuel store1 memory1 claims.0)
+              (second.does.reaches whole frame grown5 sound is lands around2 stands2 fuel store1 memory1 claims.0)
               (operand_bytes store1 given) (claims.1.bytes store1 memory1 claims.0));
         });
         laid = lays-if;
@@ -114,17 +115,24 @@ decided-computes : (source : Source) (whole : Shape) (frame : Frame) (operand : 
 unfolding rvalue_bytes
 decided-computes source whole frame operand given store memory holds fits = ap read (fits.bytes store memory holds)
 
+-- reading an operand once more enters no block
+reading-enters-none : (source : Source) (given : Operand) → (reading_cost source given).turns ≡ 0
+reading-enters-none source (Literally ty bytes) = refl
+reading-enters-none source (At path) = refl
+
 -- the left operand that decides is written
 module _ (source : Source) (s new : Shape) (operand : MirOperand) (place : Place) (span : MirSpan) (opened : IsOpen s) (same : new ≡ with_statement (assignment place (Use operand) span) s) where
   pub keeps-decided : IsSound source s → Keeps source s new []
   keeps-decided sound = subst (λ (n : Shape). Keeps source s n []) (sym same) (keeps-assigned source s (assignment place (Use operand) span) sound opened)
 
-  reaches-decided : (whole : Shape) (frame : Frame) (c : Cell) (given : Operand) (store : Store) (memory : Memory) → Grows new whole → IsSound source whole → IsFrameOf whole frame → local_of whole c ≡ Some place.local.0 → Holds whole frame store memory → Fits source operand.kind whole frame given → Reaches frame (here s) (here new) memory (Done whole frame) (after (reading_cost source given) (put store (record { cell = c }) (operand_bytes store given)))
-  reaches-decided whole frame c given store memory grows sound is local holds fits =
+  reaches-decided : (whole : Shape) (lands : Landings) (frame : Frame) (c : Cell) (given : Operand) (store : Store) (memory : Memory) → Grows new whole → IsSound source whole → IsFrameOf whole frame → local_of whole c ≡ Some place.local.0 → Holds whole frame store memory → Fits source operand.kind whole frame given → Reaches whole lands frame (here s) (here new) memory (Nothing whole frame) (after (reading_cost source given) (put store (record { cell = c }) (operand_bytes store given)))
+  reaches-decided whole lands frame c given store memory grows sound is local holds fits =
       let grown = subst (λ (n : Shape). Grows n whole) same grows in
-      subst (λ (n : Shape). Reaches frame (here s) (here n) memory (Done whole frame) (after (reading_cost source given) (put store (record { cell = c }) (operand_bytes store given)))) (sym same)
-      (reaches-after frame 0 (here s) (here s) (here (with_statement (assignment place (Use operand) span) s)) memory memory (Done whole frame) (reading_cost source given) (omega arith) (comes-refl frame (here s) memory) (put store (record { cell = c }) (operand_bytes store given))
-      (assigned-bytes source s whole frame place (Use operand) span opened sound is grown c local store memory holds (operand_bytes store given) (decided-computes source whole frame operand given store memory holds fits)))
+      let reads : Comes frame (reading_cost source given).turns (here s) memory (here s) memory =
+      subst (λ (n : ℕ). Comes frame n (here s) memory (here s) memory) (sym (reading-enters-none source given)) (comes-refl frame (here s) memory) in
+      subst (λ (n : Shape). Reaches whole lands frame (here s) (here n) memory (Nothing whole frame) (after (reading_cost source given) (put store (record { cell = c }) (operand_bytes store given)))) (sym same)
+      (reaches-after whole lands frame (here s) (here s) (here (with_statement (assignment place (Use operand) span) s)) memory memory (Nothing whole frame) (reading_cost source given) reads (put store (record { cell = c }) (operand_bytes store given))
+      (assigned-bytes source s whole frame place (Use operand) span opened sound is lands grown c local store memory holds (operand_bytes store given) (decided-computes source whole frame operand given store memory holds fits)))
 
 module _ (source : Source) (s0 s1 s2 s3 s4 s5 s6 : Shape) (e : ℕ) (op : LogicOp) (left right : ℕ) (operand : MirOperand) (place : Place) (span : MirSpan) (other join : ℕ) (c : Cell) (form : node source e ≡ Some (expr.Logic op left right)) (tested : LowersOperand source s0 s1 left operand.kind) (same : s3 ≡ with_statement (assignment place (Use operand) span) s2) (second : LowersInto source s4 s5 right c) (parts : IsBranched source s0 s1 s2 s3 s4 s5 s6 operand.kind (deciding_byte op) other join (marked_as_operand source left) [] (marked source right)) where
   lays-logic : IsLaidOut source (node_type source e) → LaysOut source s6 e
@@ -144,19 +152,21 @@ module _ (source : Source) (s0 s1 s2 s3 s4 s5 s6 : Shape) (e : ℕ) (op : LogicO
       record {
         keeps = subst (λ (m : List Cell). Keeps source s0 s6 m) (sym (logic_marks source ready.checked e ready.within op left right form)) (branched-keeps parts);
         does = does-form source s0 s6 e c (Some (expr.Logic op left right)) form (record {
-          reaches = λ whole frame grows sound is fuel store memory holds.
+          reaches = λ whole frame grows sound is lands around stands fuel store memory holds.
               let below = level_at source fuel in
               let grown3 : Grows s3 whole = grows-trans s3 s6 whole (grows3 parts) grows in
               let grown5 : Grows s5 whole = grows-trans s5 s6 whole (grows5 parts) grows in
               let grown1 : Grows s1 whole = grows-trans s1 s6 whole (grows1 parts) grows in
               let found = local_of-grows s0 whole (grows-trans s0 s1 whole tested.keeps.grows grown1) c place.local.0 local in
-              reaches-then frame (here s0) (here s1) (here s6) memory (Tested source operand.kind whole frame) (Done whole frame) (below.operand left store) _
-              (tested.does.reaches whole frame grown1 sound is fuel store memory holds)
+              let around1 : Around = marking (marked_as_operand source left) around in
+              let stands1 : around1.marks ≡ s4.scope = marking-fits parts.test around stands ∙ sym (parts.one_ended.scope ∙ parts.one.scope ∙ append-nil s2.scope ∙ parts.forked.scope) in
+              reaches-then whole lands frame (here s0) (here s1) (here s6) memory (Fits source operand.kind whole frame) (Nothing whole frame) ((below around).operand left store) _
+              (tested.does.reaches whole frame grown1 sound is lands around stands fuel store memory holds)
               (λ given store1 memory1 claims.
-              reaches-branched parts whole frame grows is memory1
-              (λ test. decided_into source below given right test (record { cell = c }) store1) refl
-              (reaches-decided source s2 s3 operand place span parts.forked.«open» same whole frame c given store1 memory1 grown3 sound is found claims.0 claims.1)
-              (second.does.reaches whole frame grown5 sound is fuel store1 memory1 claims.0)
+              reaches-branched parts whole frame grows is lands memory1
+              (λ test. decided_into source (below around1) given right test (record { cell = c }) store1) refl
+              (reaches-decided source s2 s3 operand place span parts.forked.«open» same whole lands frame c given store1 memory1 grown3 sound is found claims.0 claims.1)
+              (second.does.reaches whole frame grown5 sound is lands around1 stands1 fuel store1 memory1 claims.0)
               (operand_bytes store1 given) (claims.1.bytes store1 memory1 claims.0));
         });
         laid = lays-logic;

@@ -13,8 +13,8 @@ use Rattle.mir.specs.Run.{Frame, GoesTo, terminated, switched, operand_bytes}
 use Rattle.mir.specs.Switches.{first_target, target_of, pairs_of, otherwise_of}
 use Rattle.numbers.specs.Bytes.{value_of}
 use Rattle.source_meaning.specs.Source.{Source}
-use Rattle.mir_lower.specs.Branches.{start_of, IsReserved, IsForked, HasGoneOn}
-use Rattle.mir_lower.specs.Does.{Point, here, Comes}
+use Rattle.mir_lower.specs.Branches.{IsReserved, IsForked, HasGoneOn}
+use Rattle.mir_lower.specs.Does.{Point, here, Comes, start_of}
 use Rattle.mir_lower.specs.Graph.{Shape, with_terminator, with_reserved, with_entered}
 use Rattle.mir_lower.specs.Growth.{Spares, IsSound, IsOpen}
 use Rattle.mir_lower.proofs.Branches.{reserved-spared}

@@ -24,7 +24,7 @@ same_cell-refl (Binding b) = grind (arith, nat_tests)
 unequal : (m n : ℕ) → m ≢ n → eqb m n ≡ false
 unequal m n differ = grind (arith, nat_tests)
 
-cells : (c d : Cell) → ((c ≡ d) × (same_cell c d ≡ true)) ⊎ ((c ≢ d) × (same_cell c d ≡ false))
+pub cells : (c d : Cell) → ((c ≡ d) × (same_cell c d ≡ true)) ⊎ ((c ≢ d) × (same_cell c d ≡ false))
 cells Slot Slot = inl (refl, refl)
 cells Slot (Node e) = inr ((λ same. cc), refl)
 cells Slot (Binding b) = inr ((λ same. cc), refl)

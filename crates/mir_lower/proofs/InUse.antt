@@ -1,5 +1,5 @@
 -- Locals that come into use in a scope.
-use Rattle.std.proofs.Common.{◌≡◌, ℕ, ◌<◌, [], ◌∷◌, ◌++◌, length, Option, Some, None, Ok, refl, sym, ap, ◌∙◌, subst, arith}
+use Rattle.std.proofs.Common.{◌≡◌, ℕ, ◌<◌, false, [], ◌∷◌, ◌++◌, length, Option, Some, None, Ok, refl, sym, ap, ◌∙◌, subst, arith}
 use Rattle.std.specs.Prelude.{option_map}
 use Rattle.types.specs.declared.ty.Ty.{Ty}
 use Rattle.mir.specs.declared.ids.LocalId.{LocalId}
@@ -8,10 +8,11 @@ use Rattle.mir.specs.declared.statement.Statement.{Statement}
 use Rattle.mir.specs.declared.statement.StatementKind.TheVariants.{StorageLive}
 use Rattle.mir.specs.Memory.{Memory}
 use Rattle.mir.specs.Run.{Frame, after_statement}
-use Rattle.source_meaning.specs.Source.{Source, Cell, Node, node_type, binding_type}
+use Rattle.source_meaning.specs.Core.{is_path}
+use Rattle.source_meaning.specs.Source.{Source, Cell, Node, node, node_type, binding_type}
 use Rattle.mir_lower.specs.Does.{Point, here, Comes}
 use Rattle.mir_lower.specs.Graph.{Shape, binding_local, with_statement, with_temp, with_mark, temp_of, local_of}
-use Rattle.mir_lower.specs.Growth.{count_at, Grows, Spares, IsSound, IsOpen, IsReady}
+use Rattle.mir_lower.specs.Growth.{count_at, Grows, Spares, IsSound, IsOpen, IsReadyPart}
 use Rattle.mir_lower.specs.Lowered.{IsGiven}
 use Rattle.mir_lower.proofs.Growing.{grows-trans, with_statement-grows, with_scope-grows, with_temp-grows, temp_of-with_temp_same}
 use Rattle.mir_lower.proofs.Leaving.{here-scope}
@@ -20,7 +21,7 @@ use Rattle.mir_lower.proofs.Sound.{with_statement-sound, with_statement-open, wi
 use Rattle.mir_lower.proofs.Sparing.{spares-trans, with_statement-spares, with_temp-spares, with_scope-spares}
 use Rattle.mir_lower.proofs.Steps.{local_of-grows}
 
--- a cell was marked in the open scope, and nothing else was done
+-- a cell was marked in the innermost open scope, and nothing else was done
 pub record IsMarked (source : Source) (old new : Shape) (c : Cell) (local : ℕ) : Type 0 where
   pub grows : Grows old new
   pub spares : Spares old new
@@ -46,9 +47,10 @@ same-here-temp : (e : ℕ) (ty : Ty) (s : Shape) → here (with_temp e ty s) ≡
 unfolding count_at with_temp
 same-here-temp e ty s = refl
 
-marks-temp : (source : Source) (s : Shape) (e : ℕ) (ty : Ty) → IsReady source s e → e < length s.temps → node_type source e ≡ Some ty → temp_of s e ≡ None → IsMarked source s (with_mark (Node e) (with_temp e ty s)) (Node e) (length s.locals)
-marks-temp source s e ty ready within has none =
-    let next = marks-cell source (with_temp e ty s) (Node e) (length s.locals) (with_temp-sound source e ty s within has ready.reached ready.sound) (with_temp-open e ty s ready.«open») (temp_of-with_temp_same e ty s within) in
+marks-temp : (source : Source) (s : Shape) (e : ℕ) (ty : Ty) → IsReadyPart source s e → is_path (node source e) ≡ false → e < length s.temps → node_type source e ≡ Some ty → temp_of s e ≡ None → IsMarked source s (with_mark (Node e) (with_temp e ty s)) (Node e) (length s.locals)
+marks-temp source s e ty part form within has none =
+    let ready = part.ready in
+    let next = marks-cell source (with_temp e ty s) (Node e) (length s.locals) (with_temp-sound source e ty s within has (ready.reached, form, part.below) none ready.sound) (with_temp-open e ty s ready.«open») (temp_of-with_temp_same e ty s within) in
     record {
       grows = grows-trans s (with_temp e ty s) (with_mark (Node e) (with_temp e ty s)) (with_temp-grows e ty s none) next.grows;
       spares = spares-trans s (with_temp e ty s) (with_mark (Node e) (with_temp e ty s)) (with_temp-spares e ty s) next.spares;
@@ -60,16 +62,16 @@ marks-temp source s e ty ready within has none =
     }
 
 -- the local that an expression has, or is given
-pub marks-expression : (source : Source) (s new : Shape) (e local : ℕ) (ty : Ty) → IsReady source s e → node_type source e ≡ Some ty → ((l : ℕ) → temp_of s e ≡ Some l → (local ≡ l) × (new ≡ with_mark (Node e) s)) → (temp_of s e ≡ None → (local ≡ length s.locals) × (new ≡ with_mark (Node e) (with_temp e ty s))) → IsMarked source s new (Node e) local
-marks-expression source s new e local ty ready has old fresh = by-temp (temp_of s e) refl where
+pub marks-expression : (source : Source) (s new : Shape) (e local : ℕ) (ty : Ty) → IsReadyPart source s e → is_path (node source e) ≡ false → node_type source e ≡ Some ty → ((l : ℕ) → temp_of s e ≡ Some l → (local ≡ l) × (new ≡ with_mark (Node e) s)) → (temp_of s e ≡ None → (local ≡ length s.locals) × (new ≡ with_mark (Node e) (with_temp e ty s))) → IsMarked source s new (Node e) local
+marks-expression source s new e local ty part form has old fresh = by-temp (temp_of s e) refl where
   by-temp : (t : Option ℕ) → temp_of s e ≡ t → IsMarked source s new (Node e) local
   by-temp (Some l) found =
       let facts = old l found in
-      subst (λ (n : Shape). IsMarked source s n (Node e) local) (sym facts.1) (marks-cell source s (Node e) local ready.sound ready.«open» (found ∙ ap Some (sym facts.0)))
+      subst (λ (n : Shape). IsMarked source s n (Node e) local) (sym facts.1) (marks-cell source s (Node e) local part.ready.sound part.ready.«open» (found ∙ ap Some (sym facts.0)))
   by-temp None none =
       let facts = fresh none in
-      let inside : e < length s.temps = (let n = ready.sound.nodes in let w = ready.within in omega arith) in
-      subst (λ (n : Shape). IsMarked source s n (Node e) local) (sym facts.1) (subst (λ (l : ℕ). IsMarked source s (with_mark (Node e) (with_temp e ty s)) (Node e) l) (sym facts.0) (marks-temp source s e ty ready inside has none))
+      let inside : e < length s.temps = (let n = part.ready.sound.nodes in let w = part.ready.within in omega arith) in
+      subst (λ (n : Shape). IsMarked source s n (Node e) local) (sym facts.1) (subst (λ (l : ℕ). IsMarked source s (with_mark (Node e) (with_temp e ty s)) (Node e) l) (sym facts.0) (marks-temp source s e ty part form inside has none))
 
 live-does-nothing : (frame : Frame) (memory : Memory) (local : LocalId) → after_statement frame memory (StorageLive local) ≡ Ok memory
 unfolding after_statement

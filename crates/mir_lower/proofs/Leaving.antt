@@ -18,13 +18,13 @@ use Rattle.mir_lower.specs.Does.{Point, here, run_from, local_bytes, IsFrameOf, 
 use Rattle.mir_lower.specs.Graph.{Shape, no_statements, ended, with_statement, with_terminator, with_block, with_scope}
 use Rattle.mir_lower.specs.Growth.{count_at, Grows, IsSound, IsOpen}
 use Rattle.mir_lower.specs.Leaving.{Idles}
-use Rattle.mir_lower.specs.Simulates.{EndsWithin}
-use Rattle.mir_lower.proofs.Growing.{current_of, grows-refl, grows-trans, with_statement-grows, with_terminator-is, with_terminator-grows, with_block-grows}
+use Rattle.mir_lower.specs.Simulates.{EndsAfter}
+use Rattle.mir_lower.proofs.Growing.{current_of, grows-refl, grows-trans, with_statement-grows, with_terminator-is, with_terminator-grows, with_block-grows, with_scope-grows}
 use Rattle.mir_lower.proofs.Lists.{slice_get-last, slice_get-set_same}
 use Rattle.mir_lower.proofs.Reaching.{comes-refl, comes-trans}
 use Rattle.mir_lower.proofs.Running.{here-is, comes-statement}
-use Rattle.mir_lower.proofs.Sound.{with_statement-sound, with_statement-open, with_statement-scope, with_terminator-sound, with_terminator-scope, with_block-sound, with_block-open, with_block-scope}
-use Rattle.mir_lower.proofs.Sparing.{spares-refl, spares-trans, with_statement-spares, with_terminator-spares, with_block-spares}
+use Rattle.mir_lower.proofs.Sound.{with_statement-sound, with_statement-open, with_statement-scope, with_terminator-sound, with_terminator-scope, with_block-sound, with_block-open, with_block-scope, with_scope-sound, with_scope-open}
+use Rattle.mir_lower.proofs.Sparing.{spares-refl, spares-trans, with_statement-spares, with_terminator-spares, with_block-spares, with_scope-spares}
 
 drop_all : {A : Type 0} (xs : List A) → drop (length xs) xs ≡ []
 drop_all [] = refl
@@ -149,12 +149,10 @@ idles-trans source a b c first second one two =
     }
 
 -- a run that comes to the end of a block that returns ends with the return slot's bytes
-pub ends-return : (s whole : Shape) (frame : Frame) (span : MirSpan) (memory : Memory) (bytes : List ℕ) → IsOpen s → Grows (with_terminator (record { span = span; kind = Return }) s) whole → IsFrameOf whole frame → local_bytes frame memory 0 ≡ Some bytes → EndsWithin 0 (Returned bytes) (run_from frame memory (here s))
+pub ends-return : (s whole : Shape) (frame : Frame) (span : MirSpan) (memory : Memory) (bytes : List ℕ) → IsOpen s → Grows (with_terminator (record { span = span; kind = Return }) s) whole → IsFrameOf whole frame → local_bytes frame memory 0 ≡ Some bytes → EndsAfter 0 (Returned bytes) (run_from frame memory (here s))
 unfolding going_on terminated local_bytes
 ends-return s whole frame span memory bytes opened grows is slot =
     record {
-      turns = 0;
-      bound = omega arith;
       with_more = λ more.
           let plain : 0 + more ≡ more = omega arith in
           ap (run_from frame memory (here s)) plain
@@ -167,3 +165,18 @@ ends-return s whole frame span memory bytes opened grows is slot =
 pub here-scope : (s : Shape) (scope : List Cell) → here (with_scope scope s) ≡ here s
 unfolding count_at
 here-scope s scope = refl
+
+-- whatever else is in use, the same code goes on
+pub idles-scoped : (source : Source) (old new : Shape) (turns : ℕ) (scope : List Cell) → Idles source old new turns → Idles source (with_scope scope old) (with_scope scope new) turns
+unfolding count_at
+idles-scoped source old new turns scope idles =
+    record {
+      grows = grows-trans (with_scope scope old) old (with_scope scope new) (with_scope-grows old.scope (with_scope scope old))
+          (grows-trans old new (with_scope scope new) idles.grows (with_scope-grows scope new));
+      spares = spares-trans (with_scope scope old) old (with_scope scope new) (with_scope-spares old.scope (with_scope scope old))
+          (spares-trans old new (with_scope scope new) idles.spares (with_scope-spares scope new));
+      sound = with_scope-sound source scope new idles.sound;
+      «open» = with_scope-open scope new idles.«open»;
+      scope = refl;
+      comes = λ whole frame grows is memory. idles.comes whole frame (grows-trans new (with_scope scope new) whole (with_scope-grows scope new) grows) is memory;
+    }

@@ -24,10 +24,12 @@ pub mod Placing
 pub mod Reaching
 pub mod Refused
 pub mod Reserving
+pub mod Room
 pub mod Running
 pub mod Sound
 pub mod Sparing
 pub mod Stack
+pub mod Standing
 pub mod Steps
 pub mod Strict
 pub mod Whole

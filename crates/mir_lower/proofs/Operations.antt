@@ -1,5 +1,5 @@
 -- What is assigned to a place: a literal, and what a path names.
-use Rattle.std.proofs.Common.{arith, ◌≡◌, ℕ, List, [], Option, Some, Ok, sym, ap, ◌∙◌, subst, append-nil}
+use Rattle.std.proofs.Common.{◌≡◌, ℕ, List, [], Option, Some, Ok, sym, ap, ◌∙◌, subst, append-nil}
 use Rattle.source_meaning.specs.Core.{CoreLiteral}
 use Rattle.source_meaning.specs.Core as expr
 use Rattle.world.specs.declared.infer.ValueNs.{ValueNs}
@@ -13,11 +13,12 @@ use Rattle.mir.specs.declared.statement.Statement.{Statement}
 use Rattle.mir.specs.declared.statement.StatementKind.TheVariants.{Assign}
 use Rattle.mir.specs.Memory.{Memory}
 use Rattle.mir.specs.Run.{Frame, rvalue_bytes, operand_bytes as mir_bytes, read}
+use Rattle.source_meaning.specs.Around.{Around}
 use Rattle.source_meaning.specs.Events.{marked}
 use Rattle.source_meaning.specs.Meaning.{constant_cost, level_at, put, put_literal, named_into, into_of}
 use Rattle.source_meaning.specs.Source.{Source, node, Cell, Binding, Store}
 use Rattle.source_meaning.proofs.Marks.{literal_marks, name_marks}
-use Rattle.mir_lower.specs.Does.{here, IsFrameOf, Holds, Reaches}
+use Rattle.mir_lower.specs.Does.{here, IsFrameOf, Holds, Landings, Reaches, Nothing}
 use Rattle.mir_lower.specs.Graph.{Shape, with_statement, local_of}
 use Rattle.mir_lower.specs.Growth.{Grows, IsSound, IsOpen, IsReady}
 use Rattle.mir_lower.specs.Literals.{IsLiteral}
@@ -28,7 +29,7 @@ use Rattle.mir_lower.proofs.Operands.{literal-fits, place-fits}
 use Rattle.mir_lower.proofs.Reaching.{comes-refl, reaches-after}
 use Rattle.mir_lower.proofs.Sound.{with_statement-sound, with_statement-open, with_statement-scope}
 use Rattle.mir_lower.proofs.Sparing.{with_statement-spares}
-use Rattle.mir_lower.proofs.Steps.{local_of-grows, Done, assigned-bytes, does-form}
+use Rattle.mir_lower.proofs.Steps.{local_of-grows, assigned-bytes, does-form}
 
 abbrev pub assignment : Place → Rvalue → MirSpan → Statement
 assignment place rvalue span = record { kind = Assign place rvalue; span = span }
@@ -70,11 +71,11 @@ lowers-literal source s new e l place operand span ready form is same c local =
       does = does-form source s (with_statement st s) e c (Some (expr.Literal l)) form (record { reaches = reaches });
       laid = lays-literal-into source (with_statement st s) e l form;
     }) where
-      reaches : (whole : Shape) (frame : Frame) → Grows (with_statement (assignment place (Use operand) span) s) whole → IsSound source whole → IsFrameOf whole frame → (fuel : ℕ) (store : Store) (memory : Memory) → Holds whole frame store memory → Reaches frame (here s) (here (with_statement (assignment place (Use operand) span) s)) memory (Done whole frame) (into_of source (level_at source fuel) e (Some (expr.Literal l)) (record { cell = c }) store)
-      reaches whole frame grows sound frame-is fuel store memory holds =
-          subst (λ (bytes : Option (List ℕ)). Reaches frame (here s) (here (with_statement (assignment place (Use operand) span) s)) memory (Done whole frame) (put_literal source e store (record { cell = c }) bytes)) (sym is.told)
-          (reaches-after frame 0 (here s) (here s) (here (with_statement (assignment place (Use operand) span) s)) memory memory (Done whole frame) (constant_cost source e) (omega arith) (comes-refl frame (here s) memory) (put store (record { cell = c }) is.bytes)
-          (assigned-bytes source s whole frame place (Use operand) span ready.«open» sound frame-is grows c (local-later s whole _ ready.«open» grows c place.local.0 local) store memory holds is.bytes (literal-computes source whole frame e l operand is store memory holds)))
+      reaches : (whole : Shape) (frame : Frame) → Grows (with_statement (assignment place (Use operand) span) s) whole → IsSound source whole → IsFrameOf whole frame → (lands : Landings) (around : Around) → around.marks ≡ s.scope → (fuel : ℕ) (store : Store) (memory : Memory) → Holds whole frame store memory → Reaches whole lands frame (here s) (here (with_statement (assignment place (Use operand) span) s)) memory (Nothing whole frame) (into_of source (level_at source fuel) around e (Some (expr.Literal l)) (record { cell = c }) store)
+      reaches whole frame grows sound frame-is lands around stands fuel store memory holds =
+          subst (λ (bytes : Option (List ℕ)). Reaches whole lands frame (here s) (here (with_statement (assignment place (Use operand) span) s)) memory (Nothing whole frame) (put_literal source e store (record { cell = c }) bytes)) (sym is.told)
+          (reaches-after whole lands frame (here s) (here s) (here (with_statement (assignment place (Use operand) span) s)) memory memory (Nothing whole frame) (constant_cost source e) (comes-refl frame (here s) memory) (put store (record { cell = c }) is.bytes)
+          (assigned-bytes source s whole frame place (Use operand) span ready.«open» sound frame-is lands grows c (local-later s whole _ ready.«open» grows c place.local.0 local) store memory holds is.bytes (literal-computes source whole frame e l operand is store memory holds)))
 
 -- what a path names is copied
 pub lowers-named : (source : Source) (s new : Shape) (e : ℕ) (name : _) (place from : Place) (operand : MirOperand) (span : MirSpan) → IsReady source s e → node source e ≡ Some (expr.Path name) → IsNamed source s e from.local.0 → operand.kind ≡ Copy from → new ≡ with_statement (assignment place (Use operand) span) s → (c : Cell) → local_of s c ≡ Some place.local.0 → LowersInto source s new e c
@@ -86,8 +87,8 @@ lowers-named source s new e name place from operand span ready form named copies
       does = does-form source s (with_statement st s) e c (Some (expr.Path name)) form (record { reaches = reaches });
       laid = lays-name-into source (with_statement st s) e name form;
     }) where
-      reaches : (whole : Shape) (frame : Frame) → Grows (with_statement (assignment place (Use operand) span) s) whole → IsSound source whole → IsFrameOf whole frame → (fuel : ℕ) (store : Store) (memory : Memory) → Holds whole frame store memory → Reaches frame (here s) (here (with_statement (assignment place (Use operand) span) s)) memory (Done whole frame) (into_of source (level_at source fuel) e (Some (expr.Path name)) (record { cell = c }) store)
-      reaches whole frame grows sound frame-is fuel store memory holds =
-          subst (λ (n : Option ValueNs). Reaches frame (here s) (here (with_statement (assignment place (Use operand) span) s)) memory (Done whole frame) (named_into n (record { cell = c }) store)) (sym named.named)
-          (assigned-bytes source s whole frame place (Use operand) span ready.«open» sound frame-is grows c (local-later s whole _ ready.«open» grows c place.local.0 local) store memory holds (store (Binding named.binding.0))
+      reaches : (whole : Shape) (frame : Frame) → Grows (with_statement (assignment place (Use operand) span) s) whole → IsSound source whole → IsFrameOf whole frame → (lands : Landings) (around : Around) → around.marks ≡ s.scope → (fuel : ℕ) (store : Store) (memory : Memory) → Holds whole frame store memory → Reaches whole lands frame (here s) (here (with_statement (assignment place (Use operand) span) s)) memory (Nothing whole frame) (into_of source (level_at source fuel) around e (Some (expr.Path name)) (record { cell = c }) store)
+      reaches whole frame grows sound frame-is lands around stands fuel store memory holds =
+          subst (λ (n : Option ValueNs). Reaches whole lands frame (here s) (here (with_statement (assignment place (Use operand) span) s)) memory (Nothing whole frame) (named_into n (record { cell = c }) store)) (sym named.named)
+          (assigned-bytes source s whole frame place (Use operand) span ready.«open» sound frame-is lands grows c (local-later s whole _ ready.«open» grows c place.local.0 local) store memory holds (store (Binding named.binding.0))
           (name-computes source whole frame (Binding named.binding.0) from operand copies sound frame-is (local-later s whole _ ready.«open» grows (Binding named.binding.0) from.local.0 named.found) store memory holds))

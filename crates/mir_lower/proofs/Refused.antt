@@ -14,12 +14,12 @@ use Rattle.source_meaning.specs.Source.{Source, node}
 use Rattle.source_meaning.specs.Steps.{parts_of, statement_parts}
 use Rattle.source_meaning.specs.Valid.{itself, part}
 use Rattle.source_meaning.proofs.Core.{part_is_below}
-use Rattle.source_meaning.proofs.Depth.{evaluates_then, statement_part_is_part}
+use Rattle.source_meaning.proofs.Depth.{evaluated_is_no_later, evaluates_then, statement_part_is_part}
 use Rattle.mir_lower.specs.declared.form.Form.{Form}
 use Rattle.mir_lower.specs.declared.form.Form.TheVariants as form
 use Rattle.mir_lower.specs.Form.{core_form, HasForm}
 use Rattle.mir_lower.specs.Graph.{Shape}
-use Rattle.mir_lower.specs.Growth.{IsSound, IsOpen, IsReady}
+use Rattle.mir_lower.specs.Growth.{IsSound, IsOpen, IsReady, IsReadyPart}
 use Rattle.mir_lower.specs.Lowered.{IsStatementOf}
 use Rattle.mir_lower.specs.Refusals.{IsUnbuiltStatement, IsUnbuilt, LacksLocal, IsUnresolved, RefusesNode, RefusesPattern, RefusesTarget, RefusesAt}
 
@@ -115,14 +115,18 @@ pub part-below : (source : Source) {s : Shape} (e child : ℕ) → IsReady sourc
 part-below source e child ready is = part_is_below source ready.checked e child is
 
 -- a part of what can be lowered can be lowered
-pub ready-part : (source : Source) (s new : Shape) (e child : ℕ) → IsReady source s e → Contains (parts_of (node source e)) child → IsSound source new → IsOpen new → IsReady source new child
+pub ready-part : (source : Source) (s new : Shape) (e child : ℕ) → IsReady source s e → Contains (parts_of (node source e)) child → IsSound source new → IsOpen new → IsReadyPart source new child
 ready-part source s new e child ready is sound opened =
+    let less = part_is_below source ready.checked e child is in
     record {
-      checked = ready.checked;
-      sound = sound;
-      «open» = opened;
-      within = let below = part_is_below source ready.checked e child is in let w = ready.within in omega arith;
-      reached = evaluates_then source ready.reached (part is itself);
+      ready = record {
+        checked = ready.checked;
+        sound = sound;
+        «open» = opened;
+        within = let w = ready.within in omega arith;
+        reached = evaluates_then source ready.reached (part is itself);
+      };
+      below = let upto = evaluated_is_no_later source ready.checked ready.reached in omega arith;
     }
 
 -- the same expression in another graph

@@ -7,8 +7,8 @@ use Rattle.mir.specs.declared.body.Terminator.{Terminator}
 use Rattle.mir.specs.Memory.{Memory}
 use Rattle.mir.specs.Run.{Frame, GoesTo, terminated}
 use Rattle.source_meaning.specs.Source.{Source}
-use Rattle.mir_lower.specs.Branches.{start_of, IsReserved}
-use Rattle.mir_lower.specs.Does.{here, IsFrameOf, Comes}
+use Rattle.mir_lower.specs.Branches.{IsReserved}
+use Rattle.mir_lower.specs.Does.{here, IsFrameOf, Comes, start_of}
 use Rattle.mir_lower.specs.Graph.{Shape, no_statements, ended, with_terminator, with_reserved, with_entered, temp_of}
 use Rattle.mir_lower.specs.Growth.{terminator_at, Grows, Spares, IsSound, IsOpen}
 use Rattle.mir_lower.proofs.Growing.{same_blocks, append_grows, current_of, grows_by, grows-trans, with_terminator-is, with_terminator-grows}

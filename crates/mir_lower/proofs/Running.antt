@@ -10,7 +10,7 @@ use Rattle.mir.specs.Run.{Frame, Faulted, Stops, after_statement, after_statemen
 use Rattle.mir_lower.specs.Does.{Point, here, run_from, IsFrameOf, Comes}
 use Rattle.mir_lower.specs.Graph.{Shape, more_of, with_statement}
 use Rattle.mir_lower.specs.Growth.{statement_at, count_at, Grows, IsOpen}
-use Rattle.mir_lower.specs.Simulates.{EndsWithin}
+use Rattle.mir_lower.specs.Simulates.{EndsAfter}
 use Rattle.mir_lower.proofs.Growing.{current_of, with_statement-is}
 use Rattle.mir_lower.proofs.Lists.{slice_get-last, slice_get-set_same, drop-at}
 
@@ -101,12 +101,10 @@ module _ (statement : Statement) (s whole : Shape) (frame : Frame) (memory : Mem
       }
 
   -- or ends in its fault
-  pub ends-statement : (most : ℕ) (e : MirEvalError) → after_statement frame memory statement.kind ≡ Err e → EndsWithin most (Faulted e) (run_from frame memory (here s))
-  ends-statement most e err =
+  pub ends-statement : (e : MirEvalError) → after_statement frame memory statement.kind ≡ Err e → EndsAfter 0 (Faulted e) (run_from frame memory (here s))
+  ends-statement e err =
       let b = current_of s opened in
       record {
-        turns = 0;
-        bound = omega arith;
         with_more = λ more.
             let plain : 0 + more ≡ more = omega arith in
             ap (run_from frame memory (here s)) plain

@@ -1,5 +1,5 @@
 -- Each step of the builder keeps a graph sound and open.
-use Rattle.std.proofs.Common.{◌≡◌, ◌≢◌, ℕ, ◌+◌, ◌<◌, ◌⊎◌, ⊎_elim, inl, inr, List, [], ◌∷◌, ◌++◌, length, Option, Some, refl, sym, ap, ◌∙◌, subst, arith, length-append}
+use Rattle.std.proofs.Common.{◌≡◌, ◌≢◌, ℕ, ◌+◌, ◌<◌, ◌⊎◌, ⊎_elim, inl, inr, List, [], ◌∷◌, ◌++◌, length, Option, Some, None, refl, sym, ap, ◌∙◌, subst, arith, length-append}
 use Rattle.std.specs.Prelude.{slice_get, option_and_then}
 use Rattle.std.proofs.Math.ListN.{length-set}
 use Rattle.std.proofs.lemmas.Bool.{cases_eq, cases_lt}
@@ -9,11 +9,10 @@ use Rattle.mir.specs.declared.body.Terminator.{Terminator}
 use Rattle.mir.specs.declared.ids.LocalId.{LocalId}
 use Rattle.mir.specs.declared.statement.Statement.{Statement}
 use Rattle.source_meaning.specs.Source.{Source, Cell, Result, Node, Binding, binding_type, cell_type, node_type, root}
-use Rattle.source_meaning.specs.Valid.{Evaluates}
 use Rattle.mir_lower.specs.Graph.{Shape, no_statements, more_of, with_statement, with_terminator, with_block, temp_of, binding_local, local_at, local_of, local_of_type, with_temp, with_scope}
-use Rattle.mir_lower.specs.Growth.{terminator_at, IsUsed, IsAllotted, IsSound, IsOpen}
+use Rattle.mir_lower.specs.Growth.{terminator_at, IsUsed, IsStored, IsAllotted, IsSound, IsOpen}
 use Rattle.mir_lower.proofs.Lists.{slice_get-front, slice_get-last, slice_get-set_same, slice_get_in, slice_get_below}
-use Rattle.mir_lower.proofs.Growing.{current_of, with_statement-is, with_terminator-is, temp_of-with_temp_same, temp_of-with_temp_other}
+use Rattle.mir_lower.proofs.Growing.{current_of, with_statement-is, with_terminator-is, with_temp-grows, temp_of-with_temp_same, temp_of-with_temp_other}
 
 -- a cell's local, where the tables stay
 same-local : (old new : Shape) → new.bindings ≡ old.bindings → new.temps ≡ old.temps → (c : Cell) → local_of new c ≡ local_of old c
@@ -22,20 +21,27 @@ same-local old new bindings temps Result = refl
 same-local old new bindings temps (Node e) = ap (λ (t : List (Option LocalId)). local_at t e) temps
 same-local old new bindings temps (Binding b) = ap (λ (t : List (Option LocalId)). local_at t b) bindings
 
+-- a cell that is given a local is used
+pub stored-is-used : (source : Source) (c : Cell) → IsStored source c → IsUsed source c
+stored-is-used source Result stored = tt
+stored-is-used source (Node e) stored = stored.0
+stored-is-used source (Binding b) stored = tt
+
 -- no new local, and no cell with another local
-pub no-more-allotted : (source : Source) (old new : Shape) → new.locals ≡ old.locals → ((c : Cell) (l : ℕ) → local_of new c ≡ Some l → local_of old c ≡ Some l) → IsAllotted source old → IsAllotted source new
-no-more-allotted source old new locals before allotted =
+pub no-more-allotted : (source : Source) (old new : Shape) → new.locals ≡ old.locals → ((c : Cell) (l : ℕ) → local_of new c ≡ Some l → local_of old c ≡ Some l) → ((c : Cell) (l : ℕ) → local_of old c ≡ Some l → local_of new c ≡ Some l) →
+    IsAllotted source old → IsAllotted source new
+no-more-allotted source old new locals before kept allotted =
     let local : (i : ℕ) → slice_get new.locals i ≡ slice_get old.locals i = λ i. ap (λ (l : List Local). slice_get l i) locals in
     record {
       typed = λ c l h. let at = allotted.typed c l (before c l h) in (at.0, local l ∙ at.1, at.2);
       own = λ c d l h k. allotted.own c d l (before c l h) (before d l k);
-      cells = λ l x h. allotted.cells l x (sym (local l) ∙ h);
+      cells = λ l x h. let at = allotted.cells l x (sym (local l) ∙ h) in (at.0, at.1, kept at.0 l at.2, at.3);
     }
 
--- one new local, which a cell has that is used
-pub one-more-allotted : (source : Source) (old new : Shape) (cell : Cell) (ty : Ty) → new.locals ≡ old.locals ++ local_of_type ty ∷ [] → IsUsed source cell → cell_type source cell ≡ Some ty →
-    ((c : Cell) (l : ℕ) → local_of new c ≡ Some l → ((c ≡ cell) × (l ≡ length old.locals)) ⊎ (local_of old c ≡ Some l)) → IsAllotted source old → IsAllotted source new
-one-more-allotted source old new cell ty locals used has cases allotted =
+-- one new local, which a cell is given, while the others keep theirs
+pub one-more-allotted : (source : Source) (old new : Shape) (cell : Cell) (ty : Ty) → new.locals ≡ old.locals ++ local_of_type ty ∷ [] → IsStored source cell → local_of new cell ≡ Some (length old.locals) → cell_type source cell ≡ Some ty →
+    ((c : Cell) (l : ℕ) → local_of new c ≡ Some l → ((c ≡ cell) × (l ≡ length old.locals)) ⊎ (local_of old c ≡ Some l)) → ((c : Cell) (l : ℕ) → local_of old c ≡ Some l → local_of new c ≡ Some l) → IsAllotted source old → IsAllotted source new
+one-more-allotted source old new cell ty locals stored given has cases kept allotted =
     let grown : (i : ℕ) (l : Local) → slice_get old.locals i ≡ Some l → slice_get new.locals i ≡ Some l =
     λ i l h. ap (λ (ls : List Local). slice_get ls i) locals ∙ slice_get-front old.locals (local_of_type ty ∷ []) i l h in
     let long : length new.locals ≡ length old.locals + 1 = ap length locals ∙ length-append old.locals (local_of_type ty ∷ []) in
@@ -53,11 +59,12 @@ one-more-allotted source old new cell ty locals used has cases allotted =
       cells = λ l x h. ⊎_elim
           (λ before. let found = slice_get_in old.locals l before in
           let there = grown l found.0 found.1 in
-          let same : found.0 ≡ x = cc in allotted.cells l x (found.1 ∙ ap Some same))
+          let same : found.0 ≡ x = cc in
+          let at = allotted.cells l x (found.1 ∙ ap Some same) in (at.0, at.1, kept at.0 l at.2, at.3))
           (λ behind. let below = slice_get_below new.locals l x h in
           let new-one : l ≡ length old.locals = omega arith in
           let h' : slice_get new.locals (length old.locals) ≡ Some x = ap (slice_get new.locals) (sym new-one) ∙ h in
-          let same : local_of_type ty ≡ x = cc in (cell, used, has ∙ ap (λ (y : Local). Some y.ty) same))
+          let same : local_of_type ty ≡ x = cc in (cell, stored, given ∙ ap Some (sym new-one), has ∙ ap (λ (y : Local). Some y.ty) same))
           (cases_lt l (length old.locals));
     } where
       past : (c : Cell) (l : ℕ) → l ≡ length old.locals → local_of old c ≡ Some l → ⊥
@@ -70,7 +77,7 @@ sound_by source old new locals bindings temps sound =
     record {
       nodes = ap length temps ∙ sound.nodes;
       bound = λ b ty h. let at = sound.bound b ty h in (at.0, same (Binding b) ∙ at.1);
-      allotted = no-more-allotted source old new locals (λ c l h. sym (same c) ∙ h) sound.allotted;
+      allotted = no-more-allotted source old new locals (λ c l h. sym (same c) ∙ h) (λ c l h. same c ∙ h) sound.allotted;
     }
 
 pub with_statement-locals : (statement : Statement) (s : Shape) → IsOpen s → (with_statement statement s).locals ≡ s.locals
@@ -164,12 +171,18 @@ temp-cells e ty s within Result l h = inr h
 temp-cells e ty s within (Node f) l h = ⊎_elim (λ new. inl (ap Node new.0, new.1)) (λ old. inr old.1) (temp_cases e f l ty s within h)
 temp-cells e ty s within (Binding b) l h = inr (sym (with_temp-binding e ty s b) ∙ h)
 
-pub with_temp-sound : (source : Source) (e : ℕ) (ty : Ty) (s : Shape) → e < length s.temps → node_type source e ≡ Some ty → Evaluates source (root source) e → IsSound source s → IsSound source (with_temp e ty s)
-with_temp-sound source e ty s within has reached sound =
+-- where the expression had no local, each cell keeps its own
+temp-kept : (e : ℕ) (ty : Ty) (s : Shape) → temp_of s e ≡ None → (c : Cell) (l : ℕ) → local_of s c ≡ Some l → local_of (with_temp e ty s) c ≡ Some l
+temp-kept e ty s none Result l h = h
+temp-kept e ty s none (Node f) l h = (with_temp-grows e ty s none).temps f l h
+temp-kept e ty s none (Binding b) l h = with_temp-binding e ty s b ∙ h
+
+pub with_temp-sound : (source : Source) (e : ℕ) (ty : Ty) (s : Shape) → e < length s.temps → node_type source e ≡ Some ty → IsStored source (Node e) → temp_of s e ≡ None → IsSound source s → IsSound source (with_temp e ty s)
+with_temp-sound source e ty s within has stored none sound =
     record {
       nodes = with_temp-nodes e ty s ∙ sound.nodes;
       bound = λ b t h. let at = sound.bound b t h in (at.0, with_temp-binding e ty s b ∙ at.1);
-      allotted = one-more-allotted source s (with_temp e ty s) (Node e) ty (with_temp-locals e ty s) reached has (temp-cells e ty s within) sound.allotted;
+      allotted = one-more-allotted source s (with_temp e ty s) (Node e) ty (with_temp-locals e ty s) stored (temp_of-with_temp_same e ty s within) has (temp-cells e ty s within) (temp-kept e ty s none) sound.allotted;
     }
 
 pub binding_local-grows : (old new : Shape) (b l : ℕ) → new.bindings ≡ old.bindings → binding_local old b ≡ Some l → binding_local new b ≡ Some l

@@ -74,11 +74,9 @@ pub with_temp-spares : (e : ℕ) (ty : Ty) (s : Shape) → Spares s (with_temp e
 unfolding with_temp
 with_temp-spares e ty s = spares-same s (with_temp e ty s) refl refl
 
--- a scope that was opened inside another, and left
-pub scoped-spares : (s0 s1 s2 : Shape) (inner : List Cell) → Spares (with_scope inner s0) s1 → (outer : List Cell) → Spares (with_scope outer s1) s2 → Spares s0 s2
-scoped-spares s0 s1 s2 inner first outer second =
-    spares-trans s0 (with_scope inner s0) s2 (with_scope-spares inner s0)
-    (spares-trans (with_scope inner s0) s1 s2 first (spares-trans s1 (with_scope outer s1) s2 (with_scope-spares outer s1) second))
+-- a scope that was left
+pub scoped-spares : (s0 s1 s2 : Shape) → Spares s0 s1 → (outer : List Cell) → Spares (with_scope outer s1) s2 → Spares s0 s2
+scoped-spares s0 s1 s2 first outer second = spares-trans s0 s1 s2 first (spares-trans s1 (with_scope outer s1) s2 (with_scope-spares outer s1) second)
 
 -- where a block becomes the current one that a graph did not have, what that graph had is left as it was
 pub spares-entered : (first old new : Shape) → Spares first old → ((at : ℕ) → at ≢ old.current → slice_get new.blocks at ≡ slice_get old.blocks at) → length new.blocks ≡ length old.blocks → length first.blocks ≤ new.current → Spares first new

@@ -14,16 +14,17 @@ use Rattle.mir.specs.declared.span.MirSpan.{MirSpan}
 use Rattle.mir.specs.Memory.{Memory}
 use Rattle.mir.specs.Run.{Frame, rvalue_bytes, operated, operated_on, computed_of, answered as answer, operand_bytes as mir_bytes, operand_type as mir_type}
 use Rattle.numbers.specs.Operators.{computed}
+use Rattle.source_meaning.specs.Around.{Around, marking}
 use Rattle.source_meaning.specs.Ends.{Go, then_do, no_cost}
 use Rattle.source_meaning.specs.Events.{marked_as_operand}
-use Rattle.source_meaning.specs.Meaning.{Level, Value, level_at, value_of, answered, operands_of, into_of}
+use Rattle.source_meaning.specs.Meaning.{Levels, Value, level_at, value_of, answered, operands_of, into_of}
 use Rattle.source_meaning.specs.Source.{Source, node, node_type, Cell, Store, Operand, operand_bytes, operand_type}
 use Rattle.source_meaning.specs.Steps.{parts_of}
 use Rattle.source_meaning.specs.Valid.{own, inside, sized_parts, IsLaidOut}
 use Rattle.source_meaning.proofs.Depth.{operand_is_part}
 use Rattle.source_meaning.proofs.Marks.{strict_marks}
 use Rattle.source_meaning.proofs.Parts.{sized_operand}
-use Rattle.mir_lower.specs.Does.{here, IsFrameOf, Holds, Reaches, Fits, FitAll}
+use Rattle.mir_lower.specs.Does.{here, IsFrameOf, Holds, Landings, Reaches, Nothing, Fits, FitAll}
 use Rattle.mir_lower.specs.Form.{operation_of}
 use Rattle.mir_lower.specs.Graph.{Shape, with_statement, local_of}
 use Rattle.mir_lower.specs.Growth.{Grows, IsSound, IsOpen, IsReady}
@@ -34,28 +35,25 @@ use Rattle.mir_lower.proofs.Operations.{assignment}
 use Rattle.mir_lower.proofs.Reaching.{comes-refl, reaches-then}
 use Rattle.mir_lower.proofs.Sound.{with_statement-sound, with_statement-open, with_statement-scope}
 use Rattle.mir_lower.proofs.Sparing.{spares-refl, spares-trans, with_statement-spares}
-use Rattle.mir_lower.proofs.Steps.{local_of-grows, Done, assigned-answer, does-form}
+use Rattle.mir_lower.proofs.Standing.{marking-fits}
+use Rattle.mir_lower.proofs.Steps.{local_of-grows, assigned-answer, does-form}
 
--- what is claimed of operands
-abbrev Given : Source → List OperandKind → Shape → Frame → List Operand → Store → Memory → Type 0
-Given source operands whole frame values after later = Holds whole frame after later × FitAll source operands whole frame values
-
-no-operands : (below : Level) (store : Store) → operands_of below [] store ≡ Go [] store no_cost
+no-operands : (source : Source) (below : Levels) (around : Around) (store : Store) → operands_of source below around [] store ≡ Go [] store no_cost
 unfolding operands_of
-no-operands below store = refl
+no-operands source below around store = refl
 
-first-operand : (below : Level) (e : ℕ) (rest : List ℕ) (store : Store) → operands_of below (e ∷ rest) store ≡ then_do (below.operand e store) (λ first later. then_do (operands_of below rest later) (λ others last. Go (first ∷ others) last no_cost))
+first-operand : (source : Source) (below : Levels) (around : Around) (e : ℕ) (rest : List ℕ) (store : Store) → operands_of source below around (e ∷ rest) store ≡ then_do ((below around).operand e store) (λ first later. then_do (operands_of source below (marking (marked_as_operand source e) around) rest later) (λ others last. Go (first ∷ others) last no_cost))
 unfolding operands_of
-first-operand below e rest store = refl
+first-operand source below around e rest store = refl
 
 pub lowers-no-operand : (source : Source) (s : Shape) → IsSound source s → IsOpen s → LowersOperands source s s [] []
 lowers-no-operand source s sound opened =
     record {
       keeps = record { grows = grows-refl s; spares = spares-refl s; sound = sound; «open» = opened; scope = sym (append-nil s.scope) };
       does = record {
-        reaches = λ whole frame grows whole-sound is fuel store memory holds.
-            subst (Reaches frame (here s) (here s) memory (Given source [] whole frame)) (sym (no-operands (level_at source fuel) store))
-            (0, memory, omega arith, comes-refl frame (here s) memory, (holds, tt));
+        reaches = λ whole frame grows whole-sound is lands around stands fuel store memory holds.
+            subst (Reaches whole lands frame (here s) (here s) memory (FitAll source [] whole frame)) (sym (no-operands source (level_at source fuel) around store))
+            (memory, comes-refl frame (here s) memory, holds, tt);
       };
       laid = λ e within. absurd (let below = within.1 in omega arith);
     }
@@ -74,15 +72,16 @@ lowers-more-operands source s0 s1 s2 e rest operand operands first others =
             ∙ append_assoc s0.scope (marked_as_operand source e) (flat_map (marked_as_operand source) rest);
       };
       does = record {
-        reaches = λ whole frame grows sound is fuel store memory holds.
+        reaches = λ whole frame grows sound is lands around stands fuel store memory holds.
             let below = level_at source fuel in
-            subst (Reaches frame (here s0) (here s2) memory (Given source (operand ∷ operands) whole frame)) (sym (first-operand below e rest store))
-            (reaches-then frame (here s0) (here s1) (here s2) memory (λ v after later. Holds whole frame after later × Fits source operand whole frame v) (Given source (operand ∷ operands) whole frame) (below.operand e store) _
-            (first.does.reaches whole frame (grows-trans s1 s2 whole others.keeps.grows grows) sound is fuel store memory holds)
+            let behind : Around = marking (marked_as_operand source e) around in
+            subst (Reaches whole lands frame (here s0) (here s2) memory (FitAll source (operand ∷ operands) whole frame)) (sym (first-operand source below around e rest store))
+            (reaches-then whole lands frame (here s0) (here s1) (here s2) memory (Fits source operand whole frame) (FitAll source (operand ∷ operands) whole frame) ((below around).operand e store) _
+            (first.does.reaches whole frame (grows-trans s1 s2 whole others.keeps.grows grows) sound is lands around stands fuel store memory holds)
             (λ v store1 memory1 claims1.
-            reaches-then frame (here s1) (here s2) (here s2) memory1 (Given source operands whole frame) (Given source (operand ∷ operands) whole frame) (operands_of below rest store1) _
-            (others.does.reaches whole frame grows sound is fuel store1 memory1 claims1.0)
-            (λ values store2 memory2 claims2. (0, memory2, omega arith, comes-refl frame (here s2) memory2, (claims2.0, (claims1.1, claims2.1))))));
+            reaches-then whole lands frame (here s1) (here s2) (here s2) memory1 (FitAll source operands whole frame) (FitAll source (operand ∷ operands) whole frame) (operands_of source below behind rest store1) _
+            (others.does.reaches whole frame grows sound is lands behind (marking-fits first.keeps around stands) fuel store1 memory1 claims1.0)
+            (λ values store2 memory2 claims2. (memory2, comes-refl frame (here s2) memory2, claims2.0, (claims1.1, claims2.1)))));
       };
       laid = λ child within truth plain layouts. ⊎_elim
           (λ here'. let same = one-of e child here' in
@@ -121,16 +120,16 @@ lowers-strict source s0 s1 new e operation es operands rvalue place span ready f
       does = does-form source s0 (with_statement st s1) e c (Some (Strict operation es)) form (record { reaches = reaches });
       laid = lays-strict source s1 (with_statement st s1) e operation es form given.laid last;
     }) where
-      reaches : (whole : Shape) (frame : Frame) → Grows (with_statement (assignment place rvalue span) s1) whole → IsSound source whole → IsFrameOf whole frame → (fuel : ℕ) (store : Store) (memory : Memory) → Holds whole frame store memory → Reaches frame (here s0) (here (with_statement (assignment place rvalue span) s1)) memory (Done whole frame) (into_of source (level_at source fuel) e (Some (Strict operation es)) (record { cell = c }) store)
-      reaches whole frame grows sound frame-is fuel store memory holds =
+      reaches : (whole : Shape) (frame : Frame) → Grows (with_statement (assignment place rvalue span) s1) whole → IsSound source whole → IsFrameOf whole frame → (lands : Landings) (around : Around) → around.marks ≡ s0.scope → (fuel : ℕ) (store : Store) (memory : Memory) → Holds whole frame store memory → Reaches whole lands frame (here s0) (here (with_statement (assignment place rvalue span) s1)) memory (Nothing whole frame) (into_of source (level_at source fuel) around e (Some (Strict operation es)) (record { cell = c }) store)
+      reaches whole frame grows sound frame-is lands around stands fuel store memory holds =
           let st = assignment place rvalue span in
           let opened = given.keeps.«open» in
           let grown : Grows s1 whole = grows-trans s1 (with_statement st s1) whole (with_statement-grows st s1 opened) grows in
           let found = local_of-grows s0 whole (grows-trans s0 s1 whole given.keeps.grows grown) c place.local.0 local in
-          reaches-then frame (here s0) (here s1) (here (with_statement st s1)) memory (Given source operands whole frame) (Done whole frame) (operands_of (level_at source fuel) es store) _
-          (given.does.reaches whole frame grown sound frame-is fuel store memory holds)
+          reaches-then whole lands frame (here s0) (here s1) (here (with_statement st s1)) memory (FitAll source operands whole frame) (Nothing whole frame) (operands_of source (level_at source fuel) around es store) _
+          (given.does.reaches whole frame grown sound frame-is lands around stands fuel store memory holds)
           (λ values store1 memory1 claims.
-          assigned-answer source s1 whole frame place rvalue span opened sound frame-is grows c found store1 memory1 claims.0 _
+          assigned-answer source s1 whole frame place rvalue span opened sound frame-is lands grows c found store1 memory1 claims.0 _
           (computes whole frame values store1 memory1 claims.0 claims.1))
 
 -- An operator on one operand, and one on two.

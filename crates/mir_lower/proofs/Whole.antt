@@ -1,6 +1,6 @@
 -- A whole body: its root, leaving it, and returning.
 use Rattle.std.proofs.Common.{[], ◌∷◌, ◌++◌, ◌≡◌, ℕ, zero, suc, ◌+◌, ◌<◌, ◌≤◌, List, length, Option, Some, Ok, refl, sym, ap, ◌∙◌, subst, arith}
-use Rattle.std.specs.Prelude.{slice_get, replicate, option_map, option_and_then, unwrap_or}
+use Rattle.std.specs.Prelude.{slice_get, map, sum, replicate, option_map, option_and_then, unwrap_or}
 use Rattle.world.specs.declared.database.HirDatabase.{HirDatabase}
 use Rattle.world.specs.declared.layout.Layout.{Layout}
 use Rattle.world.specs.Lookups.{layout_of}
@@ -11,65 +11,67 @@ use Rattle.mir.specs.declared.body.TerminatorKind.TheVariants.{Return}
 use Rattle.mir.specs.declared.span.MirSpan.{MirSpan}
 use Rattle.mir.specs.Memory.{Interval, Memory, first_memory, bytes_at, cells_of}
 use Rattle.mir.specs.Run.{Frame, Ending, Returned, Faulted, out_of_blocks, entering, begun}
+use Rattle.source_meaning.specs.Around.{at_root}
 use Rattle.source_meaning.specs.Ends.{Cost, turns_alone, plus, End, Go, Jumps, Faults, Stuck, More, after, then_do}
-use Rattle.source_meaning.specs.Entering.{entering as entering_cost}
+use Rattle.source_meaning.specs.Entering.{body_room, room_of, entering as entering_cost}
 use Rattle.source_meaning.specs.Events.{marked}
 use Rattle.source_meaning.specs.Meaning.{level_at, meaning_of}
 use Rattle.source_meaning.specs.Source.{Source, node_type, root, Cell, Result as Slot, cell_type, cell_layout, drops, Store, zeroed}
 use Rattle.source_meaning.specs.Valid.{IsPlain, IsLaidOut, AreLaidOut}
-use Rattle.mir_lower.specs.Does.{Point, here, run_from, local_bytes, IsFrameOf, Holds, Comes, Reaches}
+use Rattle.mir_lower.specs.Does.{Point, here, start_of, run_from, local_bytes, IsFrameOf, Holds, Comes, Nowhere, Landings, Reaches, Nothing}
 use Rattle.mir_lower.specs.Graph.{Shape, no_statements, local_of_type, with_terminator, with_scope}
 use Rattle.mir_lower.specs.Growth.{Grows, IsSound, count_at}
 use Rattle.mir_lower.specs.Leaving.{Idles}
 use Rattle.mir_lower.specs.Lowered.{HasLayouts, LowersInto}
-use Rattle.mir_lower.specs.Simulates.{EndsWithin, EndsAs, Simulates, error_of}
+use Rattle.mir_lower.specs.Simulates.{Enters, EndsAfter, EndsAs, Simulates, error_of}
 use Rattle.mir_lower.proofs.Growing.{grows-refl, grows-trans, with_terminator-grows, with_scope-grows}
 use Rattle.mir_lower.proofs.Leaving.{entering-suc, entering-none, ends-return, here-scope}
 use Rattle.mir_lower.proofs.Lists.{front-of}
 use Rattle.mir_lower.proofs.Placing.{AreAligned, Placing, places-all, first-ok}
-use Rattle.mir_lower.proofs.Reaching.{ends-after}
-use Rattle.mir_lower.proofs.Sound.{with_terminator-sound, slot-there, binding-there}
+use Rattle.mir_lower.proofs.Reaching.{enters-both, ends-after}
+use Rattle.mir_lower.proofs.Room.{fits-room}
+use Rattle.mir_lower.proofs.Sound.{with_terminator-sound, slot-there, binding-there, stored-is-used}
 
--- what a cost before an end allows
-ends-as-after : (frame : Frame) (first : ℕ) (from at : Point) (memory middle : Memory) (cost : Cost) → first ≤ cost.turns → Comes frame first from memory at middle → (end : End (List ℕ)) → EndsAs end (run_from frame middle at) → EndsAs (after cost end) (run_from frame memory from)
+-- an end that a cost stands before
+ends-as-after : (frame : Frame) (from at : Point) (memory middle : Memory) (cost : Cost) → Comes frame cost.turns from memory at middle → (end : End (List ℕ)) → EndsAs end (run_from frame middle at) → EndsAs (after cost end) (run_from frame memory from)
 unfolding after plus
-ends-as-after frame first from at memory middle cost bound comes (Go bytes store then) ends = ends-after frame first from at memory middle comes cost.turns then.turns (Returned bytes) bound ends
-ends-as-after frame first from at memory middle cost bound comes (Jumps to store then) ends = tt
-ends-as-after frame first from at memory middle cost bound comes (Faults fault then) ends = ends-after frame first from at memory middle comes cost.turns then.turns (Faulted (error_of fault)) bound ends
-ends-as-after frame first from at memory middle cost bound comes Stuck ends = tt
-ends-as-after frame first from at memory middle cost bound comes (More then) ends = tt
+ends-as-after frame from at memory middle cost comes (Go bytes store then) ends = ends-after frame cost.turns then.turns from at memory middle comes (Returned bytes) ends
+ends-as-after frame from at memory middle cost comes (Jumps to store then) ends = tt
+ends-as-after frame from at memory middle cost comes (Faults fault then) ends = ends-after frame cost.turns then.turns from at memory middle comes (Faulted (error_of fault)) ends
+ends-as-after frame from at memory middle cost comes Stuck ends = tt
+ends-as-after frame from at memory middle cost comes (More then) ends = enters-both frame cost.turns then.turns from at memory middle comes ends
 
 -- an evaluation, and then the end of the run
-ends-as-then : {A : Type 0} (frame : Frame) (from at : Point) (memory : Memory) (claim : A → Store → Memory → Type 0) (end : End A) (next : A → Store → End (List ℕ)) → Reaches frame from at memory claim end → ((value : A) (store : Store) (middle : Memory) → claim value store middle → EndsAs (next value store) (run_from frame middle at)) → EndsAs (then_do end next) (run_from frame memory from)
+ends-as-then : {A : Type 0} (whole : Shape) (lands : Landings) (frame : Frame) (from at : Point) (memory : Memory) (claim : A → Type 0) (end : End A) (next : A → Store → End (List ℕ)) → Reaches whole lands frame from at memory claim end → ((value : A) (store : Store) (middle : Memory) → Holds whole frame store middle × claim value → EndsAs (next value store) (run_from frame middle at)) → EndsAs (then_do end next) (run_from frame memory from)
 unfolding then_do
-ends-as-then frame from at memory claim (Go value store cost) next does rest = ends-as-after frame does.0 from at memory does.1 cost does.2 does.3 (next value store) (rest value store does.1 does.4)
-ends-as-then frame from at memory claim (Jumps to store cost) next does rest = tt
-ends-as-then frame from at memory claim (Faults fault cost) next does rest = does
-ends-as-then frame from at memory claim Stuck next does rest = tt
-ends-as-then frame from at memory claim (More cost) next does rest = tt
+ends-as-then whole lands frame from at memory claim (Go value store cost) next does rest = ends-as-after frame from at memory does.0 cost does.1 (next value store) (rest value store does.0 (does.2, does.3))
+ends-as-then whole lands frame from at memory claim (Jumps to store cost) next does rest = tt
+ends-as-then whole lands frame from at memory claim (Faults fault cost) next does rest = does
+ends-as-then whole lands frame from at memory claim Stuck next does rest = tt
+ends-as-then whole lands frame from at memory claim (More cost) next does rest = does
 
 -- entering the first block takes one
-entered : (frame : Frame) (memory : Memory) (block most : ℕ) (ending : Ending) → EndsWithin most ending (run_from frame memory (record { block = block; index = 0 })) → EndsWithin (1 + most) ending (λ budget. entering budget frame memory block)
-entered frame memory block most ending ends =
-    record {
-      turns = suc ends.turns;
-      bound = let b = ends.bound in omega arith;
-      with_more = λ more.
-          let one : suc ends.turns + more ≡ suc (ends.turns + more) = omega arith in
-          ap (λ budget. entering budget frame memory block) one ∙ entering-suc (ends.turns + more) frame memory block ∙ ends.with_more more;
-      with_fewer = fewer-blocks ends.turns ends.with_fewer;
-    } where
-      fewer-blocks : (turns : ℕ) → ((fewer : ℕ) → fewer < turns → run_from frame memory (record { block = block; index = 0 }) fewer ≡ out_of_blocks) → (fewer : ℕ) → fewer < suc turns → entering fewer frame memory block ≡ out_of_blocks
-      fewer-blocks turns rest zero less = entering-none frame memory block
-      fewer-blocks turns rest (suc fewer) less = entering-suc fewer frame memory block ∙ rest fewer (omega arith)
+module _ (frame : Frame) (memory : Memory) (block turns : ℕ) where
+  entered-first : Enters turns (run_from frame memory (start_of block)) → Enters (1 + turns) (λ budget. entering budget frame memory block)
+  entered-first rest zero less = entering-none frame memory block
+  entered-first rest (suc fewer) less = entering-suc fewer frame memory block ∙ rest fewer (omega arith)
 
-ends-as-entered : (source : Source) (frame : Frame) (memory : Memory) (block : ℕ) (end : End (List ℕ)) → EndsAs end (run_from frame memory (record { block = block; index = 0 })) → EndsAs (after (entering_cost source) end) (λ budget. entering budget frame memory block)
+  entered : (ending : Ending) → EndsAfter turns ending (run_from frame memory (start_of block)) → EndsAfter (1 + turns) ending (λ budget. entering budget frame memory block)
+  entered ending ends =
+      record {
+        with_more = λ more.
+            let one : 1 + turns + more ≡ suc (turns + more) = omega arith in
+            ap (λ budget. entering budget frame memory block) one ∙ entering-suc (turns + more) frame memory block ∙ ends.with_more more;
+        with_fewer = entered-first ends.with_fewer;
+      }
+
+ends-as-entered : (source : Source) (frame : Frame) (memory : Memory) (block : ℕ) (end : End (List ℕ)) → EndsAs end (run_from frame memory (start_of block)) → EndsAs (after (entering_cost source) end) (λ budget. entering budget frame memory block)
 unfolding after plus entering_cost
 ends-as-entered source frame memory block (Go bytes store cost) ends = entered frame memory block cost.turns (Returned bytes) ends
 ends-as-entered source frame memory block (Jumps to store cost) ends = tt
 ends-as-entered source frame memory block (Faults fault cost) ends = entered frame memory block cost.turns (Faulted (error_of fault)) ends
 ends-as-entered source frame memory block Stuck ends = tt
-ends-as-entered source frame memory block (More cost) ends = tt
+ends-as-entered source frame memory block (More cost) ends = entered-first frame memory block cost.turns ends
 
 -- the frame in which a body begins
 pub begun-cells : (world : HirDatabase) (body : MirBody) (start : Frame × Memory) → begun world body ≡ Ok start → (all : List Interval × Memory) × (cells_of world body.locals first_memory ≡ Ok all) × ◌≡◌ {A = Frame × Memory} start (record { body = body; cells = all.0 }, all.1)
@@ -102,39 +104,39 @@ abbrev pub leaving : Source → ℕ
 leaving source = drops source (marked source (root source))
 
 -- the root was lowered, its scope left, and the block ended by a return
-module _ (source : Source) (s0 s1 s2 : Shape) (span : MirSpan) (begins : here s0 ≡ record { block = 0; index = 0 }) (into : LowersInto source s0 s1 (root source) Slot) (idles : Idles source (with_scope [] s1) s2 (leaving source)) where
+module _ (source : Source) (s0 s1 s2 : Shape) (span : MirSpan) (begins : here s0 ≡ record { block = 0; index = 0 }) (nothing : s0.scope ≡ []) (into : LowersInto source s0 s1 (root source) Slot) (idles : Idles source (with_scope s0.scope s1) s2 (leaving source)) where
   abbrev Whole : Shape
   Whole = with_terminator (record { span = span; kind = Return }) s2
 
   first-grows : Grows s1 Whole
   first-grows =
-      grows-trans s1 (with_scope [] s1) Whole (with_scope-grows [] s1)
-      (grows-trans (with_scope [] s1) s2 Whole idles.grows (with_terminator-grows (record { span = span; kind = Return }) s2 idles.«open»))
+      grows-trans s1 (with_scope s0.scope s1) Whole (with_scope-grows s0.scope s1)
+      (grows-trans (with_scope s0.scope s1) s2 Whole idles.grows (with_terminator-grows (record { span = span; kind = Return }) s2 idles.«open»))
 
   whole-sound : IsSound source Whole
   whole-sound = with_terminator-sound source (record { span = span; kind = Return }) s2 idles.«open» idles.sound
 
   -- from the root's end on: the scope is left, and the body returns
-  returns-after : (frame : Frame) → IsFrameOf Whole frame → (store : Store) (memory : Memory) → Holds Whole frame store memory → EndsWithin (leaving source) (Returned (store Slot)) (run_from frame memory (here s1))
+  returns-after : (frame : Frame) → IsFrameOf Whole frame → (store : Store) (memory : Memory) → Holds Whole frame store memory → EndsAfter (leaving source) (Returned (store Slot)) (run_from frame memory (here s1))
   returns-after frame is store memory holds =
       let comes : Comes frame (leaving source) (here s1) memory (here s2) memory =
-      subst (λ (p : Point). Comes frame (leaving source) p memory (here s2) memory) (here-scope s1 [])
+      subst (λ (p : Point). Comes frame (leaving source) p memory (here s2) memory) (here-scope s1 s0.scope)
       (idles.comes Whole frame (with_terminator-grows (record { span = span; kind = Return }) s2 idles.«open») is memory) in
       let returned = ends-return s2 Whole frame span memory (store Slot) idles.«open» (grows-refl Whole) is (holds.shows Slot 0 refl) in
       let plain : leaving source + 0 ≡ leaving source = omega arith in
-      subst (λ (n : ℕ). EndsWithin n (Returned (store Slot)) (run_from frame memory (here s1))) plain
-      (ends-after frame (leaving source) (here s1) (here s2) memory memory comes (leaving source) 0 (Returned (store Slot)) (omega arith) returned)
+      subst (λ (n : ℕ). EndsAfter n (Returned (store Slot)) (run_from frame memory (here s1))) plain
+      (ends-after frame (leaving source) 0 (here s1) (here s2) memory memory comes (Returned (store Slot)) returned)
 
   -- the run of a body from its frame on
   runs-whole : (frame : Frame) (memory : Memory) → IsFrameOf Whole frame → Holds Whole frame (zeroed source) memory → (fuel : ℕ) → EndsAs (meaning_of source fuel) (λ budget. entering budget frame memory 0)
   unfolding meaning_of
   runs-whole frame memory is holds fuel =
-      let evaluates : End (Unit {0}) = (level_at source fuel).into (root source) (record { cell = Slot }) (zeroed source) in
+      let evaluates : End (Unit {0}) = (level_at source fuel at_root).into (root source) (record { cell = Slot }) (zeroed source) in
       let next : Unit {0} → Store → End (List ℕ) = λ _ store. Go (store Slot) store (turns_alone (leaving source)) in
       ends-as-entered source frame memory 0 (then_do evaluates next)
       (subst (λ (p : Point). EndsAs (then_do evaluates next) (run_from frame memory p)) begins
-      (ends-as-then frame (here s0) (here s1) memory (λ _ store later. Holds Whole frame store later × Unit {0}) evaluates next
-      (into.does.reaches Whole frame first-grows whole-sound is fuel (zeroed source) memory holds)
+      (ends-as-then Whole (λ jump. Nowhere) frame (here s0) (here s1) memory (Nothing Whole frame) evaluates next
+      (into.does.reaches Whole frame first-grows whole-sound is (λ jump. Nowhere) at_root (sym nothing) fuel (zeroed source) memory holds)
       (λ value store middle claims. returns-after frame is store middle claims.0)))
 
   -- what is evaluated has types with layouts, where the locals have
@@ -145,17 +147,22 @@ module _ (source : Source) (s0 s1 s2 : Shape) (span : MirSpan) (begins : here s0
       let root-laid : IsLaidOut source (node_type source (root source)) =
       subst (IsLaidOut source) (sym first.2) (all 0 first.0 first.1) in
       record {
-        nodes = λ e evaluates. into.laid root-laid plain (λ l local h. all l local (first-grows.locals l local h)) e evaluates;
+        nodes = λ e evaluates. into.laid root-laid plain.nodes (λ l local h. all l local (first-grows.locals l local h)) e evaluates;
         bindings = λ b t h. let there = binding-there source Whole whole-sound b t h in all there.0 (local_of_type t) there.1;
       }
 
   -- the graph of a body does what the body means
-  pub whole-simulates : (body : MirBody) → AreAligned source.world → body.basic_blocks ≡ Whole.blocks → body.locals ≡ Whole.locals → body.start_block.0 ≡ 0 → Simulates source body
-  whole-simulates body aligned blocks locals start =
+  pub whole-simulates : (body : MirBody) → AreAligned source.world → root source < length source.body.exprs → body.basic_blocks ≡ Whole.blocks → body.locals ≡ Whole.locals → body.start_block.0 ≡ 0 → Simulates source body
+  whole-simulates body aligned within blocks locals start =
       let first = slot-there source Whole whole-sound in
       record {
         slot = (first.0, ap (λ (l : List Local). slice_get l 0) locals ∙ first.1, first.2);
-        cells = λ l local h. whole-sound.allotted.cells l local (ap (λ (ls : List Local). slice_get ls l) (sym locals) ∙ h);
+        cells = λ l local h.
+            let at = whole-sound.allotted.cells l local (ap (λ (ls : List Local). slice_get ls l) (sym locals) ∙ h) in
+            (at.0, stored-is-used source at.0 at.1, at.3);
+        room =
+            subst (λ (ls : List Local). sum (map (λ local. room_of (layout_of source.world local.ty)) ls) ≤ body_room source) (sym locals)
+            (fits-room source Whole within whole-sound);
         laid_out = lays-out body.locals locals;
         runs = λ fuel begin h.
             let all = begun-cells source.world body begin h in

@@ -6,13 +6,9 @@ use Rattle.mir.specs.Memory.{Memory}
 use Rattle.mir.specs.Run.{Frame, operand_bytes}
 use Rattle.numbers.specs.Bytes.{value_of}
 use Rattle.source_meaning.specs.Source.{Source}
-use Rattle.mir_lower.specs.Does.{Point, here, IsFrameOf, Comes}
+use Rattle.mir_lower.specs.Does.{here, start_of, IsFrameOf, Comes}
 use Rattle.mir_lower.specs.Graph.{Shape, no_statements}
 use Rattle.mir_lower.specs.Growth.{Grows, Spares, IsSound, IsOpen}
-
--- the point before the first statement of a block
-abbrev pub start_of : ℕ → Point
-start_of block = record { block = block; index = 0 }
 
 -- a block is there, is empty, and isn't the current one
 pub record IsReserved (s : Shape) (block : ℕ) : Type 0 where

@@ -3,14 +3,15 @@ use Rattle.std.specs.Prelude.{◌≡◌, ◌≢◌, ℕ, ◌+◌, ◌<◌, ◌�
 use Rattle.mir.specs.declared.operand.OperandKind.{OperandKind}
 use Rattle.mir.specs.Memory.{Interval, Memory, bytes_at}
 use Rattle.mir.specs.Run.{Frame, Faulted, Ended, out_of_blocks, running, operand_bytes as mir_bytes, operand_type as mir_type}
-use Rattle.source_meaning.specs.Ends.{End, Go, Jumps, Faults, Stuck, More}
+use Rattle.source_meaning.specs.Around.{Around}
+use Rattle.source_meaning.specs.Ends.{End, Go, Jumps, Faults, Stuck, More, Jump}
 use Rattle.source_meaning.specs.Meaning.{level_at, operands_of, statements_of, tail_into, bind}
 use Rattle.source_meaning.specs.Source.{Source, pattern, target, Cell, Path, Store, Operand, operand_bytes, operand_type}
 use Rattle.world.specs.declared.body.Statement.{Statement}
 use Rattle.types.specs.declared.ids.ExprId.{ExprId}
 use Rattle.mir_lower.specs.Graph.{Shape, local_of}
 use Rattle.mir_lower.specs.Growth.{Grows, IsSound, count_at}
-use Rattle.mir_lower.specs.Simulates.{EndsWithin, error_of}
+use Rattle.mir_lower.specs.Simulates.{Enters, EndsAfter, error_of}
 
 -- a point of the code: before a statement of a block, or before its terminator
 pub record Point : Type 0 where
@@ -20,6 +21,10 @@ pub record Point : Type 0 where
 -- the point behind the last statement of the current block
 abbrev pub here : Shape → Point
 here s = record { block = s.current; index = unwrap_or (count_at s s.current) 0 }
+
+-- the point before the first statement of a block
+abbrev pub start_of : ℕ → Point
+start_of block = record { block = block; index = 0 }
 
 -- the run from a point on
 abbrev pub run_from : Frame → Memory → Point → ℕ → Ended
@@ -47,24 +52,40 @@ pub record Holds (s : Shape) (frame : Frame) (store : Store) (memory : Memory) :
 -- the run comes from a point to another, over so many blocks
 pub record Comes (frame : Frame) (turns : ℕ) (from : Point) (memory : Memory) (to : Point) (later : Memory) : Type 0 where
   pub with_more : (more : ℕ) → run_from frame memory from (turns + more) ≡ run_from frame later to more
-  pub with_fewer : (fewer : ℕ) → fewer < turns → run_from frame memory from fewer ≡ out_of_blocks
+  pub with_fewer : Enters turns (run_from frame memory from)
 
--- From a point the run does what an end says: it comes to another point with a memory of which the claim holds, or
--- it ends. Nothing is said of jumps, which no form that is lowered makes.
-abbrev pub Reaches : {A : Type 0} → Frame → Point → Point → Memory → (A → Store → Memory → Type 0) → End A → Type 0
-Reaches frame from to memory claim (Go value store cost) =
-    (turns : ℕ) × (later : Memory) × (turns ≤ cost.turns) × Comes frame turns from memory to later × claim value store later
-Reaches frame from to memory claim (Jumps jump store cost) = Unit {0}
-Reaches frame from to memory claim (Faults fault cost) = EndsWithin cost.turns (Faulted (error_of fault)) (run_from frame memory from)
-Reaches frame from to memory claim Stuck = Unit {0}
-Reaches frame from to memory claim (More cost) = Unit {0}
+-- where the run comes to when the source jumps: to the start of a block, or nothing is said of it
+pub data Landing : Type 0 where
+  Nowhere : Landing
+  Before : (block : ℕ) → Landing
 
--- What code does: in each graph that the new one grows to, from each memory that holds the store, the code between the
--- two graphs' points does what an end says, at each amount of fuel, and what is claimed of its value holds.
-pub record Performs (source : Source) (old new : Shape) {A : Type 0} (claim : Shape → Frame → A → Type 0) (meaning : ℕ → Store → End A) : Type 0 where
-  pub reaches : (whole : Shape) (frame : Frame) → Grows new whole → IsSound source whole → IsFrameOf whole frame →
+-- where the run comes to at each jump of the source
+abbrev pub Landings : Type 0
+Landings = Jump → Landing
+
+-- the run comes to where a jump lands, over exactly so many blocks, with a memory that holds the store
+abbrev pub Lands : Shape → Frame → Point → Memory → Store → ℕ → Landing → Type 0
+Lands whole frame from memory store turns Nowhere = Unit {0}
+Lands whole frame from memory store turns (Before block) = (later : Memory) × Comes frame turns from memory (start_of block) later × Holds whole frame store later
+
+-- From a point the run does what an end says, over exactly as many blocks as that counts: it comes to another point with a
+-- memory that holds the store, and the claim on the value holds; or it comes to where a jump lands; or it ends. Where the fuel
+-- ran out, the run enters as many blocks as were counted up to there.
+abbrev pub Reaches : {A : Type 0} → Shape → Landings → Frame → Point → Point → Memory → (A → Type 0) → End A → Type 0
+Reaches whole lands frame from to memory claim (Go value store cost) =
+    (later : Memory) × Comes frame cost.turns from memory to later × Holds whole frame store later × claim value
+Reaches whole lands frame from to memory claim (Jumps jump store cost) = Lands whole frame from memory store cost.turns (lands jump)
+Reaches whole lands frame from to memory claim (Faults fault cost) = EndsAfter cost.turns (Faulted (error_of fault)) (run_from frame memory from)
+Reaches whole lands frame from to memory claim Stuck = Unit {0}
+Reaches whole lands frame from to memory claim (More cost) = Enters cost.turns (run_from frame memory from)
+
+-- What code does: in each graph that the new one grows to, wherever jumps land, where the cells in use are those that the old
+-- graph has, and from each memory that holds the store, the code between the two graphs' points does what an end says, at
+-- each amount of fuel, and what is claimed of its value holds.
+pub record Performs (source : Source) (old new : Shape) {A : Type 0} (claim : Shape → Frame → A → Type 0) (meaning : Around → ℕ → Store → End A) : Type 0 where
+  pub reaches : (whole : Shape) (frame : Frame) → Grows new whole → IsSound source whole → IsFrameOf whole frame → (lands : Landings) → (around : Around) → around.marks ≡ old.scope →
       (fuel : ℕ) (store : Store) (memory : Memory) → Holds whole frame store memory →
-      Reaches frame (here old) (here new) memory (λ value after later. Holds whole frame after later × claim whole frame value) (meaning fuel store)
+      Reaches whole lands frame (here old) (here new) memory (claim whole frame) (meaning around fuel store)
 
 -- nothing is claimed
 abbrev pub Nothing : Shape → Frame → Unit {0} → Type 0
@@ -87,32 +108,32 @@ FitAll source _ whole frame _ = ⊥
 
 -- the code evaluates an expression into a cell
 abbrev pub Does : Source → Shape → Shape → ℕ → Cell → Type 0
-Does source old new e cell = Performs source old new Nothing (λ fuel store. (level_at source fuel).into e (record { cell = cell }) store)
+Does source old new e cell = Performs source old new Nothing (λ around fuel store. (level_at source fuel around).into e (record { cell = cell }) store)
 
 -- or as an operand
 abbrev pub DoesOperand : Source → Shape → Shape → ℕ → OperandKind → Type 0
-DoesOperand source old new e operand = Performs source old new (Fits source operand) (λ fuel store. (level_at source fuel).operand e store)
+DoesOperand source old new e operand = Performs source old new (Fits source operand) (λ around fuel store. (level_at source fuel around).operand e store)
 
 -- or several, from left to right
 abbrev pub DoesOperands : Source → Shape → Shape → List ℕ → List OperandKind → Type 0
-DoesOperands source old new es operands = Performs source old new (FitAll source operands) (λ fuel store. operands_of (level_at source fuel) es store)
+DoesOperands source old new es operands = Performs source old new (FitAll source operands) (λ around fuel store. operands_of source (level_at source fuel) around es store)
 
 -- or as a place, which is that of a cell
 pub record DoesPlace (source : Source) (old new : Shape) (e local : ℕ) : Type 0 where
   pub cell : Cell
   pub found : local_of new cell ≡ Some local
-  pub does : Performs source old new (LeadsTo cell) (λ fuel store. (level_at source fuel).place e store)
+  pub does : Performs source old new (LeadsTo cell) (λ around fuel store. (level_at source fuel around).place e store)
 
 -- the code runs statements, evaluates a tail, or binds a pattern to a cell's value
 abbrev pub DoesStatements : Source → Shape → Shape → List Statement → Type 0
-DoesStatements source old new statements = Performs source old new Nothing (λ fuel store. statements_of source (level_at source fuel) statements store)
+DoesStatements source old new statements = Performs source old new Nothing (λ around fuel store. statements_of source (level_at source fuel) around statements store)
 
 abbrev pub DoesTail : Source → Shape → Shape → Option ExprId → Cell → Type 0
-DoesTail source old new tail cell = Performs source old new Nothing (λ fuel store. tail_into (level_at source fuel) tail (record { cell = cell }) store)
+DoesTail source old new tail cell = Performs source old new Nothing (λ around fuel store. tail_into (level_at source fuel around) tail (record { cell = cell }) store)
 
 abbrev pub DoesBind : Source → Shape → Shape → ℕ → Cell → Type 0
-DoesBind source old new pat cell = Performs source old new Nothing (λ fuel store. bind (pattern source pat) (record { cell = cell }) store)
+DoesBind source old new pat cell = Performs source old new Nothing (λ around fuel store. bind (pattern source pat) (record { cell = cell }) store)
 
 -- the code assigns a cell's value to the name that an assignment's target is
 abbrev pub DoesAssign : Source → Shape → Shape → ℕ → Cell → Type 0
-DoesAssign source old new assigned cell = Performs source old new Nothing (λ fuel store. bind (target source assigned) (record { cell = cell }) store)
+DoesAssign source old new assigned cell = Performs source old new Nothing (λ around fuel store. bind (target source assigned) (record { cell = cell }) store)

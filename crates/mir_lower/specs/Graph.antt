@@ -1,5 +1,5 @@
 -- The graph that lowering builds, as data: its blocks, which of them is the current one, to which statements are added,
--- its locals, which of them holds which value, and which cells came into use in the scope that is open.
+-- its locals, which of them holds which value, and the cells in use in all open scopes.
 use Rattle.std.specs.Prelude.{ℕ, zero, false, List, [], ◌∷◌, ◌++◌, length, replicate, map, Option, Some, None, slice_get, slice_set, option_map, option_and_then}
 use Rattle.types.specs.declared.ty.Ty.{Ty}
 use Rattle.mir.specs.declared.body.BasicBlock.{BasicBlock}
@@ -21,6 +21,7 @@ pub record Shape : Type 0 where
   pub bindings : List (Option LocalId)
   -- for each expression the local that holds its value
   pub temps : List (Option LocalId)
+  -- the cells in use in all open scopes, those of the outermost scope first
   pub scope : List Cell
 
 -- the cell whose value a local holds
@@ -28,7 +29,7 @@ abbrev pub cell_of : Held → Cell
 cell_of (held.Expr e) = Node e.0
 cell_of (held.Binding b) = Binding b.0
 
--- the cells of a scope
+-- the cells of marks
 abbrev pub cells_of : List Marked → List Cell
 cells_of marked = map (λ m. cell_of m.held) marked
 
@@ -122,10 +123,10 @@ with_binding None s = record s { bindings = s.bindings ++ None ∷ [] }
 unfoldable pub with_temp : ℕ → Ty → Shape → Shape
 with_temp e ty s = record s { locals = s.locals ++ local_of_type ty ∷ []; temps = slice_set s.temps e (Some (record { 0 = length s.locals })) }
 
--- another scope that is open
+-- other cells in use
 abbrev pub with_scope : List Cell → Shape → Shape
 with_scope scope s = record s { scope = scope }
 
--- a cell that comes into use in the scope
+-- a cell that comes into use in the innermost open scope
 abbrev pub with_mark : Cell → Shape → Shape
 with_mark cell s = with_scope (s.scope ++ cell ∷ []) s

@@ -1,12 +1,13 @@
 -- How the graph grows while an expression is lowered, and what stands in it at a point of its code.
-use Rattle.std.specs.Prelude.{◌≡◌, ◌≢◌, ◌⊎◌, ℕ, ◌<◌, ◌≤◌, [], ◌∷◌, length, Option, Some, None, slice_get, option_map, option_and_then}
+use Rattle.std.specs.Prelude.{◌≡◌, ◌≢◌, ◌⊎◌, ℕ, ◌<◌, ◌≤◌, false, [], ◌∷◌, length, Option, Some, None, slice_get, option_map, option_and_then}
 use Rattle.mir.specs.declared.body.BasicBlock.{BasicBlock}
 use Rattle.mir.specs.declared.body.Local.{Local}
 use Rattle.mir.specs.declared.body.Terminator.{Terminator}
 use Rattle.mir.specs.declared.statement.Statement.{Statement}
 use Rattle.types.specs.declared.ty.Ty.{Ty}
 use Rattle.world.specs.Checked.{IsCheckedBody}
-use Rattle.source_meaning.specs.Source.{Source, Cell, Result, Node, Binding, cell_type, binding_type, root}
+use Rattle.source_meaning.specs.Core.{is_path}
+use Rattle.source_meaning.specs.Source.{Source, Cell, Result, Node, Binding, cell_type, binding_type, node, root}
 use Rattle.source_meaning.specs.Valid.{Evaluates}
 use Rattle.mir_lower.specs.Graph.{Shape, no_statements, temp_of, binding_local, local_of}
 use Rattle.mir_lower.specs.Order.{first_locals}
@@ -43,12 +44,18 @@ IsUsed source Result = Unit {0}
 IsUsed source (Node e) = Evaluates source (root source) e
 IsUsed source (Binding b) = Unit {0}
 
--- The locals of cells: each has its cell's type, no two cells share one, and each local of the graph is of the type of
--- a cell that is used.
+-- a cell that is given a local: the result, a binding, or an expression that is evaluated, is no path and isn't the body's
+-- root, whose value goes to the result
+abbrev pub IsStored : Source → Cell → Type 0
+IsStored source Result = Unit {0}
+IsStored source (Node e) = Evaluates source (root source) e × (is_path (node source e) ≡ false) × (e < root source)
+IsStored source (Binding b) = Unit {0}
+
+-- The locals of cells: each has its cell's type, no two cells share one, and each local of the graph is that of a cell.
 pub record IsAllotted (source : Source) (s : Shape) : Type 0 where
   pub typed : (cell : Cell) (l : ℕ) → local_of s cell ≡ Some l → (local : Local) × (slice_get s.locals l ≡ Some local) × (cell_type source cell ≡ Some local.ty)
   pub own : (c d : Cell) (l : ℕ) → local_of s c ≡ Some l → local_of s d ≡ Some l → c ≡ d
-  pub cells : (l : ℕ) (local : Local) → slice_get s.locals l ≡ Some local → (cell : Cell) × IsUsed source cell × (cell_type source cell ≡ Some local.ty)
+  pub cells : (l : ℕ) (local : Local) → slice_get s.locals l ≡ Some local → (cell : Cell) × IsStored source cell × (local_of s cell ≡ Some l) × (cell_type source cell ≡ Some local.ty)
 
 -- A graph before anything is lowered: one open block, no expression with a local yet, and a place for each of the first
 -- bindings of the body, with a local for those that no closure owns; there are no other locals but the return slot.
@@ -81,3 +88,8 @@ pub record IsReady (source : Source) (s : Shape) (e : ℕ) : Type 0 where
   pub «open» : IsOpen s
   pub within : e < length source.body.exprs
   pub reached : Evaluates source (root source) e
+
+-- the same of a part of another expression: it isn't the body's root
+pub record IsReadyPart (source : Source) (s : Shape) (e : ℕ) : Type 0 where
+  pub ready : IsReady source s e
+  pub below : e < root source

@@ -17,7 +17,7 @@ use Rattle.mir.specs.Memory.{Memory}
 use Rattle.mir.specs.Run.{Frame}
 use Rattle.mir_lower.specs.Does.{here, Comes, IsFrameOf, Does, DoesOperand, DoesOperands, DoesPlace, DoesStatements, DoesTail, DoesBind, DoesAssign}
 
--- the graph is as sound as before, has what it had, and these cells more came into use in the scope
+-- the graph is as sound as before, has what it had, and these cells more came into use in the innermost open scope
 pub record Keeps (source : Source) (old new : Shape) (marked : List Cell) : Type 0 where
   pub grows : Grows old new
   pub spares : Spares old new
@@ -62,7 +62,7 @@ pub record IsPlaced (s : Shape) (local : ℕ) : Type 0 where
   pub cell : Cell
   pub found : local_of s cell ≡ Some local
 
--- a cell came into use in the scope: its local is known, and the code goes on with memory as it was
+-- a cell came into use in the innermost open scope: its local is known, and the code goes on with memory as it was
 pub record IsGiven (source : Source) (old new : Shape) (cell : Cell) (local : ℕ) : Type 0 where
   pub keeps : Keeps source old new (cell ∷ [])
   pub found : local_of new cell ≡ Some local

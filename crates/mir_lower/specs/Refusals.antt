@@ -85,6 +85,10 @@ IsUnbuilt source e (Some (expr.Logic op left right)) = ⊥
 IsUnbuilt source e (Some (expr.If condition then_branch else_branch)) = ⊥
 IsUnbuilt source e (Some (expr.Assign assigned value)) = IsUnbuiltTarget source assigned
 IsUnbuilt source e (Some (expr.Block statements tail)) = (one : Statement) × Contains statements one × IsUnbuiltStatement source one
+IsUnbuilt source e (Some (expr.Labelled label statements tail)) = (one : Statement) × Contains statements one × IsUnbuiltStatement source one
+IsUnbuilt source e (Some (expr.Loop label body)) = ⊥
+IsUnbuilt source e (Some (expr.Break label value)) = ⊥
+IsUnbuilt source e (Some (expr.Continue label)) = ⊥
 IsUnbuilt source e None = IsUnbuiltForm source e
 
 -- a name pattern of a binding that the body lacks
@@ -105,6 +109,7 @@ abbrev pub LacksLocal : Source → ℕ → Option CoreExpr → Type 0
 LacksLocal source e (Some (expr.Path name)) = (binding : BindingId) × (named_by source e ≡ Some (LocalBinding binding)) × (binding_type source binding.0 ≡ None)
 LacksLocal source e (Some (expr.Assign assigned value)) = AssignsNone source assigned
 LacksLocal source e (Some (expr.Block statements tail)) = (one : Statement) × Contains statements one × LetBindsNone source one
+LacksLocal source e (Some (expr.Labelled label statements tail)) = (one : Statement) × Contains statements one × LetBindsNone source one
 LacksLocal source e _ = ⊥
 
 -- a path, or the path that an assignment's target is, to which name resolution found nothing

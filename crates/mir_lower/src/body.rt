@@ -99,10 +99,10 @@ fn lower_body(context: &Context<'_>, owner: DefWithBodyId) -> Result<MirBody, Mi
 {
     let start = context.body.body_expr;
     let mut graph = first_graph(context)?;
-    let outer = graph.push_drop_scope(context.alloc);
+    let scope = graph.push_drop_scope();
     let slot = Place { local: LocalId(0) };
     lower_into(context, &mut graph, start, slot)?;
-    leave_scope(context, &mut graph, outer, start)?;
+    leave_scope(context, &mut graph, scope, start)?;
     graph.set_terminator(Terminator {
         span: MirSpan::ExprId(start),
         kind: TerminatorKind::Return,

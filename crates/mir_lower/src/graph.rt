@@ -1,13 +1,12 @@
 //! The graph that lowering builds: blocks, one of which is open, and locals.
 
-ghost use Rattle.std.specs.Prelude.{◌≡◌, ◌<◌, ◌^◌, ℕ, [], length, IfOk, OnOk, Some, None, slice_get};
+ghost use Rattle.std.specs.Prelude.{◌≡◌, ◌<◌, ◌≤◌, ◌^◌, ℕ, length, IfOk, IfSome, IfNone, OnOk, Some, None, slice_get};
 ghost use Rattle.std.specs.Option.{option_map};
-ghost use Rattle.mir_lower.specs.Graph.{shape, first_shape, with_statement, with_terminator, with_block, with_reserved, with_entered, with_binding, with_temp, with_mark, with_scope, temp_of, binding_local, no_statements, cell_of, cells_of};
+ghost use Rattle.mir_lower.specs.Graph.{shape, first_shape, with_statement, with_terminator, with_block, with_reserved, with_entered, with_binding, with_temp, with_mark, temp_of, binding_local, no_statements, cell_of};
 ghost use Rattle.source_meaning.specs.Source.{Node};
 
 use mir::{BasicBlock, BasicBlockId, Local, LocalId, MirBody, Statement, Terminator};
 use std::alloc::Global;
-use std::mem;
 use world::{BindingId, DefWithBodyId, ExprId, List, NoMemory, Ty};
 
 /// What a local holds the value of.
@@ -17,18 +16,16 @@ pub enum Held {
     Binding(BindingId),
 }
 
-/// A local that came into use in the scope that is open.
+/// A local that came into use in a scope that is open.
 #[derive(Clone, Copy)]
 pub struct Marked {
     pub held: Held,
     pub local: LocalId,
 }
 
-/// The scope around one that was opened. It is given back where that one is left.
-#[derive(Drop)]
-pub struct DropScopeToken {
-    pub outer: Vec<Marked>,
-}
+/// How many locals were in use when a scope was opened. Those behind them are the scope's own.
+#[derive(Clone, Copy)]
+pub struct DropScopeToken(pub usize);
 
 /// The blocks and locals so far.
 #[derive(Drop)]
@@ -42,6 +39,7 @@ pub struct Graph {
     pub bindings: Vec<Option<LocalId>>,
     /// For each expression the local that holds its value.
     pub temps: Vec<Option<LocalId>>,
+    /// The locals in use in all open scopes, those of the outermost scope first.
     pub scope: Vec<Marked>,
 }
 
@@ -173,7 +171,7 @@ impl Graph {
         Ok(local)
     }
 
-    /// Marks a local as in use in the open scope.
+    /// Marks a local as in use in the innermost open scope.
     pub fn mark(&mut self, held: Held, local: LocalId) -> Result<(), NoMemory>
         ensures { OnOk result (shape self.new ≡ with_mark (cell_of held) (shape self.old)) }
     {
@@ -181,7 +179,7 @@ impl Graph {
         Ok(())
     }
 
-    /// The local of an expression in the scope that is open: the one that it has, or else a new one.
+    /// The local of an expression in the innermost open scope: the one that it has, or else a new one.
     #[tactic(auto, unfolding(crate::specs::Graph::temp_of))]
     pub fn temp_for(&mut self, node: ExprId, ty: Ty) -> Result<LocalId, NoMemory>
         requires { node.0 < length self.old.temps.items }
@@ -209,23 +207,25 @@ impl Graph {
         }
     }
 
-    /// Opens a scope inside the open one. It takes no memory.
-    pub fn push_drop_scope(&mut self, alloc: Global) -> DropScopeToken
-        ensures inner { shape self.new ≡ with_scope [] (shape self.old) }
-        ensures outer { cells_of result.outer.items ≡ (shape self.old).scope }
+    /// Opens a scope inside the open ones. It changes nothing and takes no memory.
+    pub fn push_drop_scope(&self) -> DropScopeToken
+        ensures { result.0 ≡ length (shape self.now).scope }
     {
-        DropScopeToken {
-            outer: mem::replace(&mut self.scope, Vec::new(alloc)),
-        }
+        DropScopeToken(self.scope.len())
     }
 
-    /// Gives back the scope around the open one, and hands out the locals of the latter.
-    pub fn pop_drop_scope(&mut self, token: DropScopeToken) -> Vec<Marked>
-        ensures inner { cells_of result.items ≡ (shape self.old).scope }
-        ensures outer { shape self.new ≡ with_scope (cells_of token.outer.items) (shape self.old) }
+    /// Takes back the last mark of a scope and of those inside it, where one is left.
+    pub fn pop_mark(&mut self, token: DropScopeToken) -> Option<Marked>
+        ensures last { IfSome result (λ marked. shape self.old ≡ with_mark (cell_of marked.held) (shape self.new)) }
+        ensures within { IfSome result (λ marked. token.0 ≤ length (shape self.new).scope) }
+        ensures same { IfNone result (shape self.new ≡ shape self.old) }
+        ensures none { IfNone result (length (shape self.old).scope ≤ token.0) }
     {
-        let DropScopeToken { outer } = token;
-        mem::replace(&mut self.scope, outer)
+        if self.scope.len() > token.0 {
+            self.scope.pop()
+        } else {
+            None
+        }
     }
 
     /// The body with these blocks and locals. It takes no memory.

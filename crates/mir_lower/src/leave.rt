@@ -1,12 +1,12 @@
 //! Leaving a scope: what is dropped there, and where each local's storage ends.
 
-ghost use Rattle.std.specs.Prelude.{◌≡◌, ◌+◌, ◌<◌, ◌≤◌, ℕ, length, IfErr, OnOk, None};
+ghost use Rattle.std.specs.Prelude.{◌≡◌, ◌≤◌, length, take, drop, OnOk, None};
 ghost use Rattle.mir.specs.declared.statement.StatementKind.TheVariants.{StorageDead};
 ghost use Rattle.mir.specs.declared.body.TerminatorKind.TheVariants.{Drop as Dropping};
 ghost use Rattle.std.specs.Option.{option_copied};
 ghost use Rattle.source_meaning.specs.Source.{cell_type, is_dropped, drops};
 ghost use Rattle.mir_lower.specs.Contexts.{source_of};
-ghost use Rattle.mir_lower.specs.Graph.{shape, with_statement, with_block, with_terminator, with_scope, cell_of, cells_of};
+ghost use Rattle.mir_lower.specs.Graph.{shape, with_statement, with_block, with_terminator, with_scope, cell_of};
 ghost use Rattle.mir_lower.specs.Growth.{IsSound, IsOpen};
 ghost use Rattle.mir_lower.specs.Leaving.{Idles, one_if};
 
@@ -99,24 +99,8 @@ fn leave_local(
     })
 }
 
-/// Leaves the locals of a scope, from the last back.
-fn leave_all(
-    context: &Context<'_>,
-    graph: &mut Graph,
-    mut scope: Vec<Marked>,
-    at: ExprId,
-) -> Result<(), NoMemory>
-    requires sound { IsSound (source_of context.now) (shape graph.old) }
-    requires opened { IsOpen (shape graph.old) }
-    ensures { OnOk result (Idles (source_of context.now) (shape graph.old) (shape graph.new) (drops (source_of context.now) (cells_of scope.items))) }
-{
-    while let Some(marked) = scope.pop() {
-        leave_local(context, graph, marked, at)?;
-    }
-    Ok(())
-}
-
-/// Leaves the open scope, for the one around it.
+/// Leaves a scope and those inside it: their locals from the last back. Those that were in use when the scope was
+/// opened stay.
 pub(crate) fn leave_scope(
     context: &Context<'_>,
     graph: &mut Graph,
@@ -125,8 +109,11 @@ pub(crate) fn leave_scope(
 ) -> Result<(), NoMemory>
     requires sound { IsSound (source_of context.now) (shape graph.old) }
     requires opened { IsOpen (shape graph.old) }
-    ensures { OnOk result (Idles (source_of context.now) (with_scope (cells_of token.outer.items) (shape graph.old)) (shape graph.new) (drops (source_of context.now) (shape graph.old).scope)) }
+    requires within { token.0 ≤ length (shape graph.old).scope }
+    ensures { OnOk result (Idles (source_of context.now) (with_scope (take token.0 (shape graph.old).scope) (shape graph.old)) (shape graph.new) (drops (source_of context.now) (drop token.0 (shape graph.old).scope))) }
 {
-    let scope = graph.pop_drop_scope(token);
-    leave_all(context, graph, scope, at)
+    while let Some(marked) = graph.pop_mark(token) {
+        leave_local(context, graph, marked, at)?;
+    }
+    Ok(())
 }

@@ -1,15 +1,15 @@
 //! Locals: those of the values of expressions, and those of names.
 
-ghost use Rattle.std.specs.Prelude.{◌≡◌, ◌⊎◌, IfOk, IfErr, IfSome, OnOk, Some};
+ghost use Rattle.std.specs.Prelude.{◌≡◌, ◌⊎◌, false, IfOk, IfErr, IfSome, OnOk, Some};
 ghost use Rattle.mir.specs.declared.errors.MirLowerError.TheVariants as refusal;
 ghost use Rattle.mir.specs.declared.statement.StatementKind.TheVariants.{Assign, FakeRead};
 ghost use Rattle.source_meaning.specs.Source.{Cell, Node, Binding, node};
 ghost use Rattle.source_meaning.specs.Core as expr;
-ghost use Rattle.source_meaning.specs.Core.{local_named};
+ghost use Rattle.source_meaning.specs.Core.{is_path, local_named};
 ghost use Rattle.world.specs.declared.infer.ValueNs.TheVariants.{LocalBinding};
 ghost use Rattle.mir_lower.specs.Contexts.{source_of};
 ghost use Rattle.mir_lower.specs.Graph.{shape, with_statement, local_of};
-ghost use Rattle.mir_lower.specs.Growth.{IsSound, IsOpen, IsReady};
+ghost use Rattle.mir_lower.specs.Growth.{IsSound, IsOpen, IsReadyPart};
 ghost use Rattle.mir_lower.specs.Lowered.{IsGiven, IsNamed, Binds, IsTargeted, Assigns};
 ghost use Rattle.source_meaning.specs.Built.{AssignsBinding, BindsBinding, NamesBinding};
 ghost use Rattle.mir_lower.specs.Refusals.{RefusesNode, RefusesPattern, RefusesTarget};
@@ -88,7 +88,7 @@ pub(crate) fn place_named(
     }
 }
 
-/// The local of a binding comes into use in the open scope.
+/// The local of a binding comes into use in the innermost open scope.
 fn storage_live(
     context: &Context<'_>,
     graph: &mut Graph,
@@ -109,13 +109,14 @@ fn storage_live(
     Ok(())
 }
 
-/// A local for the value of an expression comes into use in the open scope.
+/// A local for the value of an expression comes into use in the innermost open scope.
 pub(crate) fn new_temp(
     context: &Context<'_>,
     graph: &mut Graph,
     e: ExprId,
 ) -> Result<Place, MirLowerError>
-    requires { IsReady (source_of context.now) (shape graph.old) e.0 }
+    requires ready { IsReadyPart (source_of context.now) (shape graph.old) e.0 }
+    requires form { is_path (node (source_of context.now) e.0) ≡ false }
     ensures given { IfOk result (λ place. IsGiven (source_of context.now) (shape graph.old) (shape graph.new) (Node e.0) place.local.0) }
     ensures refused { IfErr result (λ error. error ≡ refusal.NoMemory) }
 {

@@ -11,7 +11,7 @@ ghost use Rattle.world.specs.declared.body.Statement.TheVariants as statement_ki
 ghost use Rattle.mir_lower.specs.Contexts.{source_of};
 ghost use Rattle.mir_lower.specs.Form.{core_value, operation_of};
 ghost use Rattle.mir_lower.specs.Graph.{shape, local_of};
-ghost use Rattle.mir_lower.specs.Growth.{IsReady};
+ghost use Rattle.mir_lower.specs.Growth.{IsReady, IsReadyPart};
 ghost use Rattle.mir_lower.specs.Lowered.{IsPlaced, LowersInto, LowersPlace, LowersOperand, LowersStatements, LowersTail, IsStatementOf};
 ghost use Rattle.mir_lower.specs.Built.{IsBuilt, IsBuiltThrough};
 ghost use Rattle.mir_lower.specs.Refusals.{RefusesAt};
@@ -99,7 +99,7 @@ pub(crate) fn lower_operand(
     graph: &mut Graph,
     e: ExprId,
 ) -> Result<Operand, MirLowerError>
-    requires { IsReady (source_of context.now) (shape graph.old) e.0 }
+    requires { IsReadyPart (source_of context.now) (shape graph.old) e.0 }
     ensures lowered { IfOk result (λ operand. LowersOperand (source_of context.now) (shape graph.old) (shape graph.new) e.0 operand.kind) }
     ensures built { OnOk result (IsBuilt (source_of context.now) e.0) }
     ensures refused { IfErr result (RefusesAt (source_of context.now) e.0) }
@@ -116,7 +116,7 @@ pub(crate) fn lower_operand(
 /// An expression to a place: what a path names, or a local of its own.
 #[cycle(lower)]
 fn lower_place(context: &Context<'_>, graph: &mut Graph, e: ExprId) -> Result<Place, MirLowerError>
-    requires { IsReady (source_of context.now) (shape graph.old) e.0 }
+    requires { IsReadyPart (source_of context.now) (shape graph.old) e.0 }
     ensures lowered { IfOk result (λ place. LowersPlace (source_of context.now) (shape graph.old) (shape graph.new) e.0 place.local.0) }
     ensures built { OnOk result (IsBuilt (source_of context.now) e.0) }
     ensures refused { IfErr result (RefusesAt (source_of context.now) e.0) }
@@ -130,7 +130,7 @@ fn lower_place(context: &Context<'_>, graph: &mut Graph, e: ExprId) -> Result<Pl
 /// An expression that is no place goes into a local of its own, which is then its place.
 #[cycle(lower)]
 fn lower_temp(context: &Context<'_>, graph: &mut Graph, e: ExprId) -> Result<Place, MirLowerError>
-    requires ready { IsReady (source_of context.now) (shape graph.old) e.0 }
+    requires ready { IsReadyPart (source_of context.now) (shape graph.old) e.0 }
     requires form { is_path (node (source_of context.now) e.0) ≡ false }
     ensures lowered { IfOk result (λ place. LowersPlace (source_of context.now) (shape graph.old) (shape graph.new) e.0 place.local.0) }
     ensures built { OnOk result (IsBuilt (source_of context.now) e.0) }
@@ -325,10 +325,10 @@ fn lower_block(
     ensures built { OnOk result (IsBuilt (source_of context.now) e.0) }
     ensures refused { IfErr result (RefusesAt (source_of context.now) e.0) }
 {
-    let outer = graph.push_drop_scope(context.alloc);
+    let scope = graph.push_drop_scope();
     lower_statements(context, graph, e, statements.as_slice())?;
     lower_tail(context, graph, e, tail, place)?;
-    leave_scope(context, graph, outer, e)?;
+    leave_scope(context, graph, scope, e)?;
     Ok(())
 }
 
@@ -443,9 +443,9 @@ fn lower_expr_statement(
     ensures built { OnOk result (IsBuiltThrough (source_of context.now) (statement_kind.Expr expr has_semi)) }
     ensures refused { IfErr result (RefusesAt (source_of context.now) e.0) }
 {
-    let outer = graph.push_drop_scope(context.alloc);
+    let scope = graph.push_drop_scope();
     let place = lower_place(context, graph, expr)?;
     fake_read(graph, place, expr)?;
-    leave_scope(context, graph, outer, expr)?;
+    leave_scope(context, graph, scope, expr)?;
     Ok(())
 }

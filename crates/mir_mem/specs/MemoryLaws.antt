@@ -103,6 +103,6 @@ BlocksAreApartFromOldBytes =
     AreApart old record { addr = address; size = size }
 
 -- an address that is cast to an integer and back is the same
-pub record DoAddressesComeBack : Type 0 where
+pub record AddressesRoundTrip : Type 0 where
   pub stack : (place : ℕ) → 1 ≤ place → address_of (usize_of (Stack place)) ≡ Stack place
   pub heap : (place : ℕ) → 1 ≤ place → place ≤ 2 ^ 59 → address_of (usize_of (Heap place)) ≡ Heap place

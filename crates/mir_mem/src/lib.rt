@@ -19,7 +19,7 @@ pub use int_value::IntValue;
 pub use interval::IntervalOrOwned;
 pub use memory::Memory;
 pub use memory_laws::{
-    addresses_come_back, blocks_are_new, cells_are_apart, cells_are_new, copies_give_the_source,
+    addresses_round_trip, blocks_are_new, cells_are_apart, cells_are_new, copies_give_the_source,
     growth_keeps_old_bytes, reads_give_what_was_written, writes_keep_the_rest,
 };
 pub use mir::{Address, CellSize, Interval, MemFault};

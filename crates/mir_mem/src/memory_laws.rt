@@ -13,7 +13,7 @@ ghost use Rattle.mir_mem.specs.MemoryLaws.{
   CellsAreApartFromOldBytes,
   BlocksAreNew,
   BlocksAreApartFromOldBytes,
-  DoAddressesComeBack,
+  AddressesRoundTrip,
 };
 
 /// A read gives the bytes that were written last.
@@ -57,6 +57,6 @@ pub fn blocks_are_new()
 {}
 
 /// The address of a byte, cast to an integer and back, is the same address.
-pub fn addresses_come_back()
-    ensures { DoAddressesComeBack }
+pub fn addresses_round_trip()
+    ensures { AddressesRoundTrip }
 {}

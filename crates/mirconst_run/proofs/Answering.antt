@@ -39,9 +39,9 @@ from_nothing world before after goals answers same are = (after, subst (λ (kept
 
 -- an answer under the goal's limits answers the goal
 pub goal_answer : (before after : Kept) (goal : Goal) (limits : Limits) (answer : Evaluated) → limits ≡ limits_of goal →
-    IsAnswer before after goal.def goal.args limits.blocks answer → is_want_of_memory answer.result ≡ false → IsGoalAnswer before after goal answer
+    IsAnswer before after goal.def goal.args limits answer → is_want_of_memory answer.result ≡ false → IsGoalAnswer before after goal answer
 goal_answer before after goal limits answer same answers in_memory = record {
-  answers = subst (λ (under : Limits). IsAnswer before after goal.def goal.args under.blocks answer) same answers;
+  answers = subst (λ (under : Limits). IsAnswer before after goal.def goal.args under answer) same answers;
   in_memory = in_memory;
 }
 

@@ -8,7 +8,7 @@ use Rattle.world.specs.declared.limits.Limits.{Limits}
 use Rattle.source_meaning.specs.Valid.{HasDefinedCost}
 use Rattle.consteval.specs.Kept.{Kept, IsSound, Stays, Value, source_of}
 use Rattle.consteval.specs.Valid.{IsValid}
-use Rattle.consteval.specs.Answers.{GivesValue, GivesPanic, AnswersWithin, EndsIn, HasCause, panic_word}
+use Rattle.consteval.specs.Answers.{GivesValue, CountsBlocks, GivesPanic, AnswersWithin, EndsIn, HasCause, panic_word}
 use Rattle.consteval.specs.declared.evaluated.Evaluated.{Evaluated}
 use Rattle.world.specs.declared.database.BodyRow.{BodyRow}
 use Rattle.world.specs.declared.database.HirDatabase.{HirDatabase}
@@ -19,18 +19,20 @@ use Rattle.types.specs.declared.ty.GenericArgs.{GenericArgs}
 use Rattle.world_json.specs.declared.goal.Goal.{Goal}
 use Rattle.check_names.specs.Known.{are_args_known, is_def_known}
 
--- the answer to a definition, with the bodies and values that are kept before and after it
-pub record IsAnswer (before after : Kept) (def : DefWithBodyId) (args : GenericArgs) (blocks : ℕ) (answer : Evaluated) : Type 0 where
+-- the answer to a definition under limits, with the bodies and values that are kept before and after it
+pub record IsAnswer (before after : Kept) (def : DefWithBodyId) (args : GenericArgs) (limits : Limits) (answer : Evaluated) : Type 0 where
   pub printed : answer.output ≡ ([], [])
   pub value : (row : BodyRow) (konst : Const) → IsValid before.world def args row → answer.result ≡ Ok konst →
       GivesValue (source_of before.world row) konst
+  pub counts : (row : BodyRow) (konst : Const) → IsValid before.world def args row → answer.result ≡ Ok konst →
+      CountsBlocks (source_of before.world row) answer.turns
   pub panic : (row : BodyRow) (e : MirEvalError) (word : List ℕ) → IsValid before.world def args row →
       answer.result ≡ Err (constant.MirEvalError e) → panic_word e ≡ Some word → GivesPanic (source_of before.world row) word
-  pub closed : (row : BodyRow) → IsValid before.world def args row → IfErr answer.result (EndsIn (source_of before.world row) blocks)
+  pub closed : (row : BodyRow) → IsValid before.world def args row → IfErr answer.result (EndsIn (source_of before.world row) limits)
   pub complete : (row : BodyRow) → IsValid before.world def args row → HasDefinedCost (source_of before.world row) →
-      AnswersWithin (source_of before.world row) blocks answer.result
-  pub cause : HasCause after def args blocks answer.turns answer.result
-  pub turns : answer.turns ≤ blocks
+      AnswersWithin (source_of before.world row) limits answer.result
+  pub cause : HasCause after def args limits answer.turns answer.result
+  pub turns : answer.turns ≤ limits.blocks
   pub stays : Stays before after
   pub kept : IsOk answer.result → (konst : Const) × Contains after.entries (Value def konst)
   pub sound : IsSound after
@@ -48,7 +50,7 @@ limits_of goal = unwrap_or goal.limits default_limits
 
 -- the answer to a goal under its limits, if memory did not run out
 pub record IsGoalAnswer (before after : Kept) (goal : Goal) (answer : Evaluated) : Type 0 where
-  pub answers : IsAnswer before after goal.def goal.args (limits_of goal).blocks answer
+  pub answers : IsAnswer before after goal.def goal.args (limits_of goal) answer
   pub in_memory : is_want_of_memory answer.result ≡ false
 
 -- the answers to goals in order; each evaluation begins with the bodies and values that the one before has kept

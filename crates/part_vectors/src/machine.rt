@@ -179,3 +179,15 @@ fn every_other_number_leads_to_the_last_target(rt: HostRuntime) -> Result<(), Fa
     assert_eq!(rt; turns, 2);
     Ok(())
 }
+
+#[test]
+fn a_run_holds_a_level_until_it_ends_in_a_value(rt: HostRuntime) -> Result<(), Fail> {
+    let alloc = rt.alloc();
+    let db = world_of_one(alloc)?;
+    let body = body_of(alloc, sum_blocks(alloc)?)?;
+    let mut evaluator = begun(alloc, &db, Rc::new(alloc, body)?)?;
+    assert_eq!(rt; evaluator.nesting_left(), 99);
+    evaluator.run();
+    assert_eq!(rt; evaluator.nesting_left(), 100);
+    Ok(())
+}

@@ -1,10 +1,8 @@
 //! Normalized types and resolved impl items without aliases and parameters, right layouts and tags, and rows
 //! that agree with one another.
 ghost use Rattle.std.specs.Prelude.{◌≡◌, IfOk};
-ghost use Rattle.world.specs.Failing.{first_failing};
 ghost use Rattle.check_items.specs.Agree.{has_all_params, is_closure_row};
 ghost use Rattle.check_items.specs.Closed.{is_const_impl_closed, is_impl_closed, is_normal_closed};
-ghost use Rattle.check_layouts.specs.Layouts.{is_layout_right};
 ghost use Rattle.check_layouts.specs.Tags.{is_tag_right};
 ghost use Rattle.world_check.specs.Tables.{first_wrong, wrong_agreement, wrong_layout, wrong_resolution, wrong_tag};
 
@@ -15,7 +13,7 @@ use check_items::{
     has_all_params, is_closure_row, is_const_impl_closed, is_impl_closed, is_normal_closed,
     wrong_variant,
 };
-use check_layouts::{is_layout_right, is_tag_right};
+use check_layouts::{first_wrong_layout, is_tag_right};
 use std::alloc::Global;
 use world::{
     AliasId, ClosureRow, ConstImplRow, FunctionRow, GenericArgs, HirDatabase, ImplRow, Layout,
@@ -55,28 +53,11 @@ pub(crate) fn wrong_resolution(db: &HirDatabase) -> Option<Place>
     row_place(TableName::Normals, types).or(second)
 }
 
-/// The index of the first layout that breaks a rule of all targets.
-fn wrong_layout_among(
-    alloc: Global,
-    db: &HirDatabase,
-    rows: &[(Ty, Layout)],
-) -> Result<Option<usize>, NoMemory>
-    ensures { IfOk result (λ found. found ≡ first_failing (is_layout_right db.now) 0 rows.now) }
-{
-    for (i, row) in rows.iter().enumerate() {
-        let right = is_layout_right(alloc, db, i as u64, row)?;
-        if !right {
-            return Ok(Some(i));
-        }
-    }
-    Ok(None)
-}
-
 /// The place of the first layout that breaks a rule of all targets.
 pub(crate) fn wrong_layout(alloc: Global, db: &HirDatabase) -> Result<Option<Place>, NoMemory>
     ensures { IfOk result (λ found. found ≡ wrong_layout db.now) }
 {
-    let found = wrong_layout_among(alloc, db, db.layouts.as_slice())?;
+    let found = first_wrong_layout(alloc, db)?;
     Ok(row_place(TableName::Layouts, found))
 }
 

@@ -3,7 +3,9 @@ use Rattle.check_instances.specs.Instances.{ty_instance}
 use Rattle.world.specs.declared.closures.Capture.{Capture}
 use Rattle.check_layouts.specs.Fields.{are_inside, field_size, is_part_inside}
 use Rattle.check_layouts.proofs.Found.{none_found}
+use Rattle.check_layouts.specs.Places.{capture_places, fixed_place}
 use Rattle.check_layouts.proofs.Inside.{inside_next, inside_fails}
+use Rattle.check_layouts.proofs.Kept.{place_there}
 use Rattle.check_layouts.proofs.fields.are_captures_inside.Goals as goal
 
 pub returns-then-not-is_part_inside : goal.returns-then-not-is_part_inside
@@ -19,3 +21,8 @@ loop-k-preserved c =
 
 pub loop-k-init : goal.loop-k-init
 loop-k-init c = (refl, none_found c.args.db.now c.args.i c.args.args.now c.new-sizes.result c.new-sizes.ensures)
+
+pub field_size-requires-clause-place : goal.field_size-requires-clause-place
+field_size-requires-clause-place c =
+    c.place_of_index-fixed.ensures
+    ∙ place_there (λ (capture : Capture). fixed_place c.args.db.now capture.ty) c.as_slice-items.result.now c.args.places.now c.loop-k.k c.index-items-k.result c.index-items-k.result c.loop-k-test.true c.index-items-k.is (c.requires ∙ ap (capture_places c.args.db.now) (sym c.as_slice-items.ensures))

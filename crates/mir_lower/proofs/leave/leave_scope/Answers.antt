@@ -1,26 +1,42 @@
--- The scope is taken out of the graph, and then left.
-use Rattle.std.proofs.Common.{List, sym, subst}
-use Rattle.std.proofs.lemmas.Result.{on_ok_weaker}
-use Rattle.source_meaning.specs.Source.{Cell, drops}
+-- One mark after another is taken back, and its cell left.
+use Rattle.std.proofs.Common.{length, sym, ap, subst, arith}
+use Rattle.source_meaning.specs.Source.{drops}
+use Rattle.std.specs.Prelude.{take, drop}
 use Rattle.mir_lower.specs.Contexts.{source_of}
-use Rattle.mir_lower.specs.Graph.{Shape, shape, cells_of, with_scope}
-use Rattle.mir_lower.specs.Growth.{IsSound, IsOpen}
+use Rattle.mir_lower.specs.Graph.{Shape, shape, cell_of, with_scope}
 use Rattle.mir_lower.specs.Leaving.{Idles}
-use Rattle.mir_lower.proofs.Sound.{with_scope-sound, with_scope-open}
+use Rattle.mir_lower.proofs.Drops.{none-left, one-left, all-left, without-mark-sound, without-mark-open, fewer-marks}
 use Rattle.mir_lower.proofs.leave.leave_scope.Goals as goal
 
-pub leave_all-requires-clause-sound : goal.leave_all-requires-clause-sound
-leave_all-requires-clause-sound c =
-    subst (IsSound (source_of c.args.context.now)) (sym c.pop_drop_scope-scope.ensures.outer) (with_scope-sound (source_of c.args.context.now) (cells_of c.args.token.outer.items) (shape c.args.graph.now) c.requires.sound)
+pub loop-marked-init : goal.loop-marked-init
+loop-marked-init c = (none-left (source_of c.args.context.now) (shape c.args.graph.now) c.requires.sound c.requires.opened, c.requires.within)
 
-pub leave_all-requires-clause-opened : goal.leave_all-requires-clause-opened
-leave_all-requires-clause-opened c =
-    subst IsOpen (sym c.pop_drop_scope-scope.ensures.outer) (with_scope-open (cells_of c.args.token.outer.items) (shape c.args.graph.now) c.requires.opened)
+pub leave_local-requires-clause-sound : goal.leave_local-requires-clause-sound
+leave_local-requires-clause-sound c =
+    without-mark-sound (shape c.loop-marked.graph) (shape c.pop_mark.new.self) (cell_of c.in-Some.marked.held) c.in-Some.ensures.last (source_of c.args.context.now) c.loop-marked.invariant.0.idles.sound
+
+pub leave_local-requires-clause-opened : goal.leave_local-requires-clause-opened
+leave_local-requires-clause-opened c =
+    without-mark-open (shape c.loop-marked.graph) (shape c.pop_mark.new.self) (cell_of c.in-Some.marked.held) c.in-Some.ensures.last c.loop-marked.invariant.0.idles.«open»
+
+pub loop-marked-preserved : goal.loop-marked-preserved
+loop-marked-preserved c =
+    let next = c.in_ok-leave_local.ensures in
+    let same = ap length next.scope in (
+      one-left (source_of c.args.context.now) (shape c.args.graph.now) (shape c.loop-marked.graph) (shape c.pop_mark.new.self) (shape c.leave_local.new.graph) (cell_of c.in-Some.marked.held) c.loop-marked.invariant.0 c.in-Some.ensures.last next,
+      (let within = c.in-Some.ensures.within in omega (arith, same, within)),
+    )
+
+pub loop-marked-smaller : goal.loop-marked-smaller
+loop-marked-smaller c =
+    let same = ap length c.in_ok-leave_local.ensures.scope in
+    let fewer = fewer-marks (shape c.loop-marked.graph) (shape c.pop_mark.new.self) (cell_of c.in-Some.marked.held) c.in-Some.ensures.last in
+    omega (arith, same, fewer)
 
 pub returns : goal.returns
 returns c =
     let source = source_of c.args.context.now in
-    on_ok_weaker c.leave_all.result
-    (λ left. subst (λ (cells : List Cell). Idles source (with_scope (cells_of c.args.token.outer.items) (shape c.args.graph.now)) (shape c.leave_all.new.graph) (drops source cells)) c.pop_drop_scope-scope.ensures.inner
-    (subst (λ (s : Shape). Idles source s (shape c.leave_all.new.graph) (drops source (cells_of c.pop_drop_scope-scope.result.items))) c.pop_drop_scope-scope.ensures.outer left))
-    c.leave_all.ensures
+    let s0 = shape c.args.graph.now in
+    let n = c.args.token.0 in
+    subst (λ (s : Shape). Idles source (with_scope (take n s0.scope) s0) s (drops source (drop n s0.scope))) (sym c.in_default.ensures.same)
+    (all-left source s0 (shape c.loop-marked.graph) n c.loop-marked.invariant.0 c.in_default.ensures.none c.loop-marked.invariant.1)

@@ -4,12 +4,12 @@ use Rattle.std.proofs.lemmas.List.{take_more}
 use Rattle.std.proofs.lemmas.Result.{IfOk-weaker, on_ok_weaker, IfErr-weaker}
 use Rattle.mir.specs.declared.errors.MirLowerError.TheVariants as refusal
 use Rattle.mir.specs.declared.span.MirSpan.TheVariants.{ExprId}
-use Rattle.source_meaning.specs.Source.{Cell, Node, node, drops}
+use Rattle.source_meaning.specs.Events.{marked_as_place, marked_in_block}
+use Rattle.source_meaning.specs.Source.{Node, node}
 use Rattle.mir_lower.specs.Contexts.{source_of}
-use Rattle.mir_lower.specs.Graph.{Shape, shape, with_scope}
-use Rattle.mir_lower.specs.Growth.{Grows, IsReady}
-use Rattle.mir_lower.specs.Leaving.{Idles}
-use Rattle.mir_lower.specs.Lowered.{LowersOperand, LowersPlace, LowersStatements, LowersTail}
+use Rattle.mir_lower.specs.Graph.{shape}
+use Rattle.mir_lower.specs.Growth.{Grows}
+use Rattle.mir_lower.specs.Lowered.{LowersOperand, LowersStatements, LowersTail}
 use Rattle.mir.specs.declared.operand.Operand.{Operand}
 use Rattle.mir.specs.declared.operand.OperandKind.{OperandKind}
 use Rattle.mir.specs.declared.operand.Rvalue.TheVariants.{CheckedBinaryOp, UnaryOp as Unary}
@@ -23,18 +23,18 @@ use Rattle.world.specs.Nodes.{optional}
 use Rattle.mir_lower.specs.Built.{IsBuilt, IsBuiltThrough}
 use Rattle.mir_lower.proofs.Building.{built-literal, built-path, built-strict, built-logic, built-if, built-assign, built-block, one-built, two-built}
 use Rattle.mir_lower.proofs.Assignments.{value-part, lowers-assign}
-use Rattle.mir_lower.proofs.Blocks.{idles-read, lowers-none, lowers-more, lowers-let, lowers-expr-statement, lowers-tail, lowers-no-tail, lowers-block}
+use Rattle.mir_lower.proofs.Blocks.{idles-read, lowers-none, lowers-more, lowers-let, lowers-expr-statement, lowers-tail, lowers-no-tail, block-inner, lowers-block}
+use Rattle.mir_lower.proofs.Drops.{opened-within, scope-left}
 use Rattle.mir_lower.proofs.Operands.{lowers-literal-operand, lowers-place-operand, lowers-temp, lowers-name}
 use Rattle.mir_lower.proofs.Strict.{lowers-strict, unary-computes, binary-computes, lowers-one, lowers-two, first-part, second-part}
 use Rattle.mir_lower.proofs.Refused.{refuses-here, refuses-no-memory, refuses-part, refuses-unbuilt-form, refuses-statement, without-initializer, with-else, item-is-unbuilt, refuses-pattern, refuses-target, refused-exit, no-literal, part-below, ready-part, ready-in, part-of-statement}
-use Rattle.mir_lower.proofs.Growing.{grows-trans, with_scope-grows}
+use Rattle.mir_lower.proofs.Growing.{grows-trans}
 use Rattle.mir_lower.proofs.Steps.{local_of-grows, placed-later}
 use Rattle.mir_lower.proofs.Branches.{other-reserved, join-reserved}
 use Rattle.mir_lower.proofs.Conditions.{left-part, right-part, condition-part, then-part, else-part, tail-part, lowers-if, keeps-decided, lowers-logic}
 use Rattle.mir_lower.specs.Branches.{IsForked}
 use Rattle.source_meaning.specs.Meaning.{deciding_byte}
 use Rattle.source_meaning.specs.Steps.{parts_of}
-use Rattle.mir_lower.proofs.Sound.{with_scope-sound, with_scope-open}
 use Rattle.mir_lower.proofs.lower.+lower.Goals as goal
 
 -- an operand, a place, and a local
@@ -43,7 +43,7 @@ pub lower_operand-returns-in-Literal-clause-lowered : goal.lower_operand-returns
 lower_operand-returns-in-Literal-clause-lowered t c =
     let source = source_of c.args.context.now in
     IfOk-weaker c.lower_literal.result _ _
-    (λ operand is. lowers-literal-operand source (shape c.args.graph.now) c.args.e.0 (core_value c.in-Literal.literal) operand.kind c.requires.sound c.requires.«open» c.in-Literal.ensures.core is)
+    (λ operand is. lowers-literal-operand source (shape c.args.graph.now) c.args.e.0 (core_value c.in-Literal.literal) operand.kind c.requires.ready.sound c.requires.ready.«open» c.in-Literal.ensures.core is)
     c.lower_literal.ensures.lowered
 
 pub lower_operand-returns-in-Literal-clause-built : goal.lower_operand-returns-in-Literal-clause-built
@@ -68,7 +68,7 @@ lower_operand-returns-in_ok-place-in_default t c =
 pub lower_place-returns-in-Path-clause-lowered : goal.lower_place-returns-in-Path-clause-lowered
 lower_place-returns-in-Path-clause-lowered t c =
     IfOk-weaker c.place_named.result _ _
-    (λ place named. lowers-name (source_of c.args.context.now) (shape c.args.graph.now) c.args.e.0 place.local.0 c.in-Path.name.now c.requires.sound c.requires.«open» c.in-Path.ensures.core named)
+    (λ place named. lowers-name (source_of c.args.context.now) (shape c.args.graph.now) c.args.e.0 place.local.0 c.in-Path.name.now c.requires.ready.sound c.requires.ready.«open» c.in-Path.ensures.core named)
     c.place_named.ensures.lowered
 
 pub lower_place-returns-in-Path-clause-built : goal.lower_place-returns-in-Path-clause-built
@@ -214,7 +214,7 @@ lower_if-lower_into-requires t c =
     let below = part-below source c.args.e.0 c.args.then_branch.0 c.requires.ready is in (
       omega (arith, below),
       (
-        ready-part source s0 s2 c.args.e.0 c.args.then_branch.0 c.requires.ready is forked.sound forked.«open»,
+        (ready-part source s0 s2 c.args.e.0 c.args.then_branch.0 c.requires.ready is forked.sound forked.«open»).ready,
         placed-later s0 s2 (grows-trans s0 s1 s2 c.in_ok-test.ensures.lowered.keeps.grows forked.grows) c.args.place.local.0 c.requires.placed,
       ),
     )
@@ -354,7 +354,7 @@ lower_logic-lower_into-requires t c =
     let grown : Grows s0 s2 = grows-trans s0 s1 s2 c.in_ok-left.ensures.lowered.keeps.grows forked.grows in (
       omega (arith, below),
       (
-        ready-part source s0 s4 c.args.e.0 c.args.rhs.0 c.requires.ready is gone.sound gone.«open»,
+        (ready-part source s0 s4 c.args.e.0 c.args.rhs.0 c.requires.ready is gone.sound gone.«open»).ready,
         placed-later s0 s4 (grows-trans s0 s2 s4 grown (grows-trans s2 s3 s4 one.grows gone.grows)) c.args.place.local.0 c.requires.placed,
       ),
     )
@@ -479,7 +479,7 @@ lower_tail-lower_into-requires t c =
     let source = source_of c.args.context.now in
     let is = subst (λ (o : Option _). IfSome o (λ one. Contains (parts_of (node source c.args.e.0)) one.0)) c.in-Some.is c.requires.part in
     let below = part-below source c.args.e.0 c.in-Some.tail.0 c.requires.ready is in
-    (omega (arith, below), (ready-part source (shape c.args.graph.now) (shape c.args.graph.now) c.args.e.0 c.in-Some.tail.0 c.requires.ready is c.requires.ready.sound c.requires.ready.«open», c.requires.placed))
+    (omega (arith, below), ((ready-part source (shape c.args.graph.now) (shape c.args.graph.now) c.args.e.0 c.in-Some.tail.0 c.requires.ready is c.requires.ready.sound c.requires.ready.«open»).ready, c.requires.placed))
 
 pub lower_tail-returns-in-Some-clause-refused : goal.lower_tail-returns-in-Some-clause-refused
 lower_tail-returns-in-Some-clause-refused t c =
@@ -581,11 +581,8 @@ pub lower_expr_statement-lower_place-requires : goal.lower_expr_statement-lower_
 lower_expr_statement-lower_place-requires t c =
     let source = source_of c.args.context.now in
     let is = part-of-statement source c.args.e.0 _ c.args.expr.0 c.requires.stands (0, omega arith, refl) in
-    let below = part-below source c.args.e.0 c.args.expr.0 c.requires.ready is in (
-      omega (arith, below),
-      subst (λ (s : Shape). IsReady source s c.args.expr.0) (sym c.push_drop_scope-outer.ensures.inner)
-          (ready-part source (shape c.args.graph.now) (with_scope [] (shape c.args.graph.now)) c.args.e.0 c.args.expr.0 c.requires.ready is (with_scope-sound source [] (shape c.args.graph.now) c.requires.ready.sound) (with_scope-open [] (shape c.args.graph.now) c.requires.ready.«open»)),
-    )
+    let below = part-below source c.args.e.0 c.args.expr.0 c.requires.ready is in
+    (omega (arith, below), ready-part source (shape c.args.graph.now) (shape c.args.graph.now) c.args.e.0 c.args.expr.0 c.requires.ready is c.requires.ready.sound c.requires.ready.«open»)
 
 pub lower_expr_statement-returns-in_err-place-clause-refused : goal.lower_expr_statement-returns-in_err-place-clause-refused
 lower_expr_statement-returns-in_err-place-clause-refused t c =
@@ -609,6 +606,13 @@ lower_expr_statement-leave_scope-requires-clause-opened t c =
     let place = c.in_ok-place.ensures.lowered in
     (idles-read (source_of c.args.context.now) (shape c.lower_place.new.graph) (shape c.fake_read.new.graph) c.in_ok-place.place (ExprId c.args.expr) place.keeps.sound place.keeps.«open» c.in_ok-fake_read.ensures.added).«open»
 
+pub lower_expr_statement-leave_scope-requires-clause-within : goal.lower_expr_statement-leave_scope-requires-clause-within
+lower_expr_statement-leave_scope-requires-clause-within t c =
+    let source = source_of c.args.context.now in
+    let place = c.in_ok-place.ensures.lowered in
+    let read = idles-read source (shape c.lower_place.new.graph) (shape c.fake_read.new.graph) c.in_ok-place.place (ExprId c.args.expr) place.keeps.sound place.keeps.«open» c.in_ok-fake_read.ensures.added in
+    opened-within (shape c.args.graph.now) (shape c.fake_read.new.graph) c.push_drop_scope-scope.result.0 (marked_as_place source c.args.expr.0) c.push_drop_scope-scope.ensures (read.scope ∙ place.keeps.scope)
+
 pub lower_expr_statement-returns-in_err-leave_scope-clause-refused : goal.lower_expr_statement-returns-in_err-leave_scope-clause-refused
 lower_expr_statement-returns-in_err-leave_scope-clause-refused t c =
     refused-exit (RefusesAt (source_of c.args.context.now) c.args.e.0) _ c.from_residual-in_err-leave_scope.result c.from_residual-in_err-leave_scope.ensures.1 (refuses-no-memory (source_of c.args.context.now) c.args.e.0)
@@ -624,10 +628,10 @@ lower_expr_statement-returns-clause-lowered t c =
     let s1 = shape c.lower_place.new.graph in
     let s2 = shape c.fake_read.new.graph in
     let s3 = shape c.leave_scope.new.graph in
-    let place : LowersPlace source (with_scope [] s0) s1 c.args.expr.0 c.in_ok-place.place.local.0 = subst (λ (s : Shape). LowersPlace source s s1 c.args.expr.0 c.in_ok-place.place.local.0) c.push_drop_scope-outer.ensures.inner c.in_ok-place.ensures.lowered in
-    let left : Idles source (with_scope s0.scope s2) s3 (drops source s2.scope) = subst (λ (cells : List Cell). Idles source (with_scope cells s2) s3 (drops source s2.scope)) c.push_drop_scope-outer.ensures.outer c.in_ok-leave_scope.ensures in
-    lowers-expr-statement source s0 s1 s2 s3 c.args.expr c.args.has_semi c.in_ok-place.place.local.0 place
-    (idles-read source s1 s2 c.in_ok-place.place (ExprId c.args.expr) place.keeps.sound place.keeps.«open» c.in_ok-fake_read.ensures.added) left
+    let place = c.in_ok-place.ensures.lowered in
+    let read = idles-read source s1 s2 c.in_ok-place.place (ExprId c.args.expr) place.keeps.sound place.keeps.«open» c.in_ok-fake_read.ensures.added in
+    let left = scope-left s0 s2 c.push_drop_scope-scope.result.0 (marked_as_place source c.args.expr.0) c.push_drop_scope-scope.ensures (read.scope ∙ place.keeps.scope) source s3 c.in_ok-leave_scope.ensures in
+    lowers-expr-statement source s0 s1 s2 s3 c.args.expr c.args.has_semi c.in_ok-place.place.local.0 place read left
 
 -- a block
 
@@ -636,44 +640,38 @@ lower_block-lower_tail-requires t c =
     let source = source_of c.args.context.now in
     let s0 = shape c.args.graph.now in
     let s1 = shape c.lower_statements.new.graph in
-    let kept = c.in_ok-lower_statements.ensures.lowered.keeps in
-    let grown = subst (λ (s : Shape). Grows s s1) c.push_drop_scope-outer.ensures.inner kept.grows in (
+    let kept = c.in_ok-lower_statements.ensures.lowered.keeps in (
       omega arith,
       (
         ready-in source s0 s1 c.args.e.0 c.requires.ready kept.sound kept.«open»,
-        (
-          tail-part source c.args.e.0 c.args.statements.now c.args.tail c.requires.form,
-          placed-later s0 s1 (grows-trans s0 (with_scope [] s0) s1 (with_scope-grows [] s0) grown) c.args.place.local.0 c.requires.placed,
-        ),
+        (tail-part source c.args.e.0 c.args.statements.now c.args.tail c.requires.form, placed-later s0 s1 kept.grows c.args.place.local.0 c.requires.placed),
       ),
     )
 
 pub lower_block-lower_statements-requires : goal.lower_block-lower_statements-requires
 lower_block-lower_statements-requires t c =
-    let source = source_of c.args.context.now in (
-      omega arith,
-      (
-        subst (λ (s : Shape). IsReady source s c.args.e.0) (sym c.push_drop_scope-outer.ensures.inner)
-            (ready-in source (shape c.args.graph.now) (with_scope [] (shape c.args.graph.now)) c.args.e.0 c.requires.ready (with_scope-sound source [] (shape c.args.graph.now) c.requires.ready.sound) (with_scope-open [] (shape c.args.graph.now) c.requires.ready.«open»)),
-        (c.args.tail, c.requires.form ∙ ap (λ s. Some (Block s c.args.tail)) (sym c.as_slice.ensures)),
-      ),
-    )
+    (omega arith, (c.requires.ready, (c.args.tail, c.requires.form ∙ ap (λ s. Some (Block s c.args.tail)) (sym c.as_slice.ensures))))
 
 pub lower_block-leave_scope-requires-clause-sound : goal.lower_block-leave_scope-requires-clause-sound
 lower_block-leave_scope-requires-clause-sound t c =
-    let placed = c.requires.placed in
-    let s0 = shape c.args.graph.now in
-    let s1 = shape c.lower_statements.new.graph in
-    let grown = subst (λ (s : Shape). Grows s s1) c.push_drop_scope-outer.ensures.inner c.in_ok-lower_statements.ensures.lowered.keeps.grows in
-    (c.in_ok-lower_tail.ensures.lowered placed.cell (local_of-grows s0 s1 (grows-trans s0 (with_scope [] s0) s1 (with_scope-grows [] s0) grown) placed.cell c.args.place.local.0 placed.found)).keeps.sound
+    let placed = placed-later (shape c.args.graph.now) (shape c.lower_statements.new.graph) c.in_ok-lower_statements.ensures.lowered.keeps.grows c.args.place.local.0 c.requires.placed in
+    (c.in_ok-lower_tail.ensures.lowered placed.cell placed.found).keeps.sound
 
 pub lower_block-leave_scope-requires-clause-opened : goal.lower_block-leave_scope-requires-clause-opened
 lower_block-leave_scope-requires-clause-opened t c =
-    let placed = c.requires.placed in
+    let placed = placed-later (shape c.args.graph.now) (shape c.lower_statements.new.graph) c.in_ok-lower_statements.ensures.lowered.keeps.grows c.args.place.local.0 c.requires.placed in
+    (c.in_ok-lower_tail.ensures.lowered placed.cell placed.found).keeps.«open»
+
+pub lower_block-leave_scope-requires-clause-within : goal.lower_block-leave_scope-requires-clause-within
+lower_block-leave_scope-requires-clause-within t c =
+    let source = source_of c.args.context.now in
     let s0 = shape c.args.graph.now in
     let s1 = shape c.lower_statements.new.graph in
-    let grown = subst (λ (s : Shape). Grows s s1) c.push_drop_scope-outer.ensures.inner c.in_ok-lower_statements.ensures.lowered.keeps.grows in
-    (c.in_ok-lower_tail.ensures.lowered placed.cell (local_of-grows s0 s1 (grows-trans s0 (with_scope [] s0) s1 (with_scope-grows [] s0) grown) placed.cell c.args.place.local.0 placed.found)).keeps.«open»
+    let s2 = shape c.lower_tail.new.graph in
+    let first : LowersStatements source s0 s1 c.args.statements.now = subst (λ (list : List Statement). LowersStatements source s0 s1 list) c.as_slice.ensures c.in_ok-lower_statements.ensures.lowered in
+    let placed = placed-later s0 s1 first.keeps.grows c.args.place.local.0 c.requires.placed in
+    opened-within s0 s2 c.push_drop_scope-scope.result.0 (marked_in_block source c.args.statements.now c.args.tail) c.push_drop_scope-scope.ensures
+    (block-inner source s0 s1 s2 c.args.statements.now c.args.tail placed.cell first (c.in_ok-lower_tail.ensures.lowered placed.cell placed.found))
 
 pub lower_block-returns-in_err-leave_scope-clause-refused : goal.lower_block-returns-in_err-leave_scope-clause-refused
 lower_block-returns-in_err-leave_scope-clause-refused t c =
@@ -694,7 +692,7 @@ lower_block-returns-clause-lowered t c =
     let s1 = shape c.lower_statements.new.graph in
     let s2 = shape c.lower_tail.new.graph in
     let s3 = shape c.leave_scope.new.graph in
-    let first : LowersStatements source (with_scope [] s0) s1 c.args.statements.now = subst (λ (s : Shape). LowersStatements source s s1 c.args.statements.now) c.push_drop_scope-outer.ensures.inner (subst (λ (list : List Statement). LowersStatements source (shape c.push_drop_scope-outer.new.self) s1 list) c.as_slice.ensures c.in_ok-lower_statements.ensures.lowered) in
-    let last = c.in_ok-lower_tail.ensures.lowered cell (local_of-grows s0 s1 (grows-trans s0 (with_scope [] s0) s1 (with_scope-grows [] s0) first.keeps.grows) cell c.args.place.local.0 found) in
-    let left : Idles source (with_scope s0.scope s2) s3 (drops source s2.scope) = subst (λ (cells : List Cell). Idles source (with_scope cells s2) s3 (drops source s2.scope)) c.push_drop_scope-outer.ensures.outer c.in_ok-leave_scope.ensures in
+    let first : LowersStatements source s0 s1 c.args.statements.now = subst (λ (list : List Statement). LowersStatements source s0 s1 list) c.as_slice.ensures c.in_ok-lower_statements.ensures.lowered in
+    let last = c.in_ok-lower_tail.ensures.lowered cell (local_of-grows s0 s1 first.keeps.grows cell c.args.place.local.0 found) in
+    let left = scope-left s0 s2 c.push_drop_scope-scope.result.0 (marked_in_block source c.args.statements.now c.args.tail) c.push_drop_scope-scope.ensures (block-inner source s0 s1 s2 c.args.statements.now c.args.tail cell first last) source s3 c.in_ok-leave_scope.ensures in
     lowers-block source s0 s1 s2 s3 c.args.e.0 c.args.statements.now c.args.tail cell c.requires.ready c.requires.form first last left

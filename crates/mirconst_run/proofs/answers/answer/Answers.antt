@@ -10,6 +10,7 @@ returns c =
     (record {
       printed = told.printed;
       value = told.value;
+      counts = told.counts;
       panic = told.panic;
       closed = told.closed;
       complete = told.complete;

@@ -1,5 +1,5 @@
 use Rattle.std.proofs.Common.{sym, ◌∙◌}
-use Rattle.world_check.proofs.Walks.{failing_here, failing_next, failing_end}
+use Rattle.check_layouts.proofs.Failing.{failing_here, failing_next, failing_end}
 use Rattle.world_check.proofs.keyed.wrong_row_among.Goals as goal
 
 pub returns-then-not-is_known : goal.returns-then-not-is_known

@@ -8,12 +8,12 @@ use Rattle.consteval.proofs.evaluations.Evaluations.answer.Goals as goal
 
 pub returns-in-Err-clause-cause : goal.returns-in-Err-clause-cause
 returns-in-Err-clause-cause c =
-    subst (λ (answer : Evaluated). HasCause c.body_of.new.self c.args.def c.args.args.now c.args.limits.now.blocks answer.turns answer.result) (sym c.refused.ensures)
-    (subst (λ (e : ConstEvalError). HasCause c.body_of.new.self c.args.def c.args.args.now c.args.limits.now.blocks 0 (Err e)) (sym c.from.ensures)
-    (cause-refused c.body_of.new.self _ c.args.def c.args.args.now c.args.limits.now.blocks c.in-Err.error c.body_of.ensures.stays.world c.in-Err.ensures.refused))
+    subst (λ (answer : Evaluated). HasCause c.body_of.new.self c.args.def c.args.args.now c.args.limits.now answer.turns answer.result) (sym c.refused.ensures)
+    (subst (λ (e : ConstEvalError). HasCause c.body_of.new.self c.args.def c.args.args.now c.args.limits.now 0 (Err e)) (sym c.from.ensures)
+    (cause-refused c.body_of.new.self _ c.args.def c.args.args.now c.args.limits.now c.in-Err.error c.body_of.ensures.stays.world c.in-Err.ensures.refused))
 
 pub returns-clause-cause : goal.returns-clause-cause
 returns-clause-cause c =
     let same : c.body_of.new.self.world ≡ c.db-db.result.now = search rules in
-    cause-answered c.body_of.new.self c.db-db.result.now c.args.def c.args.args.now c.args.limits.now.blocks c.run_body.result.turns c.in-Ok.body.value c.run_body.result.result same
+    cause-answered c.body_of.new.self c.db-db.result.now c.args.def c.args.args.now c.args.limits.now c.run_body.result.turns c.in-Ok.body.value c.run_body.result.result same
     c.in-Ok.ensures.given c.in-Ok.ensures.found c.run_body.ensures.answered

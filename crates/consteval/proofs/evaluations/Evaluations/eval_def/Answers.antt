@@ -2,46 +2,53 @@
 use Rattle.std.proofs.Common.{subst}
 use Rattle.world.specs.Checked.{IsChecked}
 use Rattle.consteval.proofs.Causes.{cause-out, cause-stays, cause-value}
-use Rattle.consteval.proofs.Headline.{answer-value, answer-closed, answer-panic, answer-completes}
+use Rattle.consteval.proofs.Headline.{answer-value, answer-counts, answer-closed, answer-panic, answer-completes}
 use Rattle.consteval.proofs.Keeping.{kept-value, stays-then}
 use Rattle.consteval.proofs.evaluations.Evaluations.eval_def.Goals as goal
 
 pub keep_answer-requires : goal.keep_answer-requires
 keep_answer-requires c =
     let answer = c.answer-evaluated.result in
-    cause-value c.answer-evaluated.new.self c.args.def c.args.args.now c.args.limits.now.blocks answer.turns answer.result c.answer-evaluated.ensures.cause
+    cause-value c.answer-evaluated.new.self c.args.def c.args.args.now c.args.limits.now answer.turns answer.result c.answer-evaluated.ensures.cause
 
 pub returns-in-Ok-clause-value : goal.returns-in-Ok-clause-value
 returns-in-Ok-clause-value c row konst valid is =
     let told = c.answer-evaluated.ensures in
     let answer = c.answer-evaluated.result in
-    answer-value c.args.self.now.world (subst IsChecked told.stays.world told.checked) c.args.def c.args.args.now row valid c.args.limits.now.blocks answer.turns answer.result
+    answer-value c.args.self.now.world (subst IsChecked told.stays.world told.checked) c.args.def c.args.args.now row valid c.args.limits.now answer.turns answer.result
+    c.answer-evaluated.new.self told.stays.world told.sound told.cause konst is
+
+pub returns-in-Ok-clause-counts : goal.returns-in-Ok-clause-counts
+returns-in-Ok-clause-counts c row konst valid is =
+    let told = c.answer-evaluated.ensures in
+    let answer = c.answer-evaluated.result in
+    answer-counts c.args.self.now.world (subst IsChecked told.stays.world told.checked) c.args.def c.args.args.now row valid c.args.limits.now answer.turns answer.result
     c.answer-evaluated.new.self told.stays.world told.sound told.cause konst is
 
 pub returns-in-Ok-clause-panic : goal.returns-in-Ok-clause-panic
 returns-in-Ok-clause-panic c row e word valid is says =
     let told = c.answer-evaluated.ensures in
     let answer = c.answer-evaluated.result in
-    answer-panic c.args.self.now.world (subst IsChecked told.stays.world told.checked) c.args.def c.args.args.now row valid c.args.limits.now.blocks answer.turns answer.result
+    answer-panic c.args.self.now.world (subst IsChecked told.stays.world told.checked) c.args.def c.args.args.now row valid c.args.limits.now answer.turns answer.result
     c.answer-evaluated.new.self told.stays.world told.sound told.cause e word is says
 
 pub returns-in-Ok-clause-closed : goal.returns-in-Ok-clause-closed
 returns-in-Ok-clause-closed c row valid =
     let told = c.answer-evaluated.ensures in
     let answer = c.answer-evaluated.result in
-    answer-closed c.args.self.now.world (subst IsChecked told.stays.world told.checked) c.args.def c.args.args.now row valid c.args.limits.now.blocks answer.turns answer.result
+    answer-closed c.args.self.now.world (subst IsChecked told.stays.world told.checked) c.args.def c.args.args.now row valid c.args.limits.now answer.turns answer.result
     c.answer-evaluated.new.self told.stays.world told.sound told.cause
 
 pub returns-in-Ok-clause-complete : goal.returns-in-Ok-clause-complete
 returns-in-Ok-clause-complete c row valid cost =
     let told = c.answer-evaluated.ensures in
     let answer = c.answer-evaluated.result in
-    answer-completes c.args.self.now.world (subst IsChecked told.stays.world told.checked) c.args.def c.args.args.now row valid c.args.limits.now.blocks answer.turns answer.result
+    answer-completes c.args.self.now.world (subst IsChecked told.stays.world told.checked) c.args.def c.args.args.now row valid c.args.limits.now answer.turns answer.result
     c.answer-evaluated.new.self told.stays.world told.sound cost told.cause
 
 pub returns-in-Ok-clause-cause : goal.returns-in-Ok-clause-cause
 returns-in-Ok-clause-cause c =
-    cause-stays c.answer-evaluated.new.self c.keep_answer.new.self c.keep_answer.ensures.stays c.args.def c.args.args.now c.args.limits.now.blocks c.answer-evaluated.result.turns c.answer-evaluated.result.result c.answer-evaluated.ensures.cause
+    cause-stays c.answer-evaluated.new.self c.keep_answer.new.self c.keep_answer.ensures.stays c.args.def c.args.args.now c.args.limits.now c.answer-evaluated.result.turns c.answer-evaluated.result.result c.answer-evaluated.ensures.cause
 
 pub returns-in-Ok-clause-stays : goal.returns-in-Ok-clause-stays
 returns-in-Ok-clause-stays c =
@@ -52,7 +59,7 @@ returns-in-Ok-clause-kept c valued = kept-value c.keep_answer.new.self c.args.de
 
 pub returns-in-Err-clause-cause : goal.returns-in-Err-clause-cause
 returns-in-Err-clause-cause c =
-    cause-out c.answer-evaluated.new.self c.keep_answer.new.self c.keep_answer.ensures.stays c.args.def c.args.args.now c.args.limits.now.blocks c.answer-evaluated.result.turns c.answer-evaluated.result.result c.answer-evaluated.ensures.cause
+    cause-out c.answer-evaluated.new.self c.keep_answer.new.self c.keep_answer.ensures.stays c.args.def c.args.args.now c.args.limits.now c.answer-evaluated.result.turns c.answer-evaluated.result.result c.answer-evaluated.ensures.cause
 
 pub returns-in-Err-clause-stays : goal.returns-in-Err-clause-stays
 returns-in-Err-clause-stays c =

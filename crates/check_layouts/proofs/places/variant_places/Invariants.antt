@@ -1,0 +1,7 @@
+use Rattle.std.proofs.Common.{◌≡◌, map, take}
+use Rattle.world.specs.declared.items.VariantRow.{VariantRow}
+use Rattle.check_layouts.specs.Places.{field_places}
+use Rattle.check_layouts.proofs.places.variant_places.Given as goal
+
+abbrev pub invariant-loop-row : goal.invariant-loop-row
+invariant-loop-row l = l.places ≡ map (λ (row : VariantRow). field_places l.db row.fields) (take l.row-index l.items)

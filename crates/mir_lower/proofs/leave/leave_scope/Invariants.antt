@@ -1,0 +1,12 @@
+-- Some of the last cells in use were left, and those that were in use when the scope was opened are there.
+use Rattle.std.proofs.Common.{◌≤◌, length}
+use Rattle.mir_lower.specs.Contexts.{source_of}
+use Rattle.mir_lower.specs.Graph.{shape}
+use Rattle.mir_lower.proofs.Drops.{HasLeft}
+use Rattle.mir_lower.proofs.leave.leave_scope.Given as goal
+
+abbrev pub invariant-loop-marked : goal.invariant-loop-marked
+invariant-loop-marked l = HasLeft (source_of l.context) (shape l.initial.graph) (shape l.graph) × (l.token.0 ≤ length (shape l.graph).scope)
+
+abbrev pub decreases-loop-marked : goal.decreases-loop-marked
+decreases-loop-marked l = length (shape l.graph).scope
