@@ -8,7 +8,6 @@ use Rattle.types.specs.declared.ids.GenericParamId.TheVariants as param
 use Rattle.types.specs.declared.ty.GenericArg.{GenericArg}
 use Rattle.types.specs.declared.ty.GenericArg.TheVariants as arg
 use Rattle.types.specs.declared.ty.GenericArgs.{GenericArgs}
-use Rattle.types.specs.declared.ty.Ty.{Ty}
 use Rattle.world.specs.declared.body.Body.{Body}
 use Rattle.world.specs.declared.database.HirDatabase.{HirDatabase}
 use Rattle.world.specs.declared.infer.InferenceResult.{InferenceResult}
