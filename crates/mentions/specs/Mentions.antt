@@ -23,7 +23,7 @@ use Rattle.mentions.specs.declared.mention.Mention.TheVariants as mention
 abbrev pub all_of : List (List Mention) → List Mention
 all_of parts = flat_map (λ part. part) parts
 
--- a list of so many parts whose places are named, with what the parts mention
+-- a list of a given length, whose indices are named, with what the parts mention
 abbrev pub listed : List (List Mention) → List Mention
 listed parts = mention.Entries (length parts) ∷ all_of parts
 

@@ -47,7 +47,7 @@ unfolding low_digits value_of
 value_of-low_digits zero n = omega arith
 value_of-low_digits (suc size) n = omega (arith, value_of-low_digits size (n / 256), split_mod size n)
 
--- so many of more bytes
+-- a given count of more bytes
 pub take-low_digits : (size more n : ℕ) → take size (low_digits (size + more) n) ≡ low_digits size n
 unfolding low_digits
 take-low_digits zero more n = refl

@@ -8,7 +8,7 @@ use Rattle.std.proofs.lemmas.Bool.Decides.{nat_tests, same_from_decides}
 use borrow.Author.Tests.{ltb-true, leb-true, lt-ltb, le-leb, ne_eqb, eqb-true, eqb-false}
 use lib.Signed.{mag}
 use Rattle.numbers.specs.declared.operator.Operator.{Operator}
-use Rattle.numbers.specs.Operators.{Answer, Computes, Panics, kept, divided, told, panic_word}
+use Rattle.numbers.specs.Operators.{Answer, Computes, Panics, kept, divided, truth_value, panic_word}
 use Rattle.numbers.specs.Bytes.{low_digits, residue, low_bytes, holds, is_width}
 use Rattle.numbers.proofs.Digits.{low_digits-mod, take-low_digits, some_values, next_values}
 
@@ -119,10 +119,10 @@ pub low_bytes-pos : (size n : ℕ) → low_bytes size (pos n) ≡ low_digits siz
 unfolding low_bytes residue
 low_bytes-pos size n = low_digits-mod size n
 
-pub told_is : (truth : Bool) → Computes (low_digits 1 (from_bool truth)) ≡ told truth
-unfolding told low_digits
-told_is true = refl
-told_is false = refl
+pub truth_value_is : (truth : Bool) → Computes (low_digits 1 (from_bool truth)) ≡ truth_value truth
+unfolding truth_value low_digits
+truth_value_is true = refl
+truth_value_is false = refl
 
 -- ---- the answers
 

@@ -4,11 +4,11 @@ use Rattle.numbers.specs.declared.operator.Kind.{Kind}
 use Rattle.numbers.specs.declared.operator.Kind.TheVariants.{Signed, Unsigned, Boolean}
 use Rattle.numbers.specs.declared.operator.Operator.{Operator}
 use Rattle.numbers.specs.declared.operator.Operator.TheVariants.{Add, Sub, Mul, Div, Rem, BitXor, BitAnd, BitOr, Shl, Shr, Eq, Ne, Lt, Le, Gt, Ge}
-use Rattle.numbers.specs.Operators.{Answer, Computes, Panics, Undefined, kept, divided, told, by_bits, compared, on_integers, on_two_signs, shifted, shifted_by, shift, is_shift, is_on_booleans, is_comparison, combined, computed}
+use Rattle.numbers.specs.Operators.{Answer, Computes, Panics, Undefined, kept, divided, truth_value, by_bits, compared, on_integers, on_two_signs, shifted, shifted_by, shift, is_shift, is_on_booleans, is_comparison, combined, computed}
 use Rattle.numbers.specs.Bytes.{number_of, holds, is_width}
 use Rattle.numbers.proofs.Digits.{length-low_digits, length-low_bytes}
 
--- the bytes, where there are any, are so many
+-- the bytes, where there are any, have a given length
 data IsLong : ℕ → Answer → Type 0 where
   computes : {n : ℕ} {bytes : List ℕ} → length bytes ≡ n → IsLong n (Computes bytes)
   panics : {n : ℕ} {word : List ℕ} → IsLong n (Panics word)
@@ -33,20 +33,20 @@ IsLong-divided : (op : Operator) (signed : Bool) (size : ℕ) (x y z : ℤ) → 
 unfolding divided
 IsLong-divided op signed size x y z = IsLong-if (not (int_eq y (pos 0)) && holds signed size (int_div x y)) (computes (length-low_bytes size z)) panics
 
-IsLong-told : (b : Bool) → IsLong 1 (told b)
-unfolding told
-IsLong-told true = computes refl
-IsLong-told false = computes refl
+IsLong-truth_value : (b : Bool) → IsLong 1 (truth_value b)
+unfolding truth_value
+IsLong-truth_value true = computes refl
+IsLong-truth_value false = computes refl
 
 -- comparisons take one byte, and no other operator compares
 IsLong-compared : (op : Operator) (left : List ℕ) (x y : ℤ) → IsLong (result_size op left) (compared op x y)
 unfolding is_comparison
-IsLong-compared Eq left x y = IsLong-told _
-IsLong-compared Lt left x y = IsLong-told _
-IsLong-compared Le left x y = IsLong-told _
-IsLong-compared Ne left x y = IsLong-told _
-IsLong-compared Ge left x y = IsLong-told _
-IsLong-compared Gt left x y = IsLong-told _
+IsLong-compared Eq left x y = IsLong-truth_value _
+IsLong-compared Lt left x y = IsLong-truth_value _
+IsLong-compared Le left x y = IsLong-truth_value _
+IsLong-compared Ne left x y = IsLong-truth_value _
+IsLong-compared Ge left x y = IsLong-truth_value _
+IsLong-compared Gt left x y = IsLong-truth_value _
 IsLong-compared _ left x y = undefined
 
 IsLong-on_integers : (op : Operator) (signed : Bool) (left right : List ℕ) → IsLong (result_size op left) (on_integers op signed left right)

@@ -6,16 +6,16 @@ use Rattle.numbers.specs.Bytes.{low_bytes, number_of, holds}
 use Rattle.numbers.specs.Operators.{Computes, computed, is_comparison}
 
 -- a number's low bytes are as many as were asked for
-abbrev pub LowBytesAreSoMany : Type 0
-LowBytesAreSoMany = (size : ℕ) (z : ℤ) → length (low_bytes size z) ≡ size
+abbrev pub LowBytesHaveLength : Type 0
+LowBytesHaveLength = (size : ℕ) (z : ℤ) → length (low_bytes size z) ≡ size
 
 -- and each is a byte
 abbrev pub LowBytesAreBytes : Type 0
 LowBytesAreBytes = (size : ℕ) (z : ℤ) → All (λ byte. byte < 256) (low_bytes size z)
 
 -- the bytes of a number that a type holds are that number
-abbrev pub HeldNumbersComeBack : Type 0
-HeldNumbersComeBack = (signed : Bool) (size : ℕ) (z : ℤ) → IsTrue (holds signed size z) → number_of signed (low_bytes size z) ≡ z
+abbrev pub HeldNumbersRoundTrip : Type 0
+HeldNumbersRoundTrip = (signed : Bool) (size : ℕ) (z : ℤ) → IsTrue (holds signed size z) → number_of signed (low_bytes size z) ≡ z
 
 -- the result of a comparison is one byte
 abbrev pub ComparisonsTakeOneByte : Type 0

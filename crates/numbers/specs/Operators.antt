@@ -101,9 +101,9 @@ divided op signed size left right z =
     if not (int_eq right (pos 0)) && holds signed size (int_div left right) then Computes (low_bytes size z) else Panics (panic_word op)
 
 -- one byte, 1 for true
-unfoldable pub told : Bool → Answer
-told true = Computes (1 ∷ [])
-told false = Computes (0 ∷ [])
+unfoldable pub truth_value : Bool → Answer
+truth_value true = Computes (1 ∷ [])
+truth_value false = Computes (0 ∷ [])
 
 -- the bits of two operands of one length, combined one by one
 unfoldable pub by_bits : (ℕ → ℕ → ℕ) → List ℕ → List ℕ → Answer
@@ -111,12 +111,12 @@ by_bits combined left right = Computes (low_digits (length left) (combined (valu
 
 -- the comparisons of two whole numbers
 abbrev pub compared : Operator → ℤ → ℤ → Answer
-compared Eq x y = told (int_eq x y)
-compared Lt x y = told (int_lt x y)
-compared Le x y = told (int_le x y)
-compared Ne x y = told (not (int_eq x y))
-compared Ge x y = told (int_le y x)
-compared Gt x y = told (int_lt y x)
+compared Eq x y = truth_value (int_eq x y)
+compared Lt x y = truth_value (int_lt x y)
+compared Le x y = truth_value (int_le x y)
+compared Ne x y = truth_value (not (int_eq x y))
+compared Ge x y = truth_value (int_le y x)
+compared Gt x y = truth_value (int_lt y x)
 compared _ x y = Undefined
 
 -- the operators but shifts, on two operands of one integer type
@@ -242,7 +242,7 @@ computed op left_kind right_kind left right =
 
 -- `!` on bool: 1 for 0, and 0 for any other byte
 unfoldable pub denied : List ℕ → Answer
-denied bytes = if length bytes == 1 then told (value_of bytes == 0) else Undefined
+denied bytes = if length bytes == 1 then truth_value (value_of bytes == 0) else Undefined
 
 -- unary minus: the number's negative, cut to the type's bytes; on bool it is `!`
 unfoldable pub negated : Option Kind → List ℕ → Answer

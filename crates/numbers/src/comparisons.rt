@@ -4,7 +4,7 @@ ghost use Rattle.std.specs.Prelude.{◌≡◌, ℕ, ◌≤◌, IfSome, IfNone, p
 ghost use Rattle.numbers.specs.Computed.{answer_of, count_of};
 ghost use Rattle.numbers.specs.Operators.{compared};
 
-use crate::kept::told;
+use crate::kept::truth_value;
 use crate::{Computed, Operator};
 
 pub(crate) fn compared_unsigned(op: Operator, x: u128, y: u128) -> Computed
@@ -12,12 +12,12 @@ pub(crate) fn compared_unsigned(op: Operator, x: u128, y: u128) -> Computed
     ensures count { count_of result ≤ 16 }
 {
     match op {
-        Operator::Eq => told(x == y),
-        Operator::Lt => told(x < y),
-        Operator::Le => told(x <= y),
-        Operator::Ne => told(x != y),
-        Operator::Ge => told(x >= y),
-        Operator::Gt => told(x > y),
+        Operator::Eq => truth_value(x == y),
+        Operator::Lt => truth_value(x < y),
+        Operator::Le => truth_value(x <= y),
+        Operator::Ne => truth_value(x != y),
+        Operator::Ge => truth_value(x >= y),
+        Operator::Gt => truth_value(x > y),
         _ => Computed::Undefined,
     }
 }
@@ -27,12 +27,12 @@ pub(crate) fn compared_signed(op: Operator, x: i128, y: i128) -> Computed
     ensures count { count_of result ≤ 16 }
 {
     match op {
-        Operator::Eq => told(x == y),
-        Operator::Lt => told(x < y),
-        Operator::Le => told(x <= y),
-        Operator::Ne => told(x != y),
-        Operator::Ge => told(x >= y),
-        Operator::Gt => told(x > y),
+        Operator::Eq => truth_value(x == y),
+        Operator::Lt => truth_value(x < y),
+        Operator::Le => truth_value(x <= y),
+        Operator::Ne => truth_value(x != y),
+        Operator::Ge => truth_value(x >= y),
+        Operator::Gt => truth_value(x > y),
         _ => Computed::Undefined,
     }
 }

@@ -2,7 +2,7 @@
 
 ghost use Rattle.std.specs.Prelude.{◌≡◌, ℕ, ◌≤◌, IsTrue, true, false, pos, ◌↔◌, ◌≤ℤ◌};
 ghost use Rattle.numbers.specs.Bytes.{is_width, holds, low_digits, low_bytes};
-ghost use Rattle.numbers.specs.Operators.{Computes, kept, told};
+ghost use Rattle.numbers.specs.Operators.{Computes, kept, truth_value};
 ghost use Rattle.numbers.specs.Computed.{answer_of, count_of};
 
 use crate::Operator;
@@ -92,8 +92,8 @@ pub(crate) fn kept_signed(op: Operator, size: usize, value: i128) -> Computed
 }
 
 /// One byte, 1 for true.
-pub(crate) fn told(truth: bool) -> Computed
-    ensures answer { answer_of result ≡ told truth }
+pub(crate) fn truth_value(truth: bool) -> Computed
+    ensures answer { answer_of result ≡ truth_value truth }
     ensures count { count_of result ≤ 16 }
 {
     low_digits(1, truth as u128)

@@ -1,16 +1,16 @@
 //! Laws of numbers as bytes and of the table of operators.
 
 ghost use Rattle.numbers.specs.Laws.{
-  LowBytesAreSoMany,
+  LowBytesHaveLength,
   LowBytesAreBytes,
-  HeldNumbersComeBack,
+  HeldNumbersRoundTrip,
   ComparisonsTakeOneByte,
   ResultsKeepTheWidth,
 };
 
 /// A number's low bytes are as many as were asked for.
-pub fn low_bytes_are_so_many()
-    ensures { LowBytesAreSoMany }
+pub fn low_bytes_have_length()
+    ensures { LowBytesHaveLength }
 {}
 
 /// Each of a number's low bytes is below 256.
@@ -19,8 +19,8 @@ pub fn low_bytes_are_bytes()
 {}
 
 /// The low bytes of a number that a type holds are that number.
-pub fn held_numbers_come_back()
-    ensures { HeldNumbersComeBack }
+pub fn held_numbers_round_trip()
+    ensures { HeldNumbersRoundTrip }
 {}
 
 /// The result of a comparison is one byte.

@@ -13,7 +13,7 @@ mod unary;
 
 pub use kept::Computed;
 pub use laws::{
-    comparisons_take_one_byte, held_numbers_come_back, low_bytes_are_bytes, low_bytes_are_so_many,
+    comparisons_take_one_byte, held_numbers_round_trip, low_bytes_are_bytes, low_bytes_have_length,
     results_keep_the_width,
 };
 pub use operator::{Kind, Operator};

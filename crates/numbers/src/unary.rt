@@ -5,7 +5,7 @@ ghost use Rattle.numbers.specs.Bytes.{is_width};
 ghost use Rattle.numbers.specs.Operators.{negated, inverted, denied};
 ghost use Rattle.numbers.specs.Computed.{answer_of, count_of};
 
-use crate::kept::{low_digits, told};
+use crate::kept::{low_digits, truth_value};
 use crate::read::{is_width, unsigned};
 use crate::{Computed, Kind};
 
@@ -15,7 +15,7 @@ fn denied(bytes: &[u8]) -> Computed
     ensures count { count_of result ≤ 16 }
 {
     if bytes.len() == 1 {
-        told(bytes[0] == 0)
+        truth_value(bytes[0] == 0)
     } else {
         Computed::Undefined
     }

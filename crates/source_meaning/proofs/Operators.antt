@@ -6,7 +6,7 @@ use Rattle.numbers.specs.Bytes.{is_width}
 use Rattle.numbers.specs.declared.operator.Kind.{Kind}
 use Rattle.numbers.specs.declared.operator.Operator.{Operator}
 use Rattle.numbers.specs.declared.operator.Operator.TheVariants.{Add, Sub, Mul, Div, Rem, BitXor, BitAnd, BitOr, Shl, Shr, Eq, Ne, Lt, Le, Gt, Ge}
-use Rattle.numbers.specs.Operators.{Answer, Computes, Panics, Undefined, kept, divided, told, by_bits, on_integers, shifted, shifted_by, sign_of, shift, is_shift, is_on_booleans, is_comparison, combined, computed, denied, negated, inverted, kind_of}
+use Rattle.numbers.specs.Operators.{Answer, Computes, Panics, Undefined, kept, divided, truth_value, by_bits, on_integers, shifted, shifted_by, sign_of, shift, is_shift, is_on_booleans, is_comparison, combined, computed, denied, negated, inverted, kind_of}
 use Rattle.numbers.proofs.Digits.{length-low_digits, length-low_bytes}
 use Rattle.numbers.proofs.Lengths.{length-compared, length-computed}
 use Rattle.source_meaning.specs.Valid.{IsInteger, IsScalar}
@@ -78,8 +78,8 @@ divided_is_defined : (op : Operator) (signed : Bool) (size : ℕ) (left right z 
 unfolding divided
 divided_is_defined op signed size left right z = either_is_defined _ (Computes _) (Panics _) tt tt
 
-told_is_defined : (test : Bool) → IsDefined (told test)
-unfolding told
+told_is_defined : (test : Bool) → IsDefined (truth_value test)
+unfolding truth_value
 told_is_defined true = tt
 told_is_defined false = tt
 
@@ -174,8 +174,8 @@ where_true_fits : (size : ℕ) (test : Bool) (one other : Answer) → test ≡ t
 where_true_fits size true one other is fits = fits
 where_true_fits size false one other is fits = absurd (false≢true is)
 
-told_fits : (size : ℕ) (test : Bool) → size ≡ 1 → Fits size (told test)
-unfolding told
+told_fits : (size : ℕ) (test : Bool) → size ≡ 1 → Fits size (truth_value test)
+unfolding truth_value
 told_fits size true one = sym one
 told_fits size false one = sym one
 

@@ -2,14 +2,14 @@
 
 ghost use Rattle.std.specs.Prelude.{◌≡◌, ◌↔◌, IsTrue};
 
-/// How much a run may take. A run is compared with `blocks` alone yet.
+/// How much the evaluation of one constant may take.
 #[derive(Clone, Copy, PartialEq, Eq, Debug)]
 pub struct Limits {
-    /// How many blocks a run may enter.
+    /// How many basic blocks a run may enter.
     pub blocks: u64,
-    /// How deep calls may nest.
+    /// How deep runs, calls and the parts of a value may be nested.
     pub nesting: u32,
-    /// How many bytes a run may hold.
+    /// How many bytes the locals of a run may take.
     pub bytes: u64,
 }
 
@@ -29,7 +29,7 @@ impl Limits {
 
     /// Whether the limits are at most the greatest ones.
     pub fn within(&self) -> bool
-        ensures told { result ≡ is_within self.now }
+        ensures decides { result ≡ is_within self.now }
         ensures within { IsTrue result ↔ IsWithin self.now }
     {
         self.blocks <= 1 << 63 && self.nesting <= 1_000 && self.bytes <= 1 << 59

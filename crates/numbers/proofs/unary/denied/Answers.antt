@@ -1,5 +1,5 @@
 use Rattle.std.proofs.Common.{◌≡◌, ◌∙◌, ap, eqb, length}
-use Rattle.numbers.specs.Operators.{denied, told}
+use Rattle.numbers.specs.Operators.{denied, truth_value}
 use Rattle.numbers.proofs.Reading.{word1_is}
 use Rattle.numbers.proofs.unary.denied.Goals as goal
 
@@ -7,4 +7,4 @@ pub returns-then-bytes-eq1-clause-answer : goal.returns-then-bytes-eq1-clause-an
 unfolding denied
 returns-then-bytes-eq1-clause-answer c =
     let size : length c.args.bytes.now ≡ 1 = c.if-bytes-eq1.true in
-    rw size (c.told.ensures.answer ∙ ap (λ m. told (eqb m 0)) (word1_is c.args.bytes.now size))
+    rw size (c.truth_value.ensures.answer ∙ ap (λ m. truth_value (eqb m 0)) (word1_is c.args.bytes.now size))
