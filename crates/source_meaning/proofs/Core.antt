@@ -13,10 +13,10 @@ use Rattle.types.specs.declared.ids.ExprId.{ExprId}
 use Rattle.types.specs.declared.operators.BinaryOp.{BinaryOp}
 use Rattle.types.specs.declared.operators.BinaryOp.TheVariants as binary
 use Rattle.numbers.specs.Operators.{of_arith, of_compare}
-use Rattle.source_meaning.specs.Core.{CoreExpr, Operation, Literal, Path, Strict, Logic, If, Assign, Block, Labelled, Loop, core_literal, unary_operation, unary_form, eager_form, binary_form, core_of, is_adjusted, names_item}
+use Rattle.source_meaning.specs.Core.{CoreExpr, Operation, Literal, Path, Strict, Logic, If, Assign, Block, Labelled, Loop, Break, Continue, core_literal, unary_operation, unary_form, eager_form, binary_form, core_of, is_adjusted_otherwise, names_item}
 use Rattle.source_meaning.specs.Source.{Source, node}
 use Rattle.source_meaning.specs.Steps.{parts_of, statement_parts}
-use Rattle.source_meaning.proofs.Parts.{nothing_is_contained, among_more, if_parts, block_parts}
+use Rattle.source_meaning.proofs.Parts.{nothing_is_contained, among_more, if_parts, block_parts, tail_part}
 
 mapped : {A B : Type 0} (f : A → B) (given : Option A) (y : B) → option_map f given ≡ Some y → (x : A) × (given ≡ Some x) × (f x ≡ y)
 mapped f (Some x) y is = (x, refl, (let same : f x ≡ y = cc in same))
@@ -64,6 +64,15 @@ part_is_child item (whole.Assignment target value) core is child within =
     let same : Assign target.0 value.0 ≡ core = cc in subst (λ c. Contains (parts_of (Some c)) child) (sym same) within
 part_is_child item (whole.Block statements tail None) core is child within =
     let same : Block statements tail ≡ core = cc in block_part_is_child statements tail child (subst (λ c. Contains (parts_of (Some c)) child) (sym same) within)
+part_is_child item (whole.Block statements tail (Some label)) core is child within =
+    let same : Labelled label statements tail ≡ core = cc in block_part_is_child statements tail child (subst (λ c. Contains (parts_of (Some c)) child) (sym same) within)
+part_is_child item (whole.Loop body label) core is child within =
+    let same : Loop label body.0 ≡ core = cc in subst (λ c. Contains (parts_of (Some c)) child) (sym same) within
+part_is_child item (whole.Break value label) core is child within =
+    let same : core ≡ Break label value = cc in
+    subst (λ parts. Contains parts child) (ap (λ c. parts_of (Some c)) same ∙ tail_part value) within
+part_is_child item (whole.Continue label) core is child within =
+    let same : Continue label ≡ core = cc in absurd (nothing_is_contained child (subst (λ c. Contains (parts_of (Some c)) child) (sym same) within))
 part_is_child item _ core is child within = absurd cc
 
 node_from : (adjusted item : Bool) (found : Option Expr) (core : CoreExpr) → if adjusted then None else option_and_then (core_of item) found ≡ Some core →
@@ -76,41 +85,10 @@ part_of_form_is_below : (source : Source) → IsCheckedBody source.body source.i
 unfolding node
 part_of_form_is_below source checked e child (Some core) is within =
     let item = names_item source.infer (record { 0 = e }) in
-    let from = node_from (is_adjusted source.infer (record { 0 = e })) item (expr_of source.body e) core is in
+    let from = node_from (is_adjusted_otherwise source.infer (record { 0 = e })) item (expr_of source.body e) core is in
     All-contains (λ other. other < e) (children_of from.0) child (checked.children e from.0 from.1) (part_is_child item from.0 core from.2 child within)
 part_of_form_is_below source checked e child None is within = absurd (nothing_is_contained child within)
 
 -- what is evaluated where an expression is has a lower number
 pub part_is_below : (source : Source) → IsCheckedBody source.body source.infer → (e child : ℕ) → Contains (parts_of (node source e)) child → child < e
 part_is_below source checked e child within = part_of_form_is_below source checked e child (node source e) refl within
-
--- a form that may be evaluated again and again
-abbrev pub IsRepeated : CoreExpr → Type 0
-IsRepeated (Labelled label statements tail) = Unit {0}
-IsRepeated (Loop label body) = Unit {0}
-IsRepeated _ = ⊥
-
-operator_is_not_repeated : (lhs rhs : ℕ) (op : BinaryOp) (core : CoreExpr) → binary_form lhs rhs op ≡ Some core → IsRepeated core → ⊥
-operator_is_not_repeated lhs rhs (binary.ArithOp op) core is repeated = let same : core ≡ eager_form lhs rhs (of_arith op) = cc in subst IsRepeated same repeated
-operator_is_not_repeated lhs rhs (binary.CmpOp op) core is repeated = let same : core ≡ eager_form lhs rhs (of_compare op) = cc in subst IsRepeated same repeated
-operator_is_not_repeated lhs rhs (binary.LogicOp op) core is repeated = let same : core ≡ Logic op lhs rhs = cc in subst IsRepeated same repeated
-operator_is_not_repeated lhs rhs (binary.Assignment op) core is repeated = absurd cc
-
--- no expression is given such a form yet
-form_is_not_repeated : (item : Bool) (e : Expr) (core : CoreExpr) → core_of item e ≡ Some core → IsRepeated core → ⊥
-form_is_not_repeated item (whole.Literal given) core is repeated = let from = mapped Literal (core_literal given) core is in subst IsRepeated (sym from.2) repeated
-form_is_not_repeated true (whole.Path name) core is repeated = absurd cc
-form_is_not_repeated false (whole.Path name) core is repeated = let same : core ≡ Path name = cc in subst IsRepeated same repeated
-form_is_not_repeated item (whole.UnaryOp e op) core is repeated = let from = mapped (λ op. Strict op (e.0 ∷ [])) (unary_operation op) core is in subst IsRepeated (sym from.2) repeated
-form_is_not_repeated item (whole.BinaryOp lhs rhs (Some op)) core is repeated = operator_is_not_repeated lhs.0 rhs.0 op core is repeated
-form_is_not_repeated item (whole.BinaryOp lhs rhs None) core is repeated = absurd cc
-form_is_not_repeated item (whole.If condition then_branch else_branch) core is repeated = let same : core ≡ If condition.0 then_branch.0 else_branch = cc in subst IsRepeated same repeated
-form_is_not_repeated item (whole.Assignment target value) core is repeated = let same : core ≡ Assign target.0 value.0 = cc in subst IsRepeated same repeated
-form_is_not_repeated item (whole.Block statements tail None) core is repeated = let same : core ≡ Block statements tail = cc in subst IsRepeated same repeated
-form_is_not_repeated item _ core is repeated = absurd cc
-
-pub node_is_not_repeated : (source : Source) (e : ℕ) (core : CoreExpr) → node source e ≡ Some core → IsRepeated core → ⊥
-unfolding node
-node_is_not_repeated source e core is repeated =
-    let from = node_from (is_adjusted source.infer (record { 0 = e })) (names_item source.infer (record { 0 = e })) (expr_of source.body e) core is in
-    form_is_not_repeated (names_item source.infer (record { 0 = e })) from.0 core from.2 repeated

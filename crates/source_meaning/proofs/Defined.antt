@@ -9,11 +9,11 @@ use Rattle.world.specs.declared.layout.Layout.{Layout}
 use Rattle.world.specs.declared.body.Binding.{Binding as BindingRow}
 use Rattle.world.specs.Checked.{IsCheckedBody}
 use Rattle.world.specs.Lookups.{layout_of}
-use Rattle.source_meaning.specs.Entering.{below, is_sized_layout, is_sized_type, is_sized_or_none, evaluated_in, evaluated, is_cost_defined}
+use Rattle.source_meaning.specs.Entering.{below, is_sized_layout, is_sized_type, is_sized_node, is_sized_or_none, evaluated_in, evaluated, is_cost_defined}
 use Rattle.source_meaning.specs.Laws.{CostIsDefined}
-use Rattle.source_meaning.specs.Source.{Source, node, node_type, binding_type, root}
+use Rattle.source_meaning.specs.Source.{Source, node, own_type, node_type, binding_type, root}
 use Rattle.source_meaning.specs.Steps.{parts_of}
-use Rattle.source_meaning.specs.Valid.{Evaluates, itself, part, HasSizedLayout, HasDefinedCost}
+use Rattle.source_meaning.specs.Valid.{Evaluates, itself, part, HasSizedLayout, IsSizedNode, HasDefinedCost}
 use Rattle.source_meaning.proofs.Core.{part_is_below}
 use Rattle.source_meaning.proofs.Parts.{among, first_is_contained, rest_is_contained, nothing_is_contained}
 
@@ -37,6 +37,15 @@ type_is_sized source ty is =
 
 sized_type_is : (source : Source) (ty : Option Ty) → HasSizedLayout source ty → is_sized_type source ty ≡ true
 sized_type_is source ty sized = ap is_sized_layout sized.found ∙ sized.sized
+
+node_is_sized : (source : Source) (e : ℕ) → is_sized_node source e ≡ true → IsSizedNode source e
+node_is_sized source e is =
+    let holds = both (is_sized_type source (own_type source e)) (is_sized_type source (node_type source e)) is in
+    record { of_itself = type_is_sized source (own_type source e) holds.0; of_value = type_is_sized source (node_type source e) holds.1 }
+
+sized_node_is : (source : Source) (e : ℕ) → IsSizedNode source e → is_sized_node source e ≡ true
+sized_node_is source e sized =
+    both_hold (is_sized_type source (own_type source e)) (is_sized_type source (node_type source e)) (sized_type_is source (own_type source e) sized.of_itself) (sized_type_is source (node_type source e) sized.of_value)
 
 -- the one element of a list
 only_one : {X : Type 0} (y z : X) → Contains (y ∷ []) z → y ≡ z
@@ -108,7 +117,7 @@ sized_binding_is source (Some ty) sized = sized_type_is source (Some ty) (sized 
 sized_binding_is source None sized = refl
 
 abbrev NodesSized : Source → Bool
-NodesSized source = list_all (λ e. is_sized_type source (node_type source e)) (evaluated_in (length source.body.exprs) source (root source))
+NodesSized source = list_all (is_sized_node source) (evaluated_in (length source.body.exprs) source (root source))
 
 abbrev BindingsSized : Source → Bool
 BindingsSized source = list_all (λ b. is_sized_or_none source (binding_type source b)) (below (length source.body.bindings))
@@ -118,7 +127,7 @@ unfolding is_cost_defined evaluated
 defined-from source checked is =
     let holds = both (NodesSized source) (BindingsSized source) is in
     record {
-      nodes = λ e evaluates. type_is_sized source (node_type source e) (all_of (λ e. is_sized_type source (node_type source e)) (evaluated_in (length source.body.exprs) source (root source)) e holds.0 (evaluated_is_listed source checked (length source.body.exprs) checked.root evaluates));
+      nodes = λ e evaluates. node_is_sized source e (all_of (is_sized_node source) (evaluated_in (length source.body.exprs) source (root source)) e holds.0 (evaluated_is_listed source checked (length source.body.exprs) checked.root evaluates));
       bindings = λ b ty there. binding_is_sized source b ty there (all_of (λ b. is_sized_or_none source (binding_type source b)) (below (length source.body.bindings)) b holds.1 (is_below (length source.body.bindings) b (typed_is_there source b ty there)));
     }
 
@@ -126,7 +135,7 @@ defined-to : (source : Source) → HasDefinedCost source → is_cost_defined sou
 unfolding is_cost_defined evaluated
 defined-to source cost =
     both_hold (NodesSized source) (BindingsSized source)
-    (all_from (λ e. is_sized_type source (node_type source e)) (evaluated_in (length source.body.exprs) source (root source)) (λ e within. sized_type_is source (node_type source e) (cost.nodes e (listed_is_evaluated source (length source.body.exprs) (root source) e within))))
+    (all_from (is_sized_node source) (evaluated_in (length source.body.exprs) source (root source)) (λ e within. sized_node_is source e (cost.nodes e (listed_is_evaluated source (length source.body.exprs) (root source) e within))))
     (all_from (λ b. is_sized_or_none source (binding_type source b)) (below (length source.body.bindings)) (λ b within. sized_binding_is source (binding_type source b) (λ ty is. cost.bindings b ty is)))
 
 pub cost_is_defined : CostIsDefined

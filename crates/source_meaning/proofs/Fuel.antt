@@ -12,7 +12,7 @@ use Rattle.source_meaning.specs.Core.{CoreExpr, Operation}
 use Rattle.source_meaning.specs.Ends.{Cost, turns_alone, End, Go, Jumps, Break, Continue, Return, Faults, Stuck, More, IsOver, after, then_do}
 use Rattle.source_meaning.specs.Events.{marked, marked_as_operand, marked_by_statement}
 use Rattle.source_meaning.specs.Meaning.{Levels, no_fuel, place_of, operand_of, operands_of, strict_into, is_byte, deciding_byte, decided_into, branched, logic_into, tail_into, branch_into, if_into, assign_into, statement_of, statements_of, block_into, caught, again_into, labelled_into, turn_of, loop_into, break_to, into_of, level_above, level_at, meaning_of}
-use Rattle.source_meaning.specs.Source.{Source, Store, Path, Node, Operand, operand_bytes, node, target, root}
+use Rattle.source_meaning.specs.Source.{Source, Store, Path, Node, Operand, operand_bytes, node, unadjusted, never_marks, own_path, target, root}
 
 -- what is over after a cost is over
 over_before : {A : Type 0} (cost : Cost) (end : End A) → IsOver (after cost end) → IsOver end
@@ -66,6 +66,7 @@ pub record Agrees (below above : Levels) : Type 0 where
   pub place : (around : Around) (e : ℕ) (store : Store) → IsOver ((below around).place e store) → (above around).place e store ≡ (below around).place e store
   pub operand : (around : Around) (e : ℕ) (store : Store) → IsOver ((below around).operand e store) → (above around).operand e store ≡ (below around).operand e store
   pub into : (around : Around) (e : ℕ) (path : Path) (store : Store) → IsOver ((below around).into e path store) → (above around).into e path store ≡ (below around).into e path store
+  pub own : (around : Around) (e : ℕ) (path : Path) (store : Store) → IsOver ((below around).own e path store) → (above around).own e path store ≡ (below around).own e path store
 
 module _ (source : Source) (below above : Levels) (agrees : Agrees below above) where
   place_agrees : (around : Around) (e : ℕ) (form : Option CoreExpr) (store : Store) → IsOver (place_of source below around e form store) → place_of source above around e form store ≡ place_of source below around e form store
@@ -136,7 +137,7 @@ module _ (source : Source) (below above : Levels) (agrees : Agrees below above) 
       then_do_agrees (tail_into (below behind) tail path later) (tail_into (above behind) tail path later) _ _ (tail_agrees behind tail path later) (λ done' last o'. refl) o) over
 
   again_agrees : (around : Around) (e : ℕ) (path : Path) (store : Store) → IsOver (again_into below around e path store) → again_into above around e path store ≡ again_into below around e path store
-  again_agrees around e path store over = agrees.into around e path store over
+  again_agrees around e path store over = agrees.own around e path store over
 
   labelled_agrees : (around : Around) (e : ℕ) (label : LabelId) (statements : List Statement) (tail : Option ExprId) (path : Path) (store : Store) → IsOver (labelled_into source below around e label statements tail path store) → labelled_into source above around e label statements tail path store ≡ labelled_into source below around e label statements tail path store
   labelled_agrees around e label statements tail path store over =
@@ -171,9 +172,10 @@ module _ (source : Source) (below above : Levels) (agrees : Agrees below above) 
 
   above_agrees : Agrees (level_above source below) (level_above source above)
   above_agrees = record {
-    place = λ around e store over. place_agrees around e (node source e) store over;
-    operand = λ around e store over. operand_agrees around e (node source e) store over;
-    into = λ around e path store over. into_agrees around e (node source e) path store over;
+    place = λ around e store over. place_agrees around e (unadjusted source e) store over;
+    operand = λ around e store over. operand_agrees around e (unadjusted source e) store over;
+    into = λ around e path store over. into_agrees (marking (never_marks source e) around) e (node source e) (own_path source e path) store over;
+    own = λ around e path store over. into_agrees around e (node source e) path store over;
   }
 
 no_fuel_agrees : (above : Levels) → Agrees no_fuel above
@@ -181,6 +183,7 @@ no_fuel_agrees above = record {
   place = λ around e store over. absurd over;
   operand = λ around e store over. absurd over;
   into = λ around e path store over. absurd over;
+  own = λ around e path store over. absurd over;
 }
 
 pub more_agrees : (source : Source) (fuel more : ℕ) → fuel ≤ more → Agrees (level_at source fuel) (level_at source more)

@@ -16,35 +16,23 @@ use Rattle.numbers.specs.Operators.{Answer, Computes, Panics, Undefined}
 use Rattle.source_meaning.specs.Around.{Around, Target, at_root, marking, inside, target_of}
 use Rattle.source_meaning.specs.Core as expr
 use Rattle.source_meaning.specs.Core.{CoreExpr, Operation}
-use Rattle.source_meaning.specs.Ends.{Cost, plus, turns_alone, End, Go, Jumps, Break, Continue, Return, Faults, Stuck, More, IsOver, GoesOn, after, then_do}
+use Rattle.source_meaning.specs.Ends.{Cost, plus, turns_alone, End, Go, Jumps, Break, Continue, Return, Faults, Stuck, More, GoesOn, after, then_do}
 use Rattle.source_meaning.specs.Events.{marked, marked_as_operand, marked_by_statement}
 use Rattle.source_meaning.specs.Meaning.{Levels, constant_cost, put, put_literal, put_answer, literal_operand, literal_bytes, named_place, named_into, bind, place_of, operand_of, operands_of, is_byte, deciding_byte, reading_cost, decided_into, branched, logic_into, tail_into, branch_into, if_into, statement_of, statements_of, block_into, caught, again_into, turn_of, break_to, continue_to, into_of, level_at, meaning_of}
-use Rattle.source_meaning.specs.Source.{Source, Store, Path, Result, Node, Binding, zeroed, Operand, Literally, operand_bytes, node, node_type, named_by, pattern, target, root}
+use Rattle.source_meaning.specs.Source.{Source, Store, Path, Result, Node, Binding, zeroed, Operand, Literally, operand_bytes, node, unadjusted, never_marks, own_path, own_type, named_by, pattern, target, root}
 use Rattle.source_meaning.specs.Steps.{parts_of, statement_parts}
-use Rattle.source_meaning.proofs.Core.{IsRepeated, part_is_below, node_is_not_repeated}
+use Rattle.source_meaning.proofs.Core.{part_is_below}
 use Rattle.source_meaning.proofs.Parts.{first_is_contained, rest_is_contained, strict_parts, if_parts, block_parts, tail_part}
 
--- a lack of fuel comes late: never, or only after so many blocks
-abbrev IsLate : Option ℕ → Cost → Type 0
-IsLate None cost = ⊥
-IsLate (Some many) cost = many ≤ cost.turns
-
--- an end, or a lack of fuel that comes late
-abbrev Lasts : {A : Type 0} → Option ℕ → End A → Type 0
+-- an end, or a lack of fuel that comes only after a number of blocks
+abbrev Lasts : {A : Type 0} → ℕ → End A → Type 0
 Lasts limit (Go value store cost) = Unit {0}
 Lasts limit (Jumps to store cost) = Unit {0}
 Lasts limit (Faults fault cost) = Unit {0}
 Lasts limit Stuck = Unit {0}
-Lasts limit (More cost) = IsLate limit cost
+Lasts limit (More cost) = limit ≤ cost.turns
 
-without_limit : {A : Type 0} (end : End A) → Lasts None end → IsOver end
-without_limit (Go value store cost) lasts = tt
-without_limit (Jumps to store cost) lasts = tt
-without_limit (Faults fault cost) lasts = tt
-without_limit Stuck lasts = tt
-without_limit (More cost) lasts = lasts
-
-with_limit : {A : Type 0} (many : ℕ) (end : End A) → Lasts (Some many) end → GoesOn many end
+with_limit : {A : Type 0} (many : ℕ) (end : End A) → Lasts many end → GoesOn many end
 with_limit many (Go value store cost) lasts = tt
 with_limit many (Jumps to store cost) lasts = tt
 with_limit many (Faults fault cost) lasts = tt
@@ -52,14 +40,14 @@ with_limit many Stuck lasts = tt
 with_limit many (More cost) lasts = lasts
 
 -- no block is asked for
-none_asked : {A : Type 0} (end : End A) → Lasts (Some zero) end
+none_asked : {A : Type 0} (end : End A) → Lasts zero end
 none_asked (Go value store cost) = tt
 none_asked (Jumps to store cost) = tt
 none_asked (Faults fault cost) = tt
 none_asked Stuck = tt
 none_asked (More cost) = omega arith
 
-fewer_last : {A : Type 0} (many : ℕ) (end : End A) → Lasts (Some (suc many)) end → Lasts (Some many) end
+fewer_last : {A : Type 0} (many : ℕ) (end : End A) → Lasts (suc many) end → Lasts many end
 fewer_last many (Go value store cost) lasts = tt
 fewer_last many (Jumps to store cost) lasts = tt
 fewer_last many (Faults fault cost) lasts = tt
@@ -67,17 +55,16 @@ fewer_last many Stuck lasts = tt
 fewer_last many (More cost) lasts = omega arith
 
 -- what stands before costs more
-late_after : (limit : Option ℕ) (cost rest : Cost) → IsLate limit rest → IsLate limit (plus cost rest)
+late_after : (limit : ℕ) (cost rest : Cost) → limit ≤ rest.turns → limit ≤ (plus cost rest).turns
 unfolding plus
-late_after None cost rest late = late
-late_after (Some many) cost rest late = omega arith
+late_after limit cost rest late = omega arith
 
 -- one block before
-late_after_one : (many : ℕ) (rest : Cost) → IsLate (Some many) rest → IsLate (Some (suc many)) (plus (turns_alone 1) rest)
+late_after_one : (many : ℕ) (rest : Cost) → many ≤ rest.turns → suc many ≤ (plus (turns_alone 1) rest).turns
 unfolding plus
 late_after_one many rest late = omega arith
 
-lasts_after_one : {A : Type 0} (many : ℕ) (end : End A) → Lasts (Some many) end → Lasts (Some (suc many)) (after (turns_alone 1) end)
+lasts_after_one : {A : Type 0} (many : ℕ) (end : End A) → Lasts many end → Lasts (suc many) (after (turns_alone 1) end)
 unfolding after
 lasts_after_one many (Go value store rest) lasts = tt
 lasts_after_one many (Jumps to store rest) lasts = tt
@@ -85,7 +72,7 @@ lasts_after_one many (Faults fault rest) lasts = tt
 lasts_after_one many Stuck lasts = tt
 lasts_after_one many (More rest) lasts = late_after_one many rest lasts
 
-module _ (limit : Option ℕ) where
+module _ (limit : ℕ) where
   lasts_after : {A : Type 0} (cost : Cost) (end : End A) → Lasts limit end → Lasts limit (after cost end)
   unfolding after
   lasts_after cost (Go value store rest) lasts = tt
@@ -108,17 +95,15 @@ module _ (limit : Option ℕ) where
   caught_lasts e again ended Stuck again_is ended_is lasts = tt
   caught_lasts e again ended (More cost) again_is ended_is lasts = lasts
 
--- A form that is repeated lasts: with a limit, since each turn enters a block; and without one, since no expression has such a
--- form yet.
-repeated_lasts : (limit : Option ℕ) (source : Source) (e : ℕ) (core : CoreExpr) → node source e ≡ Some core → IsRepeated core → (again ended : Store → End (Unit {0})) (end : End (Unit {0})) →
-    ((many : ℕ) → limit ≡ Some (suc many) → (store : Store) → Lasts (Some many) (again store)) → ((many : ℕ) → limit ≡ Some (suc many) → (store : Store) → Lasts (Some many) (ended store)) →
+-- a form that is repeated lasts, since each turn enters a block
+repeated_lasts : (limit e : ℕ) (again ended : Store → End (Unit {0})) (end : End (Unit {0})) →
+    ((many : ℕ) → limit ≡ suc many → (store : Store) → Lasts many (again store)) → ((many : ℕ) → limit ≡ suc many → (store : Store) → Lasts many (ended store)) →
     Lasts limit end → Lasts limit (after (turns_alone 1) (caught e again ended end))
-repeated_lasts None source e core is repeated again ended end again_is ended_is lasts = absurd (node_is_not_repeated source e core is repeated)
-repeated_lasts (Some zero) source e core is repeated again ended end again_is ended_is lasts = none_asked _
-repeated_lasts (Some (suc many)) source e core is repeated again ended end again_is ended_is lasts =
-    lasts_after_one many _ (caught_lasts (Some many) e again ended end (again_is many refl) (ended_is many refl) (fewer_last many end lasts))
+repeated_lasts zero e again ended end again_is ended_is lasts = none_asked _
+repeated_lasts (suc many) e again ended end again_is ended_is lasts =
+    lasts_after_one many _ (caught_lasts many e again ended end (again_is many refl) (ended_is many refl) (fewer_last many end lasts))
 
-module _ (limit : Option ℕ) where
+module _ (limit : ℕ) where
   then_do_lasts : {A B : Type 0} (first : End A) (next : A → Store → End B) → Lasts limit first → ((value : A) (store : Store) → Lasts limit (next value store)) → Lasts limit (then_do first next)
   unfolding then_do
   then_do_lasts (Go value store cost) next over rest = lasts_after limit cost (next value store) (rest value store)
@@ -144,7 +129,7 @@ module _ (limit : Option ℕ) where
   put_answer_lasts store path Undefined = tt
 
   literal_operand_lasts : (source : Source) (e : ℕ) (store : Store) (bytes : Option (List ℕ)) → Lasts limit (literal_operand source e store bytes)
-  literal_operand_lasts source e store (Some bytes) = by_type (node_type source e)
+  literal_operand_lasts source e store (Some bytes) = by_type (own_type source e)
     where
       by_type : (ty : Option Ty) → Lasts limit (elim ty [ Some given ↦ Go (Literally given bytes) store (constant_cost source e) | None ↦ Stuck ])
       by_type (Some ty) = tt
@@ -181,7 +166,7 @@ module _ (limit : Option ℕ) where
 
   -- where fewer blocks are asked for, an expression lasts once more
   abbrev Repeats : Levels → ℕ → Type 0
-  Repeats below e = (around : Around) (path : Path) (many : ℕ) → limit ≡ Some (suc many) → (store : Store) → Lasts (Some many) (again_into below around e path store)
+  Repeats below e = (around : Around) (path : Path) (many : ℕ) → limit ≡ suc many → (store : Store) → Lasts many (again_into below around e path store)
 
   module _ (source : Source) (below : Levels) where
     operands_lasts : (around : Around) (operands : List ℕ) (store : Store) → ((child : ℕ) → Contains operands child → LastsIn below child) → Lasts limit (operands_of source below around operands store)
@@ -276,36 +261,15 @@ module _ (limit : Option ℕ) where
     into_lasts around e (Some (expr.Block statements tail)) path store is repeats ends =
         block_lasts around statements tail path store (λ child within. ends child (subst (λ parts. Contains parts child) (sym (block_parts statements tail)) within))
     into_lasts around e (Some (expr.Labelled label statements tail)) path store is repeats ends =
-        repeated_lasts limit source e (expr.Labelled label statements tail) is tt (again_into below around e path) (λ last. Go tt last (turns_alone 1)) _ (repeats around path) (λ many same later. tt)
+        repeated_lasts limit e (again_into below around e path) (λ last. Go tt last (turns_alone 1)) _ (repeats around path) (λ many same later. tt)
         (block_lasts (inside e (Some label) path around) statements tail path store (λ child within. ends child (subst (λ parts. Contains parts child) (sym (block_parts statements tail)) within)))
     into_lasts around e (Some (expr.Loop label body)) path store is repeats ends =
-        repeated_lasts limit source e (expr.Loop label body) is tt (again_into below around e path) (again_into below around e path) _ (repeats around path) (repeats around path)
+        repeated_lasts limit e (again_into below around e path) (again_into below around e path) _ (repeats around path) (repeats around path)
         (turn_lasts (inside e label path around) body store (ends body (first_is_contained body [])))
     into_lasts around e (Some (expr.Break label value)) path store is repeats ends =
         break_lasts around value (target_of label around.targets) store (λ child within. ends child (subst (λ parts. Contains parts child) (sym (tail_part value)) within))
     into_lasts around e (Some (expr.Continue label)) path store is repeats ends = continue_lasts around (target_of label around.targets) store
     into_lasts around e None path store is repeats ends = tt
-
--- the fuel with which each expression below a number comes to an end
-pub fuel_below : ℕ → ℕ
-fuel_below zero = zero
-fuel_below (suc bound) = suc (suc (suc (fuel_below bound)))
-
--- an expression comes to an end with enough fuel, whatever stands around it, and whatever path and store it is evaluated at
-pub into_ends : (source : Source) → IsCheckedBody source.body source.infer → (bound e fuel : ℕ) → e < bound → fuel_below bound ≤ fuel → (around : Around) (path : Path) (store : Store) → Lasts None ((level_at source fuel around).into e path store)
-unfolding level_at fuel_below
-into_ends source checked zero e fuel less enough around path store = absurd (omega arith)
-into_ends source checked (suc bound) e zero less enough around path store = absurd (omega arith)
-into_ends source checked (suc bound) e (suc zero) less enough around path store = absurd (omega arith)
-into_ends source checked (suc bound) e (suc (suc zero)) less enough around path store = absurd (omega arith)
-into_ends source checked (suc bound) e (suc (suc (suc fuel))) less enough around path store =
-    into_lasts None source (level_at source (suc (suc fuel))) around e (node source e) path store refl (λ around' path' many is. absurd cc) (λ child within.
-    let below = part_is_below source checked e child within in record {
-      place = λ around' later. place_lasts None source (level_at source (suc fuel)) around' child (node source child) later (into_ends source checked bound child (suc fuel) (omega arith) (omega arith));
-      operand = λ around' later. operand_lasts None source (level_at source (suc fuel)) around' child (node source child) later (λ last.
-          place_lasts None source (level_at source fuel) around' child (node source child) last (into_ends source checked bound child fuel (omega arith) (omega arith)));
-      into = into_ends source checked bound child (suc (suc fuel)) (omega arith) (omega arith);
-    })
 
 -- the fuel with which each expression below a number comes to an end, or enters so many blocks
 fuel_for : ℕ → ℕ → ℕ
@@ -313,37 +277,39 @@ fuel_for zero bound = zero
 fuel_for (suc many) zero = zero
 fuel_for (suc many) (suc bound) = suc (suc (suc (fuel_for (suc many) bound + fuel_for many (suc bound))))
 
-into_goes_on : (source : Source) → IsCheckedBody source.body source.infer → (many bound e fuel : ℕ) → e < bound → fuel_for many bound ≤ fuel → (around : Around) (path : Path) (store : Store) → Lasts (Some many) ((level_at source fuel around).into e path store)
+-- an expression evaluated into a path lasts where it does itself
+into_from_own : (limit : ℕ) (source : Source) (fuel e : ℕ) (around : Around) (path : Path) (store : Store) →
+    Lasts limit ((level_at source fuel (marking (never_marks source e) around)).own e (own_path source e path) store) → Lasts limit ((level_at source fuel around).into e path store)
+unfolding level_at
+into_from_own limit source zero e around path store lasts = lasts
+into_from_own limit source (suc fuel) e around path store lasts = lasts
+
+own_goes_on : (source : Source) → IsCheckedBody source.body source.infer → (many bound e fuel : ℕ) → e < bound → fuel_for many bound ≤ fuel → (around : Around) (path : Path) (store : Store) → Lasts many ((level_at source fuel around).own e path store)
 unfolding level_at fuel_for
-into_goes_on source checked zero bound e fuel less enough around path store = none_asked _
-into_goes_on source checked (suc many) zero e fuel less enough around path store = absurd (omega arith)
-into_goes_on source checked (suc many) (suc bound) e zero less enough around path store = absurd (omega arith)
-into_goes_on source checked (suc many) (suc bound) e (suc zero) less enough around path store = absurd (omega arith)
-into_goes_on source checked (suc many) (suc bound) e (suc (suc zero)) less enough around path store = absurd (omega arith)
-into_goes_on source checked (suc many) (suc bound) e (suc (suc (suc fuel))) less enough around path store =
-    into_lasts (Some (suc many)) source (level_at source (suc (suc fuel))) around e (node source e) path store refl
+own_goes_on source checked zero bound e fuel less enough around path store = none_asked _
+own_goes_on source checked (suc many) zero e fuel less enough around path store = absurd (omega arith)
+own_goes_on source checked (suc many) (suc bound) e zero less enough around path store = absurd (omega arith)
+own_goes_on source checked (suc many) (suc bound) e (suc zero) less enough around path store = absurd (omega arith)
+own_goes_on source checked (suc many) (suc bound) e (suc (suc zero)) less enough around path store = absurd (omega arith)
+own_goes_on source checked (suc many) (suc bound) e (suc (suc (suc fuel))) less enough around path store =
+    into_lasts (suc many) source (level_at source (suc (suc fuel))) around e (node source e) path store refl
     (λ around' path' fewer is later.
     let same : many ≡ fewer = cc in
-    subst (λ n. Lasts (Some n) ((level_at source (suc (suc fuel)) around').into e path' later)) same (into_goes_on source checked many (suc bound) e (suc (suc fuel)) less (omega arith) around' path' later))
+    subst (λ n. Lasts n ((level_at source (suc (suc fuel)) around').own e path' later)) same (own_goes_on source checked many (suc bound) e (suc (suc fuel)) less (omega arith) around' path' later))
     (λ child within.
     let below = part_is_below source checked e child within in record {
-      place = λ around' later. place_lasts (Some (suc many)) source (level_at source (suc fuel)) around' child (node source child) later (into_goes_on source checked (suc many) bound child (suc fuel) (omega arith) (omega arith));
-      operand = λ around' later. operand_lasts (Some (suc many)) source (level_at source (suc fuel)) around' child (node source child) later (λ last.
-          place_lasts (Some (suc many)) source (level_at source fuel) around' child (node source child) last (into_goes_on source checked (suc many) bound child fuel (omega arith) (omega arith)));
-      into = into_goes_on source checked (suc many) bound child (suc (suc fuel)) (omega arith) (omega arith);
+      place = λ around' later. place_lasts (suc many) source (level_at source (suc fuel)) around' child (unadjusted source child) later (λ a p l. into_from_own (suc many) source (suc fuel) child a p l (own_goes_on source checked (suc many) bound child (suc fuel) (omega arith) (omega arith) _ _ l));
+      operand = λ around' later. operand_lasts (suc many) source (level_at source (suc fuel)) around' child (unadjusted source child) later (λ last.
+          place_lasts (suc many) source (level_at source fuel) around' child (unadjusted source child) last (λ a p l. into_from_own (suc many) source fuel child a p l (own_goes_on source checked (suc many) bound child fuel (omega arith) (omega arith) _ _ l)));
+      into = λ a p l. into_from_own (suc many) source (suc (suc fuel)) child a p l (own_goes_on source checked (suc many) bound child (suc (suc fuel)) (omega arith) (omega arith) _ _ l);
     })
 
 -- a body lasts where its root does
-body_lasts : (source : Source) (limit : Option ℕ) (fuel : ℕ) → Lasts limit ((level_at source fuel at_root).into (root source) (record { cell = Result }) (zeroed source)) → Lasts limit (meaning_of source fuel)
+body_lasts : (source : Source) (limit : ℕ) (fuel : ℕ) → Lasts limit ((level_at source fuel at_root).into (root source) (record { cell = Result }) (zeroed source)) → Lasts limit (meaning_of source fuel)
 unfolding meaning_of
 body_lasts source limit fuel lasts = lasts_after limit _ _ (then_do_lasts limit _ _ lasts (λ value store. tt))
-
-pub bodies_end : (source : Source) → IsCheckedBody source.body source.infer → (fuel : ℕ) × IsOver (meaning_of source fuel)
-bodies_end source checked =
-    let fuel = fuel_below (suc (root source)) in
-    (fuel, without_limit _ (body_lasts source None fuel (into_ends source checked (suc (root source)) (root source) fuel (omega arith) (omega arith) at_root _ _)))
 
 pub bodies_go_on : (source : Source) (many : ℕ) → IsCheckedBody source.body source.infer → (fuel : ℕ) × GoesOn many (meaning_of source fuel)
 bodies_go_on source many checked =
     let fuel = fuel_for many (suc (root source)) in
-    (fuel, with_limit many _ (body_lasts source (Some many) fuel (into_goes_on source checked many (suc (root source)) (root source) fuel (omega arith) (omega arith) at_root _ _)))
+    (fuel, with_limit many _ (body_lasts source many fuel (into_from_own many source fuel (root source) at_root _ _ (own_goes_on source checked many (suc (root source)) (root source) fuel (omega arith) (omega arith) _ _ _))))

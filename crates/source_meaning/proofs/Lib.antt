@@ -7,6 +7,7 @@ pub mod Fuel
 pub mod Lasting
 pub mod Layouts
 pub mod Marks
+pub mod Never
 mod Operators
 pub mod Parts
 pub mod Sizes

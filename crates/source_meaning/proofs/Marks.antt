@@ -12,9 +12,9 @@ use Rattle.world.specs.declared.body.Statement.{Statement}
 use Rattle.world.specs.declared.body.Statement.TheVariants as statement
 use Rattle.world.specs.Checked.{IsCheckedBody}
 use Rattle.source_meaning.specs.Core.{CoreExpr, CoreLiteral, Operation, Literal, Path, Strict, Logic, If, Assign, Block, Labelled, Loop, Break, Continue, is_literal, is_path}
-use Rattle.source_meaning.specs.Events.{Event, Opens, Marks, Closes, place_events, operand_events, step_events, form_events, events_in, events, events_through, Scopes, after_event, scopes_after, innermost, marks_of, marked, marked_as_place, marked_as_operand, marked_by_statement, marked_by_tail, marked_in_block}
+use Rattle.source_meaning.specs.Events.{Event, Opens, Marks, Closes, place_events, operand_events, step_events, form_events, events_in, events, events_through, Scopes, after_event, scopes_after, innermost, marks_of, marked, marked_itself, marked_as_place, marked_as_operand, marked_by_statement, marked_by_tail, marked_in_block}
 use Rattle.source_meaning.specs.Laws.{ScopesNest}
-use Rattle.source_meaning.specs.Source.{Source, Cell, Node, Binding, node, pattern, bound_by}
+use Rattle.source_meaning.specs.Source.{Source, Cell, Node, Binding, Never, node, unadjusted, diverges, never_marks, pattern, bound_by}
 use Rattle.source_meaning.specs.Steps.{Step, Operand, Place, Into, Bind, Open, Close, statement_steps, tail_steps, block_steps, steps_of, step_part, parts_of}
 use Rattle.source_meaning.proofs.Core.{part_is_below}
 use Rattle.source_meaning.proofs.Parts.{first_is_contained}
@@ -70,13 +70,21 @@ bind_is_closed : (bound : Option BindingId) → IsClosed (map Marks (bound_by bo
 bind_is_closed (Some id) = mark_is_closed (Binding id.0)
 bind_is_closed None = none_is_closed
 
+-- the cell of a `!` is marked, or none is
+one_or_none_is_closed : (test : Bool) (cell : Cell) → IsClosed (map Marks (cond test (cell ∷ []) []))
+one_or_none_is_closed true cell = mark_is_closed cell
+one_or_none_is_closed false cell = none_is_closed
+
+never_is_closed : (source : Source) (e : ℕ) → IsClosed (map Marks (never_marks source e))
+never_is_closed source e = one_or_none_is_closed (diverges source e) (Never e)
+
 -- the events of each form close what they open, where those of its parts do
 module _ (source : Source) (below : ℕ → List Event) (closed : (e : ℕ) → IsClosed (below e)) where
   place_is_closed : (e : ℕ) → IsClosed (place_events source below e)
-  place_is_closed e = either_is_closed (is_path (node source e)) [] (Marks (Node e) ∷ below e) none_is_closed (append_is_closed (Marks (Node e) ∷ []) (below e) (mark_is_closed (Node e)) (closed e))
+  place_is_closed e = either_is_closed (is_path (unadjusted source e)) [] (Marks (Node e) ∷ below e) none_is_closed (append_is_closed (Marks (Node e) ∷ []) (below e) (mark_is_closed (Node e)) (closed e))
 
   operand_is_closed : (e : ℕ) → IsClosed (operand_events source below e)
-  operand_is_closed e = either_is_closed (is_literal (node source e)) [] (place_events source below e) none_is_closed (place_is_closed e)
+  operand_is_closed e = either_is_closed (is_literal (unadjusted source e)) [] (place_events source below e) none_is_closed (place_is_closed e)
 
   operands_are_closed : (operands : List ℕ) → IsClosed (flat_map (step_events source below) (map Operand operands))
   operands_are_closed [] = none_is_closed
@@ -150,7 +158,9 @@ module _ (source : Source) (below : ℕ → List Event) (closed : (e : ℕ) → 
 events_in_are_closed : (source : Source) (depth e : ℕ) → IsClosed (events_in depth source e)
 unfolding events_in
 events_in_are_closed source zero e = none_is_closed
-events_in_are_closed source (suc depth) e = form_is_closed source (events_in depth source) (events_in_are_closed source depth) (node source e)
+events_in_are_closed source (suc depth) e =
+    append_is_closed (map Marks (never_marks source e)) (form_events source (events_in depth source) (node source e)) (never_is_closed source e)
+    (form_is_closed source (events_in depth source) (events_in_are_closed source depth) (node source e))
 
 pub events_are_closed : (source : Source) (e : ℕ) → IsClosed (events source e)
 unfolding events
@@ -172,8 +182,8 @@ step_events_same source below other (first ∷ rest) same =
     (step_events_same source below other rest (λ child within. same child (Contains-append_right (step_part first) (flat_map step_part rest) child within)))
   where
     step_same : (one : Step) → ((child : ℕ) → Contains (step_part one) child → below child ≡ other child) → step_events source below one ≡ step_events source other one
-    step_same (Operand e) same = ap (λ inside. cond (is_literal (node source e)) [] (cond (is_path (node source e)) [] (Marks (Node e) ∷ inside))) (same e (first_is_contained e []))
-    step_same (Place e) same = ap (λ inside. cond (is_path (node source e)) [] (Marks (Node e) ∷ inside)) (same e (first_is_contained e []))
+    step_same (Operand e) same = ap (λ inside. cond (is_literal (unadjusted source e)) [] (cond (is_path (unadjusted source e)) [] (Marks (Node e) ∷ inside))) (same e (first_is_contained e []))
+    step_same (Place e) same = ap (λ inside. cond (is_path (unadjusted source e)) [] (Marks (Node e) ∷ inside)) (same e (first_is_contained e []))
     step_same (Into e) same = same e (first_is_contained e [])
     step_same (Bind pat) same = refl
     step_same Open same = refl
@@ -188,20 +198,20 @@ unfolding events_in
 events_at_any_depth source checked zero other e less less' = absurd (omega arith)
 events_at_any_depth source checked (suc depth) zero e less less' = absurd (omega arith)
 events_at_any_depth source checked (suc depth) (suc other) e less less' =
-    form_events_same source (events_in depth source) (events_in other source) (node source e) (λ child within.
+    ap (λ listed. map Marks (never_marks source e) ++ listed) (form_events_same source (events_in depth source) (events_in other source) (node source e) (λ child within.
     let earlier = part_is_below source checked e child within in
-    events_at_any_depth source checked depth other child (omega arith) (omega arith))
+    events_at_any_depth source checked depth other child (omega arith) (omega arith)))
 
-events_in_unroll : (source : Source) → IsCheckedBody source.body source.infer → (depth e : ℕ) → e < depth → events_in depth source e ≡ form_events source (events_in depth source) (node source e)
+events_in_unroll : (source : Source) → IsCheckedBody source.body source.infer → (depth e : ℕ) → e < depth → events_in depth source e ≡ map Marks (never_marks source e) ++ form_events source (events_in depth source) (node source e)
 unfolding events_in
 events_in_unroll source checked zero e less = absurd (omega arith)
 events_in_unroll source checked (suc depth) e less =
-    form_events_same source (events_in depth source) (events_in (suc depth) source) (node source e) (λ child within.
+    ap (λ listed. map Marks (never_marks source e) ++ listed) (form_events_same source (events_in depth source) (events_in (suc depth) source) (node source e) (λ child within.
     let earlier = part_is_below source checked e child within in
-    events_at_any_depth source checked depth (suc depth) child (omega arith) (omega arith))
+    events_at_any_depth source checked depth (suc depth) child (omega arith) (omega arith)))
 
 -- the events of an expression, by those of its parts
-pub events_unroll : (source : Source) → IsCheckedBody source.body source.infer → (e : ℕ) → e < length source.body.exprs → events source e ≡ form_events source (events source) (node source e)
+pub events_unroll : (source : Source) → IsCheckedBody source.body source.infer → (e : ℕ) → e < length source.body.exprs → events source e ≡ map Marks (never_marks source e) ++ form_events source (events source) (node source e)
 unfolding events
 events_unroll source checked e less = events_in_unroll source checked (length source.body.exprs) e less
 
@@ -214,6 +224,10 @@ one_mark cell = refl
 no_marks : marks_of [] ≡ []
 unfolding marks_of scopes_after
 no_marks = refl
+
+one_or_none_marks : (test : Bool) (cell : Cell) → marks_of (map Marks (cond test (cell ∷ []) [])) ≡ cond test (cell ∷ []) []
+one_or_none_marks true cell = one_mark cell
+one_or_none_marks false cell = no_marks
 
 bound_marks : (bound : Option BindingId) → marks_of (map Marks (bound_by bound)) ≡ bound_by bound
 bound_marks (Some id) = one_mark (Binding id.0)
@@ -234,40 +248,49 @@ statements_mark source (first ∷ rest) =
     ∙ marks-append (events_through source (statement_steps first)) (events_through source (flat_map statement_steps rest)) (statement_is_closed source (events source) (events_are_closed source) first) (statements_are_closed source (events source) (events_are_closed source) rest)
     ∙ ap (λ cells. marks_of (events_through source (statement_steps first)) ++ cells) (statements_mark source rest)
 
-pub place_marks : (source : Source) (e : ℕ) → is_path (node source e) ≡ false → marked_as_place source e ≡ Node e ∷ marked source e
+pub place_marks : (source : Source) (e : ℕ) → is_path (unadjusted source e) ≡ false → marked_as_place source e ≡ Node e ∷ marked source e
 unfolding marked_as_place marked
 place_marks source e is =
     ap (λ test. marks_of (cond test [] (Marks (Node e) ∷ events source e))) is
     ∙ marks-append (Marks (Node e) ∷ []) (events source e) (mark_is_closed (Node e)) (events_are_closed source e)
     ∙ ap (λ cells. cells ++ marks_of (events source e)) (one_mark (Node e))
 
-pub path_marks : (source : Source) (e : ℕ) → is_path (node source e) ≡ true → marked_as_place source e ≡ []
+pub path_marks : (source : Source) (e : ℕ) → is_path (unadjusted source e) ≡ true → marked_as_place source e ≡ []
 unfolding marked_as_place
 path_marks source e is = ap (λ test. marks_of (cond test [] (Marks (Node e) ∷ events source e))) is ∙ no_marks
 
-pub literal_operand_marks : (source : Source) (e : ℕ) → is_literal (node source e) ≡ true → marked_as_operand source e ≡ []
+pub literal_operand_marks : (source : Source) (e : ℕ) → is_literal (unadjusted source e) ≡ true → marked_as_operand source e ≡ []
 unfolding marked_as_operand
 literal_operand_marks source e is = ap (λ test. marks_of (cond test [] (place_events source (events source) e))) is ∙ no_marks
 
-pub operand_marks : (source : Source) (e : ℕ) → is_literal (node source e) ≡ false → marked_as_operand source e ≡ marked_as_place source e
+pub operand_marks : (source : Source) (e : ℕ) → is_literal (unadjusted source e) ≡ false → marked_as_operand source e ≡ marked_as_place source e
 unfolding marked_as_operand marked_as_place
 operand_marks source e is = ap (λ test. marks_of (cond test [] (place_events source (events source) e))) is
 
 module _ (source : Source) (checked : IsCheckedBody source.body source.infer) (e : ℕ) (less : e < length source.body.exprs) where
-  form_marks : (form : Option CoreExpr) → node source e ≡ form → marked source e ≡ marks_of (form_events source (events source) form)
-  unfolding marked
-  form_marks form is = ap marks_of (events_unroll source checked e less ∙ ap (form_events source (events source)) is)
+  form_marks : (form : Option CoreExpr) → node source e ≡ form → marked_itself source e ≡ marks_of (form_events source (events source) form)
+  unfolding marked_itself
+  form_marks form is = ap (λ given. marks_of (form_events source (events source) given)) is
 
-  pub literal_marks : (given : CoreLiteral) → node source e ≡ Some (Literal given) → marked source e ≡ []
+  -- the cell of an expression's `!` comes before those of the expression itself
+  pub itself_marks : marked source e ≡ never_marks source e ++ marked_itself source e
+  unfolding marked marked_itself
+  itself_marks =
+      ap marks_of (events_unroll source checked e less)
+      ∙ marks-append (map Marks (never_marks source e)) (form_events source (events source) (node source e)) (never_is_closed source e)
+      (form_is_closed source (events source) (events_are_closed source) (node source e))
+      ∙ ap (λ cells. cells ++ marks_of (form_events source (events source) (node source e))) (one_or_none_marks (diverges source e) (Never e))
+
+  pub literal_marks : (given : CoreLiteral) → node source e ≡ Some (Literal given) → marked_itself source e ≡ []
   literal_marks given is = form_marks (Some (Literal given)) is ∙ no_marks
 
-  pub name_marks : (name : List ℕ) → node source e ≡ Some (Path name) → marked source e ≡ []
+  pub name_marks : (name : List ℕ) → node source e ≡ Some (Path name) → marked_itself source e ≡ []
   name_marks name is = form_marks (Some (Path name)) is ∙ no_marks
 
-  pub strict_marks : (operation : Operation) (operands : List ℕ) → node source e ≡ Some (Strict operation operands) → marked source e ≡ flat_map (marked_as_operand source) operands
+  pub strict_marks : (operation : Operation) (operands : List ℕ) → node source e ≡ Some (Strict operation operands) → marked_itself source e ≡ flat_map (marked_as_operand source) operands
   strict_marks operation operands is = form_marks (Some (Strict operation operands)) is ∙ operands_mark source operands
 
-  pub logic_marks : (op : LogicOp) (left right : ℕ) → node source e ≡ Some (Logic op left right) → marked source e ≡ marked_as_operand source left ++ marked source right
+  pub logic_marks : (op : LogicOp) (left right : ℕ) → node source e ≡ Some (Logic op left right) → marked_itself source e ≡ marked_as_operand source left ++ marked source right
   unfolding marked_as_operand marked
   logic_marks op left right is =
       form_marks (Some (Logic op left right)) is
@@ -275,7 +298,7 @@ module _ (source : Source) (checked : IsCheckedBody source.body source.infer) (e
       (append_is_closed (events source right) [] (events_are_closed source right) none_is_closed)
       ∙ ap (λ inside. marks_of (operand_events source (events source) left) ++ marks_of inside) (append-nil (events source right))
 
-  pub if_marks : (condition then_branch : ℕ) (else_branch : Option ExprId) → node source e ≡ Some (If condition then_branch else_branch) → marked source e ≡ marked_as_operand source condition ++ (marked source then_branch ++ marked_by_tail source else_branch)
+  pub if_marks : (condition then_branch : ℕ) (else_branch : Option ExprId) → node source e ≡ Some (If condition then_branch else_branch) → marked_itself source e ≡ marked_as_operand source condition ++ (marked source then_branch ++ marked_by_tail source else_branch)
   unfolding marked_as_operand marked marked_by_tail
   if_marks condition then_branch else_branch is =
       form_marks (Some (If condition then_branch else_branch)) is
@@ -284,27 +307,27 @@ module _ (source : Source) (checked : IsCheckedBody source.body source.infer) (e
       ∙ ap (λ cells. marks_of (operand_events source (events source) condition) ++ cells)
       (marks-append (events source then_branch) (events_through source (tail_steps else_branch)) (events_are_closed source then_branch) (tail_is_closed source (events source) (events_are_closed source) else_branch))
 
-  pub assign_marks : (assigned value : ℕ) → node source e ≡ Some (Assign assigned value) → marked source e ≡ marked_as_place source value
+  pub assign_marks : (assigned value : ℕ) → node source e ≡ Some (Assign assigned value) → marked_itself source e ≡ marked_as_place source value
   unfolding marked_as_place
   assign_marks assigned value is = form_marks (Some (Assign assigned value)) is ∙ ap marks_of (append-nil (place_events source (events source) value))
 
-  pub block_marks : (statements : List Statement) (tail : Option ExprId) → node source e ≡ Some (Block statements tail) → marked source e ≡ []
+  pub block_marks : (statements : List Statement) (tail : Option ExprId) → node source e ≡ Some (Block statements tail) → marked_itself source e ≡ []
   block_marks statements tail is =
       form_marks (Some (Block statements tail)) is ∙ ap marks_of (block_events_are source (events source) (events_are_closed source) statements tail)
       ∙ scope_marks (events_through source (block_steps statements tail)) (inner_is_closed source (events source) (events_are_closed source) statements tail)
 
-  pub labelled_marks : (label : LabelId) (statements : List Statement) (tail : Option ExprId) → node source e ≡ Some (Labelled label statements tail) → marked source e ≡ []
+  pub labelled_marks : (label : LabelId) (statements : List Statement) (tail : Option ExprId) → node source e ≡ Some (Labelled label statements tail) → marked_itself source e ≡ []
   labelled_marks label statements tail is =
       form_marks (Some (Labelled label statements tail)) is ∙ ap marks_of (block_events_are source (events source) (events_are_closed source) statements tail)
       ∙ scope_marks (events_through source (block_steps statements tail)) (inner_is_closed source (events source) (events_are_closed source) statements tail)
 
-  pub loop_marks : (label : Option LabelId) (body : ℕ) → node source e ≡ Some (Loop label body) → marked source e ≡ []
+  pub loop_marks : (label : Option LabelId) (body : ℕ) → node source e ≡ Some (Loop label body) → marked_itself source e ≡ []
   loop_marks label body is = form_marks (Some (Loop label body)) is ∙ scope_marks (place_events source (events source) body) (place_is_closed source (events source) (events_are_closed source) body)
 
-  pub continue_marks : (label : Option LabelId) → node source e ≡ Some (Continue label) → marked source e ≡ []
+  pub continue_marks : (label : Option LabelId) → node source e ≡ Some (Continue label) → marked_itself source e ≡ []
   continue_marks label is = form_marks (Some (Continue label)) is ∙ no_marks
 
-  pub break_marks : (label : Option LabelId) (value : Option ExprId) → node source e ≡ Some (Break label value) → marked source e ≡ marked_by_tail source value
+  pub break_marks : (label : Option LabelId) (value : Option ExprId) → node source e ≡ Some (Break label value) → marked_itself source e ≡ marked_by_tail source value
   unfolding marked_by_tail
   break_marks label value is = form_marks (Some (Break label value)) is
 

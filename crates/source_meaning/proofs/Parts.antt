@@ -9,7 +9,7 @@ use Rattle.types.specs.declared.operators.LogicOp.{LogicOp}
 use Rattle.world.specs.declared.body.Statement.TheVariants as statement
 use Rattle.world.specs.Nodes.{optional}
 use Rattle.source_meaning.specs.Core.{CoreExpr, Operation, Strict, Logic, If, Block, is_truth}
-use Rattle.source_meaning.specs.Source.{Source, node}
+use Rattle.source_meaning.specs.Source.{Source, unadjusted}
 use Rattle.source_meaning.specs.Steps.{Step, Operand, Place, Into, Bind, Open, Close, statement_steps, tail_steps, block_steps, steps_of, step_part, parts_of, statement_parts}
 use Rattle.source_meaning.specs.Valid.{sized_part, sized_parts}
 
@@ -73,7 +73,7 @@ block_parts statements tail =
 
 -- what needs a layout is evaluated
 sized_is_part : (source : Source) (one : Step) (child : ℕ) → Contains (sized_part source one) child → Contains (step_part one) child
-sized_is_part source (Operand e) child within = by_truth (is_truth (node source e)) within
+sized_is_part source (Operand e) child within = by_truth (is_truth (unadjusted source e)) within
   where
     by_truth : (test : Bool) → Contains (cond test [] (e ∷ [])) child → Contains (e ∷ []) child
     by_truth true within = absurd (nothing_is_contained child within)
@@ -89,7 +89,7 @@ sized_part_is_part source (Some form) child within = among_more (sized_part sour
 sized_part_is_part source None child within = within
 
 -- an operand that is no truth value needs a layout
-pub operand_is_sized : (source : Source) (operands : List ℕ) (e : ℕ) → Contains operands e → is_truth (node source e) ≡ false → Contains (flat_map (sized_part source) (map Operand operands)) e
+pub operand_is_sized : (source : Source) (operands : List ℕ) (e : ℕ) → Contains operands e → is_truth (unadjusted source e) ≡ false → Contains (flat_map (sized_part source) (map Operand operands)) e
 operand_is_sized source [] e within is = absurd (nothing_is_contained e within)
 operand_is_sized source (first ∷ rest) e within is =
     ⊎_elim (λ here. Contains-append_left (sized_part source (Operand first)) (flat_map (sized_part source) (map Operand rest)) e (itself (first-is first e here)))
@@ -106,7 +106,7 @@ operand_is_sized source (first ∷ rest) e within is =
         (subst (λ test. Contains (cond test [] (e ∷ [])) e) (sym is) (first_is_contained e []))
 
 -- so does one that other steps come after
-pub first_is_sized : (source : Source) (e : ℕ) (rest : List Step) → is_truth (node source e) ≡ false → Contains (flat_map (sized_part source) (Operand e ∷ rest)) e
+pub first_is_sized : (source : Source) (e : ℕ) (rest : List Step) → is_truth (unadjusted source e) ≡ false → Contains (flat_map (sized_part source) (Operand e ∷ rest)) e
 first_is_sized source e rest is =
     Contains-append_left (sized_part source (Operand e)) (flat_map (sized_part source) rest) e
     (subst (λ test. Contains (cond test [] (e ∷ [])) e) (sym is) (first_is_contained e []))
@@ -149,10 +149,10 @@ sized_block_parts source statements tail child within =
     (Contains-append_cases (flat_map statement_parts statements) (optional tail) child within))))
 
 -- an operand that needs a layout is no truth value
-pub sized_operand : (source : Source) (operands : List ℕ) (e : ℕ) → Contains (flat_map (sized_part source) (map Operand operands)) e → Contains operands e × (is_truth (node source e) ≡ false)
+pub sized_operand : (source : Source) (operands : List ℕ) (e : ℕ) → Contains (flat_map (sized_part source) (map Operand operands)) e → Contains operands e × (is_truth (unadjusted source e) ≡ false)
 sized_operand source [] e within = absurd (nothing_is_contained e within)
 sized_operand source (first ∷ rest) e within =
-    ⊎_elim (λ here. by_truth (is_truth (node source first)) refl here)
+    ⊎_elim (λ here. by_truth (is_truth (unadjusted source first)) refl here)
     (λ there. let later = sized_operand source rest e there in (rest_is_contained first rest e later.0, later.1))
     (Contains-append_cases (sized_part source (Operand first)) (flat_map (sized_part source) (map Operand rest)) e within)
   where
@@ -160,8 +160,8 @@ sized_operand source (first ∷ rest) e within =
     first-is x y (zero, less, is) = is
     first-is x y (suc k, less, is) = absurd (omega arith)
 
-    by_truth : (test : Bool) → is_truth (node source first) ≡ test → Contains (cond test [] (first ∷ [])) e → Contains (first ∷ rest) e × (is_truth (node source e) ≡ false)
+    by_truth : (test : Bool) → is_truth (unadjusted source first) ≡ test → Contains (cond test [] (first ∷ [])) e → Contains (first ∷ rest) e × (is_truth (unadjusted source e) ≡ false)
     by_truth true is here = absurd (nothing_is_contained e here)
     by_truth false is here =
         let same = first-is first e here in
-        (subst (λ x. Contains (first ∷ rest) x) same (first_is_contained first rest), subst (λ x. is_truth (node source x) ≡ false) same is)
+        (subst (λ x. Contains (first ∷ rest) x) same (first_is_contained first rest), subst (λ x. is_truth (unadjusted source x) ≡ false) same is)

@@ -21,19 +21,20 @@ use Rattle.source_meaning.specs.Core.{CoreExpr, CoreLiteral, Truth, Number, Oper
 use Rattle.source_meaning.specs.Ends.{Cost, no_cost, turns_alone, plus, End, Go, Jumps, Jump, Break, Continue, Return, Faults, Stuck, More, JumpsNowhere, after, then_do}
 use Rattle.source_meaning.specs.Events.{marked, marked_as_operand, marked_by_statement}
 use Rattle.source_meaning.specs.Meaning.{Level, Levels, value_of, answered, truth_byte, literal_bytes, constant_cost, put, put_literal, put_answer, literal_operand, named_place, named_into, bind, operands_of, strict_into, is_byte, deciding_byte, reading_cost, decided_into, branched, logic_into, tail_into, branch_into, if_into, assign_into, statement_of, statements_of, block_into, caught, again_into, labelled_into, turn_of, loop_into, break_to, break_into, continue_to, continue_into, no_fuel, place_of, operand_of, into_of, level_above, level_at, meaning_of}
-use Rattle.source_meaning.specs.Source.{Source, Store, Path, Cell, Result, Node, Binding, Operand, Literally, At, operand_bytes, same_cell, zeroed, with_cell_bytes, node, node_type, node_layout, pattern, target, root, cell_type, cell_size}
+use Rattle.source_meaning.specs.Source.{Source, Store, Path, Cell, Result, Node, Binding, Never, Operand, Literally, At, operand_bytes, same_cell, zeroed, with_cell_bytes, node, unadjusted, never_marks, own_path, own_type, node_type, own_layout, pattern, target, root, cell_type, cell_size}
 use Rattle.source_meaning.specs.Steps.{parts_of, statement_parts, tail_steps}
 use Rattle.source_meaning.specs.Steps as step
-use Rattle.source_meaning.specs.Valid.{Evaluates, itself, part, IsScalar, IsBool, IsPlainLiteral, HaveTypes, IsPlainLet, IsPlainStatement, IsPlainTail, IsPlainAssign, HasPlainForm, IsPlainNode, EvaluatesIn, itself_in, part_in, opened_in, HasPlainTarget, HasOpenTarget, FitsAround, JumpsFit, IsPlain, IsLaidOut, sized_parts, NeedsLayout, own, inside, AreLaidOut}
+use Rattle.source_meaning.specs.Valid.{Evaluates, itself, part, IsScalar, IsBool, IsPlainLiteral, HaveTypes, IsPlainLet, IsPlainStatement, IsPlainTail, IsPlainAssign, HasPlainForm, IsPlainNode, EvaluatesIn, itself_in, part_in, opened_in, HasPlainTarget, HasOpenTarget, FitsAround, JumpsFit, IsPlain, IsLaidOut, IsLaidOutNode, sized_parts, NeedsLayout, own, inside, AreLaidOut}
 use Rattle.source_meaning.proofs.Depth.{operand_is_part, logic_operand_is_part, if_part_is_part}
 use Rattle.source_meaning.proofs.Layouts.{scalar_has_length, bool_is_scalar, bool_length_is_one}
+use Rattle.source_meaning.proofs.Never.{undiverted-type, own_path-fits, unadjusted-plain}
 use Rattle.source_meaning.proofs.Operators.{Fits, IsLengthOf}
 use Rattle.source_meaning.proofs.Parts.{first_is_contained, rest_is_contained, operand_is_sized, first_is_sized, right_is_sized, branch_is_sized, sized_part_is_part, sized_block_parts, sized_tail}
 use Rattle.source_meaning.proofs.Values.{size_at, IsValueOf, AreValues, typed_fits}
 
--- how many bytes the values of an expression have
+-- how many bytes the values of an expression itself have
 abbrev pub size_of : Source → ℕ → ℕ
-size_of source e = size_at source (node_type source e)
+size_of source e = size_at source (own_type source e)
 
 -- each cell holds as many bytes as its type has
 pub record IsSized (source : Source) (store : Store) : Type 0 where
@@ -46,12 +47,19 @@ pub same_cell_from_test : (cell other : Cell) → same_cell cell other ≡ true 
 same_cell_from_test Result Result is = refl
 same_cell_from_test Result (Node f) is = absurd (false≢true is)
 same_cell_from_test Result (Binding c) is = absurd (false≢true is)
+same_cell_from_test Result (Never f) is = absurd (false≢true is)
 same_cell_from_test (Node e) Result is = absurd (false≢true is)
 same_cell_from_test (Node e) (Node f) is = ap Node (eqb-true e f is)
 same_cell_from_test (Node e) (Binding c) is = absurd (false≢true is)
+same_cell_from_test (Node e) (Never f) is = absurd (false≢true is)
 same_cell_from_test (Binding b) Result is = absurd (false≢true is)
 same_cell_from_test (Binding b) (Node f) is = absurd (false≢true is)
 same_cell_from_test (Binding b) (Binding c) is = ap Binding (eqb-true b c is)
+same_cell_from_test (Binding b) (Never f) is = absurd (false≢true is)
+same_cell_from_test (Never e) Result is = absurd (false≢true is)
+same_cell_from_test (Never e) (Node f) is = absurd (false≢true is)
+same_cell_from_test (Never e) (Binding c) is = absurd (false≢true is)
+same_cell_from_test (Never e) (Never f) is = ap Never (eqb-true e f is)
 
 written_is_sized : (source : Source) (store : Store) (cell other : Cell) (bytes : List ℕ) (test : Bool) → IsSized source store → length bytes ≡ cell_size source cell → same_cell cell other ≡ test → length (cond test bytes (store other)) ≡ cell_size source other
 written_is_sized source store cell other bytes true sized fits is = fits ∙ ap (cell_size source) (same_cell_from_test cell other is)
@@ -115,13 +123,13 @@ put_answer_is_sound source targets store path Undefined sized fits = fits
 pub record IsFine (source : Source) (outer : List Opened) (e : ℕ) : Type 0 where
   pub jumps : JumpsFit source outer e
   pub plain : (f : ℕ) → Evaluates source e f → IsPlainNode source f
-  pub laid_out : (f : ℕ) → NeedsLayout source e f → IsLaidOut source (node_type source f)
+  pub laid_out : (f : ℕ) → NeedsLayout source e f → IsLaidOutNode source f
 
 -- the same of an operand: a truth value needs no layout
 pub record IsFineOperand (source : Source) (outer : List Opened) (e : ℕ) : Type 0 where
   pub jumps : JumpsFit source outer e
   pub plain : (f : ℕ) → Evaluates source e f → IsPlainNode source f
-  pub laid_out : (is_truth (node source e) ≡ true) ⊎ ((f : ℕ) → NeedsLayout source e f → IsLaidOut source (node_type source f))
+  pub laid_out : (is_truth (unadjusted source e) ≡ true) ⊎ ((f : ℕ) → NeedsLayout source e f → IsLaidOutNode source f)
 
 -- the one element of a list
 only_target : (one target : Target) → Contains (one ∷ []) target → one ≡ target
@@ -155,17 +163,17 @@ module _ (source : Source) (checked : IsChecked source.world) where
       record { jumps = part_jumps outer e child form is contained fine.jumps; plain = λ f rest. fine.plain f (part contained rest); laid_out = λ f rest. fine.laid_out f (inside needed rest) }
 
   -- a part that is evaluated to an operand: it needs a layout where it is no truth value
-  operand_is_fine : (outer : List Opened) (e child : ℕ) (form : Option CoreExpr) → node source e ≡ form → Contains (parts_of (node source e)) child → (is_truth (node source child) ≡ false → Contains (sized_parts source form) child) → IsFine source outer e → IsFineOperand source (opened_in e form outer) child
+  operand_is_fine : (outer : List Opened) (e child : ℕ) (form : Option CoreExpr) → node source e ≡ form → Contains (parts_of (node source e)) child → (is_truth (unadjusted source child) ≡ false → Contains (sized_parts source form) child) → IsFine source outer e → IsFineOperand source (opened_in e form outer) child
   operand_is_fine outer e child form is contained sized fine =
-      record { jumps = part_jumps outer e child form is contained fine.jumps; plain = λ f rest. fine.plain f (part contained rest); laid_out = by_truth (is_truth (node source child)) refl }
+      record { jumps = part_jumps outer e child form is contained fine.jumps; plain = λ f rest. fine.plain f (part contained rest); laid_out = by_truth (is_truth (unadjusted source child)) refl }
     where
-      by_truth : (test : Bool) → is_truth (node source child) ≡ test → (is_truth (node source child) ≡ true) ⊎ ((f : ℕ) → NeedsLayout source child f → IsLaidOut source (node_type source f))
+      by_truth : (test : Bool) → is_truth (unadjusted source child) ≡ test → (is_truth (unadjusted source child) ≡ true) ⊎ ((f : ℕ) → NeedsLayout source child f → IsLaidOutNode source f)
       by_truth true truth = inl truth
       by_truth false truth =
           inr (λ f rest. fine.laid_out f (inside (subst (λ given. Contains (sized_parts source given) child) (sym is) (sized truth)) rest))
 
   -- an operand that is no truth value is as any other expression
-  fine_as_place : (outer : List Opened) (e : ℕ) → is_truth (node source e) ≡ false → IsFineOperand source outer e → IsFine source outer e
+  fine_as_place : (outer : List Opened) (e : ℕ) → is_truth (unadjusted source e) ≡ false → IsFineOperand source outer e → IsFine source outer e
   fine_as_place outer e is fine = record { jumps = fine.jumps; plain = fine.plain; laid_out = ⊎_elim (λ truth. absurd (false≢true (sym is ∙ truth))) (λ laid. laid) fine.laid_out }
 
   length_of_bool : (ty : Ty) → IsBool ty → IsLengthOf ty 1
@@ -174,9 +182,13 @@ module _ (source : Source) (checked : IsChecked source.world) where
   length_of_bool (UintType ty) is_bool = absurd is_bool
   length_of_bool _ is_bool = absurd is_bool
 
-  -- a path to a cell of an expression's type
+  -- a path to a cell of the type of an expression's value
   abbrev PathFits : ℕ → Path → Type 0
   PathFits e path = cell_type source path.cell ≡ node_type source e
+
+  -- a path to a cell of the expression's own type
+  abbrev OwnFits : ℕ → Path → Type 0
+  OwnFits e path = cell_type source path.cell ≡ own_type source e
 
   -- bytes that a literal of a type may have
   record IsLiteralOf (ty : Ty) (bytes : List ℕ) : Type 0 where
@@ -196,7 +208,7 @@ module _ (source : Source) (checked : IsChecked source.world) where
   -- the targets around an expression are the blocks that are open, and the path of each is of its type
   record Stands (outer : List Opened) (around : Around) : Type 0 where
     opened : map (λ target. target.opened) around.targets ≡ outer
-    fits : (target : Target) → Contains around.targets target → PathFits target.opened.node target.path
+    fits : (target : Target) → Contains around.targets target → OwnFits target.opened.node target.path
 
   marks_stand : {outer : List Opened} {around : Around} (cells : List Cell) → Stands outer around → Stands outer (marking cells around)
   marks_stand cells stands = record { opened = stands.opened; fits = stands.fits }
@@ -205,9 +217,10 @@ module _ (source : Source) (checked : IsChecked source.world) where
     place : (e : ℕ) (store : Store) → IsFine source outer e → IsSized source store → IsSound source targets (PathFits e) (level.place e store)
     operand : (e : ℕ) (store : Store) → IsFineOperand source outer e → IsSized source store → IsSound source targets (OperandFits e) (level.operand e store)
     into : (e : ℕ) (path : Path) (store : Store) → IsFine source outer e → IsSized source store → PathFits e path → IsSound source targets Nothing (level.into e path store)
+    own : (e : ℕ) (path : Path) (store : Store) → IsFine source outer e → IsSized source store → OwnFits e path → IsSound source targets Nothing (level.own e path store)
 
   no_fuel_is_sound : (outer : List Opened) (around : Around) → IsSoundLevel outer around.targets (no_fuel around)
-  no_fuel_is_sound outer around = record { place = λ e store fine sized. tt; operand = λ e store fine sized. tt; into = λ e path store fine sized fits. tt }
+  no_fuel_is_sound outer around = record { place = λ e store fine sized. tt; operand = λ e store fine sized. tt; into = λ e path store fine sized fits. tt; own = λ e path store fine sized fits. tt }
 
   -- the values of a scalar type with a layout have a length that it may have
   scalar_size : (ty : Ty) → IsLaidOut source (Some ty) → IsScalar ty → IsLengthOf ty (size_at source (Some ty))
@@ -215,8 +228,8 @@ module _ (source : Source) (checked : IsChecked source.world) where
       let size : size_at source (Some ty) ≡ laid.layout.size = ap (λ given. unwrap_or (option_map (λ layout. layout.size) given) 0) laid.found in
       subst (IsLengthOf ty) (sym size) (scalar_has_length source.world ty laid.layout checked scalar laid.found)
 
-  laid_at : (outer : List Opened) (e : ℕ) (ty : Ty) → IsFine source outer e → node_type source e ≡ Some ty → IsLaidOut source (Some ty)
-  laid_at outer e ty fine is = subst (IsLaidOut source) is (fine.laid_out e own)
+  laid_at : (outer : List Opened) (e : ℕ) (ty : Ty) → IsFine source outer e → own_type source e ≡ Some ty → IsLaidOut source (Some ty)
+  laid_at outer e ty fine is = let laid = fine.laid_out e own in subst (IsLaidOut source) is laid.of_itself
 
   -- what an operand's bytes are when the operation runs
   operand_is_value : (e : ℕ) (ty : Ty) (operand : Operand) (store : Store) → IsSized source store → node_type source e ≡ Some ty → OperandFits e operand → IsValueOf source ty (value_of source store operand)
@@ -255,22 +268,23 @@ module _ (source : Source) (checked : IsChecked source.world) where
       (operand_is_value e ty one store sized have.0 fits.0, operands_are_values rest types others store sized have.1 fits.1)
 
   -- a literal has the bytes of its type
-  number_has_bytes : (outer : List Opened) (e : ℕ) (z : ℤ) → IsFine source outer e → (bytes : List ℕ) × (option_map (λ layout. low_bytes layout.size z) (node_layout source e) ≡ Some bytes) × (length bytes ≡ size_of source e)
+  number_has_bytes : (outer : List Opened) (e : ℕ) (z : ℤ) → IsFine source outer e → (bytes : List ℕ) × (option_map (λ layout. low_bytes layout.size z) (own_layout source e) ≡ Some bytes) × (length bytes ≡ size_of source e)
   number_has_bytes outer e z fine =
-      let laid = fine.laid_out e own in
+      let both = fine.laid_out e own in
+      let laid = both.of_itself in
       let size : size_of source e ≡ laid.layout.size = ap (λ given. unwrap_or (option_map (λ layout. layout.size) given) 0) laid.found in
       (low_bytes laid.layout.size z, ap (option_map (λ layout. low_bytes layout.size z)) laid.found, length-low_bytes laid.layout.size z ∙ sym size)
 
-  literal_has_size : (outer : List Opened) (e : ℕ) (given : CoreLiteral) (ty : Ty) → IsFine source outer e → node_type source e ≡ Some ty → IsPlainLiteral given ty → (bytes : List ℕ) × (literal_bytes source e given ≡ Some bytes) × (length bytes ≡ size_of source e)
+  literal_has_size : (outer : List Opened) (e : ℕ) (given : CoreLiteral) (ty : Ty) → IsFine source outer e → own_type source e ≡ Some ty → IsPlainLiteral given ty → (bytes : List ℕ) × (literal_bytes source e given ≡ Some bytes) × (length bytes ≡ size_of source e)
   unfolding literal_bytes
   literal_has_size outer e (Truth test) ty fine is plain =
       (truth_byte test ∷ [], refl, sym (ap (size_at source) is ∙ bool_length_is_one ty (size_at source (Some ty)) plain (scalar_size ty (laid_at outer e ty fine is) (bool_is_scalar ty plain))))
   literal_has_size outer e (Number number) ty fine is plain = number_has_bytes outer e number fine
 
-  literal_operand_is_sound : (targets : List Target) (e : ℕ) (ty : Ty) (store : Store) (given : Option (List ℕ)) (bytes : List ℕ) → IsSized source store → node_type source e ≡ Some ty → given ≡ Some bytes → IsLiteralOf ty bytes → IsSound source targets (OperandFits e) (literal_operand source e store given)
-  literal_operand_is_sound targets e ty store given bytes sized is is' fits =
+  literal_operand_is_sound : (targets : List Target) (e : ℕ) (ty : Ty) (store : Store) (given : Option (List ℕ)) (bytes : List ℕ) → IsSized source store → own_type source e ≡ Some ty → node_type source e ≡ Some ty → given ≡ Some bytes → IsLiteralOf ty bytes → IsSound source targets (OperandFits e) (literal_operand source e store given)
+  literal_operand_is_sound targets e ty store given bytes sized own_is is is' fits =
       subst (λ g. IsSound source targets (OperandFits e) (literal_operand source e store g)) (sym is')
-      (subst (λ t. IsSound source targets (OperandFits e) (elim t [ Some found ↦ Go (Literally found bytes) store (constant_cost source e) | None ↦ Stuck ])) (sym is) (sized, (is, fits)))
+      (subst (λ t. IsSound source targets (OperandFits e) (elim t [ Some found ↦ Go (Literally found bytes) store (constant_cost source e) | None ↦ Stuck ])) (sym own_is) (sized, (is, fits)))
 
   put_literal_is_sound : (targets : List Target) (e : ℕ) (store : Store) (path : Path) (given : Option (List ℕ)) (bytes : List ℕ) → IsSized source store → given ≡ Some bytes → length bytes ≡ cell_size source path.cell → IsSound source targets Nothing (put_literal source e store path given)
   put_literal_is_sound targets e store path given bytes sized is fits =
@@ -293,37 +307,44 @@ module _ (source : Source) (checked : IsChecked source.world) where
   form_of : (e : ℕ) (form : Option CoreExpr) → node source e ≡ form → (plain : IsPlainNode source e) → HasPlainForm source e form plain.ty
   form_of e form is plain = subst (λ given. HasPlainForm source e given plain.ty) is plain.form
 
+  -- what the node of a fine expression is that isn't adjusted, and its type
+  form_at : (e : ℕ) (form : CoreExpr) → unadjusted source e ≡ Some form → (plain : IsPlainNode source e) → HasPlainForm source e (Some form) plain.ty × (node_type source e ≡ Some plain.ty)
+  form_at e form is plain =
+      let found = unadjusted-plain source e form is in
+      (form_of e (Some form) found.1 plain, undiverted-type source e found.0 ∙ plain.has_type)
+
   -- a statement's part, and a tail, are evaluated to places or into the block's
   block_part_is_fine : (outer : List Opened) (e : ℕ) (statements : List Statement) (tail : Option ExprId) → node source e ≡ Some (expr.Block statements tail) → IsFine source outer e → (child : ℕ) → Contains (flat_map statement_parts statements ++ optional tail) child → IsFine source outer child
   block_part_is_fine outer e statements tail is fine child within =
       part_is_fine outer e child (Some (expr.Block statements tail)) is (sized_block_parts source statements tail child within) fine
 
   module _ (below : Levels) (sound : (outer : List Opened) (around : Around) → Stands outer around → IsSoundLevel outer around.targets (below around)) where
-    place_is_sound : (outer : List Opened) (around : Around) (stands : Stands outer around) (e : ℕ) (form : Option CoreExpr) (store : Store) → node source e ≡ form → IsFine source outer e → IsSized source store → IsSound source around.targets (PathFits e) (place_of source below around e form store)
+    place_is_sound : (outer : List Opened) (around : Around) (stands : Stands outer around) (e : ℕ) (form : Option CoreExpr) (store : Store) → unadjusted source e ≡ form → IsFine source outer e → IsSized source store → IsSound source around.targets (PathFits e) (place_of source below around e form store)
     place_is_sound outer around stands e (Some (expr.Path name)) store is fine sized =
         let plain = fine.plain e itself in
-        let form = form_of e _ is plain in
-        subst (λ named. IsSound source around.targets (PathFits e) (named_place named store)) (sym form.named) (sized, form.binding_has ∙ sym plain.has_type)
+        let form = form_at e _ is plain in
+        subst (λ named. IsSound source around.targets (PathFits e) (named_place named store)) (sym form.0.named) (sized, form.0.binding_has ∙ sym form.1)
     place_is_sound outer around stands e _ store is fine sized =
         then_do_is_sound source around.targets Nothing (PathFits e) ((below (marking (Node e ∷ []) around)).into e _ store) _ ((sound outer (marking (Node e ∷ []) around) (marks_stand (Node e ∷ []) stands)).into e _ store fine sized refl) (λ done later sized' is'. (sized', refl))
 
-    as_place_is_sound : (outer : List Opened) (around : Around) (stands : Stands outer around) (e : ℕ) (store : Store) → is_truth (node source e) ≡ false → IsFineOperand source outer e → IsSized source store → IsSound source around.targets (OperandFits e) (then_do ((below around).place e store) (λ path later. Go (At path) later no_cost))
+    as_place_is_sound : (outer : List Opened) (around : Around) (stands : Stands outer around) (e : ℕ) (store : Store) → is_truth (unadjusted source e) ≡ false → IsFineOperand source outer e → IsSized source store → IsSound source around.targets (OperandFits e) (then_do ((below around).place e store) (λ path later. Go (At path) later no_cost))
     as_place_is_sound outer around stands e store truth fine sized =
         let as_place = fine_as_place outer e truth fine in
-        then_do_is_sound source around.targets (PathFits e) (OperandFits e) ((below around).place e store) _ ((sound outer around stands).place e store as_place sized) (λ path later sized' fits. (sized', (fits, as_place.laid_out e own)))
+        then_do_is_sound source around.targets (PathFits e) (OperandFits e) ((below around).place e store) _ ((sound outer around stands).place e store as_place sized) (λ path later sized' fits. (let laid = as_place.laid_out e own in (sized', (fits, laid.of_value))))
 
-    operand_is_sound : (outer : List Opened) (around : Around) (stands : Stands outer around) (e : ℕ) (form : Option CoreExpr) (store : Store) → node source e ≡ form → IsFineOperand source outer e → IsSized source store → IsSound source around.targets (OperandFits e) (operand_of source below around e form store)
+    operand_is_sound : (outer : List Opened) (around : Around) (stands : Stands outer around) (e : ℕ) (form : Option CoreExpr) (store : Store) → unadjusted source e ≡ form → IsFineOperand source outer e → IsSized source store → IsSound source around.targets (OperandFits e) (operand_of source below around e form store)
     unfolding literal_bytes
     operand_is_sound outer around stands e (Some (expr.Literal (Truth test))) store is fine sized =
         let plain = fine.plain e itself in
-        let truth = form_of e _ is plain in
-        literal_operand_is_sound around.targets e plain.ty store (Some (truth_byte test ∷ [])) (truth_byte test ∷ []) sized plain.has_type refl (record { long = λ scalar. length_of_bool plain.ty truth; size = inr truth })
+        let form = form_at e _ is plain in
+        literal_operand_is_sound around.targets e plain.ty store (Some (truth_byte test ∷ [])) (truth_byte test ∷ []) sized plain.has_type form.1 refl (record { long = λ scalar. length_of_bool plain.ty form.0; size = inr form.0 })
     operand_is_sound outer around stands e (Some (expr.Literal (Number number))) store is fine sized =
         let plain = fine.plain e itself in
+        let form = form_at e _ is plain in
         let as_place = fine_as_place outer e (ap is_truth is) fine in
         let bytes = number_has_bytes outer e number as_place in
         let size : length bytes.0 ≡ size_at source (Some plain.ty) = bytes.2 ∙ ap (size_at source) plain.has_type in
-        literal_operand_is_sound around.targets e plain.ty store (option_map (λ layout. low_bytes layout.size number) (node_layout source e)) bytes.0 sized plain.has_type bytes.1
+        literal_operand_is_sound around.targets e plain.ty store (option_map (λ layout. low_bytes layout.size number) (own_layout source e)) bytes.0 sized plain.has_type form.1 bytes.1
         (record { long = λ scalar. subst (IsLengthOf plain.ty) (sym size) (scalar_size plain.ty (laid_at outer e plain.ty as_place plain.has_type) scalar); size = inl size })
     operand_is_sound outer around stands e (Some (expr.Path name)) store is fine sized = as_place_is_sound outer around stands e store (ap is_truth is) fine sized
     operand_is_sound outer around stands e (Some (expr.Strict operation operands)) store is fine sized = as_place_is_sound outer around stands e store (ap is_truth is) fine sized
@@ -335,7 +356,7 @@ module _ (source : Source) (checked : IsChecked source.world) where
     operand_is_sound outer around stands e (Some (expr.Loop label body)) store is fine sized = as_place_is_sound outer around stands e store (ap is_truth is) fine sized
     operand_is_sound outer around stands e (Some (expr.Continue label)) store is fine sized = as_place_is_sound outer around stands e store (ap is_truth is) fine sized
     operand_is_sound outer around stands e (Some (expr.Break label value)) store is fine sized = as_place_is_sound outer around stands e store (ap is_truth is) fine sized
-    operand_is_sound outer around stands e None store is fine sized = absurd (form_of e _ is (fine.plain e itself))
+    operand_is_sound outer around stands e None store is fine sized = as_place_is_sound outer around stands e store (ap is_truth is) fine sized
 
     operands_are_sound : (outer : List Opened) (around : Around) (stands : Stands outer around) (operands : List ℕ) (store : Store) → ((e : ℕ) → Contains operands e → IsFineOperand source outer e) → IsSized source store → IsSound source around.targets (OperandsFit operands) (operands_of source below around operands store)
     unfolding operands_of
@@ -344,7 +365,7 @@ module _ (source : Source) (checked : IsChecked source.world) where
         then_do_is_sound source around.targets (OperandFits e) (OperandsFit (e ∷ rest)) ((below around).operand e store) _ ((sound outer around stands).operand e store (fine e (first_is_contained e rest)) sized) (λ first later sized' fits.
         then_do_is_sound source around.targets (OperandsFit rest) (OperandsFit (e ∷ rest)) (operands_of source below (marking (marked_as_operand source e) around) rest later) _ (operands_are_sound outer (marking (marked_as_operand source e) around) (marks_stand (marked_as_operand source e) stands) rest later (λ child within. fine child (rest_is_contained e rest child within)) sized') (λ others last sized'' fit. (sized'', (fits, fit))))
 
-    strict_is_sound : (outer : List Opened) (around : Around) (stands : Stands outer around) (e : ℕ) (operation : Operation) (operands : List ℕ) (path : Path) (store : Store) → node source e ≡ Some (expr.Strict operation operands) → IsFine source outer e → IsSized source store → PathFits e path → IsSound source around.targets Nothing (strict_into source below around operation operands path store)
+    strict_is_sound : (outer : List Opened) (around : Around) (stands : Stands outer around) (e : ℕ) (operation : Operation) (operands : List ℕ) (path : Path) (store : Store) → node source e ≡ Some (expr.Strict operation operands) → IsFine source outer e → IsSized source store → OwnFits e path → IsSound source around.targets Nothing (strict_into source below around operation operands path store)
     strict_is_sound outer around stands e operation operands path store is fine sized fits =
         let plain = fine.plain e itself in
         let form = form_of e _ is plain in
@@ -386,11 +407,11 @@ module _ (source : Source) (checked : IsChecked source.world) where
         after_is_sound source around.targets Nothing (reading_cost source left) _ (put_is_sound source around.targets store path (operand_bytes store left) sized long)
     decided_is_sound outer around stands left right false path store fine sized fits long = (sound outer around stands).into right path store fine sized fits
 
-    logic_is_sound : (outer : List Opened) (around : Around) (stands : Stands outer around) (e : ℕ) (op : LogicOp) (left right : ℕ) (path : Path) (store : Store) → node source e ≡ Some (expr.Logic op left right) → IsFine source outer e → IsSized source store → PathFits e path → IsSound source around.targets Nothing (logic_into source below around op left right path store)
+    logic_is_sound : (outer : List Opened) (around : Around) (stands : Stands outer around) (e : ℕ) (op : LogicOp) (left right : ℕ) (path : Path) (store : Store) → node source e ≡ Some (expr.Logic op left right) → IsFine source outer e → IsSized source store → OwnFits e path → IsSound source around.targets Nothing (logic_into source below around op left right path store)
     logic_is_sound outer around stands e op left right path store is fine sized fits =
         let plain = fine.plain e itself in
         let form = form_of e _ is plain in
-        let is_bool : node_type source e ≡ Some BoolTy = plain.has_type ∙ ap Some form.typed in
+        let is_bool : own_type source e ≡ Some BoolTy = plain.has_type ∙ ap Some form.typed in
         let size : cell_size source path.cell ≡ 1 = ap (size_at source) (fits ∙ is_bool) ∙ scalar_size BoolTy (laid_at outer e BoolTy fine is_bool) tt in
         let left_is_fine = operand_is_fine outer e left (Some (expr.Logic op left right)) is (logic_operand_is_part source e op left right left is (first_is_contained left (right ∷ []))) (first_is_sized source left (step.Into right ∷ [])) fine in
         then_do_is_sound source around.targets (OperandFits left) Nothing ((below around).operand left store) _ ((sound outer around stands).operand left store left_is_fine sized) (λ given later sized' fit.
@@ -407,7 +428,7 @@ module _ (source : Source) (checked : IsChecked source.world) where
     branch_is_sound outer around stands then_branch else_branch false ty path store has plain fits parts sized =
         tail_is_sound outer (marking (marked source then_branch) around) (marks_stand (marked source then_branch) stands) else_branch ty path store plain fits (λ child within. parts child (rest_is_contained then_branch (optional else_branch) child within)) sized
 
-    if_is_sound : (outer : List Opened) (around : Around) (stands : Stands outer around) (e condition then_branch : ℕ) (else_branch : Option ExprId) (path : Path) (store : Store) → node source e ≡ Some (expr.If condition then_branch else_branch) → IsFine source outer e → IsSized source store → PathFits e path → IsSound source around.targets Nothing (if_into source below around condition then_branch else_branch path store)
+    if_is_sound : (outer : List Opened) (around : Around) (stands : Stands outer around) (e condition then_branch : ℕ) (else_branch : Option ExprId) (path : Path) (store : Store) → node source e ≡ Some (expr.If condition then_branch else_branch) → IsFine source outer e → IsSized source store → OwnFits e path → IsSound source around.targets Nothing (if_into source below around condition then_branch else_branch path store)
     if_is_sound outer around stands e condition then_branch else_branch path store is fine sized fits =
         let plain = fine.plain e itself in
         let form = form_of e _ is plain in
@@ -436,7 +457,7 @@ module _ (source : Source) (checked : IsChecked source.world) where
         then_do_is_sound source around.targets Nothing Nothing (tail_into (below behind) tail path later) _ (tail_is_sound outer behind (marks_stand _ stands) tail ty path later form.1 fits (λ child contained.
         parts child (Contains-append_right (flat_map statement_parts statements) (optional tail) child contained)) sized') (λ done' last sized'' is''. (sized'', tt)))
 
-    block_is_sound : (outer : List Opened) (around : Around) (stands : Stands outer around) (e : ℕ) (statements : List Statement) (tail : Option ExprId) (path : Path) (store : Store) → node source e ≡ Some (expr.Block statements tail) → IsFine source outer e → IsSized source store → PathFits e path → IsSound source around.targets Nothing (block_into source below around statements tail path store)
+    block_is_sound : (outer : List Opened) (around : Around) (stands : Stands outer around) (e : ℕ) (statements : List Statement) (tail : Option ExprId) (path : Path) (store : Store) → node source e ≡ Some (expr.Block statements tail) → IsFine source outer e → IsSized source store → OwnFits e path → IsSound source around.targets Nothing (block_into source below around statements tail path store)
     block_is_sound outer around stands e statements tail path store is fine sized fits =
         let plain = fine.plain e itself in
         inner_is_sound outer around stands statements tail plain.ty path store (form_of e _ is plain) (fits ∙ plain.has_type) (block_part_is_fine outer e statements tail is fine) sized
@@ -470,19 +491,19 @@ module _ (source : Source) (checked : IsChecked source.world) where
     caught_is_sound targets target again ended (More cost) again_is ended_is is = tt
 
     -- inside a loop or a labelled block that is evaluated into a path of its type
-    stands_inside : {outer : List Opened} {around : Around} (stands : Stands outer around) (e : ℕ) (label : Option LabelId) (path : Path) → PathFits e path → Stands (record { node = e; label = label } ∷ outer) (inside_of e label path around)
+    stands_inside : {outer : List Opened} {around : Around} (stands : Stands outer around) (e : ℕ) (label : Option LabelId) (path : Path) → OwnFits e path → Stands (record { node = e; label = label } ∷ outer) (inside_of e label path around)
     stands_inside {around = around} stands e label path fits = record {
       opened = ap (λ rest. record { node = e; label = label } ∷ rest) stands.opened;
       fits = λ target contained. ⊎_elim
-          (λ here. subst (λ t. PathFits t.opened.node t.path) (only_target (entered e label path around) target here) fits)
+          (λ here. subst (λ t. OwnFits t.opened.node t.path) (only_target (entered e label path around) target here) fits)
           (λ there. stands.fits target there)
           (Contains-append_cases (entered e label path around ∷ []) around.targets target contained);
     }
 
-    again_is_sound : (outer : List Opened) (around : Around) (stands : Stands outer around) (e : ℕ) (path : Path) → IsFine source outer e → PathFits e path → (store : Store) → IsSized source store → IsSound source around.targets Nothing (again_into below around e path store)
-    again_is_sound outer around stands e path fine fits store sized = (sound outer around stands).into e path store fine sized fits
+    again_is_sound : (outer : List Opened) (around : Around) (stands : Stands outer around) (e : ℕ) (path : Path) → IsFine source outer e → OwnFits e path → (store : Store) → IsSized source store → IsSound source around.targets Nothing (again_into below around e path store)
+    again_is_sound outer around stands e path fine fits store sized = (sound outer around stands).own e path store fine sized fits
 
-    labelled_is_sound : (outer : List Opened) (around : Around) (stands : Stands outer around) (e : ℕ) (label : LabelId) (statements : List Statement) (tail : Option ExprId) (path : Path) (store : Store) → node source e ≡ Some (expr.Labelled label statements tail) → IsFine source outer e → IsSized source store → PathFits e path → IsSound source around.targets Nothing (labelled_into source below around e label statements tail path store)
+    labelled_is_sound : (outer : List Opened) (around : Around) (stands : Stands outer around) (e : ℕ) (label : LabelId) (statements : List Statement) (tail : Option ExprId) (path : Path) (store : Store) → node source e ≡ Some (expr.Labelled label statements tail) → IsFine source outer e → IsSized source store → OwnFits e path → IsSound source around.targets Nothing (labelled_into source below around e label statements tail path store)
     labelled_is_sound outer around stands e label statements tail path store is fine sized fits =
         let plain = fine.plain e itself in
         after_is_sound source around.targets Nothing (turns_alone 1) _
@@ -494,7 +515,7 @@ module _ (source : Source) (checked : IsChecked source.world) where
     turn_is_sound outer around stands body store fine sized =
         then_do_is_sound source around.targets (PathFits body) Nothing ((below around).place body store) _ ((sound outer around stands).place body store fine sized) (λ path later sized' fits. (sized', tt))
 
-    loop_is_sound : (outer : List Opened) (around : Around) (stands : Stands outer around) (e : ℕ) (label : Option LabelId) (body : ℕ) (path : Path) (store : Store) → node source e ≡ Some (expr.Loop label body) → IsFine source outer e → IsSized source store → PathFits e path → IsSound source around.targets Nothing (loop_into source below around e label body path store)
+    loop_is_sound : (outer : List Opened) (around : Around) (stands : Stands outer around) (e : ℕ) (label : Option LabelId) (body : ℕ) (path : Path) (store : Store) → node source e ≡ Some (expr.Loop label body) → IsFine source outer e → IsSized source store → OwnFits e path → IsSound source around.targets Nothing (loop_into source below around e label body path store)
     loop_is_sound outer around stands e label body path store is fine sized fits =
         let again = again_is_sound outer around stands e path fine fits in
         after_is_sound source around.targets Nothing (turns_alone 1) _
@@ -507,7 +528,7 @@ module _ (source : Source) (checked : IsChecked source.world) where
     break_is_sound outer around stands e label value store is fine sized =
         let target : HasPlainTarget source outer label value = subst (FitsAround source outer) is (fine.jumps outer e itself_in) in
         let found = target_found label around.targets target.target (ap (meant label) stands.opened ∙ target.means) in
-        let typed : cell_type source found.0.path.cell ≡ Some target.ty = stands.fits found.0 found.2 ∙ ap (λ o. node_type source o.node) found.3 ∙ target.target_has in
+        let typed : cell_type source found.0.path.cell ≡ Some target.ty = stands.fits found.0 found.2 ∙ ap (λ o. own_type source o.node) found.3 ∙ target.target_has in
         subst (λ given. IsSound source around.targets Nothing (break_to source below around value given store)) (sym found.1)
         (then_do_is_sound source around.targets Nothing Nothing (tail_into (below around) value found.0.path store) _ (tail_is_sound outer around stands value target.ty found.0.path store target.value_has typed (λ child contained.
         part_is_fine outer e child (Some (expr.Break label value)) is (sized_tail source value child contained) fine) sized) (λ done later sized' is'. (sized', (found.0, found.2, refl))))
@@ -519,7 +540,7 @@ module _ (source : Source) (checked : IsChecked source.world) where
         let found = target_found label around.targets target.target (ap (meant label) stands.opened ∙ target.means) in
         subst (λ given. IsSound source around.targets Nothing (continue_to source around given store)) (sym found.1) (sized, (found.0, found.2, refl))
 
-    into_is_sound : (outer : List Opened) (around : Around) (stands : Stands outer around) (e : ℕ) (form : Option CoreExpr) (path : Path) (store : Store) → node source e ≡ form → IsFine source outer e → IsSized source store → PathFits e path → IsSound source around.targets Nothing (into_of source below around e form path store)
+    into_is_sound : (outer : List Opened) (around : Around) (stands : Stands outer around) (e : ℕ) (form : Option CoreExpr) (path : Path) (store : Store) → node source e ≡ form → IsFine source outer e → IsSized source store → OwnFits e path → IsSound source around.targets Nothing (into_of source below around e form path store)
     into_is_sound outer around stands e (Some (expr.Literal given)) path store is fine sized fits =
         let plain = fine.plain e itself in
         let bytes = literal_has_size outer e given plain.ty fine plain.has_type (form_of e _ is plain) in
@@ -542,9 +563,11 @@ module _ (source : Source) (checked : IsChecked source.world) where
 
     above_is_sound : (outer : List Opened) (around : Around) → Stands outer around → IsSoundLevel outer around.targets (level_above source below around)
     above_is_sound outer around stands = record {
-      place = λ e store fine sized. place_is_sound outer around stands e (node source e) store refl fine sized;
-      operand = λ e store fine sized. operand_is_sound outer around stands e (node source e) store refl fine sized;
-      into = λ e path store fine sized fits. into_is_sound outer around stands e (node source e) path store refl fine sized fits;
+      place = λ e store fine sized. place_is_sound outer around stands e (unadjusted source e) store refl fine sized;
+      operand = λ e store fine sized. operand_is_sound outer around stands e (unadjusted source e) store refl fine sized;
+      into = λ e path store fine sized fits.
+          into_is_sound outer (marking (never_marks source e) around) (marks_stand (never_marks source e) stands) e (node source e) (own_path source e path) store refl fine sized (own_path-fits source e path fits);
+      own = λ e path store fine sized fits. into_is_sound outer around stands e (node source e) path store refl fine sized fits;
     }
 
   level_is_sound : (fuel : ℕ) (outer : List Opened) (around : Around) → Stands outer around → IsSoundLevel outer around.targets (level_at source fuel around)

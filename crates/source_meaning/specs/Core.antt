@@ -1,5 +1,5 @@
 -- The expressions that have a meaning so far.
-use Rattle.std.specs.Prelude.{ℕ, Bool, true, false, ◌||◌, List, [], ◌∷◌, Option, Some, None, suc, is_some, if◌then◌else◌, ℤ, pos, option_map, option_and_then}
+use Rattle.std.specs.Prelude.{ℕ, Bool, true, false, not, ◌||◌, List, [], ◌∷◌, Option, Some, None, suc, is_some, if◌then◌else◌, ℤ, pos, option_map, option_and_then}
 use Rattle.std.specs.BTreeMap.{is_at}
 use Rattle.std.specs.Map.{lookup}
 use Rattle.numbers.specs.declared.operator.Operator.{Operator}
@@ -15,6 +15,9 @@ use Rattle.types.specs.declared.operators.BinaryOp.TheVariants as binary
 use Rattle.types.specs.declared.operators.LogicOp.{LogicOp}
 use Rattle.types.specs.declared.operators.UnaryOp.{UnaryOp}
 use Rattle.types.specs.declared.operators.UnaryOp.TheVariants as unary
+use Rattle.types.specs.declared.ty.Ty.{Ty}
+use Rattle.world.specs.declared.adjust.Adjust.{Adjust}
+use Rattle.world.specs.declared.adjust.Adjust.TheVariants as adjust
 use Rattle.world.specs.declared.adjust.Adjustment.{Adjustment}
 use Rattle.world.specs.declared.body.Statement.{Statement}
 use Rattle.world.specs.declared.expr.Expr.TheVariants as expr
@@ -43,8 +46,7 @@ pub data Operation : Type 0 where
 -- An expression of a form that has a meaning. A strict form evaluates all its operands from left to right, and then
 -- computes one operation. `&&` and `||` evaluate their right operand only where the left one doesn't decide, and `if` one of
 -- its branches. An assignment writes a value to what its target names. A `loop` evaluates its body again and again. A `break`
--- ends a loop or a labelled block around it, with a value or without, and a `continue` starts it again. `core_of` gives these
--- four to no expression yet, since they aren't lowered.
+-- ends a loop or a labelled block around it, with a value or without, and a `continue` starts it again.
 pub data CoreExpr : Type 0 where
   Literal : CoreLiteral → CoreExpr
   Path : (name : List ℕ) → CoreExpr
@@ -86,8 +88,8 @@ binary_form lhs rhs (binary.Assignment op) = None
 abbrev pub unary_form : ℕ → Option Operation → Option CoreExpr
 unary_form e operation = option_map (λ op. Strict op (e ∷ [])) operation
 
--- The form of an expression, where it is one with a meaning. A block has no label, and a path is not resolved to an
--- item that a trait or an impl has, or to a variant.
+-- The form of an expression, where it is one with a meaning. A path is not resolved to an item that a trait or an impl has,
+-- or to a variant.
 abbrev pub core_of : Bool → Expr → Option CoreExpr
 core_of names_item (expr.Literal given) = option_map Literal (core_literal given)
 core_of names_item (expr.Path name) = if names_item then None else Some (Path name)
@@ -96,16 +98,36 @@ core_of names_item (expr.BinaryOp lhs rhs op) = option_and_then (binary_form lhs
 core_of names_item (expr.If condition then_branch else_branch) = Some (If condition.0 then_branch.0 else_branch)
 core_of names_item (expr.Assignment target value) = Some (Assign target.0 value.0)
 core_of names_item (expr.Block statements tail None) = Some (Block statements tail)
+core_of names_item (expr.Block statements tail (Some label)) = Some (Labelled label statements tail)
+core_of names_item (expr.Loop body label) = Some (Loop label body.0)
+core_of names_item (expr.Break value label) = Some (Break label value)
+core_of names_item (expr.Continue label) = Some (Continue label)
 core_of names_item _ = None
 
--- whether there are adjustments
-abbrev pub is_any_step : Option (List Adjustment) → Bool
-is_any_step (Some (step ∷ steps)) = true
-is_any_step _ = false
+-- the type that a step leads to, where it is `NeverToAny`, the one from `!` to any type
+abbrev pub never_step : Adjust → Ty → Option Ty
+never_step adjust.NeverToAny ty = Some ty
+never_step _ ty = None
 
--- whether an expression's value is adjusted before it is used
-unfoldable pub is_adjusted : InferenceResult → ExprId → Bool
-is_adjusted infer e = is_any_step (lookup (is_at (ExprIdOrd.ghosts.cmp e)) infer.expr_adjustments)
+-- the type that adjustments lead to, where they are `NeverToAny` alone
+abbrev pub never_steps : Option (List Adjustment) → Option Ty
+never_steps (Some (step ∷ [])) = never_step step.kind step.target
+never_steps _ = None
+
+-- whether there are adjustments, and they are not `NeverToAny` alone
+abbrev pub are_other_steps : Option (List Adjustment) → Bool
+are_other_steps (Some (step ∷ [])) = not (is_some (never_step step.kind step.target))
+are_other_steps (Some (step ∷ other ∷ steps)) = true
+are_other_steps _ = false
+
+-- The type that an expression's value is adjusted to, where `NeverToAny` is its only adjustment. The expression itself is of
+-- type `!` then: it has no value, so it may stand where one of any type is asked for.
+unfoldable pub never_target : InferenceResult → ExprId → Option Ty
+never_target infer e = never_steps (lookup (is_at (ExprIdOrd.ghosts.cmp e)) infer.expr_adjustments)
+
+-- whether an expression's value is adjusted before it is used, in another way than by `NeverToAny` alone
+unfoldable pub is_adjusted_otherwise : InferenceResult → ExprId → Bool
+is_adjusted_otherwise infer e = are_other_steps (lookup (is_at (ExprIdOrd.ghosts.cmp e)) infer.expr_adjustments)
 
 -- whether a path is resolved to an associated item or a variant
 unfoldable pub names_item : InferenceResult → ExprId → Bool

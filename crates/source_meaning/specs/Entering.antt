@@ -6,7 +6,7 @@ use Rattle.world.specs.declared.layout.Layout.{Layout}
 use Rattle.world.specs.Lookups.{layout_of}
 use Rattle.source_meaning.specs.Core.{is_path}
 use Rattle.source_meaning.specs.Ends.{Cost}
-use Rattle.source_meaning.specs.Source.{Source, Cell, Node, Binding, binding_type, cell_layout, node, node_type, root}
+use Rattle.source_meaning.specs.Source.{Source, Cell, Node, Binding, Never, binding_type, cell_layout, node, unadjusted, own_type, node_type, root}
 use Rattle.source_meaning.specs.Steps.{parts_of}
 
 -- the numbers below a bound, from the greatest down
@@ -24,13 +24,14 @@ cell_room source cell = room_of (cell_layout source cell)
 
 -- whether an expression has a cell: a path has none, unless it is the root, whose cell is that of the result
 abbrev pub has_cell : Source → ℕ → Bool
-has_cell source e = not (is_path (node source e)) || (e == root source)
+has_cell source e = not (is_path (unadjusted source e)) || (e == root source)
 
--- how many bytes the cells of a body take at most: those of its expressions, and those of its bindings that no closure
--- owns
+-- how many bytes the cells of a body take at most: those of its expressions, those of the `!` of expressions that are adjusted
+-- by `NeverToAny`, and those of its bindings that no closure owns
 unfoldable pub body_room : Source → ℕ
 body_room source =
     sum (map (λ e. cell_room source (Node e)) (filter (has_cell source) (below (length source.body.exprs))))
+    + sum (map (λ e. cell_room source (Never e)) (below (length source.body.exprs)))
     + sum (map (λ b. cell_room source (Binding b)) (below (length source.body.bindings)))
 
 -- whether a type has a layout with a size
@@ -55,10 +56,14 @@ evaluated_in (suc depth) source e = e ∷ flat_map (evaluated_in depth source) (
 unfoldable pub evaluated : Source → ℕ → List ℕ
 evaluated source e = evaluated_in (length source.body.exprs) source e
 
--- whether the type of each expression that is evaluated, and of each binding that no closure owns, has a layout with a size
+-- whether the types of an expression, before and after its adjustment, have layouts with a size
+abbrev pub is_sized_node : Source → ℕ → Bool
+is_sized_node source e = is_sized_type source (own_type source e) && is_sized_type source (node_type source e)
+
+-- whether the types of each expression that is evaluated, and that of each binding that no closure owns, have layouts with a size
 unfoldable pub is_cost_defined : Source → Bool
 is_cost_defined source =
-    list_all (λ e. is_sized_type source (node_type source e)) (evaluated source (root source))
+    list_all (is_sized_node source) (evaluated source (root source))
     && list_all (λ b. is_sized_or_none source (binding_type source b)) (below (length source.body.bindings))
 
 -- how many levels a value has: its type, and the types of its parts. No form makes a value with parts yet.

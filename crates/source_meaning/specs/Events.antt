@@ -4,7 +4,7 @@ use Rattle.std.specs.Prelude.{ℕ, zero, suc, cond, List, [], ◌∷◌, ◌++�
 use Rattle.types.specs.declared.ids.ExprId.{ExprId}
 use Rattle.world.specs.declared.body.Statement.{Statement}
 use Rattle.source_meaning.specs.Core.{CoreExpr, is_literal, is_path}
-use Rattle.source_meaning.specs.Source.{Source, Cell, Node, node, pattern, bound_by}
+use Rattle.source_meaning.specs.Source.{Source, Cell, Node, node, unadjusted, never_marks, pattern, bound_by}
 use Rattle.source_meaning.specs.Steps.{Step, statement_steps, tail_steps, block_steps, steps_of}
 use Rattle.source_meaning.specs.Steps as step
 
@@ -17,10 +17,10 @@ pub data Event : Type 0 where
 -- An expression that is evaluated to a place and is none itself has its own cell marked, before what it is made of. A
 -- literal as an operand has no cell.
 abbrev pub place_events : Source → (ℕ → List Event) → ℕ → List Event
-place_events source below e = cond (is_path (node source e)) [] (Marks (Node e) ∷ below e)
+place_events source below e = cond (is_path (unadjusted source e)) [] (Marks (Node e) ∷ below e)
 
 abbrev pub operand_events : Source → (ℕ → List Event) → ℕ → List Event
-operand_events source below e = cond (is_literal (node source e)) [] (place_events source below e)
+operand_events source below e = cond (is_literal (unadjusted source e)) [] (place_events source below e)
 
 abbrev pub step_events : Source → (ℕ → List Event) → Step → List Event
 step_events source below (step.Operand e) = operand_events source below e
@@ -34,10 +34,11 @@ abbrev pub form_events : Source → (ℕ → List Event) → Option CoreExpr →
 form_events source below (Some form) = flat_map (step_events source below) (steps_of form)
 form_events source below None = []
 
--- the events of an expression that is evaluated into a place, as far down as the depth says
+-- The events of an expression that is evaluated into a place, as far down as the depth says. Where it is adjusted by
+-- `NeverToAny`, its `!` cell is marked first.
 unfoldable pub events_in : ℕ → Source → ℕ → List Event
 events_in zero source e = []
-events_in (suc depth) source e = form_events source (events_in depth source) (node source e)
+events_in (suc depth) source e = map Marks (never_marks source e) ++ form_events source (events_in depth source) (node source e)
 
 -- the same, however deep the expression is
 unfoldable pub events : Source → ℕ → List Event
@@ -76,6 +77,10 @@ marks_of listed = innermost (scopes_after ([] ∷ []) listed)
 -- place, or to an operand; in a statement; in a tail; and in a block's own scope.
 unfoldable pub marked : Source → ℕ → List Cell
 marked source e = marks_of (events source e)
+
+-- the same in an expression itself that is evaluated into a place, without the cell of its `!`
+unfoldable pub marked_itself : Source → ℕ → List Cell
+marked_itself source e = marks_of (form_events source (events source) (node source e))
 
 unfoldable pub marked_as_place : Source → ℕ → List Cell
 marked_as_place source e = marks_of (place_events source (events source) e)

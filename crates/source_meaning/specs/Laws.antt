@@ -25,10 +25,6 @@ PlainJumpsNowhere =
     (source : Source) (fuel : ℕ) → IsChecked source.world → IsCheckedBody source.body source.infer → IsPlain source → AreLaidOut source →
     JumpsNowhere (meaning_of source fuel)
 
--- a body whose expressions stand after their operands ends, whatever they are
-abbrev pub BodiesEnd : Type 0
-BodiesEnd = (source : Source) → IsCheckedBody source.body source.infer → (fuel : ℕ) × IsOver (meaning_of source fuel)
-
 -- A checked body ends, or goes on for as many blocks as one likes. So a run of it that enters so many blocks has an end, or
 -- meets a limit.
 abbrev pub BodiesGoOn : Type 0

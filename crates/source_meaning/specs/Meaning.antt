@@ -20,7 +20,7 @@ use Rattle.source_meaning.specs.Ends.{Cost, no_cost, turns_alone, bytes_alone, p
 use Rattle.source_meaning.specs.Entering.{room_of, entering}
 use Rattle.source_meaning.specs.Around.{Around, Target, at_root, marking, inside, target_of}
 use Rattle.source_meaning.specs.Events.{marked, marked_as_place, marked_as_operand, marked_by_statement, marked_by_tail, marked_in_block}
-use Rattle.source_meaning.specs.Source.{Source, node, node_type, node_layout, named_by, pattern, target, root, Result, Node, Binding, Path, Store, zeroed, with_cell_bytes, Operand, Literally, At, operand_bytes, operand_type, drops}
+use Rattle.source_meaning.specs.Source.{Source, node, unadjusted, own_type, own_layout, named_by, pattern, target, root, Result, Node, Binding, Path, never_marks, own_path, Store, zeroed, with_cell_bytes, Operand, Literally, At, operand_bytes, operand_type, drops}
 
 -- the byte of a truth value: 1 for true
 abbrev pub truth_byte : Bool → ℕ
@@ -29,7 +29,7 @@ truth_byte test = cond test 1 0
 -- a literal's bytes: one for a truth value, and as many low bytes of a whole number as its type has
 unfoldable pub literal_bytes : Source → ℕ → CoreLiteral → Option (List ℕ)
 literal_bytes source e (Truth test) = Some (truth_byte test ∷ [])
-literal_bytes source e (Number number) = option_map (λ layout. low_bytes layout.size number) (node_layout source e)
+literal_bytes source e (Number number) = option_map (λ layout. low_bytes layout.size number) (own_layout source e)
 
 -- bytes are written where a path leads, if they are as many as lie there
 unfoldable pub put : Store → Path → List ℕ → End (Unit {0})
@@ -38,7 +38,7 @@ put store path bytes =
 
 -- a literal is a constant of its type, which takes as many bytes as a cell each time that it is evaluated
 abbrev pub constant_cost : Source → ℕ → Cost
-constant_cost source e = bytes_alone (room_of (node_layout source e))
+constant_cost source e = bytes_alone (room_of (own_layout source e))
 
 -- a literal is written
 abbrev pub put_literal : Source → ℕ → Store → Path → Option (List ℕ) → End (Unit {0})
@@ -69,11 +69,13 @@ answered Invert (one ∷ []) = inverted one.kind one.bytes
 answered (Combine op) (left ∷ right ∷ []) = computed op left.kind right.kind left.bytes right.bytes
 answered _ _ = Undefined
 
--- What each expression means at one amount of fuel: as a place, as an operand, and evaluated into a path.
+-- What each expression means at one amount of fuel: as a place, as an operand, evaluated into a path, and, before its value is
+-- adjusted, itself evaluated into a path.
 pub record Level : Type 0 where
   pub place : ℕ → Store → End Path
   pub operand : ℕ → Store → End Operand
   pub into : ℕ → Path → Store → End (Unit {0})
+  pub own : ℕ → Path → Store → End (Unit {0})
 
 -- the same by what an expression stands in
 abbrev pub Levels : Type 0
@@ -85,6 +87,7 @@ no_fuel around = record {
   place = λ e store. More no_cost;
   operand = λ e store. More no_cost;
   into = λ e path store. More no_cost;
+  own = λ e path store. More no_cost;
 }
 
 -- the place that a path names: the cell of a binding
@@ -102,7 +105,7 @@ place_of source below around e _ store =
 -- a literal is its bytes; any other expression is evaluated to a place, whose bytes the
 -- operation reads
 abbrev pub literal_operand : Source → ℕ → Store → Option (List ℕ) → End Operand
-literal_operand source e store (Some bytes) = elim (node_type source e) [
+literal_operand source e store (Some bytes) = elim (own_type source e) [
   | Some ty ↦ Go (Literally ty bytes) store (constant_cost source e)
   | None ↦ Stuck
 ]
@@ -222,9 +225,9 @@ caught e again ended (Faults fault cost) = Faults fault cost
 caught e again ended Stuck = Stuck
 caught e again ended (More cost) = More cost
 
--- the same expression once more, from its beginning
+-- the same expression itself once more, from its beginning
 abbrev pub again_into : Levels → Around → ℕ → Path → Store → End (Unit {0})
-again_into below around e path store = (below around).into e path store
+again_into below around e path store = (below around).own e path store
 
 -- A labelled block. One block is counted for where it begins, and one for where it ends.
 abbrev pub labelled_into : Source → Levels → Around → ℕ → LabelId → List Statement → Option ExprId → Path → Store → End (Unit {0})
@@ -264,7 +267,7 @@ continue_to source around None store = Stuck
 abbrev pub continue_into : Source → Around → Option LabelId → Store → End (Unit {0})
 continue_into source around label store = continue_to source around (target_of label around.targets) store
 
--- an expression evaluated into a path: the forms that have a meaning so far
+-- an expression itself evaluated into a path: the forms that have a meaning so far
 abbrev pub into_of : Source → Levels → Around → ℕ → Option CoreExpr → Path → Store → End (Unit {0})
 into_of source below around e (Some (expr.Literal l)) path store = put_literal source e store path (literal_bytes source e l)
 into_of source below around e (Some (expr.Path name)) path store = named_into (named_by source e) path store
@@ -279,12 +282,14 @@ into_of source below around e (Some (expr.Break label value)) path store = break
 into_of source below around e (Some (expr.Continue label)) path store = continue_into source around label store
 into_of source below around e None path store = Stuck
 
--- the meanings at one more unit of fuel
+-- The meanings at one more unit of fuel. What is adjusted by `NeverToAny` is itself evaluated into its `!` cell, and the path
+-- isn't written.
 abbrev pub level_above : Source → Levels → Levels
 level_above source below around = record {
-  place = λ e store. place_of source below around e (node source e) store;
-  operand = λ e store. operand_of source below around e (node source e) store;
-  into = λ e path store. into_of source below around e (node source e) path store;
+  place = λ e store. place_of source below around e (unadjusted source e) store;
+  operand = λ e store. operand_of source below around e (unadjusted source e) store;
+  into = λ e path store. into_of source below (marking (never_marks source e) around) e (node source e) (own_path source e path) store;
+  own = λ e path store. into_of source below around e (node source e) path store;
 }
 
 unfoldable pub level_at : Source → ℕ → Levels

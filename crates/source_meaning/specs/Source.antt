@@ -12,7 +12,7 @@ use Rattle.world.specs.declared.layout.Layout.{Layout}
 use Rattle.types.specs.declared.ty.Ty.{Ty}
 use Rattle.types.specs.declared.ids.BindingId.{BindingId}
 use Rattle.world.specs.Lookups.{layout_of, type_of, expr_of, is_copy}
-use Rattle.source_meaning.specs.Core.{CoreExpr, core_of, is_adjusted, is_adjusted_pattern, is_dereferenced_pattern, path_of, pattern_names_item, local_named, name_of, names_item}
+use Rattle.source_meaning.specs.Core.{CoreExpr, core_of, is_adjusted_otherwise, is_adjusted_pattern, is_dereferenced_pattern, path_of, pattern_names_item, local_named, name_of, names_item, never_target}
 
 -- a typed body in its world
 pub record Source : Type 0 where
@@ -20,15 +20,34 @@ pub record Source : Type 0 where
   pub body : Body
   pub infer : InferenceResult
 
--- an expression of the source, where it is of a form with a meaning and its value isn't adjusted
+-- an expression itself, as it is before its value is adjusted, where it is of a form with a meaning and its only adjustment, if
+-- any, is `NeverToAny`
 unfoldable pub node : Source → ℕ → Option CoreExpr
 node source e =
-    if is_adjusted source.infer (record { 0 = e }) then None
+    if is_adjusted_otherwise source.infer (record { 0 = e }) then None
     else option_and_then (core_of (names_item source.infer (record { 0 = e }))) (expr_of source.body e)
 
--- the type of an expression, of a binding that no closure owns, and of a pattern
+-- whether an expression's value is adjusted by `NeverToAny`
+abbrev pub diverges : Source → ℕ → Bool
+diverges source e = is_some (never_target source.infer (record { 0 = e }))
+
+-- what an expression is for those that use its value: itself, where its value isn't adjusted
+abbrev pub unadjusted : Source → ℕ → Option CoreExpr
+unadjusted source e = cond (diverges source e) None (node source e)
+
+-- a type after an adjustment to another, where there is one
+abbrev pub type_after : Option Ty → Option Ty → Option Ty
+type_after (Some target) own = Some target
+type_after None own = own
+
+-- the type of an expression itself, and of its value after its adjustments
+unfoldable pub own_type : Source → ℕ → Option Ty
+own_type source e = type_of source.infer e
+
 unfoldable pub node_type : Source → ℕ → Option Ty
-node_type source e = type_of source.infer e
+node_type source e = type_after (never_target source.infer (record { 0 = e })) (own_type source e)
+
+-- the type of a binding that no closure owns, and of a pattern
 
 unfoldable pub binding_type : Source → ℕ → Option Ty
 binding_type source b = option_and_then (λ binding. if is_some binding.owner then None else slice_get source.infer.binding_types b) (slice_get source.body.bindings b)
@@ -36,9 +55,9 @@ binding_type source b = option_and_then (λ binding. if is_some binding.owner th
 unfoldable pub pattern_type : Source → ℕ → Option Ty
 pattern_type source p = slice_get source.infer.pat_types p
 
--- the layout of an expression's type
-abbrev pub node_layout : Source → ℕ → Option Layout
-node_layout source e = option_and_then (layout_of source.world) (node_type source e)
+-- the layout of an expression's own type
+abbrev pub own_layout : Source → ℕ → Option Layout
+own_layout source e = option_and_then (layout_of source.world) (own_type source e)
 
 -- the binding that a pattern of the source binds, where it is a name that binds by value
 unfoldable pub pattern : Source → ℕ → Option BindingId
@@ -69,17 +88,20 @@ abbrev pub root : Source → ℕ
 root source = source.body.body_expr.0
 
 -- What holds a value while a body is evaluated: the place that its result goes to, one cell for each binding that no
--- closure owns, and one for each expression that is evaluated to a place and is none itself.
+-- closure owns, one for each expression that is evaluated to a place and is none itself, and one for the `!` of each that is
+-- adjusted by `NeverToAny`.
 pub data Cell : Type 0 where
   Result : Cell
   Node : (e : ℕ) → Cell
   Binding : (b : ℕ) → Cell
+  Never : (e : ℕ) → Cell
 
 -- the type of a cell's value
 abbrev pub cell_type : Source → Cell → Option Ty
 cell_type source Result = node_type source (root source)
 cell_type source (Node e) = node_type source e
 cell_type source (Binding b) = binding_type source b
+cell_type source (Never e) = cond (diverges source e) (own_type source e) None
 
 abbrev pub cell_layout : Source → Cell → Option Layout
 cell_layout source cell = option_and_then (layout_of source.world) (cell_type source cell)
@@ -92,6 +114,7 @@ abbrev pub same_cell : Cell → Cell → Bool
 same_cell Result Result = true
 same_cell (Node e) (Node f) = e == f
 same_cell (Binding b) (Binding c) = b == c
+same_cell (Never e) (Never f) = e == f
 same_cell _ _ = false
 
 -- the cell that a pattern binds
@@ -114,6 +137,15 @@ drops source cells = length (filter (is_dropped source) cells)
 -- Where a value lies: a cell. Paths are read late: when an operation runs.
 pub record Path : Type 0 where
   pub cell : Cell
+
+-- the cells that come into use where an expression is evaluated into a place, before what it is made of
+abbrev pub never_marks : Source → ℕ → List Cell
+never_marks source e = cond (diverges source e) (Never e ∷ []) []
+
+-- where an expression itself goes that is evaluated into a place: what is adjusted by `NeverToAny` has no value for the place,
+-- and goes to a cell of its own
+abbrev pub own_path : Source → ℕ → Path → Path
+own_path source e path = cond (diverges source e) (record { cell = Never e }) path
 
 -- the bytes of each cell
 abbrev pub Store : Type 0

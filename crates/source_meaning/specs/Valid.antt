@@ -7,14 +7,14 @@ use Rattle.types.specs.declared.ids.ExprId.{ExprId}
 use Rattle.types.specs.declared.ids.LabelId.{LabelId}
 use Rattle.world.specs.declared.infer.ValueNs.TheVariants.{LocalBinding}
 use Rattle.world.specs.declared.layout.Layout.{Layout}
-use Rattle.types.specs.declared.ty.Ty.{Ty, Bool as BoolTy, Int as IntTy, Uint as UintTy}
+use Rattle.types.specs.declared.ty.Ty.{Ty, Bool as BoolTy, Int as IntTy, Uint as UintTy, Never as NeverTy}
 use Rattle.world.specs.Lookups.{layout_of}
 use Rattle.numbers.specs.declared.operator.Operator.{Operator}
 use Rattle.numbers.specs.declared.operator.Operator.TheVariants.{Add, Sub, Mul, Div, Rem, BitXor, BitAnd, BitOr, Shl, Shr, Eq, Ne, Lt, Le, Gt, Ge}
 use Rattle.source_meaning.specs.Around.{Opened, meant}
 use Rattle.source_meaning.specs.Core as expr
 use Rattle.source_meaning.specs.Core.{CoreExpr, CoreLiteral, Truth, Number, Operation, Negate, Invert, Combine, is_truth}
-use Rattle.source_meaning.specs.Source.{Source, node, node_type, binding_type, pattern, pattern_type, target, named_by, root}
+use Rattle.source_meaning.specs.Source.{Source, node, unadjusted, diverges, own_type, node_type, binding_type, pattern, pattern_type, target, named_by, root}
 use Rattle.source_meaning.specs.Steps.{Step, steps_of, step_part, parts_of}
 use Rattle.source_meaning.specs.Steps as step
 
@@ -162,10 +162,12 @@ HasPlainForm source e (Some (expr.Break label value)) ty = Unit {0}
 HasPlainForm source e (Some (expr.Continue label)) ty = Unit {0}
 HasPlainForm source e None ty = ⊥
 
+-- an expression itself has a plain form, at its own type, which is `!` where `NeverToAny` adjusts it
 pub record IsPlainNode (source : Source) (e : ℕ) : Type 0 where
   pub ty : Ty
-  pub has_type : node_type source e ≡ Some ty
+  pub has_type : own_type source e ≡ Some ty
   pub form : HasPlainForm source e (node source e) ty
+  pub never : diverges source e ≡ true → ty ≡ NeverTy
 
 -- each expression that is evaluated where one is has a plain form
 abbrev pub IsPlainFrom : Source → ℕ → Type 0
@@ -184,12 +186,12 @@ pub data EvaluatesIn (source : Source) : List Opened → ℕ → List Opened →
   part_in : {outer inner : List Opened} {e child f : ℕ} → Contains (parts_of (node source e)) child →
       EvaluatesIn source (opened_in e (node source e) outer) child inner f → EvaluatesIn source outer e inner f
 
--- a `break` means a loop or a labelled block that is open, and its value, where there is one, has the type of that
+-- a `break` means a loop or a labelled block that is open, and its value, where there is one, has the own type of that
 pub record HasPlainTarget (source : Source) (open_around : List Opened) (label : Option LabelId) (value : Option ExprId) : Type 0 where
   pub target : Opened
   pub means : meant label open_around ≡ Some target
   pub ty : Ty
-  pub target_has : node_type source target.node ≡ Some ty
+  pub target_has : own_type source target.node ≡ Some ty
   pub value_has : IsPlainTail source value ty
 
 -- a `continue` means a loop or a labelled block that is open
@@ -223,15 +225,25 @@ pub record HasSizedLayout (source : Source) (ty : Option Ty) : Type 0 where
   pub found : option_and_then (layout_of source.world) ty ≡ Some layout
   pub sized : layout.sized ≡ true
 
--- Each expression that is evaluated, and each binding that no closure owns, has a type with a size: else the cost of
+-- the types of an expression, before and after its adjustment, have layouts
+pub record IsLaidOutNode (source : Source) (e : ℕ) : Type 0 where
+  pub of_itself : IsLaidOut source (own_type source e)
+  pub of_value : IsLaidOut source (node_type source e)
+
+-- and these have sizes
+pub record IsSizedNode (source : Source) (e : ℕ) : Type 0 where
+  pub of_itself : HasSizedLayout source (own_type source e)
+  pub of_value : HasSizedLayout source (node_type source e)
+
+-- Each expression that is evaluated, and each binding that no closure owns, has types with a size: else the cost of
 -- the body is undefined.
 pub record HasDefinedCost (source : Source) : Type 0 where
-  pub nodes : (e : ℕ) → Evaluates source (root source) e → HasSizedLayout source (node_type source e)
+  pub nodes : (e : ℕ) → Evaluates source (root source) e → IsSizedNode source e
   pub bindings : (b : ℕ) (ty : Ty) → binding_type source b ≡ Some ty → HasSizedLayout source (Some ty)
 
 -- the part that a step evaluates, where it needs a layout: a truth value as an operand is one byte without any
 abbrev pub sized_part : Source → Step → List ℕ
-sized_part source (step.Operand e) = cond (is_truth (node source e)) [] (e ∷ [])
+sized_part source (step.Operand e) = cond (is_truth (unadjusted source e)) [] (e ∷ [])
 sized_part source other = step_part other
 
 abbrev pub sized_parts : Source → Option CoreExpr → List ℕ
@@ -244,7 +256,7 @@ pub data NeedsLayout (source : Source) : ℕ → ℕ → Type 0 where
   own : {e : ℕ} → NeedsLayout source e e
   inside : {e child f : ℕ} → Contains (sized_parts source (node source e)) child → NeedsLayout source child f → NeedsLayout source e f
 
--- each expression that needs a layout, and each binding that no closure owns, has a type with a layout
+-- each expression that needs a layout, and each binding that no closure owns, has types with layouts
 pub record AreLaidOut (source : Source) : Type 0 where
-  pub nodes : (e : ℕ) → NeedsLayout source (root source) e → IsLaidOut source (node_type source e)
+  pub nodes : (e : ℕ) → NeedsLayout source (root source) e → IsLaidOutNode source e
   pub bindings : (b : ℕ) (ty : Ty) → binding_type source b ≡ Some ty → IsLaidOut source (Some ty)

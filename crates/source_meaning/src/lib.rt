@@ -2,7 +2,7 @@
 //! functions here have no code: each is a law about the definitions.
 #![tactic(auto)]
 
-ghost use Rattle.source_meaning.specs.Laws.{MoreFuelChangesNothing, PlainIsNeverStuck, PlainJumpsNowhere, BodiesEnd, BodiesGoOn, PlainIsBuilt, CostsAdd, ScopesNest, CostIsDefined};
+ghost use Rattle.source_meaning.specs.Laws.{MoreFuelChangesNothing, PlainIsNeverStuck, PlainJumpsNowhere, BodiesGoOn, PlainIsBuilt, CostsAdd, ScopesNest, CostIsDefined};
 
 /// More fuel changes no end.
 pub fn more_fuel_changes_nothing()
@@ -17,11 +17,6 @@ pub fn plain_is_never_stuck()
 /// A plain body of a checked world, whose types have layouts, never ends in a jump.
 pub fn plain_jumps_nowhere()
     ensures { PlainJumpsNowhere }
-{}
-
-/// A body whose expressions stand after their operands ends.
-pub fn bodies_end()
-    ensures { BodiesEnd }
 {}
 
 /// A body whose expressions stand after their operands ends, or goes on for as many blocks as one likes.
