@@ -33,6 +33,9 @@ impl TryClone for MirLowerError {
             MirLowerError::NotSupported(text) => {
                 Ok(MirLowerError::NotSupported(text.try_clone(alloc)?))
             }
+            MirLowerError::ContinueWithoutLoop => Ok(MirLowerError::ContinueWithoutLoop),
+            MirLowerError::BreakWithoutLoop => Ok(MirLowerError::BreakWithoutLoop),
+            MirLowerError::UnresolvedLabel => Ok(MirLowerError::UnresolvedLabel),
             MirLowerError::InaccessibleLocal => Ok(MirLowerError::InaccessibleLocal),
             MirLowerError::NoMemory => Ok(MirLowerError::NoMemory),
         }

@@ -37,6 +37,9 @@ pub enum MirLowerError {
     HasErrors,
     TypeError(Text),
     NotSupported(Text),
+    ContinueWithoutLoop,
+    BreakWithoutLoop,
+    UnresolvedLabel,
     InaccessibleLocal,
     NoMemory,
 }

@@ -1,5 +1,5 @@
 -- Assignments: the value as a place, and then the name that is the target is assigned.
-use Rattle.std.proofs.Common.{◌≡◌, ℕ, List, ◌++◌, Contains, Option, Some, option_and_then, refl, sym, ap, ◌∙◌, subst, append-nil}
+use Rattle.std.proofs.Common.{◌≡◌, ℕ, List, ◌++◌, Contains, Option, Some, option_and_then, sym, ap, ◌∙◌, subst, append-nil}
 use Rattle.source_meaning.specs.Core as expr
 use Rattle.source_meaning.specs.Core.{local_named}
 use Rattle.world.specs.declared.infer.ValueNs.{ValueNs}
@@ -11,9 +11,9 @@ use Rattle.mir.specs.declared.operand.Place.{Place}
 use Rattle.mir.specs.declared.operand.Rvalue.TheVariants.{Use}
 use Rattle.mir.specs.declared.span.MirSpan.{MirSpan}
 use Rattle.source_meaning.specs.Meaning.{level_at, bind}
-use Rattle.source_meaning.specs.Source.{Source, node, node_type, target, target_path, pattern_named_by, Cell, Binding, Path}
+use Rattle.source_meaning.specs.Source.{Source, node, target, target_path, pattern_named_by, Cell, Binding, Path}
 use Rattle.source_meaning.specs.Steps.{parts_of}
-use Rattle.source_meaning.specs.Valid.{IsPlainFrom, IsLaidOut, NeedsLayout, own, inside, sized_parts}
+use Rattle.source_meaning.specs.Valid.{NeedsLayout, own, inside, sized_parts, IsLaidOutNode}
 use Rattle.source_meaning.proofs.Depth.{assigned_is_part}
 use Rattle.source_meaning.proofs.Marks.{assign_marks}
 use Rattle.source_meaning.proofs.Parts.{sized_part_is_part}
@@ -21,13 +21,14 @@ use Rattle.mir_lower.specs.Does.{here, Reaches, Nothing, LeadsTo}
 use Rattle.mir_lower.specs.Graph.{Shape, with_statement, local_of}
 use Rattle.mir_lower.specs.Growth.{Grows, IsSound, IsOpen, IsReady}
 use Rattle.mir_lower.specs.Leaving.{Idles}
-use Rattle.mir_lower.specs.Lowered.{LaysOut, IsTargeted, Assigns, LowersInto, LowersPlace}
+use Rattle.mir_lower.specs.Lowered.{IsPlainWithin, LaysOut, IsTargeted, Assigns, LowersPlace, LowersOwn}
 use Rattle.mir_lower.proofs.Growing.{grows-trans}
 use Rattle.mir_lower.proofs.Laid.{layouts-before, plain-part, one-of}
 use Rattle.mir_lower.proofs.Operations.{assignment, keeps-assigned, local-later, name-computes}
 use Rattle.mir_lower.proofs.Reaching.{reaches-then}
 use Rattle.mir_lower.proofs.Sparing.{spares-trans}
 use Rattle.mir_lower.proofs.Steps.{local_of-grows, assigned-bytes, reaches-from, does-form}
+use Rattle.mir_lower.proofs.Standing.{stands-with}
 
 -- the value is a part
 pub value-part : (source : Source) (e assigned value : ℕ) → node source e ≡ Some (expr.Assign assigned value) → Contains (parts_of (node source e)) value
@@ -58,15 +59,15 @@ assigns-target source s new assigned place from operand span sound opened target
     })
 
 -- the types of what an assignment evaluates
-lays-assign : (source : Source) (s0 s1 new : Shape) (e assigned value local : ℕ) → node source e ≡ Some (expr.Assign assigned value) → LowersPlace source s0 s1 value local → Grows s1 new → IsLaidOut source (node_type source e) → LaysOut source new e
+lays-assign : (source : Source) (s0 s1 new : Shape) (e assigned value local : ℕ) → node source e ≡ Some (expr.Assign assigned value) → LowersPlace source s0 s1 value local → Grows s1 new → IsLaidOutNode source e → LaysOut source new e
 lays-assign source s0 s1 new e assigned value local form place grows laid plain layouts f own = laid
 lays-assign source s0 s1 new e assigned value local form place grows laid plain layouts f (inside {child = child} within rest) =
     let same : value ≡ child = one-of value child (subst (λ n. Contains (sized_parts source n) child) form within) in
-    let below = plain-part source e child (sized_part_is_part source (node source e) child within) plain in
-    place.laid (subst (IsPlainFrom source) (sym same) below) (layouts-before source s1 new grows layouts) f (subst (λ x. NeedsLayout source x f) (sym same) rest)
+    let below = plain-part source e child (sized_part_is_part source (node source e) child within) laid plain in
+    place.laid (subst (IsPlainWithin source) (sym same) below) (layouts-before source s1 new grows layouts) f (subst (λ x. NeedsLayout source x f) (sym same) rest)
 
 -- an assignment: the value's place, which is noted as read, and then the target is assigned
-pub lowers-assign : (source : Source) (s0 s1 s2 s3 : Shape) (e assigned value local : ℕ) (c : Cell) → IsReady source s0 e → node source e ≡ Some (expr.Assign assigned value) → (place : LowersPlace source s0 s1 value local) → Idles source s1 s2 0 → ((from : Cell) → local_of s2 from ≡ Some local → Assigns source s2 s3 assigned from) → LowersInto source s0 s3 e c
+pub lowers-assign : (source : Source) (s0 s1 s2 s3 : Shape) (e assigned value local : ℕ) (c : Cell) → IsReady source s0 e → node source e ≡ Some (expr.Assign assigned value) → (place : LowersPlace source s0 s1 value local) → Idles source s1 s2 0 → ((from : Cell) → local_of s2 from ≡ Some local → Assigns source s2 s3 assigned from) → LowersOwn source s0 s3 e c
 lowers-assign source s0 s1 s2 s3 e assigned value local c ready form place idles assigning =
     let from = place.does.cell in
     let assigns = assigning from (local_of-grows s1 s2 idles.grows from local place.does.found) in
@@ -89,7 +90,7 @@ lowers-assign source s0 s1 s2 s3 e assigned value local c ready form place idles
             (λ path store1 memory1 claims.
             subst (λ (p : Path). Reaches whole lands frame (here s1) (here s3) memory1 (Nothing whole frame) (bind (target source assigned) p store1)) (sym claims.1)
             (reaches-from whole lands frame (here s1) (here s2) (here s3) memory1 (Nothing whole frame) (idles.comes whole frame grown is memory1) _
-            (assigns.does.reaches whole frame grows sound is lands (record around { marks = s2.scope }) refl fuel store1 memory1 claims.0)));
+            (assigns.does.reaches whole frame grows sound is lands (record around { marks = s2.scope }) (stands-with (idles.spares.targets ∙ place.keeps.spares.targets) stands) fuel store1 memory1 claims.0)));
       });
       laid = lays-assign source s0 s1 s3 e assigned value local form place later;
     }

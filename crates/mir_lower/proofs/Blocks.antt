@@ -1,5 +1,5 @@
 -- Blocks: names that are bound, statements in order, and a tail, in a scope of their own.
-use Rattle.std.proofs.Common.{◌≡◌, ℕ, ◌+◌, ⊎_elim, List, [], ◌∷◌, ◌++◌, flat_map, Contains, Option, Some, None, Ok, refl, sym, ap, ◌∙◌, subst, arith, append_assoc, append-nil}
+use Rattle.std.proofs.Common.{◌≡◌, ℕ, ⊎_elim, List, [], ◌∷◌, ◌++◌, flat_map, Contains, Option, Some, None, Ok, refl, sym, ap, ◌∙◌, subst, arith, append_assoc, append-nil}
 use Rattle.std.proofs.lemmas.Grind.{flat_map-append}
 use Rattle.std.proofs.lemmas.List.Elements.{Contains-append_cases}
 use Rattle.source_meaning.specs.Core as expr
@@ -21,10 +21,10 @@ use Rattle.mir.specs.Run.{Frame, after_statement}
 use Rattle.source_meaning.specs.Around.{Around, marking}
 use Rattle.source_meaning.specs.Ends.{no_cost, End, Go, then_do}
 use Rattle.source_meaning.specs.Events.{marked_as_place, marked_by_statement, marked_by_tail, marked_in_block}
-use Rattle.source_meaning.specs.Meaning.{Levels, level_at, put, bind, statement_of, statements_of, tail_into}
-use Rattle.source_meaning.specs.Source.{Source, node, node_type, pattern, Cell, Binding, Path, Store, bound_by, drops}
+use Rattle.source_meaning.specs.Meaning.{Levels, level_at, put, bind, statement_of, statements_of, tail_into, block_into}
+use Rattle.source_meaning.specs.Source.{Source, node, own_type, node_type, pattern, Cell, Binding, Path, Store, bound_by, drops}
 use Rattle.source_meaning.specs.Steps.{parts_of, statement_parts}
-use Rattle.source_meaning.specs.Valid.{itself, HasPlainForm, IsPlainNode, IsPlainFrom, IsPlainTail, IsLaidOut, NeedsLayout, own, inside}
+use Rattle.source_meaning.specs.Valid.{itself, HasPlainForm, IsPlainNode, IsPlainTail, IsLaidOut, NeedsLayout, own, inside, IsLaidOutNode}
 use Rattle.source_meaning.proofs.Costs.{then-then, then-same, then-go}
 use Rattle.source_meaning.proofs.Marks.{let_marks, expression_marks, tail_marks, no_tail_marks, inner_marks, block_marks}
 use Rattle.source_meaning.proofs.Parts.{block_parts, sized_part_is_part}
@@ -32,7 +32,7 @@ use Rattle.mir_lower.specs.Does.{Point, here, IsFrameOf, Comes, Reaches, Perform
 use Rattle.mir_lower.specs.Graph.{Shape, with_statement, with_scope, local_of}
 use Rattle.mir_lower.specs.Growth.{Grows, IsSound, IsOpen, IsReady}
 use Rattle.mir_lower.specs.Leaving.{Idles}
-use Rattle.mir_lower.specs.Lowered.{Keeps, LaysOut, IsGiven, Binds, LowersInto, LowersPlace, LowersStatements, LowersTail}
+use Rattle.mir_lower.specs.Lowered.{IsPlainWithin, Keeps, LaysOut, IsGiven, Binds, LowersInto, LowersPlace, LowersStatements, LowersTail, LowersOwn}
 use Rattle.mir_lower.proofs.Growing.{grows-refl, grows-trans, with_statement-grows, with_scope-grows}
 use Rattle.mir_lower.proofs.Laid.{layouts-before, plain-part, one-of}
 use Rattle.mir_lower.proofs.Leaving.{here-scope}
@@ -41,8 +41,10 @@ use Rattle.mir_lower.proofs.Reaching.{comes-refl, comes-from, reaches-then}
 use Rattle.mir_lower.proofs.Running.{comes-statement}
 use Rattle.mir_lower.proofs.Sound.{with_statement-sound, with_statement-open, with_statement-scope}
 use Rattle.mir_lower.proofs.Sparing.{spares-refl, spares-trans, with_statement-spares, scoped-spares}
-use Rattle.mir_lower.proofs.Standing.{marking-fits, marking-none, marking-more}
+use Rattle.mir_lower.proofs.Standing.{marking-fits, marking-none, marking-more, stands-with}
 use Rattle.mir_lower.proofs.Steps.{local_of-grows, assigned-bytes, reaches-from, does-form}
+use Rattle.source_meaning.specs.Core.{CoreExpr}
+use Rattle.types.specs.declared.ty.Ty.{Ty}
 
 -- noting that a value was named leaves everything as it is
 read-does-nothing : (frame : Frame) (memory : Memory) (place : Place) → after_statement frame memory (FakeRead place) ≡ Ok memory
@@ -192,15 +194,15 @@ lowers-let source s0 s1 s2 s3 pat e local place idles binding =
             (λ path store1 memory1 claims.
             subst (λ (p : Path). Reaches whole lands frame (here s1) (here s3) memory1 (Nothing whole frame) (bind (pattern source pat.0) p store1)) (sym claims.1)
             (reaches-from whole lands frame (here s1) (here s2) (here s3) memory1 (Nothing whole frame) (idles.comes whole frame grown is memory1) _
-            (binds.does.reaches whole frame grows sound is lands (record around { marks = s2.scope }) refl fuel store1 memory1 claims.0)));
+            (binds.does.reaches whole frame grows sound is lands (record around { marks = s2.scope }) (stands-with (idles.spares.targets ∙ place.keeps.spares.targets) stands) fuel store1 memory1 claims.0)));
       });
       laid = λ child within plain layouts f needs.
           let same : e.0 ≡ child = one-of e.0 child within in
-          place.laid (subst (IsPlainFrom source) (sym same) plain) (layouts-before source s1 s3 later layouts) f (subst (λ x. NeedsLayout source x f) (sym same) needs);
+          place.laid (subst (IsPlainWithin source) (sym same) plain) (layouts-before source s1 s3 later layouts) f (subst (λ x. NeedsLayout source x f) (sym same) needs);
     }
 
 -- behind a scope that was left the run goes on
-scope-idles : (s : Shape) (outer : List Cell) (source : Source) (new : Shape) (turns : ℕ) → Idles source (with_scope outer s) new turns → (whole : Shape) (frame : Frame) → Grows new whole → IsFrameOf whole frame → (memory : Memory) → Comes frame turns (here s) memory (here new) memory
+pub scope-idles : (s : Shape) (outer : List Cell) (source : Source) (new : Shape) (turns : ℕ) → Idles source (with_scope outer s) new turns → (whole : Shape) (frame : Frame) → Grows new whole → IsFrameOf whole frame → (memory : Memory) → Comes frame turns (here s) memory (here new) memory
 scope-idles s outer source new turns idles whole frame grows is memory =
     subst (λ (p : Point). Comes frame turns p memory (here new) memory) (here-scope s outer) (idles.comes whole frame grows is memory)
 
@@ -231,7 +233,7 @@ lowers-expr-statement source s0 s1 s2 s3 e has_semi local place read left =
       });
       laid = λ child within plain layouts f needs.
           let same : e.0 ≡ child = one-of e.0 child within in
-          place.laid (subst (IsPlainFrom source) (sym same) plain) (layouts-before source s1 s3 into layouts) f (subst (λ x. NeedsLayout source x f) (sym same) needs);
+          place.laid (subst (IsPlainWithin source) (sym same) plain) (layouts-before source s1 s3 into layouts) f (subst (λ x. NeedsLayout source x f) (sym same) needs);
     }
 
 -- the tail of a block, where it has one
@@ -251,24 +253,25 @@ lowers-no-tail source s c sound opened =
       laid = λ e same. absurd cc;
     }
 
--- the types of what a block evaluates
-lays-block : (source : Source) (s0 s1 s2 new : Shape) (e : ℕ) (statements : List Statement) (tail : Option ExprId) (c : Cell) → node source e ≡ Some (expr.Block statements tail) → LowersStatements source s0 s1 statements → LowersTail source s1 s2 tail c → Grows s1 new → Grows s2 new → IsLaidOut source (node_type source e) → LaysOut source new e
-lays-block source s0 s1 s2 new e statements tail c form first last grows1 grows2 laid plain layouts f own = laid
-lays-block source s0 s1 s2 new e statements tail c form first last grows1 grows2 laid plain layouts f (inside {child = child} within rest) =
+-- the types of what a block evaluates, with a label or without
+pub lays-block : (source : Source) (s0 s1 s2 new : Shape) (e : ℕ) (core : CoreExpr) (statements : List Statement) (tail : Option ExprId) (c : Cell) → node source e ≡ Some core → parts_of (Some core) ≡ flat_map statement_parts statements ++ optional tail →
+    ((ty : Ty) → HasPlainForm source e (Some core) ty → IsPlainTail source tail ty) → LowersStatements source s0 s1 statements → LowersTail source s1 s2 tail c → Grows s1 new → Grows s2 new → IsLaidOutNode source e → LaysOut source new e
+lays-block source s0 s1 s2 new e core statements tail c form parts fits first last grows1 grows2 laid plain layouts f own = laid
+lays-block source s0 s1 s2 new e core statements tail c form parts fits first last grows1 grows2 laid plain layouts f (inside {child = child} within rest) =
     let evaluated = sized_part_is_part source (node source e) child within in
     ⊎_elim
-    (λ one. first.laid child one (plain-part source e child evaluated plain) (layouts-before source s1 new grows1 layouts) f rest)
+    (λ one. first.laid child one (plain-part source e child evaluated laid plain) (layouts-before source s1 new grows1 layouts) f rest)
     (λ other. by-tail tail refl other)
-    (Contains-append_cases (flat_map statement_parts statements) (optional tail) child (subst (λ (parts : List ℕ). Contains parts child) (ap parts_of form ∙ block_parts statements tail) evaluated)) where
-      tail-type : (t : ExprId) → tail ≡ Some t → (whole : IsPlainNode source e) → HasPlainForm source e (Some (expr.Block statements tail)) whole.ty → node_type source t.0 ≡ node_type source e
-      tail-type t is whole fits = subst (λ (o : Option ExprId). IsPlainTail source o whole.ty) is fits.1 ∙ sym whole.has_type
+    (Contains-append_cases (flat_map statement_parts statements) (optional tail) child (subst (λ (list : List ℕ). Contains list child) (ap parts_of form ∙ parts) evaluated)) where
+      tail-type : (t : ExprId) → tail ≡ Some t → (whole : IsPlainNode source e) → HasPlainForm source e (Some core) whole.ty → node_type source t.0 ≡ own_type source e
+      tail-type t is whole plain-form = subst (λ (o : Option ExprId). IsPlainTail source o whole.ty) is (fits whole.ty plain-form) ∙ sym whole.has_type
 
-      by-tail : (o : Option ExprId) → tail ≡ o → Contains (optional o) child → IsLaidOut source (node_type source f)
+      by-tail : (o : Option ExprId) → tail ≡ o → Contains (optional o) child → IsLaidOutNode source f
       by-tail None is holds = absurd (let below = holds.1 in omega arith)
       by-tail (Some t) is holds =
           let same : t.0 ≡ child = one-of t.0 child holds in
-          last.laid t is (subst (IsLaidOut source) (sym (tail-type t is (plain e itself) (subst (λ n. HasPlainForm source e n (plain e itself).ty) form (plain e itself).form))) laid)
-          (subst (IsPlainFrom source) (sym same) (plain-part source e child (sized_part_is_part source (node source e) child within) plain)) (layouts-before source s2 new grows2 layouts) f (subst (λ x. NeedsLayout source x f) (sym same) rest)
+          last.laid t is (subst (IsLaidOut source) (sym (tail-type t is (plain.nodes e itself) (subst (λ n. HasPlainForm source e n (plain.nodes e itself).ty) form (plain.nodes e itself).form))) laid.of_itself)
+          (subst (IsPlainWithin source) (sym same) (plain-part source e child (sized_part_is_part source (node source e) child within) laid plain)) (layouts-before source s2 new grows2 layouts) f (subst (λ x. NeedsLayout source x f) (sym same) rest)
 
 -- what came into use in a block: in its statements and in its tail
 pub block-inner : (source : Source) (s0 s1 s2 : Shape) (statements : List Statement) (tail : Option ExprId) (c : Cell) → LowersStatements source s0 s1 statements → LowersTail source s1 s2 tail c → s2.scope ≡ s0.scope ++ marked_in_block source statements tail
@@ -277,12 +280,30 @@ block-inner source s0 s1 s2 statements tail c first last =
     ∙ append_assoc s0.scope (flat_map (marked_by_statement source) statements) (marked_by_tail source tail)
     ∙ ap (λ m. s0.scope ++ m) (sym (inner_marks source statements tail))
 
--- a block: its statements and its tail, in a scope of their own, which is then left
-pub lowers-block : (source : Source) (s0 s1 s2 s3 : Shape) (e : ℕ) (statements : List Statement) (tail : Option ExprId) (c : Cell) → IsReady source s0 e → node source e ≡ Some (expr.Block statements tail) → LowersStatements source s0 s1 statements → LowersTail source s1 s2 tail c → Idles source (with_scope s0.scope s2) s3 (drops source (marked_in_block source statements tail)) → LowersInto source s0 s3 e c
+-- what the code of a block does: its statements and its tail, in a scope of their own, which is then left
+pub does-block : (source : Source) (s0 s1 s2 s3 : Shape) (statements : List Statement) (tail : Option ExprId) (c : Cell) → LowersStatements source s0 s1 statements → LowersTail source s1 s2 tail c → Idles source (with_scope s0.scope s2) s3 (drops source (marked_in_block source statements tail)) →
+    Performs source s0 s3 Nothing (λ around fuel store. block_into source (level_at source fuel) around statements tail (record { cell = c }) store)
+does-block source s0 s1 s2 s3 statements tail c first last left =
+    let into2 : Grows s2 s3 = grows-trans s2 (with_scope s0.scope s2) s3 (with_scope-grows s0.scope s2) left.grows in
+    let turns = drops source (marked_in_block source statements tail) in
+    record {
+      reaches = λ whole frame grows sound is lands around stands fuel store memory holds.
+          let grown2 : Grows s2 whole = grows-trans s2 s3 whole into2 grows in
+          let below = level_at source fuel in
+          let behind : Around = marking (flat_map (marked_by_statement source) statements) around in
+          reaches-then whole lands frame (here s0) (here s1) (here s3) memory (Nothing whole frame) (Nothing whole frame) (statements_of source below around statements store) _
+          (first.does.reaches whole frame (grows-trans s1 s2 whole last.keeps.grows grown2) sound is lands around stands fuel store memory holds)
+          (λ value store1 memory1 claims1.
+          reaches-then whole lands frame (here s1) (here s2) (here s3) memory1 (Nothing whole frame) (Nothing whole frame) (tail_into (below behind) tail (record { cell = c }) store1) _
+          (last.does.reaches whole frame grown2 sound is lands behind (marking-fits first.keeps around stands) fuel store1 memory1 claims1.0)
+          (λ value store2 memory2 claims2. (memory2, scope-idles s2 s0.scope source s3 turns left whole frame grows is memory2, claims2.0, tt)));
+    }
+
+-- a block without a label
+pub lowers-block : (source : Source) (s0 s1 s2 s3 : Shape) (e : ℕ) (statements : List Statement) (tail : Option ExprId) (c : Cell) → IsReady source s0 e → node source e ≡ Some (expr.Block statements tail) → LowersStatements source s0 s1 statements → LowersTail source s1 s2 tail c → Idles source (with_scope s0.scope s2) s3 (drops source (marked_in_block source statements tail)) → LowersOwn source s0 s3 e c
 lowers-block source s0 s1 s2 s3 e statements tail c ready form first last left =
     let into2 : Grows s2 s3 = grows-trans s2 (with_scope s0.scope s2) s3 (with_scope-grows s0.scope s2) left.grows in
     let into1 : Grows s1 s3 = grows-trans s1 s2 s3 last.keeps.grows into2 in
-    let turns = drops source (marked_in_block source statements tail) in
     record {
       keeps = record {
         grows = grows-trans s0 s1 s3 first.keeps.grows into1;
@@ -291,17 +312,6 @@ lowers-block source s0 s1 s2 s3 e statements tail c ready form first last left =
         «open» = left.«open»;
         scope = left.scope ∙ sym (append-nil s0.scope) ∙ ap (λ m. s0.scope ++ m) (sym (block_marks source ready.checked e ready.within statements tail form));
       };
-      does = does-form source s0 s3 e c (Some (expr.Block statements tail)) form (record {
-        reaches = λ whole frame grows sound is lands around stands fuel store memory holds.
-            let grown2 : Grows s2 whole = grows-trans s2 s3 whole into2 grows in
-            let below = level_at source fuel in
-            let behind : Around = marking (flat_map (marked_by_statement source) statements) around in
-            reaches-then whole lands frame (here s0) (here s1) (here s3) memory (Nothing whole frame) (Nothing whole frame) (statements_of source below around statements store) _
-            (first.does.reaches whole frame (grows-trans s1 s2 whole last.keeps.grows grown2) sound is lands around stands fuel store memory holds)
-            (λ value store1 memory1 claims1.
-            reaches-then whole lands frame (here s1) (here s2) (here s3) memory1 (Nothing whole frame) (Nothing whole frame) (tail_into (below behind) tail (record { cell = c }) store1) _
-            (last.does.reaches whole frame grown2 sound is lands behind (marking-fits first.keeps around stands) fuel store1 memory1 claims1.0)
-            (λ value store2 memory2 claims2. (memory2, scope-idles s2 s0.scope source s3 turns left whole frame grows is memory2, claims2.0, tt)));
-      });
-      laid = lays-block source s0 s1 s2 s3 e statements tail c form first last into1 into2;
+      does = does-form source s0 s3 e c (Some (expr.Block statements tail)) form (does-block source s0 s1 s2 s3 statements tail c first last left);
+      laid = lays-block source s0 s1 s2 s3 e (expr.Block statements tail) statements tail c form (block_parts statements tail) (λ ty plain. plain.1) first last into1 into2;
     }

@@ -35,7 +35,7 @@ reserved-gone {old = old} {new = new} {block = block} gone differ reserved =
 -- where a block becomes the current one that a graph did not have, what that graph had is left as it was
 pub spares-gone : {source : Source} {first old new : Shape} {to next : ℕ} → Spares first old → HasGoneOn source old new to next → length first.blocks ≤ next → Spares first new
 spares-gone {first = first} {old = old} {new = new} {next = next} spares gone behind =
-    spares-entered first old new spares gone.others gone.many (let is = gone.current in omega arith)
+    spares-entered first old new spares gone.others gone.many gone.targets (let is = gone.current in omega arith)
 
 -- The test's operand, the switch, the first branch, its way to the join, the second branch, and its way to the join.
 pub record IsBranched (source : Source) (s0 s1 s2 s3 s4 s5 s6 : Shape) (operand : OperandKind) (number other join : ℕ) (tested first second : List Cell) : Type 0 where

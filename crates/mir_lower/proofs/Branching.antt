@@ -9,14 +9,14 @@ use Rattle.numbers.specs.Bytes.{value_of}
 use Rattle.source_meaning.specs.Ends.{End, Go, Stuck, turns_alone, after, then_do}
 use Rattle.source_meaning.specs.Meaning.{is_byte, branched}
 use Rattle.source_meaning.specs.Core.{is_truth}
-use Rattle.source_meaning.specs.Source.{Source, node, node_type, Cell}
+use Rattle.source_meaning.specs.Source.{Source, unadjusted, own_type, node_type, Cell}
 use Rattle.source_meaning.specs.Steps.{Operand}
-use Rattle.source_meaning.specs.Valid.{IsPlainFrom, IsLaidOut, NeedsLayout, sized_part}
+use Rattle.source_meaning.specs.Valid.{IsLaidOut, NeedsLayout, sized_part, IsLaidOutNode}
 use Rattle.source_meaning.proofs.Parts.{sized_operand}
 use Rattle.mir_lower.specs.Does.{here, IsFrameOf, Comes, Landings, Reaches, Nothing}
 use Rattle.mir_lower.specs.Graph.{Shape}
 use Rattle.mir_lower.specs.Growth.{Grows}
-use Rattle.mir_lower.specs.Lowered.{HasLayouts, LowersInto, LowersOperand}
+use Rattle.mir_lower.specs.Lowered.{IsPlainWithin, HasLayouts, LowersInto, LowersOperand}
 use Rattle.mir_lower.proofs.Branches.{IsBranched, comes-first, comes-second, first-joins, second-joins}
 use Rattle.mir_lower.proofs.Laid.{layouts-before, one-of}
 use Rattle.mir_lower.proofs.Reaching.{reaches-after, reaches-then}
@@ -55,13 +55,13 @@ module _ {source : Source} {s0 s1 s2 s3 s4 s5 s6 : Shape} {operand : OperandKind
     reaches-branched (byte ∷ more ∷ rest) has = without
 
 -- an operand that is tested, where it needs a layout
-pub lays-tested : (source : Source) (s0 s1 new : Shape) (e child : ℕ) (operand : OperandKind) → LowersOperand source s0 s1 e operand → Grows s1 new → Contains (sized_part source (Operand e)) child → IsPlainFrom source child → HasLayouts source new → (f : ℕ) → NeedsLayout source child f → IsLaidOut source (node_type source f)
+pub lays-tested : (source : Source) (s0 s1 new : Shape) (e child : ℕ) (operand : OperandKind) → LowersOperand source s0 s1 e operand → Grows s1 new → Contains (sized_part source (Operand e)) child → IsPlainWithin source child → HasLayouts source new → (f : ℕ) → NeedsLayout source child f → IsLaidOutNode source f
 lays-tested source s0 s1 new e child operand lowered grows within plain layouts f needs =
     let is = sized_operand source (e ∷ []) child (Contains-append_left (sized_part source (Operand e)) [] child within) in
     let same : e ≡ child = one-of e child is.0 in
-    lowered.laid (subst (λ x. is_truth (node source x) ≡ false) (sym same) is.1) (subst (IsPlainFrom source) (sym same) plain) (layouts-before source s1 new grows layouts) f (subst (λ x. NeedsLayout source x f) (sym same) needs)
+    lowered.laid (subst (λ x. is_truth (unadjusted source x) ≡ false) (sym same) is.1) (subst (IsPlainWithin source) (sym same) plain) (layouts-before source s1 new grows layouts) f (subst (λ x. NeedsLayout source x f) (sym same) needs)
 
--- what is evaluated into the place of the whole, and has its type
-pub lays-into : (source : Source) (s0 s1 new : Shape) (e part child : ℕ) (c : Cell) → LowersInto source s0 s1 part c → Grows s1 new → part ≡ child → node_type source part ≡ node_type source e → IsLaidOut source (node_type source e) → IsPlainFrom source child → HasLayouts source new → (f : ℕ) → NeedsLayout source child f → IsLaidOut source (node_type source f)
+-- what is evaluated into the place of the whole itself, and has its type
+pub lays-into : (source : Source) (s0 s1 new : Shape) (e part child : ℕ) (c : Cell) → LowersInto source s0 s1 part c → Grows s1 new → part ≡ child → node_type source part ≡ own_type source e → IsLaidOut source (own_type source e) → IsPlainWithin source child → HasLayouts source new → (f : ℕ) → NeedsLayout source child f → IsLaidOutNode source f
 lays-into source s0 s1 new e part child c lowered grows same typed laid plain layouts f needs =
-    lowered.laid (subst (IsLaidOut source) (sym typed) laid) (subst (IsPlainFrom source) (sym same) plain) (layouts-before source s1 new grows layouts) f (subst (λ x. NeedsLayout source x f) (sym same) needs)
+    lowered.laid (subst (IsLaidOut source) (sym typed) laid) (subst (IsPlainWithin source) (sym same) plain) (layouts-before source s1 new grows layouts) f (subst (λ x. NeedsLayout source x f) (sym same) needs)

@@ -9,9 +9,10 @@ use Rattle.source_meaning.specs.Core as expr
 use Rattle.source_meaning.specs.Source.{Source, Binding, node}
 use Rattle.source_meaning.specs.Steps.{parts_of, statement_parts}
 use Rattle.source_meaning.specs.Valid.{Evaluates, itself, part}
-use Rattle.source_meaning.proofs.Parts.{strict_parts, if_parts, block_parts}
+use Rattle.source_meaning.proofs.Parts.{strict_parts, if_parts, block_parts, tail_part}
 use Rattle.types.specs.declared.ids.BindingId.{BindingId}
 use Rattle.types.specs.declared.ids.ExprId.{ExprId}
+use Rattle.types.specs.declared.ids.LabelId.{LabelId}
 use Rattle.types.specs.declared.operators.LogicOp.{LogicOp}
 use Rattle.world.specs.Nodes.{optional}
 use Rattle.world.specs.declared.body.Statement.{Statement}
@@ -87,3 +88,21 @@ built-block source e statements tail is through last =
     (All-weaker (IsBuiltThrough source) (IsBuiltStatement source) (λ one built. built.own) statements through)
     (subst (All (IsBuilt source)) (sym (block_parts statements tail))
     (All-append (IsBuilt source) (flat_map statement_parts statements) (optional tail) (through-parts source statements through) last))
+
+-- a labelled block, a loop, and the jumps to them
+pub built-labelled : (source : Source) (e : ℕ) (label : LabelId) (statements : List Statement) (tail : Option ExprId) → node source e ≡ Some (expr.Labelled label statements tail) →
+    All (IsBuiltThrough source) statements → All (IsBuilt source) (optional tail) → IsBuilt source e
+built-labelled source e label statements tail is through last =
+    built-node source e (Some (expr.Labelled label statements tail)) is
+    (All-weaker (IsBuiltThrough source) (IsBuiltStatement source) (λ one built. built.own) statements through)
+    (subst (All (IsBuilt source)) (sym (block_parts statements tail))
+    (All-append (IsBuilt source) (flat_map statement_parts statements) (optional tail) (through-parts source statements through) last))
+
+pub built-loop : (source : Source) (e : ℕ) (label : Option LabelId) (body : ℕ) → node source e ≡ Some (expr.Loop label body) → IsBuilt source body → IsBuilt source e
+built-loop source e label body is built = built-node source e (Some (expr.Loop label body)) is tt (one-built source body built)
+
+pub built-break : (source : Source) (e : ℕ) (label : Option LabelId) (value : Option ExprId) → node source e ≡ Some (expr.Break label value) → All (IsBuilt source) (optional value) → IsBuilt source e
+built-break source e label value is built = built-node source e (Some (expr.Break label value)) is tt (subst (All (IsBuilt source)) (sym (tail_part value)) built)
+
+pub built-continue : (source : Source) (e : ℕ) (label : Option LabelId) → node source e ≡ Some (expr.Continue label) → IsBuilt source e
+built-continue source e label is = built-node source e (Some (expr.Continue label)) is tt (All-nil (IsBuilt source))

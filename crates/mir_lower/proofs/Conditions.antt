@@ -16,24 +16,24 @@ use Rattle.source_meaning.specs.Around.{Around, marking}
 use Rattle.source_meaning.specs.Ends.{after}
 use Rattle.source_meaning.specs.Events.{marked, marked_as_operand, marked_by_tail}
 use Rattle.source_meaning.specs.Meaning.{level_at, put, deciding_byte, reading_cost, decided_into, branch_into}
-use Rattle.source_meaning.specs.Source.{Source, node, node_type, Cell, Store, Operand, Literally, At, operand_bytes}
+use Rattle.source_meaning.specs.Source.{Source, node, own_type, Cell, Store, Operand, Literally, At, operand_bytes}
 use Rattle.source_meaning.specs.Steps.{parts_of, tail_steps}
 use Rattle.source_meaning.specs.Steps as step
-use Rattle.source_meaning.specs.Valid.{itself, own, inside, sized_part, sized_parts, HasPlainForm, IsPlainNode, IsPlainTail, IsPlainLogic, IsPlainIf, IsPlainFrom, IsLaidOut, NeedsLayout}
+use Rattle.source_meaning.specs.Valid.{itself, own, inside, sized_part, sized_parts, HasPlainForm, IsPlainNode, IsPlainTail, IsPlainLogic, IsPlainIf, IsLaidOut, NeedsLayout, IsLaidOutNode}
 use Rattle.source_meaning.proofs.Depth.{logic_operand_is_part, if_part_is_part, tail_is_part}
 use Rattle.source_meaning.proofs.Marks.{logic_marks, if_marks}
 use Rattle.source_meaning.proofs.Parts.{sized_part_is_part}
-use Rattle.mir_lower.specs.Does.{here, IsFrameOf, Holds, Comes, Landings, Reaches, Nothing, Fits}
+use Rattle.mir_lower.specs.Does.{Stands, here, IsFrameOf, Holds, Comes, Landings, Reaches, Nothing, Fits}
 use Rattle.mir_lower.specs.Graph.{Shape, with_statement, local_of}
 use Rattle.mir_lower.specs.Growth.{Grows, IsSound, IsOpen, IsReady}
-use Rattle.mir_lower.specs.Lowered.{Keeps, HasLayouts, LaysOut, LowersInto, LowersOperand, LowersTail}
+use Rattle.mir_lower.specs.Lowered.{IsPlainWithin, Keeps, HasLayouts, LaysOut, LowersInto, LowersOperand, LowersTail, LowersOwn}
 use Rattle.mir_lower.proofs.Branches.{IsBranched, grows5, grows3, grows1, branched-keeps}
 use Rattle.mir_lower.proofs.Branching.{reaches-branched, lays-tested, lays-into}
 use Rattle.mir_lower.proofs.Growing.{grows-trans}
 use Rattle.mir_lower.proofs.Laid.{layouts-before, plain-part, one-of}
 use Rattle.mir_lower.proofs.Operations.{assignment, keeps-assigned}
 use Rattle.mir_lower.proofs.Reaching.{comes-refl, reaches-after, reaches-then}
-use Rattle.mir_lower.proofs.Standing.{marking-fits}
+use Rattle.mir_lower.proofs.Standing.{marking-fits, stands-in}
 use Rattle.mir_lower.proofs.Steps.{local_of-grows, assigned-bytes, does-form}
 
 -- What is lowered is a part: the operands of `&&` and `||`, the condition and the branches of an `if`, and what may be left out.
@@ -61,29 +61,29 @@ tail-part source e statements None form = tt
 -- `if`.
 
 module _ (source : Source) (s0 s1 s2 s3 s4 s5 s6 : Shape) (e condition then_branch : ℕ) (else_branch : Option ExprId) (operand : OperandKind) (other join : ℕ) (c : Cell) (form : node source e ≡ Some (expr.If condition then_branch else_branch)) (tested : LowersOperand source s0 s1 condition operand) (first : LowersInto source s2 s3 then_branch c) (second : LowersTail source s4 s5 else_branch c) (parts : IsBranched source s0 s1 s2 s3 s4 s5 s6 operand 1 other join (marked_as_operand source condition) (marked source then_branch) (marked_by_tail source else_branch)) where
-  lays-else : (child : ℕ) (branch : Option ExprId) → else_branch ≡ branch → Contains (flat_map (sized_part source) (tail_steps branch)) child → (whole : IsPlainNode source e) → IsPlainTail source else_branch whole.ty → IsLaidOut source (node_type source e) → IsPlainFrom source child → HasLayouts source s6 → (f : ℕ) → NeedsLayout source child f → IsLaidOut source (node_type source f)
+  lays-else : (child : ℕ) (branch : Option ExprId) → else_branch ≡ branch → Contains (flat_map (sized_part source) (tail_steps branch)) child → (whole : IsPlainNode source e) → IsPlainTail source else_branch whole.ty → IsLaidOut source (own_type source e) → IsPlainWithin source child → HasLayouts source s6 → (f : ℕ) → NeedsLayout source child f → IsLaidOutNode source f
   lays-else child None is within whole typed laid plain layouts f needs = absurd (let below = within.1 in omega arith)
   lays-else child (Some one) is within whole typed laid plain layouts f needs =
       let same : one.0 ≡ child = one-of one.0 child within in
       let has = subst (λ (o : Option ExprId). IsPlainTail source o whole.ty) is typed in
-      second.laid one is (subst (IsLaidOut source) (whole.has_type ∙ sym has) laid) (subst (IsPlainFrom source) (sym same) plain) (layouts-before source s5 s6 (grows5 parts) layouts) f (subst (λ x. NeedsLayout source x f) (sym same) needs)
+      second.laid one is (subst (IsLaidOut source) (whole.has_type ∙ sym has) laid) (subst (IsPlainWithin source) (sym same) plain) (layouts-before source s5 s6 (grows5 parts) layouts) f (subst (λ x. NeedsLayout source x f) (sym same) needs)
 
-  lays-if : IsLaidOut source (node_type source e) → LaysOut source s6 e
+  lays-if : IsLaidOutNode source e → LaysOut source s6 e
   lays-if laid plain layouts f own = laid
   lays-if laid plain layouts f (inside {child = child} within rest) =
-      let below = plain-part source e child (sized_part_is_part source (node source e) child within) plain in
-      let node = plain e itself in
+      let below = plain-part source e child (sized_part_is_part source (node source e) child within) laid plain in
+      let node = plain.nodes e itself in
       let typed : IsPlainIf source condition then_branch else_branch node.ty = subst (λ n. HasPlainForm source e n node.ty) form node.form in
       ⊎_elim
       (λ test. lays-tested source s0 s1 s6 condition child operand tested (grows1 parts) test below layouts f rest)
       (λ branch. ⊎_elim
-      (λ one. lays-into source s2 s3 s6 e then_branch child c first (grows3 parts) (one-of then_branch child one) (typed.then_has ∙ sym node.has_type) laid below layouts f rest)
-      (λ other. lays-else child else_branch refl other node typed.else_has laid below layouts f rest)
+      (λ one. lays-into source s2 s3 s6 e then_branch child c first (grows3 parts) (one-of then_branch child one) (typed.then_has ∙ sym node.has_type) laid.of_itself below layouts f rest)
+      (λ other. lays-else child else_branch refl other node typed.else_has laid.of_itself below layouts f rest)
       (Contains-append_cases (then_branch ∷ []) (flat_map (sized_part source) (tail_steps else_branch)) child branch))
       (Contains-append_cases (sized_part source (step.Operand condition)) (then_branch ∷ flat_map (sized_part source) (tail_steps else_branch)) child (subst (λ n. Contains (sized_parts source n) child) form within))
 
   -- an `if` was lowered: its condition, a test of it, and both branches
-  pub lowers-if : IsReady source s0 e → LowersInto source s0 s6 e c
+  pub lowers-if : IsReady source s0 e → LowersOwn source s0 s6 e c
   lowers-if ready =
       record {
         keeps = subst (λ (m : List Cell). Keeps source s0 s6 m) (sym (if_marks source ready.checked e ready.within condition then_branch else_branch form)) (branched-keeps parts);
@@ -94,9 +94,9 @@ module _ (source : Source) (s0 s1 s2 s3 s4 s5 s6 : Shape) (e condition then_bran
               let grown5 : Grows s5 whole = grows-trans s5 s6 whole (grows5 parts) grows in
               let grown1 : Grows s1 whole = grows-trans s1 s6 whole (grows1 parts) grows in
               let around1 : Around = marking (marked_as_operand source condition) around in
-              let stands1 : around1.marks ≡ s2.scope = marking-fits parts.test around stands ∙ sym parts.forked.scope in
+              let stands1 : Stands whole s2 lands around1 = stands-in parts.forked.scope parts.forked.spares.targets (marking-fits parts.test around stands) in
               let around2 : Around = marking (marked source then_branch) around1 in
-              let stands2 : around2.marks ≡ s4.scope = marking-fits parts.one around1 stands1 ∙ sym parts.one_ended.scope in
+              let stands2 : Stands whole s4 lands around2 = stands-in parts.one_ended.scope parts.one_ended.targets (marking-fits parts.one around1 stands1) in
               reaches-then whole lands frame (here s0) (here s1) (here s6) memory (Fits source operand whole frame) (Nothing whole frame) ((below around).operand condition store) _
               (tested.does.reaches whole frame grown1 sound is lands around stands fuel store memory holds)
               (λ given store1 memory1 claims.
@@ -135,19 +135,19 @@ module _ (source : Source) (s new : Shape) (operand : MirOperand) (place : Place
       (assigned-bytes source s whole frame place (Use operand) span opened sound is lands grown c local store memory holds (operand_bytes store given) (decided-computes source whole frame operand given store memory holds fits)))
 
 module _ (source : Source) (s0 s1 s2 s3 s4 s5 s6 : Shape) (e : ℕ) (op : LogicOp) (left right : ℕ) (operand : MirOperand) (place : Place) (span : MirSpan) (other join : ℕ) (c : Cell) (form : node source e ≡ Some (expr.Logic op left right)) (tested : LowersOperand source s0 s1 left operand.kind) (same : s3 ≡ with_statement (assignment place (Use operand) span) s2) (second : LowersInto source s4 s5 right c) (parts : IsBranched source s0 s1 s2 s3 s4 s5 s6 operand.kind (deciding_byte op) other join (marked_as_operand source left) [] (marked source right)) where
-  lays-logic : IsLaidOut source (node_type source e) → LaysOut source s6 e
+  lays-logic : IsLaidOutNode source e → LaysOut source s6 e
   lays-logic laid plain layouts f own = laid
   lays-logic laid plain layouts f (inside {child = child} within rest) =
-      let below = plain-part source e child (sized_part_is_part source (node source e) child within) plain in
-      let node = plain e itself in
+      let below = plain-part source e child (sized_part_is_part source (node source e) child within) laid plain in
+      let node = plain.nodes e itself in
       let typed : IsPlainLogic source left right node.ty = subst (λ n. HasPlainForm source e n node.ty) form node.form in
       ⊎_elim
       (λ test. lays-tested source s0 s1 s6 left child operand.kind tested (grows1 parts) test below layouts f rest)
-      (λ other. lays-into source s4 s5 s6 e right child c second (grows5 parts) (one-of right child other) (typed.right_has ∙ ap Some (sym typed.typed) ∙ sym node.has_type) laid below layouts f rest)
+      (λ other. lays-into source s4 s5 s6 e right child c second (grows5 parts) (one-of right child other) (typed.right_has ∙ ap Some (sym typed.typed) ∙ sym node.has_type) laid.of_itself below layouts f rest)
       (Contains-append_cases (sized_part source (step.Operand left)) (right ∷ []) child (subst (λ n. Contains (sized_parts source n) child) form within))
 
   -- `&&` or `||` was lowered: the left operand, a test of it, the assignment of it where it decides, and the right operand
-  pub lowers-logic : IsReady source s0 e → local_of s0 c ≡ Some place.local.0 → LowersInto source s0 s6 e c
+  pub lowers-logic : IsReady source s0 e → local_of s0 c ≡ Some place.local.0 → LowersOwn source s0 s6 e c
   lowers-logic ready local =
       record {
         keeps = subst (λ (m : List Cell). Keeps source s0 s6 m) (sym (logic_marks source ready.checked e ready.within op left right form)) (branched-keeps parts);
@@ -159,7 +159,7 @@ module _ (source : Source) (s0 s1 s2 s3 s4 s5 s6 : Shape) (e : ℕ) (op : LogicO
               let grown1 : Grows s1 whole = grows-trans s1 s6 whole (grows1 parts) grows in
               let found = local_of-grows s0 whole (grows-trans s0 s1 whole tested.keeps.grows grown1) c place.local.0 local in
               let around1 : Around = marking (marked_as_operand source left) around in
-              let stands1 : around1.marks ≡ s4.scope = marking-fits parts.test around stands ∙ sym (parts.one_ended.scope ∙ parts.one.scope ∙ append-nil s2.scope ∙ parts.forked.scope) in
+              let stands1 : Stands whole s4 lands around1 = stands-in (parts.one_ended.scope ∙ parts.one.scope ∙ append-nil s2.scope ∙ parts.forked.scope) (parts.one_ended.targets ∙ parts.one.spares.targets ∙ parts.forked.spares.targets) (marking-fits parts.test around stands) in
               reaches-then whole lands frame (here s0) (here s1) (here s6) memory (Fits source operand.kind whole frame) (Nothing whole frame) ((below around).operand left store) _
               (tested.does.reaches whole frame grown1 sound is lands around stands fuel store memory holds)
               (λ given store1 memory1 claims.

@@ -1,11 +1,14 @@
 -- Leaving the cells of a scope, from the last back.
-use Rattle.std.proofs.Common.{◌≡◌, ℕ, ◌+◌, ◌<◌, ◌≤◌, Bool, true, false, cond, List, [], ◌∷◌, ◌++◌, length, take, drop, sym, ap, ◌∙◌, subst, arith, append_assoc, append-nil, length-append}
-use Rattle.std.specs.Prelude.{filter}
+use Rattle.std.proofs.Common.{◌≡◌, ℕ, zero, suc, Some, ◌+◌, ◌<◌, ◌≤◌, Bool, true, false, cond, List, [], ◌∷◌, ◌++◌, length, take, drop, refl, sym, ap, ◌∙◌, subst, arith, ◌⊎◌, inr, ⊎_elim, append_assoc, append-nil, length-append}
+use Rattle.std.specs.Prelude.{filter, slice_get, option_map}
+use Rattle.std.proofs.lemmas.Option.{slice_get-map}
+use Rattle.mir_lower.specs.declared.graph.Marked.{Marked}
 use Rattle.std.proofs.Math.Seq.{take-append_seam, drop-append_seam}
 use Rattle.source_meaning.specs.Source.{Source, Cell, is_dropped, drops}
-use Rattle.mir_lower.specs.Graph.{Shape, with_scope, with_mark}
+use Rattle.mir_lower.specs.Graph.{Shape, cell_of, cells_of, with_scope, with_mark}
 use Rattle.mir_lower.specs.Growth.{IsSound, IsOpen}
 use Rattle.mir_lower.specs.Leaving.{Idles, one_if}
+use Rattle.mir_lower.proofs.Lists.{drop-at}
 use Rattle.mir_lower.proofs.Leaving.{idles-refl, idles-trans, idles-scoped}
 use Rattle.mir_lower.proofs.Sound.{with_scope-sound, with_scope-open}
 
@@ -83,3 +86,32 @@ module _ (s0 s1 : Shape) (n : ℕ) (inner : List Cell) (opened : n ≡ length s0
       let rest : drop n s1.scope ≡ inner = ap (drop n) since ∙ ap (λ (m : ℕ). drop m (s0.scope ++ inner)) opened ∙ drop-append_seam s0.scope inner in
       subst (λ (scope : List Cell). Idles source (with_scope scope s1) s2 (drops source inner)) first
       (subst (λ (cells : List Cell). Idles source (with_scope (take n s1.scope) s1) s2 (drops source cells)) rest idles)
+
+-- one more cell was left, while all stay marked
+pub marked-left : (source : Source) (s0 s1 s2 : Shape) (items : List Marked) (marked : Marked) (k : ℕ) → s1.scope ≡ cells_of items → slice_get items k ≡ Some marked → Idles source s0 s1 (drops source (drop (suc k) s0.scope)) → Idles source s1 s2 (one_if (is_dropped source (cell_of marked.held))) → Idles source s0 s2 (drops source (drop k s0.scope))
+marked-left source s0 s1 s2 items marked k same found before next =
+    let scope : s0.scope ≡ cells_of items = sym before.scope ∙ same in
+    let there : slice_get s0.scope k ≡ Some (cell_of marked.held) =
+    ap (λ (cells : List Cell). slice_get cells k) scope ∙ slice_get-map (λ (m : Marked). cell_of m.held) items k ∙ ap (option_map (λ (m : Marked). cell_of m.held)) found in
+    let count : drops source (drop (suc k) s0.scope) + one_if (is_dropped source (cell_of marked.held)) ≡ drops source (drop k s0.scope) =
+    sym (ap (drops source) (drop-at s0.scope k (cell_of marked.held) there) ∙ drops-first source (cell_of marked.held) (drop (suc k) s0.scope)) in
+    subst (λ (n : ℕ). Idles source s0 s2 n) count (idles-trans source s0 s1 s2 (drops source (drop (suc k) s0.scope)) (one_if (is_dropped source (cell_of marked.held))) before next)
+
+drop-past : {A : Type 0} (xs : List A) (n : ℕ) → length xs ≤ n → drop n xs ≡ []
+drop-past [] zero most = refl
+drop-past [] (suc n) most = refl
+drop-past (x ∷ xs) zero most = absurd (omega arith)
+drop-past (x ∷ xs) (suc n) most = drop-past xs n (omega arith)
+
+-- none of the marked cells was left yet
+pub nothing-left : (source : Source) (s0 : Shape) (token left : ℕ) → left ≡ length s0.scope → IsSound source s0 → IsOpen s0 → ((token ≤ left) ⊎ (left ≡ length s0.scope)) × (left ≤ length s0.scope) × Idles source s0 s0 (drops source (drop left s0.scope))
+nothing-left source s0 token left all sound opened =
+    (inr all, omega arith, subst (λ (cells : List Cell). Idles source s0 s0 (drops source cells)) (sym (drop-past s0.scope left (omega arith))) (idles-refl source s0 sound opened))
+
+-- all that are marked behind a place were left
+pub left-as-marked : (source : Source) (s0 s1 : Shape) (token left : ℕ) → left ≤ token → (token ≤ left) ⊎ (left ≡ length s0.scope) → Idles source s0 s1 (drops source (drop left s0.scope)) → Idles source s0 s1 (drops source (drop token s0.scope))
+left-as-marked source s0 s1 token left most which idles =
+    ⊎_elim
+    (λ least. let same : left ≡ token = omega arith in subst (λ (n : ℕ). Idles source s0 s1 (drops source (drop n s0.scope))) same idles)
+    (λ all. subst (λ (cells : List Cell). Idles source s0 s1 (drops source cells)) (drop-past s0.scope left (omega arith) ∙ sym (drop-past s0.scope token (omega arith))) idles)
+    which

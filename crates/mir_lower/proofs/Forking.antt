@@ -22,7 +22,7 @@ use Rattle.mir_lower.proofs.Growing.{grows-trans}
 use Rattle.mir_lower.proofs.Reserving.{Reserves, reserves, LeadsOn, leads-on}
 use Rattle.mir_lower.proofs.Sparing.{spares-trans, spares-entered}
 
-goto-leads : (frame : Frame) (memory : Memory) (to : BasicBlockId) (span : MirSpan) → terminated frame memory (Some (record { span = span; kind = Goto to })) ≡ GoesTo memory to.0
+pub goto-leads : (frame : Frame) (memory : Memory) (to : BasicBlockId) (span : MirSpan) → terminated frame memory (Some (record { span = span; kind = Goto to })) ≡ GoesTo memory to.0
 unfolding terminated
 goto-leads frame memory to span = refl
 
@@ -38,8 +38,10 @@ goes-on source s new to next span sound opened reserved same =
       sound = leads.sound;
       «open» = leads.«open»;
       scope = leads.scope;
+      targets = leads.targets;
       current = leads.current;
       begins = leads.begins;
+      heads = λ whole frame grows is memory. leads.heads whole frame grows is memory to.0 (goto-leads frame memory to span);
       comes = λ whole frame grows is memory. leads.comes whole frame grows is memory to.0 (goto-leads frame memory to span);
     }
 
@@ -95,7 +97,7 @@ forks source s0 s1 s2 s3 new discr targets span number taken other join sound op
     let begins : here s3 ≡ here s0 = third.same_here ∙ second.same_here ∙ first.same_here in
     record {
       grows = grows-trans s0 s1 new first.grows (grows-trans s1 s2 new second.grows (grows-trans s2 s3 new third.grows leads.grows));
-      spares = spares-entered s0 s3 new spares leads.others leads.many (let is = leads.current in omega arith);
+      spares = spares-entered s0 s3 new spares leads.others leads.many leads.targets (let is = leads.current in omega arith);
       sound = leads.sound;
       «open» = leads.«open»;
       scope = leads.scope ∙ third.scope ∙ second.scope ∙ first.scope;

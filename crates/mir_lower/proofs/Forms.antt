@@ -1,6 +1,6 @@
--- The form of an expression, by its variant and by whether its value is adjusted.
+-- The form of an expression, by its variant and by how its value is adjusted.
 use Rattle.std.proofs.Common.{◌≡◌, ℕ, Bool, true, false, if◌then◌else◌, Some, None, option_and_then, refl, ap, ◌∙◌, inl, inr}
-use Rattle.source_meaning.specs.Core.{core_of, is_adjusted, names_item}
+use Rattle.source_meaning.specs.Core.{core_of, is_adjusted_otherwise, names_item}
 use Rattle.source_meaning.specs.Source.{Source, node}
 use Rattle.world.specs.declared.expr.Expr.{Expr}
 use Rattle.world.specs.declared.expr.Expr.TheVariants as whole
@@ -10,33 +10,36 @@ use Rattle.mir_lower.specs.declared.form.Form.TheVariants as form
 use Rattle.mir_lower.specs.Form.{IsFormOf, IsCauseAt, HasForm}
 
 -- an expression of none of the forms that are built
-pub otherwise : (item : Bool) (e : Expr) → ((l : _) → e ≡ whole.Literal l → ⊥) → ((name : _) → e ≡ whole.Path name → ⊥) → ((operand : _) (op : _) → e ≡ whole.UnaryOp operand op → ⊥) → ((lhs : _) (rhs : _) (op : _) → e ≡ whole.BinaryOp lhs rhs op → ⊥) → ((condition : _) (then_branch : _) (else_branch : _) → e ≡ whole.If condition then_branch else_branch → ⊥) → ((target : _) (value : _) → e ≡ whole.Assignment target value → ⊥) → ((statements : _) (tail : _) (label : _) → e ≡ whole.Block statements tail label → ⊥) → (e ≡ whole.Missing → ⊥) → IsFormOf item e form.Unbuilt
-otherwise item (whole.Literal l) literal path unary binary either assigned block missing = absurd (literal l refl)
-otherwise item (whole.Path name) literal path unary binary either assigned block missing = absurd (path name refl)
-otherwise item (whole.UnaryOp operand op) literal path unary binary either assigned block missing = absurd (unary operand op refl)
-otherwise item (whole.BinaryOp lhs rhs op) literal path unary binary either assigned block missing = absurd (binary lhs rhs op refl)
-otherwise item (whole.If condition then_branch else_branch) literal path unary binary either assigned block missing = absurd (either condition then_branch else_branch refl)
-otherwise item (whole.Assignment target value) literal path unary binary either assigned block missing = absurd (assigned target value refl)
-otherwise item (whole.Block statements tail label) literal path unary binary either assigned block missing = absurd (block statements tail label refl)
-otherwise item whole.Missing literal path unary binary either assigned block missing = absurd (missing refl)
-otherwise item _ literal path unary binary either assigned block missing = record { core = refl; cause = λ lacks. lacks }
+pub otherwise : (item : Bool) (e : Expr) → ((l : _) → e ≡ whole.Literal l → ⊥) → ((name : _) → e ≡ whole.Path name → ⊥) → ((operand : _) (op : _) → e ≡ whole.UnaryOp operand op → ⊥) → ((lhs : _) (rhs : _) (op : _) → e ≡ whole.BinaryOp lhs rhs op → ⊥) → ((condition : _) (then_branch : _) (else_branch : _) → e ≡ whole.If condition then_branch else_branch → ⊥) → ((target : _) (value : _) → e ≡ whole.Assignment target value → ⊥) → ((statements : _) (tail : _) (label : _) → e ≡ whole.Block statements tail label → ⊥) → ((body : _) (label : _) → e ≡ whole.Loop body label → ⊥) → ((value : _) (label : _) → e ≡ whole.Break value label → ⊥) → ((label : _) → e ≡ whole.Continue label → ⊥) → (e ≡ whole.Missing → ⊥) → IsFormOf item e form.Unbuilt
+otherwise item (whole.Literal l) literal path unary binary either assigned block loop break continue missing = absurd (literal l refl)
+otherwise item (whole.Path name) literal path unary binary either assigned block loop break continue missing = absurd (path name refl)
+otherwise item (whole.UnaryOp operand op) literal path unary binary either assigned block loop break continue missing = absurd (unary operand op refl)
+otherwise item (whole.BinaryOp lhs rhs op) literal path unary binary either assigned block loop break continue missing = absurd (binary lhs rhs op refl)
+otherwise item (whole.If condition then_branch else_branch) literal path unary binary either assigned block loop break continue missing = absurd (either condition then_branch else_branch refl)
+otherwise item (whole.Assignment target value) literal path unary binary either assigned block loop break continue missing = absurd (assigned target value refl)
+otherwise item (whole.Block statements tail label) literal path unary binary either assigned block loop break continue missing = absurd (block statements tail label refl)
+otherwise item (whole.Loop body label) literal path unary binary either assigned block loop break continue missing = absurd (loop body label refl)
+otherwise item (whole.Break value label) literal path unary binary either assigned block loop break continue missing = absurd (break value label refl)
+otherwise item (whole.Continue label) literal path unary binary either assigned block loop break continue missing = absurd (continue label refl)
+otherwise item whole.Missing literal path unary binary either assigned block loop break continue missing = absurd (missing refl)
+otherwise item _ literal path unary binary either assigned block loop break continue missing = record { core = refl; cause = λ lacks. lacks }
 
-node-adjusted : (source : Source) (e : ℕ) → is_adjusted source.infer (record { 0 = e }) ≡ true → node source e ≡ None
+node-adjusted : (source : Source) (e : ℕ) → is_adjusted_otherwise source.infer (record { 0 = e }) ≡ true → node source e ≡ None
 unfolding node
 node-adjusted source e is = ap (λ adjusted. if adjusted then None else option_and_then (core_of (names_item source.infer (record { 0 = e }))) (expr_of source.body e)) is
 
-pub node-plain : (source : Source) (e : ℕ) (given : Expr) → is_adjusted source.infer (record { 0 = e }) ≡ false → expr_of source.body e ≡ Some given → node source e ≡ core_of (names_item source.infer (record { 0 = e })) given
+pub node-plain : (source : Source) (e : ℕ) (given : Expr) → is_adjusted_otherwise source.infer (record { 0 = e }) ≡ false → expr_of source.body e ≡ Some given → node source e ≡ core_of (names_item source.infer (record { 0 = e })) given
 unfolding node
 node-plain source e given is there =
     ap (λ adjusted. if adjusted then None else option_and_then (core_of (names_item source.infer (record { 0 = e }))) (expr_of source.body e)) is
     ∙ ap (option_and_then (core_of (names_item source.infer (record { 0 = e })))) there
 
--- an expression whose value is adjusted isn't built
-pub form-adjusted : (source : Source) (e : ℕ) → is_adjusted source.infer (record { 0 = e }) ≡ true → HasForm source e form.Unbuilt
+-- an expression whose value is adjusted otherwise than by `NeverToAny` isn't built
+pub form-adjusted : (source : Source) (e : ℕ) → is_adjusted_otherwise source.infer (record { 0 = e }) ≡ true → HasForm source e form.Unbuilt
 form-adjusted source e is = record { core = node-adjusted source e is; cause = inl is }
 
 -- any other has the form of its variant
-pub form-plain : (source : Source) (e : ℕ) (given : Expr) (f : Form) → is_adjusted source.infer (record { 0 = e }) ≡ false → expr_of source.body e ≡ Some given → IsFormOf (names_item source.infer (record { 0 = e })) given f → HasForm source e f
+pub form-plain : (source : Source) (e : ℕ) (given : Expr) (f : Form) → is_adjusted_otherwise source.infer (record { 0 = e }) ≡ false → expr_of source.body e ≡ Some given → IsFormOf (names_item source.infer (record { 0 = e })) given f → HasForm source e f
 form-plain source e given f is there of =
     record { core = node-plain source e given is there ∙ of.core; cause = by-form f of }
   where

@@ -9,7 +9,7 @@ use Rattle.mir.specs.declared.operand.Rvalue.{Rvalue}
 use Rattle.mir.specs.declared.statement.StatementKind.TheVariants.{Assign}
 use Rattle.mir.specs.Memory.{Interval, Memory, bytes_at, with_bytes}
 use Rattle.mir.specs.Run.{Frame, after_statement, copied, rvalue_bytes, bad_write}
-use Rattle.source_meaning.specs.Source.{Source, Cell, Result as Slot, Node, Binding, Store, same_cell, with_cell_bytes}
+use Rattle.source_meaning.specs.Source.{Source, Cell, Result as Slot, Node, Binding, Never, Store, same_cell, with_cell_bytes}
 use Rattle.mir_lower.specs.Does.{local_bytes, IsFrameOf, Holds}
 use Rattle.mir_lower.specs.Graph.{Shape, local_of}
 use Rattle.mir_lower.specs.Growth.{IsSound}
@@ -20,6 +20,7 @@ same_cell-refl : (c : Cell) → same_cell c c ≡ true
 same_cell-refl Slot = refl
 same_cell-refl (Node e) = grind (arith, nat_tests)
 same_cell-refl (Binding b) = grind (arith, nat_tests)
+same_cell-refl (Never e) = grind (arith, nat_tests)
 
 unequal : (m n : ℕ) → m ≢ n → eqb m n ≡ false
 unequal m n differ = grind (arith, nat_tests)
@@ -28,12 +29,21 @@ pub cells : (c d : Cell) → ((c ≡ d) × (same_cell c d ≡ true)) ⊎ ((c ≢
 cells Slot Slot = inl (refl, refl)
 cells Slot (Node e) = inr ((λ same. cc), refl)
 cells Slot (Binding b) = inr ((λ same. cc), refl)
+cells Slot (Never e) = inr ((λ same. cc), refl)
 cells (Node e) Slot = inr ((λ same. cc), refl)
 cells (Node e) (Binding b) = inr ((λ same. cc), refl)
+cells (Node e) (Never f) = inr ((λ same. cc), refl)
 cells (Binding b) Slot = inr ((λ same. cc), refl)
 cells (Binding b) (Node e) = inr ((λ same. cc), refl)
+cells (Binding b) (Never e) = inr ((λ same. cc), refl)
+cells (Never e) Slot = inr ((λ same. cc), refl)
+cells (Never e) (Node f) = inr ((λ same. cc), refl)
+cells (Never e) (Binding b) = inr ((λ same. cc), refl)
 cells (Node e) (Node f) =
     ⊎_elim (λ same. inl (ap Node same, ap (λ g. same_cell (Node e) (Node g)) (sym same) ∙ same_cell-refl (Node e)))
+    (λ differ. inr ((λ same. differ (let parts : e ≡ f = cc in parts)), unequal e f differ)) (cases_eq e f)
+cells (Never e) (Never f) =
+    ⊎_elim (λ same. inl (ap Never same, ap (λ g. same_cell (Never e) (Never g)) (sym same) ∙ same_cell-refl (Never e)))
     (λ differ. inr ((λ same. differ (let parts : e ≡ f = cc in parts)), unequal e f differ)) (cases_eq e f)
 cells (Binding b) (Binding c) =
     ⊎_elim (λ same. inl (ap Binding same, ap (λ d. same_cell (Binding b) (Binding d)) (sym same) ∙ same_cell-refl (Binding b)))

@@ -1,19 +1,22 @@
 -- In a plain source, where the locals of the graph have layouts, the types of what is evaluated have.
 use Rattle.std.proofs.Common.{◌≡◌, ℕ, zero, suc, ◌⊎◌, inl, inr, false, List, [], ◌∷◌, Contains, Option, Some, None, ◌∙◌, refl, sym, ap, subst, arith}
-use Rattle.std.specs.Prelude.{option_map}
+use Rattle.std.specs.Prelude.{option_map, All}
 use Rattle.source_meaning.specs.Core as expr
-use Rattle.source_meaning.specs.Core.{CoreLiteral, Truth, Number, is_truth}
+use Rattle.source_meaning.specs.Around.{Opened}
+use Rattle.source_meaning.proofs.Never.{undiverted-type, unadjusted-plain}
+use Rattle.source_meaning.specs.Core.{CoreExpr, CoreLiteral, Truth, Number, is_truth}
 use Rattle.world.specs.declared.layout.Layout.{Layout}
 use Rattle.mir.specs.declared.operand.OperandKind.{OperandKind}
 use Rattle.source_meaning.specs.Meaning.{literal_bytes}
-use Rattle.source_meaning.specs.Source.{Source, node, node_type, node_layout, Node}
+use Rattle.source_meaning.specs.Source.{Source, node, unadjusted, own_type, own_layout, Node}
 use Rattle.source_meaning.specs.Steps.{parts_of}
-use Rattle.source_meaning.specs.Valid.{itself, part, HasPlainForm, IsPlainFrom, IsPlainNode, IsPlainPath, IsLaidOut, NeedsLayout, own, inside, sized_parts}
+use Rattle.source_meaning.specs.Valid.{opened_in, part_in, itself, part, HasPlainForm, IsPlainNode, IsPlainPath, IsLaidOut, NeedsLayout, own, inside, sized_parts, IsLaidOutNode}
 use Rattle.mir_lower.specs.Graph.{Shape, local_of_type, temp_of}
 use Rattle.mir_lower.specs.Growth.{Grows, IsSound}
 use Rattle.mir_lower.specs.Literals.{IsLiteral}
-use Rattle.mir_lower.specs.Lowered.{HasLayouts, LaysOut, IsNamed, LowersInto}
+use Rattle.mir_lower.specs.Lowered.{IsPlainWithin, HasLayouts, LaysOut, IsNamed, LowersInto}
 use Rattle.mir_lower.proofs.Sound.{binding-there}
+use Rattle.std.proofs.lemmas.List.Elements.{All-cons}
 
 -- what holds in a graph that grew, held before
 pub layouts-before : (source : Source) (old new : Shape) → Grows old new → HasLayouts source new → HasLayouts source old
@@ -26,40 +29,68 @@ alone source e f none (inside {child = child} is rest) = absurd (no-element chil
   no-element : (x : ℕ) → Contains [] x → ⊥
   no-element x is = let below = is.1 in absurd (omega arith)
 
+-- the types of the loops and labelled blocks around the parts of an expression
+opened-laid : (source : Source) (e : ℕ) (form : Option CoreExpr) (outer : List Opened) → IsLaidOut source (own_type source e) → All (λ target. IsLaidOut source (own_type source target.node)) outer → All (λ target. IsLaidOut source (own_type source target.node)) (opened_in e form outer)
+opened-laid source e (Some (expr.Labelled label statements tail)) outer laid all = All-cons (λ target. IsLaidOut source (own_type source target.node)) _ outer laid all
+opened-laid source e (Some (expr.Loop label body)) outer laid all = All-cons (λ target. IsLaidOut source (own_type source target.node)) _ outer laid all
+opened-laid source e (Some (expr.Literal l)) outer laid all = all
+opened-laid source e (Some (expr.Path name)) outer laid all = all
+opened-laid source e (Some (expr.Strict operation operands)) outer laid all = all
+opened-laid source e (Some (expr.Logic op left right)) outer laid all = all
+opened-laid source e (Some (expr.If condition then_branch else_branch)) outer laid all = all
+opened-laid source e (Some (expr.Assign assigned value)) outer laid all = all
+opened-laid source e (Some (expr.Block statements tail)) outer laid all = all
+opened-laid source e (Some (expr.Break label value)) outer laid all = all
+opened-laid source e (Some (expr.Continue label)) outer laid all = all
+opened-laid source e None outer laid all = all
+
 -- what is plain where an expression is, is plain where a part of it is
-pub plain-part : (source : Source) (e child : ℕ) → Contains (parts_of (node source e)) child → IsPlainFrom source e → IsPlainFrom source child
-plain-part source e child is plain f evaluates = plain f (part is evaluates)
+pub plain-part : (source : Source) (e child : ℕ) → Contains (parts_of (node source e)) child → IsLaidOutNode source e → IsPlainWithin source e → IsPlainWithin source child
+plain-part source e child is laid plain =
+    record {
+      nodes = λ f evaluates. plain.nodes f (part is evaluates);
+      opened = opened_in e (node source e) plain.opened;
+      jumps = λ inner f evaluates. plain.jumps inner f (part_in is evaluates);
+      laid = opened-laid source e (node source e) plain.opened laid.of_itself plain.laid;
+    }
+
+-- an expression that isn't adjusted has one type
+pub laid-unadjusted : (source : Source) (e : ℕ) (form : CoreExpr) → unadjusted source e ≡ Some form → IsLaidOut source (own_type source e) → IsLaidOutNode source e
+laid-unadjusted source e form is laid =
+    let found = unadjusted-plain source e form is in
+    record { of_itself = laid; of_value = subst (IsLaidOut source) (sym (undiverted-type source e found.0)) laid }
 
 -- a number's layout was looked up
-number-laid : (source : Source) (e : ℕ) (l : CoreLiteral) (bytes : List ℕ) → literal_bytes source e l ≡ Some bytes → is_truth (Some (expr.Literal l)) ≡ false → IsLaidOut source (node_type source e)
+number-laid : (source : Source) (e : ℕ) (l : CoreLiteral) (bytes : List ℕ) → literal_bytes source e l ≡ Some bytes → is_truth (Some (expr.Literal l)) ≡ false → IsLaidOut source (own_type source e)
 unfolding literal_bytes
 number-laid source e (Truth test) bytes told truth = absurd cc
-number-laid source e (Number n) bytes told truth = by-layout _ (node_layout source e) refl told where
-  by-layout : (f : Layout → List ℕ) (found : Option Layout) → node_layout source e ≡ found → option_map f found ≡ Some bytes → IsLaidOut source (node_type source e)
+number-laid source e (Number n) bytes told truth = by-layout _ (own_layout source e) refl told where
+  by-layout : (f : Layout → List ℕ) (found : Option Layout) → own_layout source e ≡ found → option_map f found ≡ Some bytes → IsLaidOut source (own_type source e)
   by-layout f (Some layout) is h = record { layout = layout; found = is }
   by-layout f None is h = absurd cc
 
-pub lays-literal : (source : Source) (s : Shape) (e : ℕ) (l : CoreLiteral) (operand : OperandKind) → node source e ≡ Some (expr.Literal l) → IsLiteral source e l operand → is_truth (node source e) ≡ false → LaysOut source s e
+pub lays-literal : (source : Source) (s : Shape) (e : ℕ) (l : CoreLiteral) (operand : OperandKind) → unadjusted source e ≡ Some (expr.Literal l) → IsLiteral source e l operand → is_truth (unadjusted source e) ≡ false → LaysOut source s e
 lays-literal source s e l operand form is truth plain layouts f needs =
-    subst (λ g. IsLaidOut source (node_type source g)) (alone source e f (ap (sized_parts source) form) needs)
-    (number-laid source e l is.bytes is.told (sym (ap is_truth form) ∙ truth))
+    subst (IsLaidOutNode source) (alone source e f (ap (sized_parts source) (unadjusted-plain source e (expr.Literal l) form).1) needs)
+    (laid-unadjusted source e (expr.Literal l) form (number-laid source e l is.bytes is.told (sym (ap is_truth form) ∙ truth)))
 
-pub lays-literal-into : (source : Source) (s : Shape) (e : ℕ) (l : CoreLiteral) → node source e ≡ Some (expr.Literal l) → IsLaidOut source (node_type source e) → LaysOut source s e
-lays-literal-into source s e l form laid plain layouts f evaluates = subst (λ g. IsLaidOut source (node_type source g)) (alone source e f (ap (sized_parts source) form) evaluates) laid
+pub lays-literal-into : (source : Source) (s : Shape) (e : ℕ) (l : CoreLiteral) → node source e ≡ Some (expr.Literal l) → IsLaidOutNode source e → LaysOut source s e
+lays-literal-into source s e l form laid plain layouts f evaluates = subst (IsLaidOutNode source) (alone source e f (ap (sized_parts source) form) evaluates) laid
 
 -- a path has the type of its binding, whose local has a layout
-pub lays-name : (source : Source) (s : Shape) (e local : ℕ) (name : _) → IsSound source s → node source e ≡ Some (expr.Path name) → IsNamed source s e local → LaysOut source s e
+pub lays-name : (source : Source) (s : Shape) (e local : ℕ) (name : _) → IsSound source s → unadjusted source e ≡ Some (expr.Path name) → IsNamed source s e local → LaysOut source s e
 lays-name source s e local name sound form named plain layouts f evaluates =
-    subst (λ g. IsLaidOut source (node_type source g)) (alone source e f (ap (sized_parts source) form) evaluates)
-    (of-binding (plain e itself) (subst (λ n. HasPlainForm source e n (plain e itself).ty) form (plain e itself).form)) where
-      of-binding : (node : IsPlainNode source e) → IsPlainPath source e node.ty → IsLaidOut source (node_type source e)
+    let is = (unadjusted-plain source e (expr.Path name) form).1 in
+    subst (IsLaidOutNode source) (alone source e f (ap (sized_parts source) is) evaluates)
+    (laid-unadjusted source e (expr.Path name) form (of-binding (plain.nodes e itself) (subst (λ n. HasPlainForm source e n (plain.nodes e itself).ty) is (plain.nodes e itself).form))) where
+      of-binding : (node : IsPlainNode source e) → IsPlainPath source e node.ty → IsLaidOut source (own_type source e)
       of-binding node binds =
           let there = binding-there source s sound binds.binding.0 node.ty binds.binding_has in
           let at = layouts there.0 (local_of_type node.ty) there.1 in
           subst (IsLaidOut source) (sym node.has_type) at
 
-pub lays-name-into : (source : Source) (s : Shape) (e : ℕ) (name : _) → node source e ≡ Some (expr.Path name) → IsLaidOut source (node_type source e) → LaysOut source s e
-lays-name-into source s e name form laid plain layouts f evaluates = subst (λ g. IsLaidOut source (node_type source g)) (alone source e f (ap (sized_parts source) form) evaluates) laid
+pub lays-name-into : (source : Source) (s : Shape) (e : ℕ) (name : _) → node source e ≡ Some (expr.Path name) → IsLaidOutNode source e → LaysOut source s e
+lays-name-into source s e name form laid plain layouts f evaluates = subst (IsLaidOutNode source) (alone source e f (ap (sized_parts source) form) evaluates) laid
 
 -- an expression in a local of its own has its type
 pub lays-temp : (source : Source) (s1 s2 : Shape) (e local : ℕ) → IsSound source s1 → temp_of s1 e ≡ Some local → LowersInto source s1 s2 e (Node e) → LaysOut source s2 e

@@ -14,14 +14,14 @@ use Rattle.mir.specs.declared.statement.StatementKind.TheVariants.{StorageDead}
 use Rattle.mir.specs.Memory.{Memory}
 use Rattle.mir.specs.Run.{Frame, Next, Stops, GoesTo, Faulted, Returned, returned, after_statement, after_statements, terminated, next_from, going_on, running, entering, out_of_blocks}
 use Rattle.source_meaning.specs.Source.{Source, Cell}
-use Rattle.mir_lower.specs.Does.{Point, here, run_from, local_bytes, IsFrameOf, Comes}
+use Rattle.mir_lower.specs.Does.{Point, Within, Entry, start_of, here, run_from, local_bytes, IsFrameOf, Comes}
 use Rattle.mir_lower.specs.Graph.{Shape, no_statements, ended, with_statement, with_terminator, with_block, with_scope}
 use Rattle.mir_lower.specs.Growth.{count_at, Grows, IsSound, IsOpen}
 use Rattle.mir_lower.specs.Leaving.{Idles}
 use Rattle.mir_lower.specs.Simulates.{EndsAfter}
 use Rattle.mir_lower.proofs.Growing.{current_of, grows-refl, grows-trans, with_statement-grows, with_terminator-is, with_terminator-grows, with_block-grows, with_scope-grows}
 use Rattle.mir_lower.proofs.Lists.{slice_get-last, slice_get-set_same}
-use Rattle.mir_lower.proofs.Reaching.{comes-refl, comes-trans}
+use Rattle.mir_lower.proofs.Reaching.{none-entered, comes-refl, comes-trans, comes-from}
 use Rattle.mir_lower.proofs.Running.{here-is, comes-statement}
 use Rattle.mir_lower.proofs.Sound.{with_statement-sound, with_statement-open, with_statement-scope, with_terminator-sound, with_terminator-scope, with_block-sound, with_block-open, with_block-scope, with_scope-sound, with_scope-open}
 use Rattle.mir_lower.proofs.Sparing.{spares-refl, spares-trans, with_statement-spares, with_terminator-spares, with_block-spares, with_scope-spares}
@@ -61,32 +61,43 @@ module _ (t : Terminator) (s whole : Shape) (frame : Frame) (opened : IsOpen s) 
       ∙ ap (λ o. going_on budget frame (next_from frame memory o (length b.0.statements))) (ended-there (b.0, b.1))
       ∙ ap (going_on budget frame) (next-at-end frame memory (ended t b.0))
 
-here-with_block : (s : Shape) → here (with_block s) ≡ record { block = length s.blocks; index = 0 }
+here-with_block : (s : Shape) → here (with_block s) ≡ Within (length s.blocks) 0
 unfolding with_block count_at
-here-with_block s = ap (λ (o : Option BasicBlock). record { block = length s.blocks; index = unwrap_or (option_map (λ (b : BasicBlock). length b.statements) o) 0 }) (slice_get-last s.blocks no_statements)
+here-with_block s = ap (λ (o : Option BasicBlock). Within (length s.blocks) (unwrap_or (option_map (λ (b : BasicBlock). length b.statements) o) 0)) (slice_get-last s.blocks no_statements)
 
 pub entering-none : (frame : Frame) (memory : Memory) (block : ℕ) → entering 0 frame memory block ≡ out_of_blocks
 unfolding entering
 entering-none frame memory block = refl
 
--- where the terminator leads to a block, the run comes to its start
-pub comes-ended : (t : Terminator) (s whole : Shape) (frame : Frame) → IsOpen s → Grows (with_terminator t s) whole → IsFrameOf whole frame → (memory : Memory) (target : ℕ) → terminated frame memory (Some t) ≡ GoesTo memory target → Comes frame 1 (here s) memory (record { block = target; index = 0 }) memory
+-- where the terminator leads to a block, the run is about to enter it
+pub heads-ended : (t : Terminator) (s whole : Shape) (frame : Frame) → IsOpen s → Grows (with_terminator t s) whole → IsFrameOf whole frame → (memory : Memory) (target : ℕ) → terminated frame memory (Some t) ≡ GoesTo memory target → Comes frame 0 (here s) memory (Entry target) memory
 unfolding going_on
-comes-ended t s whole frame opened grows is memory target goes =
+heads-ended t s whole frame opened grows is memory target goes =
+    record {
+      with_more = λ more.
+          let plain : 0 + more ≡ more = omega arith in
+          ap (run_from frame memory (here s)) plain
+          ∙ run-terminator t s whole frame opened grows is memory more
+          ∙ ap (going_on more frame) goes;
+      with_fewer = none-entered (run_from frame memory (here s));
+    }
+
+-- and enters it
+pub enters-block : (frame : Frame) (memory : Memory) (block : ℕ) → Comes frame 1 (Entry block) memory (start_of block) memory
+enters-block frame memory block =
     record {
       with_more = λ more.
           let one : 1 + more ≡ suc more = omega arith in
-          ap (run_from frame memory (here s)) one
-          ∙ run-terminator t s whole frame opened grows is memory (suc more)
-          ∙ ap (going_on (suc more) frame) goes
-          ∙ entering-suc more frame memory target;
+          ap (run_from frame memory (Entry block)) one ∙ entering-suc more frame memory block;
       with_fewer = λ fewer less.
           let none : fewer ≡ 0 = omega arith in
-          ap (run_from frame memory (here s)) none
-          ∙ run-terminator t s whole frame opened grows is memory 0
-          ∙ ap (going_on 0 frame) goes
-          ∙ entering-none frame memory target;
+          ap (run_from frame memory (Entry block)) none ∙ entering-none frame memory block;
     }
+
+-- where the terminator leads to a block, the run comes to its start
+pub comes-ended : (t : Terminator) (s whole : Shape) (frame : Frame) → IsOpen s → Grows (with_terminator t s) whole → IsFrameOf whole frame → (memory : Memory) (target : ℕ) → terminated frame memory (Some t) ≡ GoesTo memory target → Comes frame 1 (here s) memory (start_of target) memory
+comes-ended t s whole frame opened grows is memory target goes =
+    comes-from frame 1 (here s) (Entry target) (start_of target) memory memory memory (heads-ended t s whole frame opened grows is memory target goes) (enters-block frame memory target)
 
 -- a drop goes on at its target
 drop-leads : (frame : Frame) (memory : Memory) (place : Place) (target : BasicBlockId) (unwind : Option BasicBlockId) (span : MirSpan) → terminated frame memory (Some (record { span = span; kind = Drop place target unwind })) ≡ GoesTo memory target.0
@@ -108,8 +119,8 @@ idles-drop source s new place target unwind span sound opened at same =
       scope = with_block-scope (with_terminator t s) ∙ with_terminator-scope t s opened;
       comes = λ whole frame grows is memory.
           let grown = grows-trans (with_terminator t s) (with_block (with_terminator t s)) whole (with_block-grows (with_terminator t s)) grows in
-          let to : here (with_block (with_terminator t s)) ≡ record { block = target.0; index = 0 } =
-          here-with_block (with_terminator t s) ∙ ap (λ n. record { block = n; index = 0 }) (many ∙ sym at) in
+          let to : here (with_block (with_terminator t s)) ≡ Within target.0 0 =
+          here-with_block (with_terminator t s) ∙ ap (λ n. Within n 0) (many ∙ sym at) in
           subst (λ (p : Point). Comes frame 1 (here s) memory p memory) (sym to)
           (comes-ended t s whole frame opened grown is memory target.0 (drop-leads frame memory place target unwind span));
     })

@@ -1,3 +1,4 @@
+pub mod Adjusting
 pub mod Aligned
 pub mod Assignments
 pub mod Beginning
@@ -14,14 +15,18 @@ pub mod Forms
 pub mod Growing
 pub mod Holding
 pub mod InUse
+pub mod Jumps
+pub mod Jumping
 pub mod Laid
 pub mod Leaving
 pub mod Lists
+pub mod Loops
 pub mod Needed
 pub mod Operands
 pub mod Operations
 pub mod Placing
 pub mod Reaching
+pub mod Ready
 pub mod Refused
 pub mod Reserving
 pub mod Room

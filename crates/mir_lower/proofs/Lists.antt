@@ -1,6 +1,6 @@
 -- An element of a list by its place, after the list grew or was written.
-use Rattle.std.proofs.Common.{◌≡◌, ◌≢◌, ℕ, zero, suc, ◌<◌, ◌⊎◌, ⊎_elim, inl, inr, List, [], ◌∷◌, ◌++◌, length, Some, refl, ap, ◌∙◌, arith, drop}
-use Rattle.std.specs.Prelude.{slice_get, slice_set}
+use Rattle.std.proofs.Common.{◌≡◌, ◌≢◌, ℕ, zero, suc, ◌<◌, ◌⊎◌, ⊎_elim, inl, inr, List, [], ◌∷◌, ◌++◌, length, Some, refl, sym, ap, ◌∙◌, arith, take, drop}
+use Rattle.std.specs.Prelude.{slice_get, slice_index_or, slice_set}
 
 pub slice_get-front : {A : Type 0} (xs ys : List A) (i : ℕ) (x : A) → slice_get xs i ≡ Some x → slice_get (xs ++ ys) i ≡ Some x
 slice_get-front [] ys i x found = cc
@@ -55,3 +55,15 @@ slice_get-more [] x y zero found = inl (refl, (let same : x ≡ y = cc in same))
 slice_get-more [] x y (suc i) found = cc
 slice_get-more (z ∷ xs) x y zero found = inr found
 slice_get-more (z ∷ xs) x y (suc i) found = ⊎_elim (λ is. inl (ap suc is.0, is.1)) (λ is. inr is) (slice_get-more xs x y i found)
+
+-- the front of a list up to an element, and that element
+pub take-next : {A : Type 0} (xs : List A) (i : ℕ) (x : A) → slice_get xs i ≡ Some x → take (suc i) xs ≡ take i xs ++ x ∷ []
+take-next [] i x found = absurd cc
+take-next (y ∷ ys) zero x found = let same : y ≡ x = cc in ap (λ z. z ∷ []) same
+take-next (y ∷ ys) (suc i) x found = ap (λ rest. y ∷ rest) (take-next ys i x found)
+
+-- the element that an index finds
+pub at-index : {A : Type 0} (xs : List A) (i : ℕ) (x : A) → i < length xs → x ≡ slice_index_or xs i x → slice_get xs i ≡ Some x
+at-index [] i x below is = absurd (omega arith)
+at-index (y ∷ ys) zero x below is = ap Some (sym is)
+at-index (y ∷ ys) (suc i) x below is = at-index ys i x (omega arith) is

@@ -14,15 +14,15 @@ use Rattle.mir.specs.declared.statement.StatementKind.TheVariants.{Assign}
 use Rattle.mir.specs.Memory.{Memory}
 use Rattle.mir.specs.Run.{Frame, rvalue_bytes, operand_bytes as mir_bytes, read}
 use Rattle.source_meaning.specs.Around.{Around}
-use Rattle.source_meaning.specs.Events.{marked}
+use Rattle.source_meaning.specs.Events.{marked_itself}
 use Rattle.source_meaning.specs.Meaning.{constant_cost, level_at, put, put_literal, named_into, into_of}
 use Rattle.source_meaning.specs.Source.{Source, node, Cell, Binding, Store}
 use Rattle.source_meaning.proofs.Marks.{literal_marks, name_marks}
-use Rattle.mir_lower.specs.Does.{here, IsFrameOf, Holds, Landings, Reaches, Nothing}
+use Rattle.mir_lower.specs.Does.{Stands, here, IsFrameOf, Holds, Landings, Reaches, Nothing}
 use Rattle.mir_lower.specs.Graph.{Shape, with_statement, local_of}
 use Rattle.mir_lower.specs.Growth.{Grows, IsSound, IsOpen, IsReady}
 use Rattle.mir_lower.specs.Literals.{IsLiteral}
-use Rattle.mir_lower.specs.Lowered.{Keeps, IsNamed, LowersInto}
+use Rattle.mir_lower.specs.Lowered.{Keeps, IsNamed, LowersOwn}
 use Rattle.mir_lower.proofs.Growing.{grows-trans, with_statement-grows}
 use Rattle.mir_lower.proofs.Laid.{lays-literal-into, lays-name-into}
 use Rattle.mir_lower.proofs.Operands.{literal-fits, place-fits}
@@ -62,32 +62,32 @@ name-computes source whole frame c from operand copies sound frame-is found stor
     ap (λ k. read (mir_bytes frame memory k)) copies ∙ ap read ((place-fits source whole frame c from sound frame-is found).bytes store memory holds)
 
 -- a literal is assigned
-pub lowers-literal : (source : Source) (s new : Shape) (e : ℕ) (l : CoreLiteral) (place : Place) (operand : MirOperand) (span : MirSpan) → IsReady source s e → node source e ≡ Some (expr.Literal l) → IsLiteral source e l operand.kind → new ≡ with_statement (assignment place (Use operand) span) s → (c : Cell) → local_of s c ≡ Some place.local.0 → LowersInto source s new e c
+pub lowers-literal : (source : Source) (s new : Shape) (e : ℕ) (l : CoreLiteral) (place : Place) (operand : MirOperand) (span : MirSpan) → IsReady source s e → node source e ≡ Some (expr.Literal l) → IsLiteral source e l operand.kind → new ≡ with_statement (assignment place (Use operand) span) s → (c : Cell) → local_of s c ≡ Some place.local.0 → LowersOwn source s new e c
 lowers-literal source s new e l place operand span ready form is same c local =
     let st = assignment place (Use operand) span in
-    subst (λ (n : Shape). LowersInto source s n e c) (sym same)
+    subst (λ (n : Shape). LowersOwn source s n e c) (sym same)
     (record {
-      keeps = with-marks source s (with_statement st s) [] (marked source e) (literal_marks source ready.checked e ready.within l form) (keeps-assigned source s st ready.sound ready.«open»);
+      keeps = with-marks source s (with_statement st s) [] (marked_itself source e) (literal_marks source ready.checked e ready.within l form) (keeps-assigned source s st ready.sound ready.«open»);
       does = does-form source s (with_statement st s) e c (Some (expr.Literal l)) form (record { reaches = reaches });
       laid = lays-literal-into source (with_statement st s) e l form;
     }) where
-      reaches : (whole : Shape) (frame : Frame) → Grows (with_statement (assignment place (Use operand) span) s) whole → IsSound source whole → IsFrameOf whole frame → (lands : Landings) (around : Around) → around.marks ≡ s.scope → (fuel : ℕ) (store : Store) (memory : Memory) → Holds whole frame store memory → Reaches whole lands frame (here s) (here (with_statement (assignment place (Use operand) span) s)) memory (Nothing whole frame) (into_of source (level_at source fuel) around e (Some (expr.Literal l)) (record { cell = c }) store)
+      reaches : (whole : Shape) (frame : Frame) → Grows (with_statement (assignment place (Use operand) span) s) whole → IsSound source whole → IsFrameOf whole frame → (lands : Landings) (around : Around) → Stands whole s lands around → (fuel : ℕ) (store : Store) (memory : Memory) → Holds whole frame store memory → Reaches whole lands frame (here s) (here (with_statement (assignment place (Use operand) span) s)) memory (Nothing whole frame) (into_of source (level_at source fuel) around e (Some (expr.Literal l)) (record { cell = c }) store)
       reaches whole frame grows sound frame-is lands around stands fuel store memory holds =
           subst (λ (bytes : Option (List ℕ)). Reaches whole lands frame (here s) (here (with_statement (assignment place (Use operand) span) s)) memory (Nothing whole frame) (put_literal source e store (record { cell = c }) bytes)) (sym is.told)
           (reaches-after whole lands frame (here s) (here s) (here (with_statement (assignment place (Use operand) span) s)) memory memory (Nothing whole frame) (constant_cost source e) (comes-refl frame (here s) memory) (put store (record { cell = c }) is.bytes)
           (assigned-bytes source s whole frame place (Use operand) span ready.«open» sound frame-is lands grows c (local-later s whole _ ready.«open» grows c place.local.0 local) store memory holds is.bytes (literal-computes source whole frame e l operand is store memory holds)))
 
 -- what a path names is copied
-pub lowers-named : (source : Source) (s new : Shape) (e : ℕ) (name : _) (place from : Place) (operand : MirOperand) (span : MirSpan) → IsReady source s e → node source e ≡ Some (expr.Path name) → IsNamed source s e from.local.0 → operand.kind ≡ Copy from → new ≡ with_statement (assignment place (Use operand) span) s → (c : Cell) → local_of s c ≡ Some place.local.0 → LowersInto source s new e c
+pub lowers-named : (source : Source) (s new : Shape) (e : ℕ) (name : _) (place from : Place) (operand : MirOperand) (span : MirSpan) → IsReady source s e → node source e ≡ Some (expr.Path name) → IsNamed source s e from.local.0 → operand.kind ≡ Copy from → new ≡ with_statement (assignment place (Use operand) span) s → (c : Cell) → local_of s c ≡ Some place.local.0 → LowersOwn source s new e c
 lowers-named source s new e name place from operand span ready form named copies same c local =
     let st = assignment place (Use operand) span in
-    subst (λ (n : Shape). LowersInto source s n e c) (sym same)
+    subst (λ (n : Shape). LowersOwn source s n e c) (sym same)
     (record {
-      keeps = with-marks source s (with_statement st s) [] (marked source e) (name_marks source ready.checked e ready.within name form) (keeps-assigned source s st ready.sound ready.«open»);
+      keeps = with-marks source s (with_statement st s) [] (marked_itself source e) (name_marks source ready.checked e ready.within name form) (keeps-assigned source s st ready.sound ready.«open»);
       does = does-form source s (with_statement st s) e c (Some (expr.Path name)) form (record { reaches = reaches });
       laid = lays-name-into source (with_statement st s) e name form;
     }) where
-      reaches : (whole : Shape) (frame : Frame) → Grows (with_statement (assignment place (Use operand) span) s) whole → IsSound source whole → IsFrameOf whole frame → (lands : Landings) (around : Around) → around.marks ≡ s.scope → (fuel : ℕ) (store : Store) (memory : Memory) → Holds whole frame store memory → Reaches whole lands frame (here s) (here (with_statement (assignment place (Use operand) span) s)) memory (Nothing whole frame) (into_of source (level_at source fuel) around e (Some (expr.Path name)) (record { cell = c }) store)
+      reaches : (whole : Shape) (frame : Frame) → Grows (with_statement (assignment place (Use operand) span) s) whole → IsSound source whole → IsFrameOf whole frame → (lands : Landings) (around : Around) → Stands whole s lands around → (fuel : ℕ) (store : Store) (memory : Memory) → Holds whole frame store memory → Reaches whole lands frame (here s) (here (with_statement (assignment place (Use operand) span) s)) memory (Nothing whole frame) (into_of source (level_at source fuel) around e (Some (expr.Path name)) (record { cell = c }) store)
       reaches whole frame grows sound frame-is lands around stands fuel store memory holds =
           subst (λ (n : Option ValueNs). Reaches whole lands frame (here s) (here (with_statement (assignment place (Use operand) span) s)) memory (Nothing whole frame) (named_into n (record { cell = c }) store)) (sym named.named)
           (assigned-bytes source s whole frame place (Use operand) span ready.«open» sound frame-is lands grows c (local-later s whole _ ready.«open» grows c place.local.0 local) store memory holds (store (Binding named.binding.0))

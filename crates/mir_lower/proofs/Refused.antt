@@ -1,27 +1,33 @@
 -- The causes of refusals, carried upwards, and what is known of an expression's parts.
-use Rattle.std.proofs.Common.{◌≡◌, ℕ, ◌<◌, false, Contains, Option, Some, None, Result, refl, sym, ap, ◌∙◌, subst, ⊎_elim, ◌⊎◌, arith}
-use Rattle.std.specs.Prelude.{codes, IfErr, IsErrAnd}
+use Rattle.std.proofs.Common.{◌≡◌, ℕ, ◌<◌, Bool, true, false, cond, Contains, Option, Some, None, Result, refl, sym, ap, ◌∙◌, subst, ⊎_elim, ◌⊎◌, List, [], ◌∷◌, map}
+use Rattle.std.specs.Prelude.{codes, IfErr, IsErrAnd, flat_map, if◌then◌else◌}
 use Rattle.std.proofs.lemmas.Result.{err_from_is_err_and}
 use Rattle.source_meaning.specs.Core as expr
-use Rattle.source_meaning.specs.Core.{is_literal, is_path}
+use Rattle.source_meaning.specs.Core.{is_literal, is_path, CoreExpr}
 use Rattle.world.specs.declared.body.Statement.{Statement}
 use Rattle.world.specs.declared.body.Statement.TheVariants as statement
 use Rattle.types.specs.declared.ids.ExprId.{ExprId}
 use Rattle.types.specs.declared.ids.PatId.{PatId}
 use Rattle.mir.specs.declared.errors.MirLowerError.{MirLowerError}
 use Rattle.mir.specs.declared.errors.MirLowerError.TheVariants as refusal
-use Rattle.source_meaning.specs.Source.{Source, node}
+use Rattle.source_meaning.specs.Source.{Source, node, unadjusted, diverges, root}
 use Rattle.source_meaning.specs.Steps.{parts_of, statement_parts}
-use Rattle.source_meaning.specs.Valid.{itself, part}
+use Rattle.source_meaning.specs.Valid.{itself, part, EvaluatesIn}
 use Rattle.source_meaning.proofs.Core.{part_is_below}
-use Rattle.source_meaning.proofs.Depth.{evaluated_is_no_later, evaluates_then, statement_part_is_part}
 use Rattle.mir_lower.specs.declared.form.Form.{Form}
 use Rattle.mir_lower.specs.declared.form.Form.TheVariants as form
 use Rattle.mir_lower.specs.Form.{core_form, HasForm}
-use Rattle.mir_lower.specs.Graph.{Shape}
-use Rattle.mir_lower.specs.Growth.{IsSound, IsOpen, IsReady, IsReadyPart}
-use Rattle.mir_lower.specs.Lowered.{IsStatementOf}
-use Rattle.mir_lower.specs.Refusals.{IsUnbuiltStatement, IsUnbuilt, LacksLocal, IsUnresolved, RefusesNode, RefusesPattern, RefusesTarget, RefusesAt}
+use Rattle.mir_lower.specs.Graph.{Shape, OpenTarget, meant_target, opened_of}
+use Rattle.mir_lower.specs.Growth.{IsReady, IsAround}
+use Rattle.mir_lower.specs.Lowered.{IsStatementOf, HasStatements}
+use Rattle.mir_lower.specs.Refusals.{IsUnbuiltStatement, IsUnbuilt, LacksLocal, IsUnresolved, RefusesNode, RefusesPattern, RefusesTarget, RefusesAt, StandsFree, JumpsTo, LetBindsNone}
+use Rattle.world.specs.Checked.{IsCheckedBody}
+use Rattle.types.specs.declared.ids.LabelId.{LabelId}
+use Rattle.source_meaning.specs.Around.{Opened, is_meant, meant}
+use Rattle.mir_lower.specs.Jumps.{without_target}
+use Rattle.source_meaning.proofs.Parts.{among, block_parts}
+use Rattle.world.specs.Nodes.{optional}
+use Rattle.std.proofs.lemmas.List.Elements.{Contains-append_left}
 
 pub refuses-here : (source : Source) (e : ℕ) (error : MirLowerError) → RefusesNode source e error → RefusesAt source e error
 refuses-here source e error h = (e, itself, h)
@@ -40,10 +46,39 @@ refuses-unbuilt source e error unbuilt cases =
 pub refuses-unbuilt-form : (source : Source) (e : ℕ) (error : MirLowerError) → HasForm source e form.Unbuilt → (error ≡ refusal.NotSupported (codes "form not built")) ⊎ (error ≡ refusal.NoMemory) → RefusesAt source e error
 refuses-unbuilt-form source e error has cases = refuses-unbuilt source e error (subst (IsUnbuilt source e) (sym has.core) has.cause) cases
 
+-- a block that has a statement that isn't built, or that binds a binding that the body lacks
+unbuilt-statement : (source : Source) (e : ℕ) (st : Statement) (form : Option CoreExpr) (statements : List Statement) → HasStatements form statements → Contains statements st → IsUnbuiltStatement source st → IsUnbuilt source e form
+unbuilt-statement source e st (Some (expr.Block own tail)) statements same within unbuilt = (st, subst (λ (s : List Statement). Contains s st) (sym same) within, unbuilt)
+unbuilt-statement source e st (Some (expr.Labelled label own tail)) statements same within unbuilt = (st, subst (λ (s : List Statement). Contains s st) (sym same) within, unbuilt)
+unbuilt-statement source e st (Some (expr.Literal l)) statements same within unbuilt = absurd same
+unbuilt-statement source e st (Some (expr.Path name)) statements same within unbuilt = absurd same
+unbuilt-statement source e st (Some (expr.Strict operation operands)) statements same within unbuilt = absurd same
+unbuilt-statement source e st (Some (expr.Logic op left right)) statements same within unbuilt = absurd same
+unbuilt-statement source e st (Some (expr.If condition then_branch else_branch)) statements same within unbuilt = absurd same
+unbuilt-statement source e st (Some (expr.Assign assigned value)) statements same within unbuilt = absurd same
+unbuilt-statement source e st (Some (expr.Loop label body)) statements same within unbuilt = absurd same
+unbuilt-statement source e st (Some (expr.Break label value)) statements same within unbuilt = absurd same
+unbuilt-statement source e st (Some (expr.Continue label)) statements same within unbuilt = absurd same
+unbuilt-statement source e st None statements same within unbuilt = absurd same
+
+lacking-statement : (source : Source) (e : ℕ) (st : Statement) (form : Option CoreExpr) (statements : List Statement) → HasStatements form statements → Contains statements st → LetBindsNone source st → LacksLocal source e form
+lacking-statement source e st (Some (expr.Block own tail)) statements same within lacks = (st, subst (λ (s : List Statement). Contains s st) (sym same) within, lacks)
+lacking-statement source e st (Some (expr.Labelled label own tail)) statements same within lacks = (st, subst (λ (s : List Statement). Contains s st) (sym same) within, lacks)
+lacking-statement source e st (Some (expr.Literal l)) statements same within lacks = absurd same
+lacking-statement source e st (Some (expr.Path name)) statements same within lacks = absurd same
+lacking-statement source e st (Some (expr.Strict operation operands)) statements same within lacks = absurd same
+lacking-statement source e st (Some (expr.Logic op left right)) statements same within lacks = absurd same
+lacking-statement source e st (Some (expr.If condition then_branch else_branch)) statements same within lacks = absurd same
+lacking-statement source e st (Some (expr.Assign assigned value)) statements same within lacks = absurd same
+lacking-statement source e st (Some (expr.Loop label body)) statements same within lacks = absurd same
+lacking-statement source e st (Some (expr.Break label value)) statements same within lacks = absurd same
+lacking-statement source e st (Some (expr.Continue label)) statements same within lacks = absurd same
+lacking-statement source e st None statements same within lacks = absurd same
+
 -- the refusal of a statement that isn't built
 pub refuses-statement : (source : Source) (e : ℕ) (error : MirLowerError) (st : Statement) → IsStatementOf source e st → IsUnbuiltStatement source st → (error ≡ refusal.NotSupported (codes "form not built")) ⊎ (error ≡ refusal.NoMemory) → RefusesAt source e error
 refuses-statement source e error st stands unbuilt cases =
-    refuses-unbuilt source e error (subst (IsUnbuilt source e) (sym stands.form) (st, stands.within, unbuilt)) cases
+    refuses-unbuilt source e error (unbuilt-statement source e st (node source e) stands.statements stands.form stands.within unbuilt) cases
 
 -- a `let` without an initializer, and one with `else`
 pub without-initializer : (source : Source) (st : Statement) (pat : PatId) (init other : Option ExprId) → st ≡ statement.Let pat init other → init ≡ None → IsUnbuiltStatement source st
@@ -65,14 +100,17 @@ item-is-unbuilt source st is = subst (IsUnbuiltStatement source) (sym is) tt
 -- the refusal of the pattern of a `let` with an initializer
 pub refuses-pattern : (source : Source) (e : ℕ) (error : MirLowerError) (pat : _) (init : _) → IsStatementOf source e (statement.Let pat (Some init) None) → RefusesPattern source pat.0 error → RefusesAt source e error
 refuses-pattern source e (refusal.NotSupported text) pat init stands refuses =
-    refuses-here source e (refusal.NotSupported text) (refuses.0, subst (IsUnbuilt source e) (sym stands.form) (statement.Let pat (Some init) None, stands.within, refuses.1))
+    refuses-here source e (refusal.NotSupported text) (refuses.0, unbuilt-statement source e (statement.Let pat (Some init) None) (node source e) stands.statements stands.form stands.within refuses.1)
 refuses-pattern source e refusal.InaccessibleLocal pat init stands refuses =
-    refuses-here source e refusal.InaccessibleLocal (subst (LacksLocal source e) (sym stands.form) (statement.Let pat (Some init) None, stands.within, refuses))
+    refuses-here source e refusal.InaccessibleLocal (lacking-statement source e (statement.Let pat (Some init) None) (node source e) stands.statements stands.form stands.within refuses)
 refuses-pattern source e refusal.NoMemory pat init stands refuses = refuses-no-memory source e refusal.NoMemory refl
 refuses-pattern source e (refusal.LayoutError l) pat init stands refuses = absurd refuses
 refuses-pattern source e refusal.IncompleteExpr pat init stands refuses = absurd refuses
 refuses-pattern source e (refusal.UnresolvedName name) pat init stands refuses = absurd refuses
 refuses-pattern source e refusal.HasErrors pat init stands refuses = absurd refuses
+refuses-pattern source e refusal.ContinueWithoutLoop pat init stands refuses = absurd refuses
+refuses-pattern source e refusal.BreakWithoutLoop pat init stands refuses = absurd refuses
+refuses-pattern source e refusal.UnresolvedLabel pat init stands refuses = absurd refuses
 refuses-pattern source e (refusal.TypeError text) pat init stands refuses = absurd refuses
 
 -- the refusal of the target of an assignment
@@ -87,6 +125,9 @@ refuses-target source e refusal.NoMemory assigned value form refuses = refuses-n
 refuses-target source e (refusal.LayoutError l) assigned value form refuses = absurd refuses
 refuses-target source e refusal.IncompleteExpr assigned value form refuses = absurd refuses
 refuses-target source e refusal.HasErrors assigned value form refuses = absurd refuses
+refuses-target source e refusal.ContinueWithoutLoop assigned value form refuses = absurd refuses
+refuses-target source e refusal.BreakWithoutLoop assigned value form refuses = absurd refuses
+refuses-target source e refusal.UnresolvedLabel assigned value form refuses = absurd refuses
 refuses-target source e (refusal.TypeError text) assigned value form refuses = absurd refuses
 
 -- what a `?` returns is what refused
@@ -94,6 +135,10 @@ pub refused-exit : {T : Type 0} (P Q : MirLowerError → Type 0) (r : Result T M
 refused-exit P Q r returned carries =
     let p = err_from_is_err_and r returned in
     subst (λ (s : Result _ MirLowerError). IfErr s P) (sym p.1) (carries p.0 p.2)
+
+-- an adjusted expression is none of the forms for those that use its value
+pub unadjusted-none : (source : Source) (e : ℕ) → diverges source e ≡ true → unadjusted source e ≡ None
+unadjusted-none source e is = ap (λ (test : Bool). cond test None (node source e)) is
 
 -- a form that is no literal's, and one that is no path's
 no-literal-form : (f : Form) → ((l : _) → f ≡ form.Literal l → ⊥) → is_literal (core_form f) ≡ false
@@ -111,28 +156,54 @@ pub no-path : (source : Source) (e : ℕ) (f : Form) → HasForm source e f → 
 no-path source e f has differ = ap is_path has.core ∙ no-path-form f differ
 
 -- a part has a lower number
-pub part-below : (source : Source) {s : Shape} (e child : ℕ) → IsReady source s e → Contains (parts_of (node source e)) child → child < e
-part-below source e child ready is = part_is_below source ready.checked e child is
-
--- a part of what can be lowered can be lowered
-pub ready-part : (source : Source) (s new : Shape) (e child : ℕ) → IsReady source s e → Contains (parts_of (node source e)) child → IsSound source new → IsOpen new → IsReadyPart source new child
-ready-part source s new e child ready is sound opened =
-    let less = part_is_below source ready.checked e child is in
-    record {
-      ready = record {
-        checked = ready.checked;
-        sound = sound;
-        «open» = opened;
-        within = let w = ready.within in omega arith;
-        reached = evaluates_then source ready.reached (part is itself);
-      };
-      below = let upto = evaluated_is_no_later source ready.checked ready.reached in omega arith;
-    }
-
--- the same expression in another graph
-pub ready-in : (source : Source) (s new : Shape) (e : ℕ) → IsReady source s e → IsSound source new → IsOpen new → IsReady source new e
-ready-in source s new e ready sound opened = record { checked = ready.checked; sound = sound; «open» = opened; within = ready.within; reached = ready.reached }
+pub part-below : (source : Source) (e child : ℕ) → IsCheckedBody source.body source.infer → Contains (parts_of (node source e)) child → child < e
+part-below source e child checked is = part_is_below source checked e child is
 
 -- what a statement evaluates is a part of its block
+part-of-block : (source : Source) (st : Statement) (child : ℕ) (form : Option CoreExpr) (statements : List Statement) → HasStatements form statements → Contains statements st → Contains (statement_parts st) child → Contains (parts_of form) child
+part-of-block source st child (Some (expr.Block own tail)) statements same within is =
+    subst (λ (parts : List ℕ). Contains parts child) (sym (block_parts own tail))
+    (Contains-append_left (flat_map statement_parts own) (optional tail) child (among statement_parts own st child (subst (λ (s : List Statement). Contains s st) (sym same) within) is))
+part-of-block source st child (Some (expr.Labelled label own tail)) statements same within is =
+    subst (λ (parts : List ℕ). Contains parts child) (sym (block_parts own tail))
+    (Contains-append_left (flat_map statement_parts own) (optional tail) child (among statement_parts own st child (subst (λ (s : List Statement). Contains s st) (sym same) within) is))
+part-of-block source st child (Some (expr.Literal l)) statements same within is = absurd same
+part-of-block source st child (Some (expr.Path name)) statements same within is = absurd same
+part-of-block source st child (Some (expr.Strict operation operands)) statements same within is = absurd same
+part-of-block source st child (Some (expr.Logic op left right)) statements same within is = absurd same
+part-of-block source st child (Some (expr.If condition then_branch else_branch)) statements same within is = absurd same
+part-of-block source st child (Some (expr.Assign assigned value)) statements same within is = absurd same
+part-of-block source st child (Some (expr.Loop label body)) statements same within is = absurd same
+part-of-block source st child (Some (expr.Break label value)) statements same within is = absurd same
+part-of-block source st child (Some (expr.Continue label)) statements same within is = absurd same
+part-of-block source st child None statements same within is = absurd same
+
 pub part-of-statement : (source : Source) (e : ℕ) (st : Statement) (child : ℕ) → IsStatementOf source e st → Contains (statement_parts st) child → Contains (parts_of (node source e)) child
-part-of-statement source e st child stands is = statement_part_is_part source e stands.statements stands.tail st child stands.form stands.within is
+part-of-statement source e st child stands is = part-of-block source st child (node source e) stands.statements stands.form stands.within is
+
+-- the refusal of a jump without a target
+free-of : (targets : List OpenTarget) → meant_target None targets ≡ None → map (λ target. target.opened) targets ≡ []
+unfolding meant_target
+free-of [] none = refl
+free-of (target ∷ outer) none = absurd cc
+
+unmeant : (label : Option LabelId) (targets : List OpenTarget) → meant_target label targets ≡ None → meant label (map (λ target. target.opened) targets) ≡ None
+unfolding meant_target meant
+unmeant label [] none = refl
+unmeant label (target ∷ outer) none = by-test (is_meant label target.opened) (unmeant label outer) none where
+  by-test : (test : Bool) → (meant_target label outer ≡ None → meant label (map (λ other. other.opened) outer) ≡ None) → if test then Some target else meant_target label outer ≡ None → if test then Some target.opened else meant label (map (λ other. other.opened) outer) ≡ None
+  by-test true rest none = absurd cc
+  by-test false rest none = rest none
+
+stands-free : (source : Source) (s : Shape) (e : ℕ) → IsAround source s e → meant_target None s.targets ≡ None → StandsFree source e
+stands-free source s e around none = subst (λ (outer : List Opened). EvaluatesIn source [] (root source) outer e) (free-of s.targets none) around.stands
+
+pub refuses-break : (source : Source) (s : Shape) (e : ℕ) (label : Option LabelId) (value : Option ExprId) → IsReady source s e → node source e ≡ Some (expr.Break label value) → meant_target label s.targets ≡ None → RefusesAt source e (without_target label refusal.BreakWithoutLoop)
+refuses-break source s e None value ready form none = refuses-here source e refusal.BreakWithoutLoop (value, form, stands-free source s e ready.around none)
+refuses-break source s e (Some label) value ready form none =
+    refuses-here source e refusal.UnresolvedLabel (label, subst (JumpsTo label) (sym form) refl, (opened_of s, ready.around.stands, unmeant (Some label) s.targets none))
+
+pub refuses-continue : (source : Source) (s : Shape) (e : ℕ) (label : Option LabelId) → IsReady source s e → node source e ≡ Some (expr.Continue label) → meant_target label s.targets ≡ None → RefusesAt source e (without_target label refusal.ContinueWithoutLoop)
+refuses-continue source s e None ready form none = refuses-here source e refusal.ContinueWithoutLoop (form, stands-free source s e ready.around none)
+refuses-continue source s e (Some label) ready form none =
+    refuses-here source e refusal.UnresolvedLabel (label, subst (JumpsTo label) (sym form) refl, (opened_of s, ready.around.stands, unmeant (Some label) s.targets none))

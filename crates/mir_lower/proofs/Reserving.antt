@@ -8,14 +8,14 @@ use Rattle.mir.specs.Memory.{Memory}
 use Rattle.mir.specs.Run.{Frame, GoesTo, terminated}
 use Rattle.source_meaning.specs.Source.{Source}
 use Rattle.mir_lower.specs.Branches.{IsReserved}
-use Rattle.mir_lower.specs.Does.{here, IsFrameOf, Comes, start_of}
-use Rattle.mir_lower.specs.Graph.{Shape, no_statements, ended, with_terminator, with_reserved, with_entered, temp_of}
+use Rattle.mir_lower.specs.Does.{Entry, here, IsFrameOf, Comes, start_of}
+use Rattle.mir_lower.specs.Graph.{Shape, no_statements, ended, with_terminator, with_reserved, with_entered, temp_of, never_of}
 use Rattle.mir_lower.specs.Growth.{terminator_at, Grows, Spares, IsSound, IsOpen}
 use Rattle.mir_lower.proofs.Growing.{same_blocks, append_grows, current_of, grows_by, grows-trans, with_terminator-is, with_terminator-grows}
-use Rattle.mir_lower.proofs.Leaving.{comes-ended}
+use Rattle.mir_lower.proofs.Leaving.{heads-ended, comes-ended}
 use Rattle.mir_lower.proofs.Lists.{slice_get-front, slice_get-last, slice_get-set_other, slice_get_in, slice_get_below}
 use Rattle.mir_lower.proofs.Running.{here-is}
-use Rattle.mir_lower.proofs.Sound.{sound_by, with_terminator-sound, with_terminator-scope}
+use Rattle.mir_lower.proofs.Sound.{sound_by, with_terminator-sound, with_terminator-scope, with_terminator-targets}
 
 -- a block was reserved, and nothing else was done
 pub record Reserves (source : Source) (old new : Shape) (block : ℕ) : Type 0 where
@@ -30,8 +30,8 @@ pub record Reserves (source : Source) (old new : Shape) (block : ℕ) : Type 0 w
   pub many : length new.blocks ≡ suc (length old.blocks)
 
 with_reserved-grows : (s : Shape) → Grows s (with_reserved s)
-unfolding with_reserved temp_of
-with_reserved-grows s = grows_by s (with_reserved s) (append_grows s.blocks (no_statements ∷ [])) refl (λ i l h. h) (λ e l h. h)
+unfolding with_reserved temp_of never_of
+with_reserved-grows s = grows_by s (with_reserved s) (append_grows s.blocks (no_statements ∷ [])) refl (λ i l h. h) (λ e l h. h) (λ e l h. h)
 
 with_reserved-spares : (s : Shape) → Spares s (with_reserved s)
 unfolding with_reserved
@@ -40,6 +40,7 @@ with_reserved-spares s =
       others = λ at apart within. let found = slice_get_in s.blocks at within in slice_get-front s.blocks (no_statements ∷ []) at found.0 found.1 ∙ sym found.1;
       moves = inl refl;
       many = let long = length-append s.blocks (no_statements ∷ []) in omega arith;
+      targets = refl;
     }
 
 with_reserved-open : (s : Shape) → IsOpen s → IsOpen (with_reserved s)
@@ -103,9 +104,11 @@ pub record LeadsOn (source : Source) (old new : Shape) (t : Terminator) (next : 
   pub sound : IsSound source new
   pub «open» : IsOpen new
   pub scope : new.scope ≡ old.scope
+  pub targets : new.targets ≡ old.targets
   pub current : new.current ≡ next
   pub begins : here new ≡ start_of next
-  -- the run goes on wherever the terminator leads
+  -- the run is about to enter the block that the terminator leads to, and then enters it
+  pub heads : (whole : Shape) (frame : Frame) → Grows new whole → IsFrameOf whole frame → (memory : Memory) (target : ℕ) → terminated frame memory (Some t) ≡ GoesTo memory target → Comes frame 0 (here old) memory (Entry target) memory
   pub comes : (whole : Shape) (frame : Frame) → Grows new whole → IsFrameOf whole frame → (memory : Memory) (target : ℕ) → terminated frame memory (Some t) ≡ GoesTo memory target → Comes frame 1 (here old) memory (start_of target) memory
 
 with_terminator-others : (t : Terminator) (s : Shape) → IsOpen s → (at : ℕ) → at ≢ s.current → slice_get (with_terminator t s).blocks at ≡ slice_get s.blocks at
@@ -119,8 +122,8 @@ with_terminator-many t s opened =
     ap (λ (n : Shape). length n.blocks) (with_terminator-is t s b.0 b.1) ∙ length-set s.blocks s.current (ended t b.0)
 
 with_entered-grows : (block : ℕ) (s : Shape) → Grows s (with_entered block s)
-unfolding with_entered temp_of
-with_entered-grows block s = grows_by s (with_entered block s) (same_blocks s.blocks) refl (λ i l h. h) (λ e l h. h)
+unfolding with_entered temp_of never_of
+with_entered-grows block s = grows_by s (with_entered block s) (same_blocks s.blocks) refl (λ i l h. h) (λ e l h. h) (λ e l h. h)
 
 with_entered-sound : (source : Source) (block : ℕ) (s : Shape) → IsSound source s → IsSound source (with_entered block s)
 unfolding with_entered
@@ -139,6 +142,10 @@ with_entered-here block s empty = here-is (with_entered block s) no_statements e
 with_entered-blocks : (block : ℕ) (s : Shape) → (with_entered block s).blocks ≡ s.blocks
 unfolding with_entered
 with_entered-blocks block s = refl
+
+with_entered-targets : (block : ℕ) (s : Shape) → (with_entered block s).targets ≡ s.targets
+unfolding with_entered
+with_entered-targets block s = refl
 
 with_entered-scope : (block : ℕ) (s : Shape) → (with_entered block s).scope ≡ s.scope
 unfolding with_entered
@@ -161,8 +168,11 @@ leads-on source s new t next sound opened reserved same =
       sound = with_entered-sound source next done (with_terminator-sound source t s opened sound);
       «open» = with_entered-open next done empty;
       scope = with_entered-scope next done ∙ with_terminator-scope t s opened;
+      targets = with_entered-targets next done ∙ with_terminator-targets t s opened;
       current = with_entered-current next done;
       begins = with_entered-here next done empty;
+      heads = λ whole frame grows is memory target goes.
+          heads-ended t s whole frame opened (grows-trans done (with_entered next done) whole (with_entered-grows next done) grows) is memory target goes;
       comes = λ whole frame grows is memory target goes.
           comes-ended t s whole frame opened (grows-trans done (with_entered next done) whole (with_entered-grows next done) grows) is memory target goes;
     })

@@ -7,7 +7,7 @@ use Rattle.mir.specs.declared.errors.MirEvalError.{MirEvalError}
 use Rattle.mir.specs.declared.statement.Statement.{Statement}
 use Rattle.mir.specs.Memory.{Memory}
 use Rattle.mir.specs.Run.{Frame, Faulted, Stops, after_statement, after_statements, terminated, next_from, going_on, running}
-use Rattle.mir_lower.specs.Does.{Point, here, run_from, IsFrameOf, Comes}
+use Rattle.mir_lower.specs.Does.{Point, Within, here, run_from, IsFrameOf, Comes}
 use Rattle.mir_lower.specs.Graph.{Shape, more_of, with_statement}
 use Rattle.mir_lower.specs.Growth.{statement_at, count_at, Grows, IsOpen}
 use Rattle.mir_lower.specs.Simulates.{EndsAfter}
@@ -64,16 +64,16 @@ run-fault s frame memory b i statement e same there err budget =
     ∙ ap (going_on budget frame) (next-fault frame memory at.0 i statement e at.2 err)
 
 -- where the open block ends
-pub here-is : (s : Shape) (block : BasicBlock) → slice_get s.blocks s.current ≡ Some block → here s ≡ record { block = s.current; index = length block.statements }
+pub here-is : (s : Shape) (block : BasicBlock) → slice_get s.blocks s.current ≡ Some block → here s ≡ Within s.current (length block.statements)
 unfolding count_at
-here-is s block found = ap (λ (o : Option BasicBlock). record { block = s.current; index = unwrap_or (option_map (λ (b : BasicBlock). length b.statements) o) 0 }) found
+here-is s block found = ap (λ (o : Option BasicBlock). Within s.current (unwrap_or (option_map (λ (b : BasicBlock). length b.statements) o) 0)) found
 
-pub here-with_statement : (statement : Statement) (s : Shape) (block : BasicBlock) → slice_get s.blocks s.current ≡ Some block → s.current < length s.blocks → here (with_statement statement s) ≡ record { block = s.current; index = suc (length block.statements) }
+pub here-with_statement : (statement : Statement) (s : Shape) (block : BasicBlock) → slice_get s.blocks s.current ≡ Some block → s.current < length s.blocks → here (with_statement statement s) ≡ Within s.current (suc (length block.statements))
 here-with_statement statement s block found within =
     ap here (with_statement-is statement s block found)
     ∙ here-is (record s { blocks = slice_set s.blocks s.current (more_of statement block) }) (more_of statement block) (slice_get-set_same s.blocks s.current (more_of statement block) within)
     ∙ (let long : length (block.statements ++ statement ∷ []) ≡ suc (length block.statements) = (let n = length-append block.statements (statement ∷ []) in omega arith) in
-    ap (λ (n : ℕ). record { block = s.current; index = n }) long)
+    ap (Within s.current) long)
 
 pub statement-added : (statement : Statement) (s : Shape) (block : BasicBlock) → slice_get s.blocks s.current ≡ Some block → s.current < length s.blocks → statement_at (with_statement statement s) s.current (length block.statements) ≡ Some statement
 unfolding statement_at

@@ -7,22 +7,23 @@ use Rattle.mir.specs.declared.body.BasicBlock.{BasicBlock}
 use Rattle.mir.specs.declared.body.Terminator.{Terminator}
 use Rattle.mir.specs.declared.statement.Statement.{Statement}
 use Rattle.source_meaning.specs.Source.{Cell}
-use Rattle.mir_lower.specs.Graph.{Shape, no_statements, more_of, ended, with_statement, with_terminator, with_block, with_temp, with_scope}
+use Rattle.mir_lower.specs.Graph.{Shape, no_statements, more_of, ended, with_statement, with_terminator, with_block, with_temp, with_never, with_scope}
 use Rattle.mir_lower.specs.Growth.{Spares, IsOpen}
 use Rattle.mir_lower.proofs.Growing.{current_of, with_statement-is, with_terminator-is}
 use Rattle.mir_lower.proofs.Lists.{slice_get-front, slice_get-set_other, slice_get_in}
 
 -- no block is touched
-pub spares-same : (old new : Shape) → new.blocks ≡ old.blocks → new.current ≡ old.current → Spares old new
-spares-same old new blocks current =
+pub spares-same : (old new : Shape) → new.blocks ≡ old.blocks → new.current ≡ old.current → new.targets ≡ old.targets → Spares old new
+spares-same old new blocks current targets =
     record {
       others = λ at apart within. ap (λ (b : List BasicBlock). slice_get b at) blocks;
       moves = inl current;
       many = let long : length new.blocks ≡ length old.blocks = ap length blocks in omega arith;
+      targets = targets;
     }
 
 pub spares-refl : (s : Shape) → Spares s s
-spares-refl s = spares-same s s refl refl
+spares-refl s = spares-same s s refl refl refl
 
 pub spares-trans : (a b c : Shape) → Spares a b → Spares b c → Spares a c
 spares-trans a b c first second =
@@ -36,6 +37,7 @@ spares-trans a b c first second =
           (λ moved. inr (let long = first.many in omega arith))
           second.moves;
       many = let one = first.many in let two = second.many in omega arith;
+      targets = second.targets ∙ first.targets;
     }
 
 -- the current block alone is changed
@@ -45,6 +47,7 @@ spares-set s block =
       others = λ at apart within. slice_get-set_other s.blocks s.current at block (λ same. apart (sym same));
       moves = inl refl;
       many = let long = length-set s.blocks s.current block in omega arith;
+      targets = refl;
     }
 
 pub with_statement-spares : (statement : Statement) (s : Shape) → IsOpen s → Spares s (with_statement statement s)
@@ -65,26 +68,32 @@ with_block-spares s =
       others = λ at apart within. let found = slice_get_in s.blocks at within in slice_get-front s.blocks (no_statements ∷ []) at found.0 found.1 ∙ sym found.1;
       moves = inr (omega arith);
       many = let long = length-append s.blocks (no_statements ∷ []) in omega arith;
+      targets = refl;
     }
 
 pub with_scope-spares : (scope : List Cell) (s : Shape) → Spares s (with_scope scope s)
-with_scope-spares scope s = spares-same s (with_scope scope s) refl refl
+with_scope-spares scope s = spares-same s (with_scope scope s) refl refl refl
 
 pub with_temp-spares : (e : ℕ) (ty : Ty) (s : Shape) → Spares s (with_temp e ty s)
 unfolding with_temp
-with_temp-spares e ty s = spares-same s (with_temp e ty s) refl refl
+with_temp-spares e ty s = spares-same s (with_temp e ty s) refl refl refl
+
+pub with_never-spares : (e : ℕ) (ty : Ty) (s : Shape) → Spares s (with_never e ty s)
+unfolding with_never
+with_never-spares e ty s = spares-same s (with_never e ty s) refl refl refl
 
 -- a scope that was left
 pub scoped-spares : (s0 s1 s2 : Shape) → Spares s0 s1 → (outer : List Cell) → Spares (with_scope outer s1) s2 → Spares s0 s2
 scoped-spares s0 s1 s2 first outer second = spares-trans s0 s1 s2 first (spares-trans s1 (with_scope outer s1) s2 (with_scope-spares outer s1) second)
 
 -- where a block becomes the current one that a graph did not have, what that graph had is left as it was
-pub spares-entered : (first old new : Shape) → Spares first old → ((at : ℕ) → at ≢ old.current → slice_get new.blocks at ≡ slice_get old.blocks at) → length new.blocks ≡ length old.blocks → length first.blocks ≤ new.current → Spares first new
-spares-entered first old new spares others same behind =
+pub spares-entered : (first old new : Shape) → Spares first old → ((at : ℕ) → at ≢ old.current → slice_get new.blocks at ≡ slice_get old.blocks at) → length new.blocks ≡ length old.blocks → new.targets ≡ old.targets → length first.blocks ≤ new.current → Spares first new
+spares-entered first old new spares others same targets behind =
     record {
       others = λ at apart within.
           let apart' : at ≢ old.current = λ here. ⊎_elim (λ stays. apart (here ∙ stays)) (λ moved. absurd (omega arith)) spares.moves in
           others at apart' ∙ spares.others at apart within;
       moves = inr behind;
       many = let long = spares.many in omega arith;
+      targets = targets ∙ spares.targets;
     }

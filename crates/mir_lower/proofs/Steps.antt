@@ -1,5 +1,5 @@
 -- One assignment: what the source writes is written to the local of its cell.
-use Rattle.std.proofs.Common.{◌≡◌, ℕ, zero, suc, ◌⊎◌, ⊎_elim, inl, inr, Bool, true, false, cond, List, length, Option, Some, Ok, Err, refl, sym, ap, ◌∙◌, subst, arith, eqb}
+use Rattle.std.proofs.Common.{◌≡◌, ℕ, zero, suc, ◌⊎◌, ⊎_elim, inl, inr, Bool, true, false, cond, List, length, Option, Some, Ok, Err, refl, sym, ap, ◌∙◌, subst, eqb}
 use borrow.Author.Tests.{eqb-true}
 use Rattle.source_meaning.specs.Core.{CoreExpr}
 use Rattle.numbers.specs.Operators.{Answer, Computes, Panics, Undefined}
@@ -15,12 +15,11 @@ use Rattle.mir.specs.Run.{Frame, after_statement, copied, rvalue_bytes, answered
 use Rattle.source_meaning.specs.Around.{Around}
 use Rattle.source_meaning.specs.Ends.{no_cost, End, Go, Stuck}
 use Rattle.source_meaning.specs.Meaning.{level_at, put, put_answer, into_of}
-use Rattle.source_meaning.specs.Source.{Source, node, Cell, Result as Slot, Node, Binding, Path, Store, with_cell_bytes}
+use Rattle.source_meaning.specs.Source.{Source, node, Cell, Result as Slot, Node, Binding, Never, Path, Store, with_cell_bytes}
 use Rattle.source_meaning.proofs.Costs.{after-none}
-use Rattle.mir_lower.specs.Does.{Point, here, run_from, IsFrameOf, Holds, Comes, Landings, Reaches, Performs, Nothing, Does}
+use Rattle.mir_lower.specs.Does.{Stands, Point, here, run_from, IsFrameOf, Holds, Comes, Landings, Reaches, Performs, Nothing, DoesOwn}
 use Rattle.mir_lower.specs.Graph.{Shape, with_statement, local_of}
-use Rattle.mir_lower.specs.Growth.{Grows, IsSound, IsOpen}
-use Rattle.mir_lower.specs.Lowered.{IsPlaced}
+use Rattle.mir_lower.specs.Growth.{Grows, IsSound, IsOpen, IsPlaced}
 use Rattle.mir_lower.proofs.Holding.{assigns, interval-of}
 use Rattle.mir_lower.proofs.Reaching.{none-entered, reaches-after}
 use Rattle.mir_lower.proofs.Running.{comes-statement, ends-statement}
@@ -39,6 +38,7 @@ pub local_of-grows : (old new : Shape) → Grows old new → (c : Cell) (l : ℕ
 local_of-grows old new grows Slot l h = h
 local_of-grows old new grows (Node e) l h = grows.temps e l h
 local_of-grows old new grows (Binding b) l h = binding_local-grows old new b l grows.bindings h
+local_of-grows old new grows (Never e) l h = grows.nevers e l h
 
 pub placed-later : (old new : Shape) → Grows old new → (local : ℕ) → IsPlaced old local → IsPlaced new local
 placed-later old new grows local placed = record { cell = placed.cell; found = local_of-grows old new grows placed.cell local placed.found }
@@ -76,12 +76,12 @@ reaches-from whole lands frame p q to memory claim comes end reaches =
     subst (Reaches whole lands frame p to memory claim) (after-none end)
     (reaches-after whole lands frame p q to memory memory claim no_cost comes end reaches)
 
--- an expression does what its form does with one unit of fuel less
-pub does-form : (source : Source) (old new : Shape) (e : ℕ) (c : Cell) (form : Option CoreExpr) → node source e ≡ form → Performs source old new Nothing (λ around fuel store. into_of source (level_at source fuel) around e form (record { cell = c }) store) → Does source old new e c
+-- an expression itself does what its form does with one unit of fuel less
+pub does-form : (source : Source) (old new : Shape) (e : ℕ) (c : Cell) (form : Option CoreExpr) → node source e ≡ form → Performs source old new Nothing (λ around fuel store. into_of source (level_at source fuel) around e form (record { cell = c }) store) → DoesOwn source old new e c
 unfolding level_at
 does-form source old new e c form is performs =
     record { reaches = λ whole frame grows sound frame-is lands around stands fuel store memory holds. by-fuel whole frame grows sound frame-is lands around stands fuel store memory holds } where
-      by-fuel : (whole : Shape) (frame : Frame) → Grows new whole → IsSound source whole → IsFrameOf whole frame → (lands : Landings) (around : Around) → around.marks ≡ old.scope → (fuel : ℕ) (store : Store) (memory : Memory) → Holds whole frame store memory → Reaches whole lands frame (here old) (here new) memory (Nothing whole frame) ((level_at source fuel around).into e (record { cell = c }) store)
+      by-fuel : (whole : Shape) (frame : Frame) → Grows new whole → IsSound source whole → IsFrameOf whole frame → (lands : Landings) (around : Around) → Stands whole old lands around → (fuel : ℕ) (store : Store) (memory : Memory) → Holds whole frame store memory → Reaches whole lands frame (here old) (here new) memory (Nothing whole frame) ((level_at source fuel around).own e (record { cell = c }) store)
       by-fuel whole frame grows sound frame-is lands around stands zero store memory holds = none-entered (run_from frame memory (here old))
       by-fuel whole frame grows sound frame-is lands around stands (suc fuel) store memory holds =
           subst (λ f. Reaches whole lands frame (here old) (here new) memory (Nothing whole frame) (into_of source (level_at source fuel) around e f (record { cell = c }) store)) (sym is)

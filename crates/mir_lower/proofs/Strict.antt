@@ -18,17 +18,17 @@ use Rattle.source_meaning.specs.Around.{Around, marking}
 use Rattle.source_meaning.specs.Ends.{Go, then_do, no_cost}
 use Rattle.source_meaning.specs.Events.{marked_as_operand}
 use Rattle.source_meaning.specs.Meaning.{Levels, Value, level_at, value_of, answered, operands_of, into_of}
-use Rattle.source_meaning.specs.Source.{Source, node, node_type, Cell, Store, Operand, operand_bytes, operand_type}
+use Rattle.source_meaning.specs.Source.{Source, node, unadjusted, Cell, Store, Operand, operand_bytes, operand_type}
 use Rattle.source_meaning.specs.Steps.{parts_of}
-use Rattle.source_meaning.specs.Valid.{own, inside, sized_parts, IsLaidOut}
+use Rattle.source_meaning.specs.Valid.{own, inside, sized_parts, IsLaidOutNode}
 use Rattle.source_meaning.proofs.Depth.{operand_is_part}
 use Rattle.source_meaning.proofs.Marks.{strict_marks}
 use Rattle.source_meaning.proofs.Parts.{sized_operand}
-use Rattle.mir_lower.specs.Does.{here, IsFrameOf, Holds, Landings, Reaches, Nothing, Fits, FitAll}
+use Rattle.mir_lower.specs.Does.{Stands, here, IsFrameOf, Holds, Landings, Reaches, Nothing, Fits, FitAll}
 use Rattle.mir_lower.specs.Form.{operation_of}
 use Rattle.mir_lower.specs.Graph.{Shape, with_statement, local_of}
 use Rattle.mir_lower.specs.Growth.{Grows, IsSound, IsOpen, IsReady}
-use Rattle.mir_lower.specs.Lowered.{LaysOut, LowersInto, LowersOperand, LowersOperands}
+use Rattle.mir_lower.specs.Lowered.{LaysOut, LowersOwn, LowersOperand, LowersOperands}
 use Rattle.mir_lower.proofs.Growing.{grows-refl, grows-trans, with_statement-grows}
 use Rattle.mir_lower.proofs.Laid.{layouts-before, plain-part, one-of}
 use Rattle.mir_lower.proofs.Operations.{assignment}
@@ -85,7 +85,7 @@ lowers-more-operands source s0 s1 s2 e rest operand operands first others =
       };
       laid = λ child within truth plain layouts. ⊎_elim
           (λ here'. let same = one-of e child here' in
-          subst (LaysOut source s2) same (λ plain' layouts'. first.laid (subst (λ x. is_truth (node source x) ≡ false) (sym same) truth) plain' (layouts-before source s1 s2 others.keeps.grows layouts')) plain layouts)
+          subst (LaysOut source s2) same (λ plain' layouts'. first.laid (subst (λ x. is_truth (unadjusted source x) ≡ false) (sym same) truth) plain' (layouts-before source s1 s2 others.keeps.grows layouts')) plain layouts)
           (λ later. others.laid child later truth plain layouts)
           (Contains-append_cases (e ∷ []) rest child within);
     }
@@ -96,19 +96,19 @@ Computes source operation operands rvalue =
     (whole : Shape) (frame : Frame) (values : List Operand) (store : Store) (memory : Memory) → Holds whole frame store memory → FitAll source operands whole frame values →
     rvalue_bytes frame memory rvalue ≡ answer (answered operation (map (value_of source store) values))
 
-lays-strict : (source : Source) (s1 new : Shape) (e : ℕ) (operation : Operation) (es : List ℕ) → node source e ≡ Some (Strict operation es) → ((child : ℕ) → Contains es child → is_truth (node source child) ≡ false → LaysOut source s1 child) → Grows s1 new → IsLaidOut source (node_type source e) → LaysOut source new e
+lays-strict : (source : Source) (s1 new : Shape) (e : ℕ) (operation : Operation) (es : List ℕ) → node source e ≡ Some (Strict operation es) → ((child : ℕ) → Contains es child → is_truth (unadjusted source child) ≡ false → LaysOut source s1 child) → Grows s1 new → IsLaidOutNode source e → LaysOut source new e
 lays-strict source s1 new e operation es form below grows laid plain layouts f own = laid
 lays-strict source s1 new e operation es form below grows laid plain layouts f (inside {child = child} within rest) =
     let operand = sized_operand source es child (subst (λ n. Contains (sized_parts source n) child) form within) in
-    below child operand.0 operand.1 (plain-part source e child (operand_is_part source e operation es child form operand.0) plain) (layouts-before source s1 new grows layouts) f rest
+    below child operand.0 operand.1 (plain-part source e child (operand_is_part source e operation es child form operand.0) laid plain) (layouts-before source s1 new grows layouts) f rest
 
 -- a strict form was lowered: its operands, and then one assignment
-pub lowers-strict : (source : Source) (s0 s1 new : Shape) (e : ℕ) (operation : Operation) (es : List ℕ) (operands : List OperandKind) (rvalue : Rvalue) (place : Place) (span : MirSpan) → IsReady source s0 e → node source e ≡ Some (Strict operation es) → LowersOperands source s0 s1 es operands → Computes source operation operands rvalue → new ≡ with_statement (assignment place rvalue span) s1 → (c : Cell) → local_of s0 c ≡ Some place.local.0 → LowersInto source s0 new e c
+pub lowers-strict : (source : Source) (s0 s1 new : Shape) (e : ℕ) (operation : Operation) (es : List ℕ) (operands : List OperandKind) (rvalue : Rvalue) (place : Place) (span : MirSpan) → IsReady source s0 e → node source e ≡ Some (Strict operation es) → LowersOperands source s0 s1 es operands → Computes source operation operands rvalue → new ≡ with_statement (assignment place rvalue span) s1 → (c : Cell) → local_of s0 c ≡ Some place.local.0 → LowersOwn source s0 new e c
 lowers-strict source s0 s1 new e operation es operands rvalue place span ready form given computes same c local =
     let st = assignment place rvalue span in
     let opened = given.keeps.«open» in
     let last : Grows s1 (with_statement st s1) = with_statement-grows st s1 opened in
-    subst (λ (n : Shape). LowersInto source s0 n e c) (sym same)
+    subst (λ (n : Shape). LowersOwn source s0 n e c) (sym same)
     (record {
       keeps = record {
         grows = grows-trans s0 s1 (with_statement st s1) given.keeps.grows last;
@@ -120,7 +120,7 @@ lowers-strict source s0 s1 new e operation es operands rvalue place span ready f
       does = does-form source s0 (with_statement st s1) e c (Some (Strict operation es)) form (record { reaches = reaches });
       laid = lays-strict source s1 (with_statement st s1) e operation es form given.laid last;
     }) where
-      reaches : (whole : Shape) (frame : Frame) → Grows (with_statement (assignment place rvalue span) s1) whole → IsSound source whole → IsFrameOf whole frame → (lands : Landings) (around : Around) → around.marks ≡ s0.scope → (fuel : ℕ) (store : Store) (memory : Memory) → Holds whole frame store memory → Reaches whole lands frame (here s0) (here (with_statement (assignment place rvalue span) s1)) memory (Nothing whole frame) (into_of source (level_at source fuel) around e (Some (Strict operation es)) (record { cell = c }) store)
+      reaches : (whole : Shape) (frame : Frame) → Grows (with_statement (assignment place rvalue span) s1) whole → IsSound source whole → IsFrameOf whole frame → (lands : Landings) (around : Around) → Stands whole s0 lands around → (fuel : ℕ) (store : Store) (memory : Memory) → Holds whole frame store memory → Reaches whole lands frame (here s0) (here (with_statement (assignment place rvalue span) s1)) memory (Nothing whole frame) (into_of source (level_at source fuel) around e (Some (Strict operation es)) (record { cell = c }) store)
       reaches whole frame grows sound frame-is lands around stands fuel store memory holds =
           let st = assignment place rvalue span in
           let opened = given.keeps.«open» in

@@ -10,16 +10,16 @@ use Rattle.mir.specs.declared.body.MirBody.{MirBody}
 use Rattle.mir.specs.declared.body.TerminatorKind.TheVariants.{Return}
 use Rattle.mir.specs.declared.span.MirSpan.{MirSpan}
 use Rattle.mir.specs.Memory.{Interval, Memory, first_memory, bytes_at, cells_of}
-use Rattle.mir.specs.Run.{Frame, Ending, Returned, Faulted, out_of_blocks, entering, begun}
+use Rattle.mir.specs.Run.{Frame, Ending, Returned, Faulted, entering, begun}
 use Rattle.source_meaning.specs.Around.{at_root}
 use Rattle.source_meaning.specs.Ends.{Cost, turns_alone, plus, End, Go, Jumps, Faults, Stuck, More, after, then_do}
 use Rattle.source_meaning.specs.Entering.{body_room, room_of, entering as entering_cost}
 use Rattle.source_meaning.specs.Events.{marked}
 use Rattle.source_meaning.specs.Meaning.{level_at, meaning_of}
-use Rattle.source_meaning.specs.Source.{Source, node_type, root, Cell, Result as Slot, cell_type, cell_layout, drops, Store, zeroed}
+use Rattle.source_meaning.specs.Source.{Source, node_type, root, Cell, Result as Slot, cell_type, cell_layout, drops, Store, zeroed, own_type}
 use Rattle.source_meaning.specs.Valid.{IsPlain, IsLaidOut, AreLaidOut}
-use Rattle.mir_lower.specs.Does.{Point, here, start_of, run_from, local_bytes, IsFrameOf, Holds, Comes, Nowhere, Landings, Reaches, Nothing}
-use Rattle.mir_lower.specs.Graph.{Shape, no_statements, local_of_type, with_terminator, with_scope}
+use Rattle.mir_lower.specs.Does.{FrontAll, Point, Within, here, start_of, run_from, local_bytes, IsFrameOf, Holds, Comes, Nowhere, Landings, Reaches, Nothing}
+use Rattle.mir_lower.specs.Graph.{OpenTarget, Shape, no_statements, local_of_type, with_terminator, with_scope}
 use Rattle.mir_lower.specs.Growth.{Grows, IsSound, count_at}
 use Rattle.mir_lower.specs.Leaving.{Idles}
 use Rattle.mir_lower.specs.Lowered.{HasLayouts, LowersInto}
@@ -31,6 +31,7 @@ use Rattle.mir_lower.proofs.Placing.{AreAligned, Placing, places-all, first-ok}
 use Rattle.mir_lower.proofs.Reaching.{enters-both, ends-after}
 use Rattle.mir_lower.proofs.Room.{fits-room}
 use Rattle.mir_lower.proofs.Sound.{with_terminator-sound, slot-there, binding-there, stored-is-used}
+use Rattle.std.proofs.lemmas.List.Elements.{All-nil}
 
 -- an end that a cost stands before
 ends-as-after : (frame : Frame) (from at : Point) (memory middle : Memory) (cost : Cost) → Comes frame cost.turns from memory at middle → (end : End (List ℕ)) → EndsAs end (run_from frame middle at) → EndsAs (after cost end) (run_from frame memory from)
@@ -93,10 +94,10 @@ starts-zeroed source s frame memory sound placing =
           ∙ ap (λ (o : Option Layout). Some (replicate (unwrap_or (option_map (λ (layout : Layout). layout.size) o) 0) 0)) (sym layout)
 
 -- the point before the first statement of a graph of one empty block
-pub here-first : (s : Shape) → s.blocks ≡ no_statements ∷ [] → s.current ≡ 0 → here s ≡ record { block = 0; index = 0 }
+pub here-first : (s : Shape) → s.blocks ≡ no_statements ∷ [] → s.current ≡ 0 → here s ≡ Within 0 0
 unfolding count_at
 here-first s blocks current =
-    let at : List BasicBlock → ℕ → Point = λ bs n. record { block = n; index = unwrap_or (option_map (λ (b : BasicBlock). length b.statements) (slice_get bs n)) 0 } in
+    let at : List BasicBlock → ℕ → Point = λ bs n. Within n (unwrap_or (option_map (λ (b : BasicBlock). length b.statements) (slice_get bs n)) 0) in
     ap (λ (bs : List BasicBlock). at bs s.current) blocks ∙ ap (λ (n : ℕ). at (no_statements ∷ []) n) current
 
 -- what leaving the body costs
@@ -104,7 +105,7 @@ abbrev pub leaving : Source → ℕ
 leaving source = drops source (marked source (root source))
 
 -- the root was lowered, its scope left, and the block ended by a return
-module _ (source : Source) (s0 s1 s2 : Shape) (span : MirSpan) (begins : here s0 ≡ record { block = 0; index = 0 }) (nothing : s0.scope ≡ []) (into : LowersInto source s0 s1 (root source) Slot) (idles : Idles source (with_scope s0.scope s1) s2 (leaving source)) where
+module _ (source : Source) (s0 s1 s2 : Shape) (span : MirSpan) (begins : here s0 ≡ Within 0 0) (nothing : s0.scope ≡ []) (outermost : s0.targets ≡ []) (into : LowersInto source s0 s1 (root source) Slot) (idles : Idles source (with_scope s0.scope s1) s2 (leaving source)) where
   abbrev Whole : Shape
   Whole = with_terminator (record { span = span; kind = Return }) s2
 
@@ -136,7 +137,7 @@ module _ (source : Source) (s0 s1 s2 : Shape) (span : MirSpan) (begins : here s0
       ends-as-entered source frame memory 0 (then_do evaluates next)
       (subst (λ (p : Point). EndsAs (then_do evaluates next) (run_from frame memory p)) begins
       (ends-as-then Whole (λ jump. Nowhere) frame (here s0) (here s1) memory (Nothing Whole frame) evaluates next
-      (into.does.reaches Whole frame first-grows whole-sound is (λ jump. Nowhere) at_root (sym nothing) fuel (zeroed source) memory holds)
+      (into.does.reaches Whole frame first-grows whole-sound is (λ jump. Nowhere) at_root (record { marks = sym nothing; targets = subst (λ (targets : List OpenTarget). FrontAll Whole (λ jump. Nowhere) targets []) (sym outermost) tt }) fuel (zeroed source) memory holds)
       (λ value store middle claims. returns-after frame is store middle claims.0)))
 
   -- what is evaluated has types with layouts, where the locals have
@@ -147,7 +148,7 @@ module _ (source : Source) (s0 s1 s2 : Shape) (span : MirSpan) (begins : here s0
       let root-laid : IsLaidOut source (node_type source (root source)) =
       subst (IsLaidOut source) (sym first.2) (all 0 first.0 first.1) in
       record {
-        nodes = λ e evaluates. into.laid root-laid plain.nodes (λ l local h. all l local (first-grows.locals l local h)) e evaluates;
+        nodes = λ e evaluates. into.laid root-laid (record { nodes = plain.nodes; opened = []; jumps = plain.jumps; laid = All-nil (λ target. IsLaidOut source (own_type source target.node)) }) (λ l local h. all l local (first-grows.locals l local h)) e evaluates;
         bindings = λ b t h. let there = binding-there source Whole whole-sound b t h in all there.0 (local_of_type t) there.1;
       }
 

@@ -6,7 +6,7 @@ use Rattle.mir.specs.Memory.{Memory}
 use Rattle.mir.specs.Run.{Frame, operand_bytes}
 use Rattle.numbers.specs.Bytes.{value_of}
 use Rattle.source_meaning.specs.Source.{Source}
-use Rattle.mir_lower.specs.Does.{here, start_of, IsFrameOf, Comes}
+use Rattle.mir_lower.specs.Does.{Entry, here, start_of, IsFrameOf, Comes}
 use Rattle.mir_lower.specs.Graph.{Shape, no_statements}
 use Rattle.mir_lower.specs.Growth.{Grows, Spares, IsSound, IsOpen}
 
@@ -41,6 +41,8 @@ pub record HasGoneOn (source : Source) (old new : Shape) (to next : ℕ) : Type 
   pub sound : IsSound source new
   pub «open» : IsOpen new
   pub scope : new.scope ≡ old.scope
+  pub targets : new.targets ≡ old.targets
   pub current : new.current ≡ next
   pub begins : here new ≡ start_of next
+  pub heads : (whole : Shape) (frame : Frame) → Grows new whole → IsFrameOf whole frame → (memory : Memory) → Comes frame 0 (here old) memory (Entry to) memory
   pub comes : (whole : Shape) (frame : Frame) → Grows new whole → IsFrameOf whole frame → (memory : Memory) → Comes frame 1 (here old) memory (start_of to) memory

@@ -4,7 +4,7 @@ use Rattle.std.specs.Prelude.{◌≡◌, ℕ, ◌≤◌, All, Option, Some}
 use Rattle.source_meaning.specs.Built.{IsBuiltForm, IsBuiltStatement}
 use Rattle.source_meaning.specs.Core.{CoreExpr, CoreLiteral, Truth, Number}
 use Rattle.source_meaning.specs.Core as expr
-use Rattle.source_meaning.specs.Source.{Source, node, node_layout}
+use Rattle.source_meaning.specs.Source.{Source, node, own_layout}
 use Rattle.source_meaning.specs.Steps.{statement_parts}
 use Rattle.source_meaning.specs.Valid.{Evaluates}
 use Rattle.world.specs.declared.body.Statement.{Statement}
@@ -13,7 +13,7 @@ use Rattle.world.specs.declared.layout.Layout.{Layout}
 -- a number literal's type has a layout of at most 16 bytes
 pub record HasNumberLayout (source : Source) (e : ℕ) : Type 0 where
   pub layout : Layout
-  pub found : node_layout source e ≡ Some layout
+  pub found : own_layout source e ≡ Some layout
   pub narrow : layout.size ≤ 16
 
 -- a literal that is lowered: a truth value, or a number with a layout

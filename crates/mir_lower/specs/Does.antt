@@ -1,34 +1,35 @@
 -- What the code of a graph does: from a point of it to another, or to the end of the run.
-use Rattle.std.specs.Prelude.{◌≡◌, ◌≢◌, ℕ, ◌+◌, ◌<◌, ◌≤◌, List, ◌∷◌, [], Option, Some, slice_get, option_and_then, unwrap_or, ◌⊎◌}
+use Rattle.std.specs.Prelude.{◌≡◌, ◌≢◌, ℕ, ◌+◌, ◌≤◌, List, ◌∷◌, [], Option, Some, slice_get, option_and_then, unwrap_or, ◌⊎◌}
 use Rattle.mir.specs.declared.operand.OperandKind.{OperandKind}
 use Rattle.mir.specs.Memory.{Interval, Memory, bytes_at}
-use Rattle.mir.specs.Run.{Frame, Faulted, Ended, out_of_blocks, running, operand_bytes as mir_bytes, operand_type as mir_type}
-use Rattle.source_meaning.specs.Around.{Around}
-use Rattle.source_meaning.specs.Ends.{End, Go, Jumps, Faults, Stuck, More, Jump}
+use Rattle.mir.specs.Run.{Frame, Faulted, Ended, running, entering, operand_bytes as mir_bytes, operand_type as mir_type}
+use Rattle.source_meaning.specs.Around.{Around, Target}
+use Rattle.source_meaning.specs.Ends.{End, Go, Jumps, Faults, Stuck, More, Jump, Break, Continue}
 use Rattle.source_meaning.specs.Meaning.{level_at, operands_of, statements_of, tail_into, bind}
 use Rattle.source_meaning.specs.Source.{Source, pattern, target, Cell, Path, Store, Operand, operand_bytes, operand_type}
 use Rattle.world.specs.declared.body.Statement.{Statement}
 use Rattle.types.specs.declared.ids.ExprId.{ExprId}
-use Rattle.mir_lower.specs.Graph.{Shape, local_of}
+use Rattle.mir_lower.specs.Graph.{Shape, OpenTarget, local_of}
 use Rattle.mir_lower.specs.Growth.{Grows, IsSound, count_at}
 use Rattle.mir_lower.specs.Simulates.{Enters, EndsAfter, error_of}
 
--- a point of the code: before a statement of a block, or before its terminator
-pub record Point : Type 0 where
-  pub block : ℕ
-  pub index : ℕ
+-- a point of a run: in a block that it entered, before a statement or before the terminator; or before it enters a block
+pub data Point : Type 0 where
+  Within : (block index : ℕ) → Point
+  Entry : (block : ℕ) → Point
 
 -- the point behind the last statement of the current block
 abbrev pub here : Shape → Point
-here s = record { block = s.current; index = unwrap_or (count_at s s.current) 0 }
+here s = Within s.current (unwrap_or (count_at s s.current) 0)
 
 -- the point before the first statement of a block
 abbrev pub start_of : ℕ → Point
-start_of block = record { block = block; index = 0 }
+start_of block = Within block 0
 
 -- the run from a point on
 abbrev pub run_from : Frame → Memory → Point → ℕ → Ended
-run_from frame memory point budget = running budget frame memory point.block point.index
+run_from frame memory (Within block index) budget = running budget frame memory block index
+run_from frame memory (Entry block) budget = entering budget frame memory block
 
 -- the bytes of a local
 unfoldable pub local_bytes : Frame → Memory → ℕ → Option (List ℕ)
@@ -54,7 +55,7 @@ pub record Comes (frame : Frame) (turns : ℕ) (from : Point) (memory : Memory) 
   pub with_more : (more : ℕ) → run_from frame memory from (turns + more) ≡ run_from frame later to more
   pub with_fewer : Enters turns (run_from frame memory from)
 
--- where the run comes to when the source jumps: to the start of a block, or nothing is said of it
+-- where the run comes to when the source jumps: it is about to enter a block, or nothing is said of it
 pub data Landing : Type 0 where
   Nowhere : Landing
   Before : (block : ℕ) → Landing
@@ -66,7 +67,7 @@ Landings = Jump → Landing
 -- the run comes to where a jump lands, over exactly so many blocks, with a memory that holds the store
 abbrev pub Lands : Shape → Frame → Point → Memory → Store → ℕ → Landing → Type 0
 Lands whole frame from memory store turns Nowhere = Unit {0}
-Lands whole frame from memory store turns (Before block) = (later : Memory) × Comes frame turns from memory (start_of block) later × Holds whole frame store later
+Lands whole frame from memory store turns (Before block) = (later : Memory) × Comes frame turns from memory (Entry block) later × Holds whole frame store later
 
 -- From a point the run does what an end says, over exactly as many blocks as that counts: it comes to another point with a
 -- memory that holds the store, and the claim on the value holds; or it comes to where a jump lands; or it ends. Where the fuel
@@ -79,11 +80,31 @@ Reaches whole lands frame from to memory claim (Faults fault cost) = EndsAfter c
 Reaches whole lands frame from to memory claim Stuck = Unit {0}
 Reaches whole lands frame from to memory claim (More cost) = Enters cost.turns (run_from frame memory from)
 
--- What code does: in each graph that the new one grows to, wherever jumps land, where the cells in use are those that the old
--- graph has, and from each memory that holds the store, the code between the two graphs' points does what an end says, at
--- each amount of fuel, and what is claimed of its value holds.
+-- A loop or a labelled block of the meaning is one of the graph: its value goes to the cell of the graph's local, as many cells
+-- were in use when it was entered, and jumps to it land before the graph's blocks.
+pub record Fronts (whole : Shape) (lands : Landings) (target : OpenTarget) (front : Target) : Type 0 where
+  pub opened : front.opened ≡ target.opened
+  pub local : local_of whole front.path.cell ≡ Some target.local
+  pub kept : front.kept ≡ target.kept
+  pub breaks : lands (Break target.opened.node) ≡ Before target.end_block
+  pub continues : lands (Continue target.opened.node) ≡ Before target.begin_block
+
+-- those of the meaning are those of the graph, one each
+abbrev pub FrontAll : Shape → Landings → List OpenTarget → List Target → Type 0
+FrontAll whole lands [] [] = Unit {0}
+FrontAll whole lands (target ∷ outer) (front ∷ others) = Fronts whole lands target front × FrontAll whole lands outer others
+FrontAll whole lands _ _ = ⊥
+
+-- what stands around the code in the meaning is what stands around it in the graph
+pub record Stands (whole old : Shape) (lands : Landings) (around : Around) : Type 0 where
+  pub marks : around.marks ≡ old.scope
+  pub targets : FrontAll whole lands old.targets around.targets
+
+-- What code does: in each graph that the new one grows to, where jumps land in the blocks of the loops and labelled blocks
+-- that the old graph has open, where the cells in use are those that it has, and from each memory that holds the store, the
+-- code between the two graphs' points does what an end says, at each amount of fuel, and what is claimed of its value holds.
 pub record Performs (source : Source) (old new : Shape) {A : Type 0} (claim : Shape → Frame → A → Type 0) (meaning : Around → ℕ → Store → End A) : Type 0 where
-  pub reaches : (whole : Shape) (frame : Frame) → Grows new whole → IsSound source whole → IsFrameOf whole frame → (lands : Landings) → (around : Around) → around.marks ≡ old.scope →
+  pub reaches : (whole : Shape) (frame : Frame) → Grows new whole → IsSound source whole → IsFrameOf whole frame → (lands : Landings) → (around : Around) → Stands whole old lands around →
       (fuel : ℕ) (store : Store) (memory : Memory) → Holds whole frame store memory →
       Reaches whole lands frame (here old) (here new) memory (claim whole frame) (meaning around fuel store)
 
@@ -109,6 +130,10 @@ FitAll source _ whole frame _ = ⊥
 -- the code evaluates an expression into a cell
 abbrev pub Does : Source → Shape → Shape → ℕ → Cell → Type 0
 Does source old new e cell = Performs source old new Nothing (λ around fuel store. (level_at source fuel around).into e (record { cell = cell }) store)
+
+-- or an expression itself, as it is before its value is adjusted
+abbrev pub DoesOwn : Source → Shape → Shape → ℕ → Cell → Type 0
+DoesOwn source old new e cell = Performs source old new Nothing (λ around fuel store. (level_at source fuel around).own e (record { cell = cell }) store)
 
 -- or as an operand
 abbrev pub DoesOperand : Source → Shape → Shape → ℕ → OperandKind → Type 0

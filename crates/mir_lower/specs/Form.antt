@@ -33,6 +33,10 @@ core_form (form.Logic op lhs rhs) = Some (expr.Logic op lhs.0 rhs.0)
 core_form (form.If condition then_branch else_branch) = Some (expr.If condition.0 then_branch.0 else_branch)
 core_form (form.Assign assigned value) = Some (expr.Assign assigned.0 value.0)
 core_form (form.Block statements tail) = Some (expr.Block statements.now tail)
+core_form (form.Labelled label statements tail) = Some (expr.Labelled label statements.now tail)
+core_form (form.Loop label body) = Some (expr.Loop label body.0)
+core_form (form.Break label value) = Some (expr.Break label value)
+core_form (form.Continue label) = Some (expr.Continue label)
 core_form form.Incomplete = None
 core_form form.Unbuilt = None
 

@@ -1,5 +1,5 @@
 -- How the graph grows while an expression is lowered, and what stands in it at a point of its code.
-use Rattle.std.specs.Prelude.{◌≡◌, ◌≢◌, ◌⊎◌, ℕ, ◌<◌, ◌≤◌, false, [], ◌∷◌, length, Option, Some, None, slice_get, option_map, option_and_then}
+use Rattle.std.specs.Prelude.{◌≡◌, ◌≢◌, ◌⊎◌, ℕ, ◌<◌, ◌≤◌, false, List, [], ◌∷◌, length, All, Option, Some, None, slice_get, option_map, option_and_then, true}
 use Rattle.mir.specs.declared.body.BasicBlock.{BasicBlock}
 use Rattle.mir.specs.declared.body.Local.{Local}
 use Rattle.mir.specs.declared.body.Terminator.{Terminator}
@@ -7,9 +7,10 @@ use Rattle.mir.specs.declared.statement.Statement.{Statement}
 use Rattle.types.specs.declared.ty.Ty.{Ty}
 use Rattle.world.specs.Checked.{IsCheckedBody}
 use Rattle.source_meaning.specs.Core.{is_path}
-use Rattle.source_meaning.specs.Source.{Source, Cell, Result, Node, Binding, cell_type, binding_type, node, root}
-use Rattle.source_meaning.specs.Valid.{Evaluates}
-use Rattle.mir_lower.specs.Graph.{Shape, no_statements, temp_of, binding_local, local_of}
+use Rattle.source_meaning.specs.Source.{Source, Cell, Result, Node, Binding, cell_type, binding_type, node, root, Never, unadjusted, diverges}
+use Rattle.source_meaning.specs.Around.{Opened}
+use Rattle.source_meaning.specs.Valid.{Evaluates, EvaluatesIn, opened_in}
+use Rattle.mir_lower.specs.Graph.{Shape, OpenTarget, no_statements, temp_of, binding_local, local_of, opened_of, never_of}
 use Rattle.mir_lower.specs.Order.{first_locals}
 
 -- the statement at a place of a block, and a block's terminator
@@ -31,25 +32,30 @@ pub record Grows (old new : Shape) : Type 0 where
   pub locals : (index : ℕ) (local : Local) → slice_get old.locals index ≡ Some local → slice_get new.locals index ≡ Some local
   pub bindings : new.bindings ≡ old.bindings
   pub temps : (e local : ℕ) → temp_of old e ≡ Some local → temp_of new e ≡ Some local
+  pub nevers : (e local : ℕ) → never_of old e ≡ Some local → never_of new e ≡ Some local
 
--- Of the blocks that stood there none is touched but the current one, and the current block is the same or a new one.
+-- Of the blocks that stood there none is touched but the current one, the current block is the same or a new one, and the same
+-- loops and labelled blocks stand around what is added next.
 pub record Spares (old new : Shape) : Type 0 where
   pub others : (at : ℕ) → at ≢ old.current → at < length old.blocks → slice_get new.blocks at ≡ slice_get old.blocks at
   pub moves : (new.current ≡ old.current) ⊎ (length old.blocks ≤ new.current)
   pub many : length old.blocks ≤ length new.blocks
+  pub targets : new.targets ≡ old.targets
 
--- a cell that an evaluation may use: the result, a binding, or an expression that is evaluated
+-- a cell that an evaluation may use: the result, a binding, an expression that is evaluated, or the `!` of one
 abbrev pub IsUsed : Source → Cell → Type 0
 IsUsed source Result = Unit {0}
 IsUsed source (Node e) = Evaluates source (root source) e
 IsUsed source (Binding b) = Unit {0}
+IsUsed source (Never e) = Evaluates source (root source) e
 
--- a cell that is given a local: the result, a binding, or an expression that is evaluated, is no path and isn't the body's
--- root, whose value goes to the result
+-- a cell that is given a local: the result, a binding, an expression that is evaluated, is no path and isn't the body's
+-- root, whose value goes to the result, or the `!` of an expression that is evaluated
 abbrev pub IsStored : Source → Cell → Type 0
 IsStored source Result = Unit {0}
-IsStored source (Node e) = Evaluates source (root source) e × (is_path (node source e) ≡ false) × (e < root source)
+IsStored source (Node e) = Evaluates source (root source) e × (is_path (unadjusted source e) ≡ false) × (e < root source)
 IsStored source (Binding b) = Unit {0}
+IsStored source (Never e) = Evaluates source (root source) e × (diverges source e ≡ true) × (e < length source.body.exprs)
 
 -- The locals of cells: each has its cell's type, no two cells share one, and each local of the graph is that of a cell.
 pub record IsAllotted (source : Source) (s : Shape) : Type 0 where
@@ -63,6 +69,7 @@ pub record IsFirst (source : Source) (count : ℕ) (s : Shape) : Type 0 where
   pub blocks : s.blocks ≡ no_statements ∷ []
   pub current : s.current ≡ 0
   pub scope : s.scope ≡ []
+  pub targets : s.targets ≡ []
   pub locals : s.locals ≡ first_locals source count
   pub nodes : length s.temps ≡ length source.body.exprs
   pub bindings : length s.bindings ≡ count
@@ -81,6 +88,28 @@ pub record IsOpen (s : Shape) : Type 0 where
   pub there : s.current < length s.blocks
   pub unended : terminator_at s s.current ≡ None
 
+-- a local holds the value of a cell
+pub record IsPlaced (s : Shape) (local : ℕ) : Type 0 where
+  pub cell : Cell
+  pub found : local_of s cell ≡ Some local
+
+-- what stands around an expression: its number is below those of the loops and labelled blocks, whose values have locals
+pub record IsInside (s : Shape) (e : ℕ) (target : OpenTarget) : Type 0 where
+  pub above : e < target.opened.node
+  pub placed : IsPlaced s target.local
+
+-- the loops and labelled blocks that the graph has open are those around an expression of the body
+pub record IsAround (source : Source) (s : Shape) (e : ℕ) : Type 0 where
+  pub stands : EvaluatesIn source [] (root source) (opened_of s) e
+  pub inside : All (IsInside s e) s.targets
+
+-- those around the parts of an expression, which may be one itself
+pub record IsAroundParts (source : Source) (s : Shape) (e : ℕ) : Type 0 where
+  pub outer : List Opened
+  pub stands : EvaluatesIn source [] (root source) outer e
+  pub opens : opened_in e (node source e) outer ≡ opened_of s
+  pub inside : (child : ℕ) → child < e → All (IsInside s child) s.targets
+
 -- an expression of a checked body, which is evaluated, can be lowered into the graph
 pub record IsReady (source : Source) (s : Shape) (e : ℕ) : Type 0 where
   pub checked : IsCheckedBody source.body source.infer
@@ -88,6 +117,16 @@ pub record IsReady (source : Source) (s : Shape) (e : ℕ) : Type 0 where
   pub «open» : IsOpen s
   pub within : e < length source.body.exprs
   pub reached : Evaluates source (root source) e
+  pub around : IsAround source s e
+
+-- the parts of such an expression can be
+pub record ArePartsReady (source : Source) (s : Shape) (e : ℕ) : Type 0 where
+  pub checked : IsCheckedBody source.body source.infer
+  pub sound : IsSound source s
+  pub «open» : IsOpen s
+  pub within : e < length source.body.exprs
+  pub reached : Evaluates source (root source) e
+  pub around : IsAroundParts source s e
 
 -- the same of a part of another expression: it isn't the body's root
 pub record IsReadyPart (source : Source) (s : Shape) (e : ℕ) : Type 0 where

@@ -3,6 +3,7 @@ pub mod Copies
 pub mod Does
 pub mod Form
 pub mod Graph
+pub mod Jumps
 pub mod Growth
 pub mod Leaving
 pub mod Literals

@@ -8,20 +8,20 @@ use Rattle.mir.specs.declared.operand.OperandKind.{OperandKind}
 use Rattle.mir.specs.declared.operand.OperandKind.TheVariants.{Constant}
 use Rattle.mir.specs.Run.{constant_bytes}
 use Rattle.source_meaning.specs.Meaning.{literal_bytes}
-use Rattle.source_meaning.specs.Source.{Source, node_type, node_layout}
+use Rattle.source_meaning.specs.Source.{Source, own_type, own_layout}
 
--- an operand is a constant of an expression's type, with these bytes
+-- an operand is a constant of an expression's own type, with these bytes
 pub record IsConstantOf (source : Source) (e : ℕ) (bytes : List ℕ) (operand : OperandKind) : Type 0 where
   pub konst : Const
   pub ty : Ty
   pub is_constant : operand ≡ Constant konst ty
   pub bytes_are : constant_bytes konst ≡ Some bytes
-  pub typed : node_type source e ≡ Some ty
+  pub typed : own_type source e ≡ Some ty
 
 -- an operand is a constant with as many of these bytes as the expression's type has
 pub record IsNumberOf (source : Source) (e : ℕ) (bytes : List ℕ) (operand : OperandKind) : Type 0 where
   pub layout : Layout
-  pub found : node_layout source e ≡ Some layout
+  pub found : own_layout source e ≡ Some layout
   pub small : layout.size ≤ 16
   pub is_constant : IsConstantOf source e (take layout.size bytes) operand
 

@@ -1,21 +1,23 @@
 -- What lowering does to the graph.
-use Rattle.std.specs.Prelude.{◌≡◌, ℕ, false, List, ◌++◌, ◌∷◌, [], Contains, flat_map, Option, Some, slice_get}
+use Rattle.std.specs.Prelude.{◌≡◌, ℕ, false, List, ◌++◌, ◌∷◌, [], All, Contains, flat_map, Option, Some, slice_get}
 use Rattle.mir.specs.declared.body.Local.{Local}
 use Rattle.mir.specs.declared.operand.OperandKind.{OperandKind}
-use Rattle.source_meaning.specs.Core.{Block, is_truth}
+use Rattle.source_meaning.specs.Core as expr
+use Rattle.source_meaning.specs.Core.{CoreExpr, is_truth}
 use Rattle.world.specs.declared.body.Statement.{Statement}
 use Rattle.types.specs.declared.ids.BindingId.{BindingId}
 use Rattle.types.specs.declared.ids.ExprId.{ExprId}
 use Rattle.world.specs.declared.infer.ValueNs.TheVariants.{LocalBinding}
-use Rattle.source_meaning.specs.Events.{marked, marked_as_place, marked_as_operand, marked_by_statement, marked_by_tail}
-use Rattle.source_meaning.specs.Source.{Source, Cell, node, node_type, named_by, pattern, target, bound_by}
+use Rattle.source_meaning.specs.Events.{marked, marked_itself, marked_as_place, marked_as_operand, marked_by_statement, marked_by_tail}
+use Rattle.source_meaning.specs.Source.{Source, Cell, node, unadjusted, own_type, node_type, named_by, pattern, target, bound_by}
 use Rattle.source_meaning.specs.Steps.{statement_parts}
-use Rattle.source_meaning.specs.Valid.{IsPlainFrom, IsLaidOut, NeedsLayout}
+use Rattle.source_meaning.specs.Around.{Opened}
+use Rattle.source_meaning.specs.Valid.{IsPlainFrom, JumpsFit, IsLaidOut, NeedsLayout, IsLaidOutNode}
 use Rattle.mir_lower.specs.Graph.{Shape, binding_local, local_of}
 use Rattle.mir_lower.specs.Growth.{Grows, Spares, IsSound, IsOpen}
 use Rattle.mir.specs.Memory.{Memory}
 use Rattle.mir.specs.Run.{Frame}
-use Rattle.mir_lower.specs.Does.{here, Comes, IsFrameOf, Does, DoesOperand, DoesOperands, DoesPlace, DoesStatements, DoesTail, DoesBind, DoesAssign}
+use Rattle.mir_lower.specs.Does.{here, Comes, IsFrameOf, Does, DoesOwn, DoesOperand, DoesOperands, DoesPlace, DoesStatements, DoesTail, DoesBind, DoesAssign}
 
 -- the graph is as sound as before, has what it had, and these cells more came into use in the innermost open scope
 pub record Keeps (source : Source) (old new : Shape) (marked : List Cell) : Type 0 where
@@ -29,15 +31,29 @@ pub record Keeps (source : Source) (old new : Shape) (marked : List Cell) : Type
 abbrev pub HasLayouts : Source → Shape → Type 0
 HasLayouts source s = (l : ℕ) (local : Local) → slice_get s.locals l ≡ Some local → IsLaidOut source (Some local.ty)
 
--- where the graph's locals have layouts, and an expression is plain, what needs a layout there has one
+-- each expression that is evaluated where one is has a plain form, each jump there has a target, and the types of the loops and
+-- labelled blocks around it have layouts
+pub record IsPlainWithin (source : Source) (e : ℕ) : Type 0 where
+  pub nodes : IsPlainFrom source e
+  pub opened : List Opened
+  pub jumps : JumpsFit source opened e
+  pub laid : All (λ target. IsLaidOut source (own_type source target.node)) opened
+
+-- where the graph's locals have layouts, and an expression is plain, what needs layouts there has them
 abbrev pub LaysOut : Source → Shape → ℕ → Type 0
-LaysOut source s e = IsPlainFrom source e → HasLayouts source s → (f : ℕ) → NeedsLayout source e f → IsLaidOut source (node_type source f)
+LaysOut source s e = IsPlainWithin source e → HasLayouts source s → (f : ℕ) → NeedsLayout source e f → IsLaidOutNode source f
 
 -- an expression was lowered into a cell
 pub record LowersInto (source : Source) (old new : Shape) (e : ℕ) (cell : Cell) : Type 0 where
   pub keeps : Keeps source old new (marked source e)
   pub does : Does source old new e cell
   pub laid : IsLaidOut source (node_type source e) → LaysOut source new e
+
+-- an expression itself was lowered into a cell, as it is before its value is adjusted
+pub record LowersOwn (source : Source) (old new : Shape) (e : ℕ) (cell : Cell) : Type 0 where
+  pub keeps : Keeps source old new (marked_itself source e)
+  pub does : DoesOwn source old new e cell
+  pub laid : IsLaidOutNode source e → LaysOut source new e
 
 -- an expression was lowered to a place
 pub record LowersPlace (source : Source) (old new : Shape) (e local : ℕ) : Type 0 where
@@ -49,18 +65,13 @@ pub record LowersPlace (source : Source) (old new : Shape) (e local : ℕ) : Typ
 pub record LowersOperand (source : Source) (old new : Shape) (e : ℕ) (operand : OperandKind) : Type 0 where
   pub keeps : Keeps source old new (marked_as_operand source e)
   pub does : DoesOperand source old new e operand
-  pub laid : is_truth (node source e) ≡ false → LaysOut source new e
+  pub laid : is_truth (unadjusted source e) ≡ false → LaysOut source new e
 
 -- operands were lowered, from left to right
 pub record LowersOperands (source : Source) (old new : Shape) (es : List ℕ) (operands : List OperandKind) : Type 0 where
   pub keeps : Keeps source old new (flat_map (marked_as_operand source) es)
   pub does : DoesOperands source old new es operands
-  pub laid : (e : ℕ) → Contains es e → is_truth (node source e) ≡ false → LaysOut source new e
-
--- a local holds the value of a cell
-pub record IsPlaced (s : Shape) (local : ℕ) : Type 0 where
-  pub cell : Cell
-  pub found : local_of s cell ≡ Some local
+  pub laid : (e : ℕ) → Contains es e → is_truth (unadjusted source e) ≡ false → LaysOut source new e
 
 -- a cell came into use in the innermost open scope: its local is known, and the code goes on with memory as it was
 pub record IsGiven (source : Source) (old new : Shape) (cell : Cell) (local : ℕ) : Type 0 where
@@ -102,9 +113,14 @@ pub record LowersTail (source : Source) (old new : Shape) (tail : Option ExprId)
   pub does : DoesTail source old new tail cell
   pub laid : (e : ExprId) → tail ≡ Some e → IsLaidOut source (node_type source e.0) → LaysOut source new e.0
 
+-- an expression is a block of these statements, with a label or without
+abbrev pub HasStatements : Option CoreExpr → List Statement → Type 0
+HasStatements (Some (expr.Block own tail)) statements = own ≡ statements
+HasStatements (Some (expr.Labelled label own tail)) statements = own ≡ statements
+HasStatements _ statements = ⊥
+
 -- a statement stands in the block that an expression is
 pub record IsStatementOf (source : Source) (e : ℕ) (statement : Statement) : Type 0 where
   pub statements : List Statement
-  pub tail : Option ExprId
-  pub form : node source e ≡ Some (Block statements tail)
+  pub form : HasStatements (node source e) statements
   pub within : Contains statements statement

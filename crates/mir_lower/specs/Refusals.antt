@@ -5,7 +5,7 @@ use Rattle.mir.specs.declared.body.Local.{Local}
 use Rattle.types.specs.declared.ty.Ty.{Ty}
 use Rattle.world.specs.Lookups.{expr_of, is_copy}
 use Rattle.mir_lower.specs.Growth.{IsUsed}
-use Rattle.source_meaning.specs.Core.{CoreExpr, Number, core_of, is_adjusted, names_item}
+use Rattle.source_meaning.specs.Core.{CoreExpr, Number, core_of, is_adjusted_otherwise, names_item}
 use Rattle.source_meaning.specs.Core as expr
 use Rattle.source_meaning.specs.Core.{local_named}
 use Rattle.world.specs.declared.expr.Expr.{Expr}
@@ -20,8 +20,11 @@ use Rattle.world.specs.declared.layout.Layout.{Layout}
 use Rattle.mir.specs.declared.errors.MirLowerError.{MirLowerError}
 use Rattle.mir.specs.declared.errors.MirLowerError.TheVariants as refusal
 use Rattle.mir.specs.Errors.{layout_error_of}
-use Rattle.source_meaning.specs.Source.{Source, Cell, cell_type, node, node_layout, named_by, node_type, pattern, target_path, pattern_named_by, target, binding_type, root}
-use Rattle.source_meaning.specs.Valid.{Evaluates}
+use Rattle.source_meaning.specs.Source.{Source, Cell, cell_type, node, named_by, pattern, target_path, pattern_named_by, target, binding_type, root, own_layout, own_type}
+use Rattle.source_meaning.specs.Around.{Opened, meant}
+use Rattle.source_meaning.specs.Valid.{Evaluates, EvaluatesIn}
+use Rattle.types.specs.declared.ids.ExprId.{ExprId}
+use Rattle.types.specs.declared.ids.LabelId.{LabelId}
 
 -- inference met an error in the body
 abbrev pub HasTypingErrors : InferenceResult → Type 0
@@ -38,11 +41,11 @@ IsIncomplete whole.Missing = Unit {0}
 IsIncomplete (whole.BinaryOp lhs rhs None) = Unit {0}
 IsIncomplete _ = ⊥
 
--- an expression that isn't adjusted is missing, or its operator is
+-- an expression that isn't adjusted, or by `NeverToAny` alone, is missing, or its operator is
 pub record LacksPart (source : Source) (e : ℕ) : Type 0 where
   pub expr : Expr
   pub stands : expr_of source.body e ≡ Some expr
-  pub plain : is_adjusted source.infer (record { 0 = e }) ≡ false
+  pub plain : is_adjusted_otherwise source.infer (record { 0 = e }) ≡ false
   pub lacks : IsIncomplete expr
 
 -- an expression of a form that has no meaning yet, and isn't incomplete
@@ -52,11 +55,11 @@ pub record IsUnbuiltExpr (source : Source) (e : ℕ) : Type 0 where
   pub no_form : core_of (names_item source.infer (record { 0 = e })) expr ≡ None
   pub complete : IsIncomplete expr → ⊥
 
--- An expression of a form that isn't built yet, whatever its parts are: one that is adjusted, whatever its form is, and
--- one whose form has no meaning yet, as `*`, a jump and a literal that is neither a truth value nor a
--- whole number.
+-- An expression of a form that isn't built yet, whatever its parts are: one that is adjusted otherwise than by `NeverToAny`
+-- alone, whatever its form is, and one whose form has no meaning yet, as `*`, a jump and a literal that is neither a truth value
+-- nor a whole number.
 abbrev pub IsUnbuiltForm : Source → ℕ → Type 0
-IsUnbuiltForm source e = (is_adjusted source.infer (record { 0 = e }) ≡ true) ⊎ IsUnbuiltExpr source e
+IsUnbuiltForm source e = (is_adjusted_otherwise source.infer (record { 0 = e }) ≡ true) ⊎ IsUnbuiltExpr source e
 
 -- a statement that isn't built yet: an item, and a `let` without an initializer, with `else`, or of more than a name
 abbrev pub IsUnbuiltStatement : Source → Statement → Type 0
@@ -118,17 +121,34 @@ IsUnresolved source e (Some (expr.Path given)) name = (given ≡ name) × (named
 IsUnresolved source e (Some (expr.Assign assigned value)) name = (target_path source assigned ≡ Some name) × (pattern_named_by source assigned ≡ None)
 IsUnresolved source e _ name = ⊥
 
+-- an expression stands in no loop and no labelled block of the body
+abbrev pub StandsFree : Source → ℕ → Type 0
+StandsFree source e = EvaluatesIn source [] (root source) [] e
+
+-- none of the loops and labelled blocks around an expression has a label
+abbrev pub LacksLabel : Source → ℕ → LabelId → Type 0
+LacksLabel source e label = (outer : List Opened) × EvaluatesIn source [] (root source) outer e × (meant (Some label) outer ≡ None)
+
+-- a `break` or a `continue` with a label
+abbrev pub JumpsTo : LabelId → Option CoreExpr → Type 0
+JumpsTo label (Some (expr.Break given value)) = given ≡ Some label
+JumpsTo label (Some (expr.Continue given)) = given ≡ Some label
+JumpsTo label _ = ⊥
+
 -- the refusal of an expression has its cause there; want of memory needs none
 abbrev pub RefusesNode : Source → ℕ → MirLowerError → Type 0
 RefusesNode source e (refusal.LayoutError layout_error) =
-    IsNumber (node source e) × (node_layout source e ≡ None) × (ty : Ty) × (node_type source e ≡ Some ty) × (layout_error ≡ layout_error_of ty)
+    IsNumber (node source e) × (own_layout source e ≡ None) × (ty : Ty) × (own_type source e ≡ Some ty) × (layout_error ≡ layout_error_of ty)
 RefusesNode source e refusal.IncompleteExpr = LacksPart source e
 RefusesNode source e (refusal.UnresolvedName name) = IsUnresolved source e (node source e) name
 RefusesNode source e refusal.HasErrors = ⊥
 RefusesNode source e (refusal.TypeError text) =
     (text ≡ codes "number literal of more than 16 bytes") × IsNumber (node source e)
-    × (layout : Layout) × (node_layout source e ≡ Some layout) × (16 < layout.size)
+    × (layout : Layout) × (own_layout source e ≡ Some layout) × (16 < layout.size)
 RefusesNode source e (refusal.NotSupported text) = (text ≡ codes "form not built") × IsUnbuilt source e (node source e)
+RefusesNode source e refusal.ContinueWithoutLoop = (node source e ≡ Some (expr.Continue None)) × StandsFree source e
+RefusesNode source e refusal.BreakWithoutLoop = (value : Option ExprId) × (node source e ≡ Some (expr.Break None value)) × StandsFree source e
+RefusesNode source e refusal.UnresolvedLabel = (label : LabelId) × JumpsTo label (node source e) × LacksLabel source e label
 RefusesNode source e refusal.InaccessibleLocal = LacksLocal source e (node source e)
 RefusesNode source e refusal.NoMemory = Unit {0}
 
@@ -159,7 +179,7 @@ are_some_dropped source locals = list_any (λ local. not (is_copy source.infer l
 abbrev pub needs_drops : Source → List Local → Bool
 needs_drops source locals = is_some source.world.drop_fn && are_some_dropped source locals
 
--- The world has a drop function, and the result, a binding or the value of an expression that is evaluated may need
+-- The world has a drop function, and the result, a binding, the value of an expression that is evaluated or its `!` may need
 -- it: its type isn't listed as `Copy`.
 pub record HasDrops (source : Source) : Type 0 where
   pub drop_fn : is_some source.world.drop_fn ≡ true

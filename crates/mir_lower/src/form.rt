@@ -1,15 +1,17 @@
 //! The form of an expression, as far as forms are built.
 
-ghost use Rattle.std.specs.Prelude.{◌≡◌, ◌<◌, false, length, Some};
+ghost use Rattle.std.specs.Prelude.{◌≡◌, ◌<◌, false, length, Some, IfSome, IfNone};
 ghost use Rattle.std.specs.Option.{option_and_then, option_copied};
-ghost use Rattle.source_meaning.specs.Core.{is_adjusted, is_adjusted_pattern, is_any_step, is_by_reference, is_dereferenced_pattern, is_positive, name_of, names_item, path_of, pattern_names_item};
-ghost use Rattle.source_meaning.specs.Source.{pattern, target_path};
+ghost use Rattle.source_meaning.specs.Core.{are_other_steps, is_adjusted_otherwise, is_adjusted_pattern, is_by_reference, is_dereferenced_pattern, is_positive, is_literal, is_path, name_of, names_item, path_of, pattern_names_item};
+ghost use Rattle.source_meaning.specs.Core as expr;
+ghost use Rattle.source_meaning.specs.Source.{pattern, target_path, unadjusted};
 ghost use Rattle.world.specs.declared.expr.Expr.TheVariants as whole;
 ghost use Rattle.world.specs.Lookups.{expr_of};
 ghost use Rattle.mir_lower.specs.Contexts.{source_of};
-ghost use Rattle.mir_lower.specs.Form.{IsFormOf, HasForm};
+ghost use Rattle.mir_lower.specs.Form.{IsFormOf, HasForm, core_value};
 
 use crate::context::Context;
+use crate::inferred::{diverges, step_target};
 use crate::literal::LiteralValue;
 use mir::{BinOp, UnOp};
 use world::{
@@ -28,6 +30,10 @@ pub enum Form<'a> {
     If(ExprId, ExprId, Option<ExprId>),
     Assign(PatId, ExprId),
     Block(&'a List<Statement>, Option<ExprId>),
+    Labelled(LabelId, &'a List<Statement>, Option<ExprId>),
+    Loop(Option<LabelId>, ExprId),
+    Break(Option<LabelId>, Option<ExprId>),
+    Continue(Option<LabelId>),
     /// An expression that is missing, or whose operator is.
     Incomplete,
     Unbuilt,
@@ -87,11 +93,11 @@ fn block_form<'a>(
 {
     match label {
         None => Form::Block(statements, tail),
-        Some(_) => Form::Unbuilt,
+        Some(label) => Form::Labelled(label, statements, tail),
     }
 }
 
-/// The form of an expression whose value isn't adjusted.
+/// The form of an expression, as it is before its value is adjusted.
 fn form_of<'a>(names_item: bool, expr: &'a Expr) -> Form<'a>
     ensures { IsFormOf names_item expr.now result }
 {
@@ -111,26 +117,34 @@ fn form_of<'a>(names_item: bool, expr: &'a Expr) -> Form<'a>
             tail,
             label,
         } => block_form(statements, *tail, *label),
+        Expr::Loop { body, label } => Form::Loop(*label, *body),
+        Expr::Break { expr, label } => Form::Break(*label, *expr),
+        Expr::Continue { label } => Form::Continue(*label),
         Expr::Missing => Form::Incomplete,
         _ => Form::Unbuilt,
     }
 }
 
-fn is_any_step(steps: Option<&List<Adjustment>>) -> bool
-    ensures { result ≡ is_any_step (option_copied steps.entry) }
+/// Whether there are adjustments, and they are not `NeverToAny` alone.
+fn are_other_steps(steps: Option<&List<Adjustment>>) -> bool
+    ensures { result ≡ are_other_steps (option_copied steps.entry) }
 {
     match steps {
-        Some(steps) => !steps.as_slice().is_empty(),
+        Some(steps) => match steps.as_slice() {
+            [] => false,
+            [step] => step_target(step).is_none(),
+            _ => true,
+        },
         None => false,
     }
 }
 
-/// Whether an expression's value is adjusted before it is used.
-#[tactic(auto, unfolding(source_meaning::specs::Core::is_adjusted))]
-fn is_adjusted(context: &Context<'_>, e: ExprId) -> bool
-    ensures { result ≡ is_adjusted context.now.infer.now e }
+/// Whether an expression's value is adjusted before it is used, in another way than by `NeverToAny` alone.
+#[tactic(auto, unfolding(source_meaning::specs::Core::is_adjusted_otherwise))]
+fn is_adjusted_otherwise(context: &Context<'_>, e: ExprId) -> bool
+    ensures { result ≡ is_adjusted_otherwise context.now.infer.now e }
 {
-    is_any_step(context.infer.expr_adjustments.get(&e))
+    are_other_steps(context.infer.expr_adjustments.get(&e))
 }
 
 /// Whether a path is resolved to an associated item or a variant.
@@ -149,15 +163,45 @@ fn expr_at<'a>(context: &Context<'a>, e: ExprId) -> &'a Expr
     &context.body.exprs.as_slice()[e.0 as usize]
 }
 
-/// The form of an expression of the body.
+/// The form of an expression of the body, as it is before its value is adjusted.
 pub(crate) fn form_at<'a>(context: &Context<'a>, e: ExprId) -> Form<'a>
     requires { e.0 < length context.now.body.now.exprs }
     ensures { HasForm (source_of context.now) e.0 result }
 {
-    if is_adjusted(context, e) {
+    if is_adjusted_otherwise(context, e) {
         Form::Unbuilt
     } else {
         form_of(names_item(context, e), expr_at(context, e))
+    }
+}
+
+/// The literal that an expression is for those that use its value, where it is one.
+pub(crate) fn literal_at(context: &Context<'_>, e: ExprId) -> Option<LiteralValue>
+    requires { e.0 < length context.now.body.now.exprs }
+    ensures some { IfSome result (λ literal. unadjusted (source_of context.now) e.0 ≡ Some (expr.Literal (core_value literal))) }
+    ensures none { IfNone result (is_literal (unadjusted (source_of context.now) e.0) ≡ false) }
+{
+    if diverges(context, e) {
+        return None;
+    }
+    match form_at(context, e) {
+        Form::Literal(literal) => Some(literal),
+        _ => None,
+    }
+}
+
+/// The path that an expression is for those that use its value, where it is one.
+pub(crate) fn path_at<'a>(context: &Context<'a>, e: ExprId) -> Option<&'a Text>
+    requires { e.0 < length context.now.body.now.exprs }
+    ensures some { IfSome result (λ name. unadjusted (source_of context.now) e.0 ≡ Some (expr.Path name.now)) }
+    ensures none { IfNone result (is_path (unadjusted (source_of context.now) e.0) ≡ false) }
+{
+    if diverges(context, e) {
+        return None;
+    }
+    match form_at(context, e) {
+        Form::Path(name) => Some(name),
+        _ => None,
     }
 }
 

@@ -1,19 +1,29 @@
 //! The graph that lowering builds: blocks, one of which is open, and locals.
 
-ghost use Rattle.std.specs.Prelude.{◌≡◌, ◌<◌, ◌≤◌, ◌^◌, ℕ, length, IfOk, IfSome, IfNone, OnOk, Some, None, slice_get};
+ghost use Rattle.std.specs.Prelude.{◌≡◌, ◌<◌, ◌≤◌, ◌^◌, ◌∷◌, ℕ, List, length, IfOk, IfSome, IfNone, OnOk, Some, None, slice_get};
 ghost use Rattle.std.specs.Option.{option_map};
-ghost use Rattle.mir_lower.specs.Graph.{shape, first_shape, with_statement, with_terminator, with_block, with_reserved, with_entered, with_binding, with_temp, with_mark, temp_of, binding_local, no_statements, cell_of};
-ghost use Rattle.source_meaning.specs.Source.{Node};
+ghost use Rattle.mir_lower.specs.Graph.{OpenTarget, with_targets, target_of_blocks, meant_target, shape, first_shape, with_statement, with_terminator, with_block, with_reserved, with_entered, with_binding, with_temp, with_mark, temp_of, binding_local, no_statements, cell_of, with_never, never_of};
+ghost use Rattle.source_meaning.specs.Around.{is_meant};
+ghost use Rattle.source_meaning.specs.Source.{Node, Never};
 
-use mir::{BasicBlock, BasicBlockId, Local, LocalId, MirBody, Statement, Terminator};
+use mir::{BasicBlock, BasicBlockId, Local, LocalId, MirBody, Place, Statement, Terminator};
 use std::alloc::Global;
-use world::{BindingId, DefWithBodyId, ExprId, List, NoMemory, Ty};
+use world::{BindingId, DefWithBodyId, ExprId, LabelId, List, NoMemory, Ty};
 
 /// What a local holds the value of.
 #[derive(Clone, Copy)]
 pub enum Held {
     Expr(ExprId),
     Binding(BindingId),
+    /// The `!` of an expression that is adjusted by `NeverToAny`.
+    Never(ExprId),
+}
+
+/// The locals of an expression, where it has them: that of its value, and that of its `!`.
+#[derive(Clone, Copy)]
+pub struct Temps {
+    pub value: Option<LocalId>,
+    pub never: Option<LocalId>,
 }
 
 /// A local that came into use in a scope that is open.
@@ -21,6 +31,21 @@ pub enum Held {
 pub struct Marked {
     pub held: Held,
     pub local: LocalId,
+}
+
+/// A loop or a labelled block that is being lowered: what a jump to it needs.
+#[derive(Clone, Copy)]
+pub struct LoopBlocks {
+    pub node: ExprId,
+    pub label: Option<LabelId>,
+    /// Where it begins, and where `continue` leads.
+    pub begin: BasicBlockId,
+    /// What follows it, and where `break` leads.
+    pub end: BasicBlockId,
+    /// Where its value goes.
+    pub place: Place,
+    /// How many locals were in use when it was entered.
+    pub drop_scope: DropScopeToken,
 }
 
 /// How many locals were in use when a scope was opened. Those behind them are the scope's own.
@@ -37,10 +62,12 @@ pub struct Graph {
     pub locals: List<Local>,
     /// For each binding its local, where no closure owns it.
     pub bindings: Vec<Option<LocalId>>,
-    /// For each expression the local that holds its value.
-    pub temps: Vec<Option<LocalId>>,
+    /// For each expression the local that holds its value, and that of its `!`.
+    pub temps: Vec<Temps>,
     /// The locals in use in all open scopes, those of the outermost scope first.
     pub scope: Vec<Marked>,
+    /// The loops and labelled blocks that are being lowered, the outermost first.
+    pub loops: Vec<LoopBlocks>,
 }
 
 fn empty_block(alloc: Global) -> BasicBlock
@@ -53,6 +80,16 @@ fn empty_block(alloc: Global) -> BasicBlock
     }
 }
 
+/// Whether a jump means a loop or a labelled block: any, where the jump has no label.
+fn is_meant(label: Option<LabelId>, blocks: &LoopBlocks) -> bool
+    ensures { result ≡ is_meant label (target_of_blocks blocks.now).opened }
+{
+    match label {
+        None => true,
+        Some(label) => blocks.label == Some(label),
+    }
+}
+
 impl Graph {
     /// One open block and the return slot, for a body of `nodes` expressions.
     pub fn new(alloc: Global, ty: Ty, nodes: u64) -> Result<Graph, NoMemory>
@@ -62,7 +99,10 @@ impl Graph {
         blocks.push(empty_block(alloc))?;
         let mut locals = List::new(alloc);
         locals.push(Local { ty })?;
-        let none: Option<LocalId> = None;
+        let none = Temps {
+            value: None,
+            never: None,
+        };
         let temps = vec![in alloc; none; nodes as usize]?;
         Ok(Graph {
             blocks,
@@ -71,6 +111,7 @@ impl Graph {
             bindings: Vec::new(alloc),
             temps,
             scope: Vec::new(alloc),
+            loops: Vec::new(alloc),
         })
     }
 
@@ -167,7 +208,26 @@ impl Graph {
         }
         let local = LocalId(count as u32);
         self.locals.push(Local { ty })?;
-        self.temps[node.0 as usize] = Some(local);
+        let temps = &mut self.temps[node.0 as usize];
+        temps.value = Some(local);
+        Ok(local)
+    }
+
+    /// A new local for the `!` of an expression that has none yet. A local that would be the 2^32nd has no id: `NoMemory`.
+    #[tactic(auto, unfolding(crate::specs::Graph::with_never))]
+    fn new_never(&mut self, node: ExprId, ty: Ty) -> Result<LocalId, NoMemory>
+        requires { node.0 < length self.old.temps.items }
+        ensures local { IfOk result (λ local. local.0 ≡ length self.old.locals) }
+        ensures added { OnOk result (shape self.new ≡ with_never node.0 ty (shape self.old)) }
+    {
+        let count = self.locals.len();
+        if count >= u32::MAX as u64 {
+            return Err(NoMemory);
+        }
+        let local = LocalId(count as u32);
+        self.locals.push(Local { ty })?;
+        let temps = &mut self.temps[node.0 as usize];
+        temps.never = Some(local);
         Ok(local)
     }
 
@@ -188,11 +248,28 @@ impl Graph {
         ensures new { IfOk result (λ local. temp_of (shape self.old) node.0 ≡ None
             → (local.0 ≡ length self.old.locals) × (shape self.new ≡ with_mark (Node node.0) (with_temp node.0 ty (shape self.old)))) }
     {
-        let local = match self.temps[node.0 as usize] {
+        let local = match self.temps[node.0 as usize].value {
             Some(local) => local,
             None => self.new_temp(node, ty)?,
         };
         self.mark(Held::Expr(node), local)?;
+        Ok(local)
+    }
+
+    /// The local of an expression's `!` in the innermost open scope: the one that it has, or else a new one.
+    #[tactic(auto, unfolding(crate::specs::Graph::never_of))]
+    pub fn never_for(&mut self, node: ExprId, ty: Ty) -> Result<LocalId, NoMemory>
+        requires { node.0 < length self.old.temps.items }
+        ensures old { IfOk result (λ local. (l : ℕ) → never_of (shape self.old) node.0 ≡ Some l
+            → (local.0 ≡ l) × (shape self.new ≡ with_mark (Never node.0) (shape self.old))) }
+        ensures new { IfOk result (λ local. never_of (shape self.old) node.0 ≡ None
+            → (local.0 ≡ length self.old.locals) × (shape self.new ≡ with_mark (Never node.0) (with_never node.0 ty (shape self.old)))) }
+    {
+        let local = match self.temps[node.0 as usize].never {
+            Some(local) => local,
+            None => self.new_never(node, ty)?,
+        };
+        self.mark(Held::Never(node), local)?;
         Ok(local)
     }
 
@@ -226,6 +303,37 @@ impl Graph {
         } else {
             None
         }
+    }
+
+    /// Enters a loop or a labelled block.
+    pub fn push_loop(&mut self, blocks: LoopBlocks) -> Result<(), NoMemory>
+        ensures { OnOk result (shape self.new ≡ with_targets (target_of_blocks blocks ∷ (shape self.old).targets) (shape self.old)) }
+    {
+        self.loops.push(blocks)?;
+        Ok(())
+    }
+
+    /// Leaves the innermost loop or labelled block. It takes no memory.
+    pub fn pop_loop(&mut self)
+        ensures rest { shape self.new ≡ with_targets (shape self.new).targets (shape self.old) }
+        ensures outer { (first : OpenTarget) (outer : List OpenTarget) → (shape self.old).targets ≡ first ∷ outer → shape self.new ≡ with_targets outer (shape self.old) }
+    {
+        self.loops.pop();
+    }
+
+    /// The innermost loop or labelled block that a jump means: the one with its label, or any where it has none.
+    pub fn innermost(&self, label: Option<LabelId>) -> Option<LoopBlocks>
+        ensures { option_map target_of_blocks result ≡ meant_target label (shape self.now).targets }
+    {
+        let mut left = self.loops.len();
+        while left > 0 {
+            left -= 1;
+            let blocks = self.loops[left];
+            if is_meant(label, &blocks) {
+                return Some(blocks);
+            }
+        }
+        None
     }
 
     /// The body with these blocks and locals. It takes no memory.

@@ -12,7 +12,7 @@ ghost use Rattle.mir_lower.specs.Leaving.{Idles, one_if};
 
 use crate::context::Context;
 use crate::graph::{DropScopeToken, Graph, Held, Marked};
-use crate::inferred::{binding_ty, is_copy};
+use crate::inferred::{binding_ty, is_copy, never_type, value_type};
 use mir::{
     BasicBlockId, LocalId, MirSpan, Place, Statement, StatementKind, Terminator, TerminatorKind,
 };
@@ -20,13 +20,13 @@ use std::alloc::Global;
 use world::{ExprId, NoMemory, Ty};
 
 /// The type of what a local holds.
-#[tactic(auto, unfolding(source_meaning::specs::Source::node_type))]
 fn held_type<'a>(context: &Context<'a>, held: Held) -> Option<&'a Ty>
     ensures { option_copied result ≡ cell_type (source_of context.now) (cell_of held) }
 {
     match held {
-        Held::Expr(e) => context.infer.expr_types.get(e.0 as u64),
+        Held::Expr(e) => value_type(context, e),
         Held::Binding(binding) => binding_ty(context, binding.0 as u64),
+        Held::Never(e) => never_type(context, e),
     }
 }
 
@@ -97,6 +97,27 @@ fn leave_local(
         kind: StatementKind::StorageDead(marked.local),
         span: MirSpan::ExprId(at),
     })
+}
+
+/// What leaving a scope and those inside it does, while their locals stay marked: where a jump leaves them, other code is still
+/// inside.
+pub(crate) fn leave_marked(
+    context: &Context<'_>,
+    graph: &mut Graph,
+    token: DropScopeToken,
+    at: ExprId,
+) -> Result<(), NoMemory>
+    requires sound { IsSound (source_of context.now) (shape graph.old) }
+    requires opened { IsOpen (shape graph.old) }
+    ensures { OnOk result (Idles (source_of context.now) (shape graph.old) (shape graph.new) (drops (source_of context.now) (drop token.0 (shape graph.old).scope))) }
+{
+    let mut left = graph.scope.len();
+    while left > token.0 {
+        left -= 1;
+        let marked = graph.scope[left];
+        leave_local(context, graph, marked, at)?;
+    }
+    Ok(())
 }
 
 /// Leaves a scope and those inside it: their locals from the last back. Those that were in use when the scope was

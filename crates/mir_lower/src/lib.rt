@@ -8,6 +8,7 @@ mod first;
 mod form;
 mod graph;
 mod inferred;
+mod jump;
 mod leave;
 mod literal;
 mod locals;

@@ -3,7 +3,7 @@
 ghost use Rattle.std.specs.Prelude.{◌≡◌, ◌∷◌, [], ◌<◌, ◌≤◌, ℕ, take, length, IfOk, IfErr, OnOk, Some, pos};
 ghost use Rattle.numbers.specs.Bytes.{low_bytes};
 ghost use Rattle.source_meaning.specs.Meaning.{truth_byte};
-ghost use Rattle.source_meaning.specs.Source.{node, node_type};
+ghost use Rattle.source_meaning.specs.Source.{node, own_type};
 ghost use Rattle.source_meaning.specs.Core as expr;
 ghost use Rattle.mir.specs.declared.errors.MirLowerError.TheVariants as refusal;
 ghost use Rattle.world.specs.Checked.{IsCheckedBody};
@@ -18,7 +18,7 @@ ghost use Rattle.mir_lower.specs.Refusals.{IsNumber, RefusesNode};
 ghost use Rattle.std.specs.Prelude.{codes, ◌⊎◌};
 
 use crate::context::Context;
-use crate::inferred::node_ty;
+use crate::inferred::own_ty;
 use mir::{MirLowerError, MirSpan, Operand, OperandKind, layout_error_of};
 use std::alloc::Global;
 use world::{Bytes, Const, ExprId, MemoryMap, Text, TryClone, Ty, ValueConst};
@@ -61,7 +61,7 @@ fn constant(
     ty: &Ty,
     memory: Bytes,
 ) -> Result<Operand, MirLowerError>
-    requires { node_type (source_of context.now) e.0 ≡ Some ty.now }
+    requires { own_type (source_of context.now) e.0 ≡ Some ty.now }
     ensures lowered { IfOk result (λ operand. IsConstantOf (source_of context.now) e.0 memory operand.kind) }
     ensures refused { IfErr result (λ error. error ≡ refusal.NoMemory) }
 {
@@ -86,7 +86,7 @@ fn lower_number(context: &Context<'_>, e: ExprId, bytes: [u8; 16]) -> Result<Ope
     ensures built { OnOk result (HasNumberLayout (source_of context.now) e.0) }
     ensures refused { IfErr result (RefusesNode (source_of context.now) e.0) }
 {
-    let ty = node_ty(context, e);
+    let ty = own_ty(context, e);
     let Some(layout) = context.db.layout_of(ty) else {
         return Err(MirLowerError::LayoutError(layout_error_of(ty)));
     };
@@ -104,7 +104,7 @@ fn lower_truth(context: &Context<'_>, e: ExprId, test: bool) -> Result<Operand, 
     ensures lowered { IfOk result (λ operand. IsConstantOf (source_of context.now) e.0 (truth_byte test ∷ []) operand.kind) }
     ensures refused { IfErr result (λ error. error ≡ refusal.NoMemory) }
 {
-    let ty = node_ty(context, e);
+    let ty = own_ty(context, e);
     let memory = Bytes::from_slice(context.alloc, &[test as u8])?;
     constant(context, e, ty, memory)
 }

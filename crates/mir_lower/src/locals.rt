@@ -1,15 +1,15 @@
 //! Locals: those of the values of expressions, and those of names.
 
-ghost use Rattle.std.specs.Prelude.{◌≡◌, ◌⊎◌, false, IfOk, IfErr, IfSome, OnOk, Some};
+ghost use Rattle.std.specs.Prelude.{◌≡◌, ◌⊎◌, true, false, IfOk, IfErr, IfSome, OnOk, Some};
 ghost use Rattle.mir.specs.declared.errors.MirLowerError.TheVariants as refusal;
 ghost use Rattle.mir.specs.declared.statement.StatementKind.TheVariants.{Assign, FakeRead};
-ghost use Rattle.source_meaning.specs.Source.{Cell, Node, Binding, node};
+ghost use Rattle.source_meaning.specs.Source.{Cell, Node, Binding, Never, node, unadjusted, diverges};
 ghost use Rattle.source_meaning.specs.Core as expr;
 ghost use Rattle.source_meaning.specs.Core.{is_path, local_named};
 ghost use Rattle.world.specs.declared.infer.ValueNs.TheVariants.{LocalBinding};
 ghost use Rattle.mir_lower.specs.Contexts.{source_of};
 ghost use Rattle.mir_lower.specs.Graph.{shape, with_statement, local_of};
-ghost use Rattle.mir_lower.specs.Growth.{IsSound, IsOpen, IsReadyPart};
+ghost use Rattle.mir_lower.specs.Growth.{IsSound, IsOpen, IsReady, IsReadyPart};
 ghost use Rattle.mir_lower.specs.Lowered.{IsGiven, IsNamed, Binds, IsTargeted, Assigns};
 ghost use Rattle.source_meaning.specs.Built.{AssignsBinding, BindsBinding, NamesBinding};
 ghost use Rattle.mir_lower.specs.Refusals.{RefusesNode, RefusesPattern, RefusesTarget};
@@ -17,7 +17,7 @@ ghost use Rattle.mir_lower.specs.Refusals.{RefusesNode, RefusesPattern, RefusesT
 use crate::context::Context;
 use crate::form::{name_bound, target_path};
 use crate::graph::{Graph, Held};
-use crate::inferred::node_ty;
+use crate::inferred::{node_ty, own_ty};
 use crate::unbuilt::form_not_built;
 use mir::{
     LocalId, MirLowerError, MirSpan, Operand, OperandKind, Place, Rvalue, Statement, StatementKind,
@@ -116,12 +116,32 @@ pub(crate) fn new_temp(
     e: ExprId,
 ) -> Result<Place, MirLowerError>
     requires ready { IsReadyPart (source_of context.now) (shape graph.old) e.0 }
-    requires form { is_path (node (source_of context.now) e.0) ≡ false }
+    requires form { is_path (unadjusted (source_of context.now) e.0) ≡ false }
     ensures given { IfOk result (λ place. IsGiven (source_of context.now) (shape graph.old) (shape graph.new) (Node e.0) place.local.0) }
     ensures refused { IfErr result (λ error. error ≡ refusal.NoMemory) }
 {
     let ty = node_ty(context, e).try_clone(context.alloc)?;
     let local = graph.temp_for(e, ty)?;
+    graph.push_statement(Statement {
+        kind: StatementKind::StorageLive(local),
+        span: MirSpan::ExprId(e),
+    })?;
+    Ok(Place { local })
+}
+
+/// A local for the `!` of an expression comes into use in the innermost open scope.
+pub(crate) fn new_never(
+    context: &Context<'_>,
+    graph: &mut Graph,
+    e: ExprId,
+) -> Result<Place, MirLowerError>
+    requires ready { IsReady (source_of context.now) (shape graph.old) e.0 }
+    requires adjusted { diverges (source_of context.now) e.0 ≡ true }
+    ensures given { IfOk result (λ place. IsGiven (source_of context.now) (shape graph.old) (shape graph.new) (Never e.0) place.local.0) }
+    ensures refused { IfErr result (λ error. error ≡ refusal.NoMemory) }
+{
+    let ty = own_ty(context, e).try_clone(context.alloc)?;
+    let local = graph.never_for(e, ty)?;
     graph.push_statement(Statement {
         kind: StatementKind::StorageLive(local),
         span: MirSpan::ExprId(e),

@@ -2,7 +2,7 @@
 
 ghost use Rattle.std.specs.Prelude.{◌≡◌, ◌∷◌, false, [], IfOk, IfErr, OnOk, Some, None};
 ghost use Rattle.mir.specs.declared.operand.OperandKind.TheVariants.{Copy};
-ghost use Rattle.source_meaning.specs.Source.{Cell, node};
+ghost use Rattle.source_meaning.specs.Source.{Cell, node, unadjusted};
 ghost use Rattle.source_meaning.specs.Core.{Combine, is_path};
 ghost use Rattle.source_meaning.specs.Core as expr;
 ghost use Rattle.source_meaning.specs.Meaning.{deciding_byte};
@@ -11,8 +11,8 @@ ghost use Rattle.world.specs.declared.body.Statement.TheVariants as statement_ki
 ghost use Rattle.mir_lower.specs.Contexts.{source_of};
 ghost use Rattle.mir_lower.specs.Form.{core_value, operation_of};
 ghost use Rattle.mir_lower.specs.Graph.{shape, local_of};
-ghost use Rattle.mir_lower.specs.Growth.{IsReady, IsReadyPart};
-ghost use Rattle.mir_lower.specs.Lowered.{IsPlaced, LowersInto, LowersPlace, LowersOperand, LowersStatements, LowersTail, IsStatementOf};
+ghost use Rattle.mir_lower.specs.Growth.{IsPlaced, IsReady, ArePartsReady, IsReadyPart};
+ghost use Rattle.mir_lower.specs.Lowered.{HasStatements, LowersInto, LowersPlace, LowersOperand, LowersStatements, LowersTail, IsStatementOf, LowersOwn};
 ghost use Rattle.mir_lower.specs.Built.{IsBuilt, IsBuiltThrough};
 ghost use Rattle.mir_lower.specs.Refusals.{RefusesAt};
 ghost use Rattle.std.specs.Prelude.{All, Contains, IfSome};
@@ -20,14 +20,16 @@ ghost use Rattle.world.specs.Nodes.{optional};
 
 use crate::branch::{fork, go_on};
 use crate::context::Context;
-use crate::form::{Form, form_at};
+use crate::form::{Form, form_at, literal_at, path_at};
 use crate::graph::Graph;
+use crate::inferred::diverges;
+use crate::jump::{enter_loop, jump, leave_loop, target_of_jump};
 use crate::leave::leave_scope;
 use crate::literal::{LiteralValue, lower_literal};
-use crate::locals::{assign, assign_target, bind, fake_read, new_temp, place_named};
+use crate::locals::{assign, assign_target, bind, fake_read, new_never, new_temp, place_named};
 use crate::unbuilt::form_not_built;
 use mir::{BinOp, MirLowerError, MirSpan, Operand, OperandKind, Place, Rvalue, UnOp};
-use world::{ExprId, List, LogicOp, PatId, Statement, Text, TryClone};
+use world::{ExprId, LabelId, List, LogicOp, PatId, Statement, Text, TryClone};
 
 /// A place as an operand.
 fn copied(place: Place, e: ExprId) -> Operand
@@ -60,7 +62,7 @@ fn literal_into(
     requires ready { IsReady (source_of context.now) (shape graph.old) e.0 }
     requires form { node (source_of context.now) e.0 ≡ Some (expr.Literal (core_value literal)) }
     ensures lowered { OnOk result ((cell : Cell) → local_of (shape graph.old) cell ≡ Some place.local.0
-        → LowersInto (source_of context.now) (shape graph.old) (shape graph.new) e.0 cell) }
+        → LowersOwn (source_of context.now) (shape graph.old) (shape graph.new) e.0 cell) }
     ensures built { OnOk result (IsBuilt (source_of context.now) e.0) }
     ensures refused { IfErr result (RefusesAt (source_of context.now) e.0) }
 {
@@ -79,7 +81,7 @@ fn name_into(
     requires ready { IsReady (source_of context.now) (shape graph.old) e.0 }
     requires form { node (source_of context.now) e.0 ≡ Some (expr.Path name.now) }
     ensures lowered { OnOk result ((cell : Cell) → local_of (shape graph.old) cell ≡ Some place.local.0
-        → LowersInto (source_of context.now) (shape graph.old) (shape graph.new) e.0 cell) }
+        → LowersOwn (source_of context.now) (shape graph.old) (shape graph.new) e.0 cell) }
     ensures built { OnOk result (IsBuilt (source_of context.now) e.0) }
     ensures refused { IfErr result (RefusesAt (source_of context.now) e.0) }
 {
@@ -104,9 +106,9 @@ pub(crate) fn lower_operand(
     ensures built { OnOk result (IsBuilt (source_of context.now) e.0) }
     ensures refused { IfErr result (RefusesAt (source_of context.now) e.0) }
 {
-    match form_at(context, e) {
-        Form::Literal(literal) => lower_literal(context, e, literal),
-        _ => {
+    match literal_at(context, e) {
+        Some(literal) => lower_literal(context, e, literal),
+        None => {
             let place = lower_place(context, graph, e)?;
             Ok(copied(place, e))
         }
@@ -121,9 +123,9 @@ fn lower_place(context: &Context<'_>, graph: &mut Graph, e: ExprId) -> Result<Pl
     ensures built { OnOk result (IsBuilt (source_of context.now) e.0) }
     ensures refused { IfErr result (RefusesAt (source_of context.now) e.0) }
 {
-    match form_at(context, e) {
-        Form::Path(name) => place_named(context, graph, e, name),
-        _ => lower_temp(context, graph, e),
+    match path_at(context, e) {
+        Some(name) => place_named(context, graph, e, name),
+        None => lower_temp(context, graph, e),
     }
 }
 
@@ -131,7 +133,7 @@ fn lower_place(context: &Context<'_>, graph: &mut Graph, e: ExprId) -> Result<Pl
 #[cycle(lower)]
 fn lower_temp(context: &Context<'_>, graph: &mut Graph, e: ExprId) -> Result<Place, MirLowerError>
     requires ready { IsReadyPart (source_of context.now) (shape graph.old) e.0 }
-    requires form { is_path (node (source_of context.now) e.0) ≡ false }
+    requires form { is_path (unadjusted (source_of context.now) e.0) ≡ false }
     ensures lowered { IfOk result (λ place. LowersPlace (source_of context.now) (shape graph.old) (shape graph.new) e.0 place.local.0) }
     ensures built { OnOk result (IsBuilt (source_of context.now) e.0) }
     ensures refused { IfErr result (RefusesAt (source_of context.now) e.0) }
@@ -141,7 +143,7 @@ fn lower_temp(context: &Context<'_>, graph: &mut Graph, e: ExprId) -> Result<Pla
     Ok(place)
 }
 
-/// An expression evaluated into a place.
+/// An expression evaluated into a place. What is adjusted by `NeverToAny` goes into a local of its own, and the place isn't written.
 #[cycle(lower)]
 pub(crate) fn lower_into(
     context: &Context<'_>,
@@ -153,6 +155,29 @@ pub(crate) fn lower_into(
     requires placed { IsPlaced (shape graph.old) place.local.0 }
     ensures lowered { OnOk result ((cell : Cell) → local_of (shape graph.old) cell ≡ Some place.local.0
         → LowersInto (source_of context.now) (shape graph.old) (shape graph.new) e.0 cell) }
+    ensures built { OnOk result (IsBuilt (source_of context.now) e.0) }
+    ensures refused { IfErr result (RefusesAt (source_of context.now) e.0) }
+{
+    if diverges(context, e) {
+        let never = new_never(context, graph, e)?;
+        lower_own(context, graph, e, never)
+    } else {
+        lower_own(context, graph, e, place)
+    }
+}
+
+/// An expression itself evaluated into a place, as it is before its value is adjusted.
+#[cycle(lower)]
+fn lower_own(
+    context: &Context<'_>,
+    graph: &mut Graph,
+    e: ExprId,
+    place: Place,
+) -> Result<(), MirLowerError>
+    requires ready { IsReady (source_of context.now) (shape graph.old) e.0 }
+    requires placed { IsPlaced (shape graph.old) place.local.0 }
+    ensures lowered { OnOk result ((cell : Cell) → local_of (shape graph.old) cell ≡ Some place.local.0
+        → LowersOwn (source_of context.now) (shape graph.old) (shape graph.new) e.0 cell) }
     ensures built { OnOk result (IsBuilt (source_of context.now) e.0) }
     ensures refused { IfErr result (RefusesAt (source_of context.now) e.0) }
 {
@@ -175,6 +200,12 @@ pub(crate) fn lower_into(
         }
         Form::Assign(target, value) => lower_assignment(context, graph, e, target, value),
         Form::Block(statements, tail) => lower_block(context, graph, e, statements, tail, place),
+        Form::Labelled(label, statements, tail) => {
+            lower_labelled(context, graph, e, label, statements, tail, place)
+        }
+        Form::Loop(label, body) => lower_loop(context, graph, e, label, body, place),
+        Form::Break(label, value) => lower_break(context, graph, e, label, value),
+        Form::Continue(label) => lower_continue(context, graph, e, label),
         Form::Incomplete => Err(MirLowerError::IncompleteExpr),
         Form::Unbuilt => Err(form_not_built(context.alloc)),
     }
@@ -193,7 +224,7 @@ fn lower_unary(
     requires ready { IsReady (source_of context.now) (shape graph.old) e.0 }
     requires form { node (source_of context.now) e.0 ≡ Some (expr.Strict (operation_of op) (operand.0 ∷ [])) }
     ensures lowered { OnOk result ((cell : Cell) → local_of (shape graph.old) cell ≡ Some place.local.0
-        → LowersInto (source_of context.now) (shape graph.old) (shape graph.new) e.0 cell) }
+        → LowersOwn (source_of context.now) (shape graph.old) (shape graph.new) e.0 cell) }
     ensures built { OnOk result (IsBuilt (source_of context.now) e.0) }
     ensures refused { IfErr result (RefusesAt (source_of context.now) e.0) }
 {
@@ -215,7 +246,7 @@ fn lower_binary(
     requires ready { IsReady (source_of context.now) (shape graph.old) e.0 }
     requires form { node (source_of context.now) e.0 ≡ Some (expr.Strict (Combine op) (lhs.0 ∷ rhs.0 ∷ [])) }
     ensures lowered { OnOk result ((cell : Cell) → local_of (shape graph.old) cell ≡ Some place.local.0
-        → LowersInto (source_of context.now) (shape graph.old) (shape graph.new) e.0 cell) }
+        → LowersOwn (source_of context.now) (shape graph.old) (shape graph.new) e.0 cell) }
     ensures built { OnOk result (IsBuilt (source_of context.now) e.0) }
     ensures refused { IfErr result (RefusesAt (source_of context.now) e.0) }
 {
@@ -244,7 +275,7 @@ fn lower_logic(
     requires form { node (source_of context.now) e.0 ≡ Some (expr.Logic op lhs.0 rhs.0) }
     requires placed { IsPlaced (shape graph.old) place.local.0 }
     ensures lowered { OnOk result ((cell : Cell) → local_of (shape graph.old) cell ≡ Some place.local.0
-        → LowersInto (source_of context.now) (shape graph.old) (shape graph.new) e.0 cell) }
+        → LowersOwn (source_of context.now) (shape graph.old) (shape graph.new) e.0 cell) }
     ensures built { OnOk result (IsBuilt (source_of context.now) e.0) }
     ensures refused { IfErr result (RefusesAt (source_of context.now) e.0) }
 {
@@ -273,7 +304,7 @@ fn lower_if(
     requires form { node (source_of context.now) e.0 ≡ Some (expr.If condition.0 then_branch.0 else_branch) }
     requires placed { IsPlaced (shape graph.old) place.local.0 }
     ensures lowered { OnOk result ((cell : Cell) → local_of (shape graph.old) cell ≡ Some place.local.0
-        → LowersInto (source_of context.now) (shape graph.old) (shape graph.new) e.0 cell) }
+        → LowersOwn (source_of context.now) (shape graph.old) (shape graph.new) e.0 cell) }
     ensures built { OnOk result (IsBuilt (source_of context.now) e.0) }
     ensures refused { IfErr result (RefusesAt (source_of context.now) e.0) }
 {
@@ -298,7 +329,7 @@ fn lower_assignment(
 ) -> Result<(), MirLowerError>
     requires ready { IsReady (source_of context.now) (shape graph.old) e.0 }
     requires form { node (source_of context.now) e.0 ≡ Some (expr.Assign target.0 value.0) }
-    ensures lowered { OnOk result ((cell : Cell) → LowersInto (source_of context.now) (shape graph.old) (shape graph.new) e.0 cell) }
+    ensures lowered { OnOk result ((cell : Cell) → LowersOwn (source_of context.now) (shape graph.old) (shape graph.new) e.0 cell) }
     ensures built { OnOk result (IsBuilt (source_of context.now) e.0) }
     ensures refused { IfErr result (RefusesAt (source_of context.now) e.0) }
 {
@@ -321,7 +352,7 @@ fn lower_block(
     requires form { node (source_of context.now) e.0 ≡ Some (expr.Block statements.now tail) }
     requires placed { IsPlaced (shape graph.old) place.local.0 }
     ensures lowered { OnOk result ((cell : Cell) → local_of (shape graph.old) cell ≡ Some place.local.0
-        → LowersInto (source_of context.now) (shape graph.old) (shape graph.new) e.0 cell) }
+        → LowersOwn (source_of context.now) (shape graph.old) (shape graph.new) e.0 cell) }
     ensures built { OnOk result (IsBuilt (source_of context.now) e.0) }
     ensures refused { IfErr result (RefusesAt (source_of context.now) e.0) }
 {
@@ -329,6 +360,99 @@ fn lower_block(
     lower_statements(context, graph, e, statements.as_slice())?;
     lower_tail(context, graph, e, tail, place)?;
     leave_scope(context, graph, scope, e)?;
+    Ok(())
+}
+
+/// A block with a label: as one without, between the two blocks that jumps to it lead to.
+#[cycle(lower)]
+fn lower_labelled(
+    context: &Context<'_>,
+    graph: &mut Graph,
+    e: ExprId,
+    label: LabelId,
+    statements: &List<Statement>,
+    tail: Option<ExprId>,
+    place: Place,
+) -> Result<(), MirLowerError>
+    requires ready { IsReady (source_of context.now) (shape graph.old) e.0 }
+    requires form { node (source_of context.now) e.0 ≡ Some (expr.Labelled label statements.now tail) }
+    requires placed { IsPlaced (shape graph.old) place.local.0 }
+    ensures lowered { OnOk result ((cell : Cell) → local_of (shape graph.old) cell ≡ Some place.local.0
+        → LowersOwn (source_of context.now) (shape graph.old) (shape graph.new) e.0 cell) }
+    ensures built { OnOk result (IsBuilt (source_of context.now) e.0) }
+    ensures refused { IfErr result (RefusesAt (source_of context.now) e.0) }
+{
+    let blocks = enter_loop(context, graph, e, Some(label), place)?;
+    let scope = graph.push_drop_scope();
+    lower_statements(context, graph, e, statements.as_slice())?;
+    lower_tail(context, graph, e, tail, place)?;
+    leave_scope(context, graph, scope, e)?;
+    leave_loop(graph, blocks, blocks.end);
+    Ok(())
+}
+
+/// A loop: its body, whose scope is left at the end of each turn, and then the loop again.
+#[cycle(lower)]
+fn lower_loop(
+    context: &Context<'_>,
+    graph: &mut Graph,
+    e: ExprId,
+    label: Option<LabelId>,
+    body: ExprId,
+    place: Place,
+) -> Result<(), MirLowerError>
+    requires ready { IsReady (source_of context.now) (shape graph.old) e.0 }
+    requires form { node (source_of context.now) e.0 ≡ Some (expr.Loop label body.0) }
+    requires placed { IsPlaced (shape graph.old) place.local.0 }
+    ensures lowered { OnOk result ((cell : Cell) → local_of (shape graph.old) cell ≡ Some place.local.0
+        → LowersOwn (source_of context.now) (shape graph.old) (shape graph.new) e.0 cell) }
+    ensures built { OnOk result (IsBuilt (source_of context.now) e.0) }
+    ensures refused { IfErr result (RefusesAt (source_of context.now) e.0) }
+{
+    let blocks = enter_loop(context, graph, e, label, place)?;
+    let scope = graph.push_drop_scope();
+    lower_place(context, graph, body)?;
+    leave_scope(context, graph, scope, e)?;
+    leave_loop(graph, blocks, blocks.begin);
+    Ok(())
+}
+
+/// A `break`: its value, where it has one, goes where the value of the loop or labelled block goes that it ends.
+#[cycle(lower)]
+fn lower_break(
+    context: &Context<'_>,
+    graph: &mut Graph,
+    e: ExprId,
+    label: Option<LabelId>,
+    value: Option<ExprId>,
+) -> Result<(), MirLowerError>
+    requires ready { IsReady (source_of context.now) (shape graph.old) e.0 }
+    requires form { node (source_of context.now) e.0 ≡ Some (expr.Break label value) }
+    ensures lowered { OnOk result ((cell : Cell) → LowersOwn (source_of context.now) (shape graph.old) (shape graph.new) e.0 cell) }
+    ensures built { OnOk result (IsBuilt (source_of context.now) e.0) }
+    ensures refused { IfErr result (RefusesAt (source_of context.now) e.0) }
+{
+    let blocks = target_of_jump(graph, label, MirLowerError::BreakWithoutLoop)?;
+    lower_tail(context, graph, e, value, blocks.place)?;
+    jump(context, graph, blocks.drop_scope, blocks.end, e)?;
+    Ok(())
+}
+
+/// A `continue`: the next turn of a loop, or a labelled block from its beginning.
+fn lower_continue(
+    context: &Context<'_>,
+    graph: &mut Graph,
+    e: ExprId,
+    label: Option<LabelId>,
+) -> Result<(), MirLowerError>
+    requires ready { IsReady (source_of context.now) (shape graph.old) e.0 }
+    requires form { node (source_of context.now) e.0 ≡ Some (expr.Continue label) }
+    ensures lowered { OnOk result ((cell : Cell) → LowersOwn (source_of context.now) (shape graph.old) (shape graph.new) e.0 cell) }
+    ensures built { OnOk result (IsBuilt (source_of context.now) e.0) }
+    ensures refused { IfErr result (RefusesAt (source_of context.now) e.0) }
+{
+    let blocks = target_of_jump(graph, label, MirLowerError::ContinueWithoutLoop)?;
+    jump(context, graph, blocks.drop_scope, blocks.begin, e)?;
     Ok(())
 }
 
@@ -340,8 +464,8 @@ fn lower_statements(
     e: ExprId,
     statements: &[Statement],
 ) -> Result<(), MirLowerError>
-    requires ready { IsReady (source_of context.now) (shape graph.old) e.0 }
-    requires form { (tail : _) × (node (source_of context.now) e.0 ≡ Some (expr.Block statements.now tail)) }
+    requires ready { ArePartsReady (source_of context.now) (shape graph.old) e.0 }
+    requires form { HasStatements (node (source_of context.now) e.0) statements.now }
     ensures lowered { OnOk result (LowersStatements (source_of context.now) (shape graph.old) (shape graph.new) statements.now) }
     ensures built { OnOk result (All (IsBuiltThrough (source_of context.now)) statements.now) }
     ensures refused { IfErr result (RefusesAt (source_of context.now) e.0) }
@@ -361,7 +485,7 @@ fn lower_tail(
     tail: Option<ExprId>,
     place: Place,
 ) -> Result<(), MirLowerError>
-    requires ready { IsReady (source_of context.now) (shape graph.old) e.0 }
+    requires ready { ArePartsReady (source_of context.now) (shape graph.old) e.0 }
     requires part { IfSome tail (λ one. Contains (parts_of (node (source_of context.now) e.0)) one.0) }
     requires placed { IsPlaced (shape graph.old) place.local.0 }
     ensures lowered { OnOk result ((cell : Cell) → local_of (shape graph.old) cell ≡ Some place.local.0
@@ -383,7 +507,7 @@ fn lower_statement(
     e: ExprId,
     statement: Statement,
 ) -> Result<(), MirLowerError>
-    requires ready { IsReady (source_of context.now) (shape graph.old) e.0 }
+    requires ready { ArePartsReady (source_of context.now) (shape graph.old) e.0 }
     requires stands { IsStatementOf (source_of context.now) e.0 statement }
     ensures lowered { OnOk result (LowersStatements (source_of context.now) (shape graph.old) (shape graph.new) (statement ∷ [])) }
     ensures built { OnOk result (IsBuiltThrough (source_of context.now) statement) }
@@ -417,7 +541,7 @@ fn lower_let(
     pat: PatId,
     initializer: ExprId,
 ) -> Result<(), MirLowerError>
-    requires ready { IsReady (source_of context.now) (shape graph.old) e.0 }
+    requires ready { ArePartsReady (source_of context.now) (shape graph.old) e.0 }
     requires stands { IsStatementOf (source_of context.now) e.0 (statement_kind.Let pat (Some initializer) None) }
     ensures lowered { OnOk result (LowersStatements (source_of context.now) (shape graph.old) (shape graph.new) (statement_kind.Let pat (Some initializer) None ∷ [])) }
     ensures built { OnOk result (IsBuiltThrough (source_of context.now) (statement_kind.Let pat (Some initializer) None)) }
@@ -437,7 +561,7 @@ fn lower_expr_statement(
     expr: ExprId,
     has_semi: bool,
 ) -> Result<(), MirLowerError>
-    requires ready { IsReady (source_of context.now) (shape graph.old) e.0 }
+    requires ready { ArePartsReady (source_of context.now) (shape graph.old) e.0 }
     requires stands { IsStatementOf (source_of context.now) e.0 (statement_kind.Expr expr has_semi) }
     ensures lowered { OnOk result (LowersStatements (source_of context.now) (shape graph.old) (shape graph.new) (statement_kind.Expr expr has_semi ∷ [])) }
     ensures built { OnOk result (IsBuiltThrough (source_of context.now) (statement_kind.Expr expr has_semi)) }

@@ -10,6 +10,7 @@ use Rattle.mir_lower.specs.Graph.{Shape, shape}
 use Rattle.mir_lower.specs.Lowered.{LowersInto}
 use Rattle.mir_lower.specs.Refusals.{RefusesAt}
 use Rattle.mir_lower.proofs.Aligned.{are-aligned}
+use Rattle.mir_lower.proofs.Ready.{around-first}
 use Rattle.mir_lower.proofs.Refused.{refuses-no-memory, refused-exit}
 use Rattle.mir_lower.proofs.Beginning.{first-sound, first-open}
 use Rattle.mir_lower.proofs.Drops.{opened-within, scope-left}
@@ -30,6 +31,7 @@ lower_into-requires-clause-ready c =
       «open» = first-open source (length source.body.bindings) s c.in_ok-graph.ensures;
       within = c.requires.checked.root;
       reached = itself;
+      around = around-first source s c.in_ok-graph.ensures.targets;
     }
 
 pub lower_into-requires-clause-placed : goal.lower_into-requires-clause-placed
@@ -62,9 +64,9 @@ returns c =
     let begins = here-first s0 first.blocks first.current in
     let span = ExprId c.args.context.now.body.now.body_expr in
     let locals = c.into_body.ensures.locals ∙ ap (λ (s : Shape). s.locals) c.set_terminator.ensures in
-    let front = whole-front source s0 s1 s2 span begins first.scope into left c.into_body.result.locals locals in
+    let front = whole-front source s0 s1 s2 span begins first.scope first.targets into left c.into_body.result.locals locals in
     record {
-      simulates = whole-simulates source s0 s1 s2 span begins first.scope into left c.into_body.result (are-aligned source.world c.requires.world) c.requires.checked.root
+      simulates = whole-simulates source s0 s1 s2 span begins first.scope first.targets into left c.into_body.result (are-aligned source.world c.requires.world) c.requires.checked.root
           (c.into_body.ensures.blocks ∙ ap (λ (s : Shape). s.blocks) c.set_terminator.ensures) locals c.into_body.ensures.start;
       order = record { temporaries = front.0; order = front.1 ∙ ap (λ (ls : List Local). ls ++ front.0) first.locals };
       owner = c.into_body.ensures.owner;

@@ -11,13 +11,13 @@ use Rattle.mir_lower.proofs.literal.lower_number.Goals as goal
 pub returns-in_default-clause-refused : goal.returns-in_default-clause-refused
 returns-in_default-clause-refused c =
     let source = source_of c.args.context.now in
-    let layout = ap (option_and_then (layout_of source.world)) c.node_ty-ty.ensures ∙ sym c.in_default.ensures in
-    (c.requires.number, layout, c.node_ty-ty.result.now, c.node_ty-ty.ensures, c.layout_error_of.ensures)
+    let layout = ap (option_and_then (layout_of source.world)) c.own_ty-ty.ensures ∙ sym c.in_default.ensures in
+    (c.requires.number, layout, c.own_ty-ty.result.now, c.own_ty-ty.ensures, c.layout_error_of.ensures)
 
 pub returns-then-layout-gt16-clause-refused : goal.returns-then-layout-gt16-clause-refused
 returns-then-layout-gt16-clause-refused c =
     let source = source_of c.args.context.now in
-    let layout = ap (option_and_then (layout_of source.world)) c.node_ty-ty.ensures ∙ sym c.in-Some.ensures in
+    let layout = ap (option_and_then (layout_of source.world)) c.own_ty-ty.ensures ∙ sym c.in-Some.ensures in
     ⊎_elim
     (λ text. subst (RefusesNode source c.args.e.0) (sym text) (refl, c.requires.number, c.in-Some.layout.now, layout, c.if-layout-gt16.true))
     (λ none. subst (RefusesNode source c.args.e.0) (sym none) tt)
@@ -29,6 +29,6 @@ returns-clause-built c =
     on-ok (HasNumberLayout source c.args.e.0) c.constant.result
     (record {
       layout = c.in-Some.layout.now;
-      found = ap (option_and_then (layout_of source.world)) c.node_ty-ty.ensures ∙ sym c.in-Some.ensures;
+      found = ap (option_and_then (layout_of source.world)) c.own_ty-ty.ensures ∙ sym c.in-Some.ensures;
       narrow = omega (arith, c.if-layout-gt16.false);
     })

@@ -5,32 +5,40 @@ use Rattle.std.proofs.lemmas.Result.{IfOk-weaker, on_ok_weaker, IfErr-weaker}
 use Rattle.mir.specs.declared.errors.MirLowerError.TheVariants as refusal
 use Rattle.mir.specs.declared.span.MirSpan.TheVariants.{ExprId}
 use Rattle.source_meaning.specs.Events.{marked_as_place, marked_in_block}
-use Rattle.source_meaning.specs.Source.{Node, node}
+use Rattle.source_meaning.specs.Source.{Node, Never, node}
+use Rattle.source_meaning.proofs.Never.{unadjusted-plain}
 use Rattle.mir_lower.specs.Contexts.{source_of}
-use Rattle.mir_lower.specs.Graph.{shape}
-use Rattle.mir_lower.specs.Growth.{Grows}
-use Rattle.mir_lower.specs.Lowered.{LowersOperand, LowersStatements, LowersTail}
+use Rattle.mir_lower.specs.Graph.{shape, target_of_blocks}
+use Rattle.mir_lower.specs.Growth.{Grows, IsPlaced, IsInside}
+use Rattle.source_meaning.specs.Valid.{opened_in}
+use Rattle.mir_lower.specs.Lowered.{HasStatements, LowersOperand, LowersStatements, LowersTail}
 use Rattle.mir.specs.declared.operand.Operand.{Operand}
 use Rattle.mir.specs.declared.operand.OperandKind.{OperandKind}
 use Rattle.mir.specs.declared.operand.Rvalue.TheVariants.{CheckedBinaryOp, UnaryOp as Unary}
-use Rattle.source_meaning.specs.Core.{Block, Combine}
+use Rattle.source_meaning.specs.Core.{Combine}
 use Rattle.mir_lower.specs.Form.{core_value, operation_of}
 use Rattle.world.specs.declared.body.Statement.{Statement}
 use Rattle.mir_lower.specs.Refusals.{RefusesAt}
 use Rattle.std.specs.Prelude.{All, Contains, IfSome, ℕ}
-use Rattle.std.proofs.lemmas.List.Elements.{All-nil, All-more}
+use Rattle.std.proofs.lemmas.List.Elements.{All-nil, All-more, Contains-get_or}
 use Rattle.world.specs.Nodes.{optional}
 use Rattle.mir_lower.specs.Built.{IsBuilt, IsBuiltThrough}
-use Rattle.mir_lower.proofs.Building.{built-literal, built-path, built-strict, built-logic, built-if, built-assign, built-block, one-built, two-built}
+use Rattle.mir_lower.proofs.Building.{built-labelled, built-loop, built-break, built-literal, built-path, built-strict, built-logic, built-if, built-assign, built-block, one-built, two-built}
+use Rattle.mir_lower.proofs.Adjusting.{lowers-undiverted, lowers-diverted}
 use Rattle.mir_lower.proofs.Assignments.{value-part, lowers-assign}
 use Rattle.mir_lower.proofs.Blocks.{idles-read, lowers-none, lowers-more, lowers-let, lowers-expr-statement, lowers-tail, lowers-no-tail, block-inner, lowers-block}
 use Rattle.mir_lower.proofs.Drops.{opened-within, scope-left}
 use Rattle.mir_lower.proofs.Operands.{lowers-literal-operand, lowers-place-operand, lowers-temp, lowers-name}
 use Rattle.mir_lower.proofs.Strict.{lowers-strict, unary-computes, binary-computes, lowers-one, lowers-two, first-part, second-part}
-use Rattle.mir_lower.proofs.Refused.{refuses-here, refuses-no-memory, refuses-part, refuses-unbuilt-form, refuses-statement, without-initializer, with-else, item-is-unbuilt, refuses-pattern, refuses-target, refused-exit, no-literal, part-below, ready-part, ready-in, part-of-statement}
+use Rattle.mir_lower.proofs.Refused.{refuses-here, refuses-no-memory, refuses-part, refuses-unbuilt-form, refuses-statement, without-initializer, with-else, item-is-unbuilt, refuses-pattern, refuses-target, refused-exit, part-below, part-of-statement, refuses-break}
 use Rattle.mir_lower.proofs.Growing.{grows-trans}
 use Rattle.mir_lower.proofs.Steps.{local_of-grows, placed-later}
-use Rattle.mir_lower.proofs.Branches.{other-reserved, join-reserved}
+use Rattle.mir_lower.proofs.Branches.{reserved-spared, other-reserved, join-reserved}
+use Rattle.mir.specs.declared.operand.Place.{Place}
+use Rattle.mir_lower.proofs.Jumping.{meant-has, break-part, lowers-break}
+use Rattle.mir_lower.proofs.Loops.{body-part, labelled-tail-part, lowers-loop, lowers-labelled}
+use Rattle.mir_lower.proofs.Ready.{ready-in, parts-ready, parts-ready-in, part-ready, ready-part, parts-entered, opened-is}
+use Rattle.mir_lower.proofs.Sparing.{spares-trans, scoped-spares}
 use Rattle.mir_lower.proofs.Conditions.{left-part, right-part, condition-part, then-part, else-part, tail-part, lowers-if, keeps-decided, lowers-logic}
 use Rattle.mir_lower.specs.Branches.{IsForked}
 use Rattle.source_meaning.specs.Meaning.{deciding_byte}
@@ -39,44 +47,44 @@ use Rattle.mir_lower.proofs.lower.+lower.Goals as goal
 
 -- an operand, a place, and a local
 
-pub lower_operand-returns-in-Literal-clause-lowered : goal.lower_operand-returns-in-Literal-clause-lowered
-lower_operand-returns-in-Literal-clause-lowered t c =
+pub lower_operand-returns-in-Some-clause-lowered : goal.lower_operand-returns-in-Some-clause-lowered
+lower_operand-returns-in-Some-clause-lowered t c =
     let source = source_of c.args.context.now in
     IfOk-weaker c.lower_literal.result _ _
-    (λ operand is. lowers-literal-operand source (shape c.args.graph.now) c.args.e.0 (core_value c.in-Literal.literal) operand.kind c.requires.ready.sound c.requires.ready.«open» c.in-Literal.ensures.core is)
+    (λ operand is. lowers-literal-operand source (shape c.args.graph.now) c.args.e.0 (core_value c.in-Some.literal) operand.kind c.requires.ready.sound c.requires.ready.«open» c.in-Some.ensures.some is)
     c.lower_literal.ensures.lowered
 
-pub lower_operand-returns-in-Literal-clause-built : goal.lower_operand-returns-in-Literal-clause-built
-lower_operand-returns-in-Literal-clause-built t c =
-    on_ok_weaker c.lower_literal.result (λ built. built-literal (source_of c.args.context.now) c.args.e.0 (core_value c.in-Literal.literal) c.in-Literal.ensures.core built) c.lower_literal.ensures.built
+pub lower_operand-returns-in-Some-clause-built : goal.lower_operand-returns-in-Some-clause-built
+lower_operand-returns-in-Some-clause-built t c =
+    on_ok_weaker c.lower_literal.result (λ built. built-literal (source_of c.args.context.now) c.args.e.0 (core_value c.in-Some.literal) (unadjusted-plain (source_of c.args.context.now) c.args.e.0 _ c.in-Some.ensures.some).1 built) c.lower_literal.ensures.built
 
-pub lower_operand-returns-in-Literal-clause-refused : goal.lower_operand-returns-in-Literal-clause-refused
-lower_operand-returns-in-Literal-clause-refused t c =
+pub lower_operand-returns-in-Some-clause-refused : goal.lower_operand-returns-in-Some-clause-refused
+lower_operand-returns-in-Some-clause-refused t c =
     IfErr-weaker c.lower_literal.result _ _ (λ error refused. refuses-here (source_of c.args.context.now) c.args.e.0 error refused) c.lower_literal.ensures.refused
 
-pub lower_operand-returns-in_ok-place-in_default : goal.lower_operand-returns-in_ok-place-in_default
-lower_operand-returns-in_ok-place-in_default t c =
+pub lower_operand-returns-in_ok-place-in-None : goal.lower_operand-returns-in_ok-place-in-None
+lower_operand-returns-in_ok-place-in-None t c =
     let source = source_of c.args.context.now in
     record {
       lowered = subst (λ (k : OperandKind). LowersOperand source (shape c.args.graph.now) (shape c.lower_place.new.graph) c.args.e.0 k) (sym c.copied.ensures)
-          (lowers-place-operand source (shape c.args.graph.now) (shape c.lower_place.new.graph) c.args.e.0 c.in_ok-place-in_default.place c.in_ok-place-in_default.ensures.lowered
-          (no-literal source c.args.e.0 c.form_at.result c.form_at.ensures c.in_default.not-Literal));
-      built = c.in_ok-place-in_default.ensures.built;
+          (lowers-place-operand source (shape c.args.graph.now) (shape c.lower_place.new.graph) c.args.e.0 c.in_ok-place-in-None.place c.in_ok-place-in-None.ensures.lowered
+          c.in-None.ensures.none);
+      built = c.in_ok-place-in-None.ensures.built;
       refused = tt;
     }
 
-pub lower_place-returns-in-Path-clause-lowered : goal.lower_place-returns-in-Path-clause-lowered
-lower_place-returns-in-Path-clause-lowered t c =
+pub lower_place-returns-in-Some-clause-lowered : goal.lower_place-returns-in-Some-clause-lowered
+lower_place-returns-in-Some-clause-lowered t c =
     IfOk-weaker c.place_named.result _ _
-    (λ place named. lowers-name (source_of c.args.context.now) (shape c.args.graph.now) c.args.e.0 place.local.0 c.in-Path.name.now c.requires.ready.sound c.requires.ready.«open» c.in-Path.ensures.core named)
+    (λ place named. lowers-name (source_of c.args.context.now) (shape c.args.graph.now) c.args.e.0 place.local.0 c.in-Some.name.now c.requires.ready.sound c.requires.ready.«open» c.in-Some.ensures.some named)
     c.place_named.ensures.lowered
 
-pub lower_place-returns-in-Path-clause-built : goal.lower_place-returns-in-Path-clause-built
-lower_place-returns-in-Path-clause-built t c =
-    on_ok_weaker c.place_named.result (λ named. built-path (source_of c.args.context.now) c.args.e.0 c.in-Path.name.now c.in-Path.ensures.core named) c.place_named.ensures.built
+pub lower_place-returns-in-Some-clause-built : goal.lower_place-returns-in-Some-clause-built
+lower_place-returns-in-Some-clause-built t c =
+    on_ok_weaker c.place_named.result (λ named. built-path (source_of c.args.context.now) c.args.e.0 c.in-Some.name.now (unadjusted-plain (source_of c.args.context.now) c.args.e.0 _ c.in-Some.ensures.some).1 named) c.place_named.ensures.built
 
-pub lower_place-returns-in-Path-clause-refused : goal.lower_place-returns-in-Path-clause-refused
-lower_place-returns-in-Path-clause-refused t c =
+pub lower_place-returns-in-Some-clause-refused : goal.lower_place-returns-in-Some-clause-refused
+lower_place-returns-in-Some-clause-refused t c =
     IfErr-weaker c.place_named.result _ _ (λ error refused. refuses-here (source_of c.args.context.now) c.args.e.0 error refused) c.place_named.ensures.refused
 
 pub lower_temp-returns-in_err-place-clause-refused : goal.lower_temp-returns-in_err-place-clause-refused
@@ -91,15 +99,54 @@ lower_temp-returns-clause-lowered t c =
 
 -- an expression into a place
 
-pub lower_into-returns-in-Incomplete-clause-refused : goal.lower_into-returns-in-Incomplete-clause-refused
-lower_into-returns-in-Incomplete-clause-refused t c = refuses-here (source_of c.args.context.now) c.args.e.0 refusal.IncompleteExpr c.in-Incomplete.ensures.cause
+pub lower_into-returns-in_err-never-clause-refused : goal.lower_into-returns-in_err-never-clause-refused
+lower_into-returns-in_err-never-clause-refused t c =
+    let source = source_of c.args.context.now in
+    refused-exit (RefusesAt source c.args.e.0) _ c.from_residual.result c.from_residual.ensures.1
+    (λ error same. subst (RefusesAt source c.args.e.0) (sym same) (refuses-no-memory source c.args.e.0 _ c.in_err-never.ensures.refused))
 
-pub lower_into-returns-in-Unbuilt-clause-refused : goal.lower_into-returns-in-Unbuilt-clause-refused
-lower_into-returns-in-Unbuilt-clause-refused t c = refuses-unbuilt-form (source_of c.args.context.now) c.args.e.0 c.form_not_built.result c.in-Unbuilt.ensures c.form_not_built.ensures
+pub lower_into-lower_own-requires : goal.lower_into-lower_own-requires
+lower_into-lower_own-requires t c =
+    let given = c.in_ok-never.ensures.given in (
+      omega arith,
+      (
+        ready-in (source_of c.args.context.now) (shape c.args.graph.now) (shape c.new_never.new.graph) c.args.e.0 c.requires.ready given.keeps.spares.targets given.keeps.grows given.keeps.sound given.keeps.«open»,
+        record { cell = Never c.args.e.0; found = given.found },
+      ),
+    )
 
--- an assignment writes nothing to the place that it is lowered into
-pub lower_into-returns-in-Assign-clause-lowered : goal.lower_into-returns-in-Assign-clause-lowered
-lower_into-returns-in-Assign-clause-lowered t c = on_ok_weaker c.lower_assignment.result (λ lowered cell found. lowered cell) c.lower_assignment.ensures.lowered
+pub lower_into-returns-in_ok-never-clause-lowered : goal.lower_into-returns-in_ok-never-clause-lowered
+lower_into-returns-in_ok-never-clause-lowered t c =
+    let source = source_of c.args.context.now in
+    let given = c.in_ok-never.ensures.given in
+    on_ok_weaker c.lower_own.result
+    (λ own cell found. lowers-diverted source (shape c.args.graph.now) (shape c.new_never.new.graph) (shape c.lower_own.new.graph) c.args.e.0 c.in_ok-never.never.local.0 cell c.requires.ready (sym c.diverges.ensures ∙ c.if-diverges.true) given (own (Never c.args.e.0) given.found))
+    c.lower_own.ensures.lowered
+
+pub lower_into-returns-else-diverges-clause-lowered : goal.lower_into-returns-else-diverges-clause-lowered
+lower_into-returns-else-diverges-clause-lowered t c =
+    let source = source_of c.args.context.now in
+    on_ok_weaker c.lower_own-else-diverges.result
+    (λ own cell found. lowers-undiverted source (shape c.args.graph.now) (shape c.lower_own-else-diverges.new.graph) c.args.e.0 cell c.requires.ready (sym c.diverges.ensures ∙ c.if-diverges.false) (own cell found))
+    c.lower_own-else-diverges.ensures.lowered
+
+-- an expression itself into a place
+
+pub lower_own-returns-in-Incomplete-clause-refused : goal.lower_own-returns-in-Incomplete-clause-refused
+lower_own-returns-in-Incomplete-clause-refused t c = refuses-here (source_of c.args.context.now) c.args.e.0 refusal.IncompleteExpr c.in-Incomplete.ensures.cause
+
+pub lower_own-returns-in-Unbuilt-clause-refused : goal.lower_own-returns-in-Unbuilt-clause-refused
+lower_own-returns-in-Unbuilt-clause-refused t c = refuses-unbuilt-form (source_of c.args.context.now) c.args.e.0 c.form_not_built.result c.in-Unbuilt.ensures c.form_not_built.ensures
+
+-- an assignment and a jump write nothing to the place that they are lowered into
+pub lower_own-returns-in-Assign-clause-lowered : goal.lower_own-returns-in-Assign-clause-lowered
+lower_own-returns-in-Assign-clause-lowered t c = on_ok_weaker c.lower_assignment.result (λ lowered cell found. lowered cell) c.lower_assignment.ensures.lowered
+
+pub lower_own-returns-in-Break-clause-lowered : goal.lower_own-returns-in-Break-clause-lowered
+lower_own-returns-in-Break-clause-lowered t c = on_ok_weaker c.lower_break.result (λ lowered cell found. lowered cell) c.lower_break.ensures.lowered
+
+pub lower_own-returns-in-Continue-clause-lowered : goal.lower_own-returns-in-Continue-clause-lowered
+lower_own-returns-in-Continue-clause-lowered t c = on_ok_weaker c.lower_continue.result (λ lowered cell found. lowered cell) c.lower_continue.ensures.lowered
 
 -- an operator on one operand
 
@@ -107,8 +154,8 @@ pub lower_unary-lower_operand-requires : goal.lower_unary-lower_operand-requires
 lower_unary-lower_operand-requires t c =
     let source = source_of c.args.context.now in
     let is = first-part source c.args.e.0 c.args.operand.0 [] (operation_of c.args.op) c.requires.form in
-    let below = part-below source c.args.e.0 c.args.operand.0 c.requires.ready is in
-    (omega (arith, below), ready-part source (shape c.args.graph.now) (shape c.args.graph.now) c.args.e.0 c.args.operand.0 c.requires.ready is c.requires.ready.sound c.requires.ready.«open»)
+    let below = part-below source c.args.e.0 c.args.operand.0 c.requires.ready.checked is in
+    (omega (arith, below), part-ready source (shape c.args.graph.now) c.args.e.0 c.args.operand.0 (parts-ready source (shape c.args.graph.now) c.args.e.0 (λ outer. ap (λ n. opened_in c.args.e.0 n outer) c.requires.form) c.requires.ready) is)
 
 pub lower_unary-returns-in_err-value-clause-refused : goal.lower_unary-returns-in_err-value-clause-refused
 lower_unary-returns-in_err-value-clause-refused t c =
@@ -139,8 +186,8 @@ pub lower_binary-lower_operand-requires : goal.lower_binary-lower_operand-requir
 lower_binary-lower_operand-requires t c =
     let source = source_of c.args.context.now in
     let is = first-part source c.args.e.0 c.args.lhs.0 (c.args.rhs.0 ∷ []) (Combine c.args.op) c.requires.form in
-    let below = part-below source c.args.e.0 c.args.lhs.0 c.requires.ready is in
-    (omega (arith, below), ready-part source (shape c.args.graph.now) (shape c.args.graph.now) c.args.e.0 c.args.lhs.0 c.requires.ready is c.requires.ready.sound c.requires.ready.«open»)
+    let below = part-below source c.args.e.0 c.args.lhs.0 c.requires.ready.checked is in
+    (omega (arith, below), part-ready source (shape c.args.graph.now) c.args.e.0 c.args.lhs.0 (parts-ready source (shape c.args.graph.now) c.args.e.0 (λ outer. ap (λ n. opened_in c.args.e.0 n outer) c.requires.form) c.requires.ready) is)
 
 pub lower_binary-returns-in_err-left-clause-refused : goal.lower_binary-returns-in_err-left-clause-refused
 lower_binary-returns-in_err-left-clause-refused t c =
@@ -152,8 +199,8 @@ pub lower_binary-lower_operand-requires-2 : goal.lower_binary-lower_operand-requ
 lower_binary-lower_operand-requires-2 t c =
     let source = source_of c.args.context.now in
     let is = second-part source c.args.e.0 c.args.lhs.0 c.args.rhs.0 (Combine c.args.op) c.requires.form in
-    let below = part-below source c.args.e.0 c.args.rhs.0 c.requires.ready is in
-    (omega (arith, below), ready-part source (shape c.args.graph.now) (shape c.lower_operand.new.graph) c.args.e.0 c.args.rhs.0 c.requires.ready is c.in_ok-left.ensures.lowered.keeps.sound c.in_ok-left.ensures.lowered.keeps.«open»)
+    let below = part-below source c.args.e.0 c.args.rhs.0 c.requires.ready.checked is in
+    (omega (arith, below), ready-part source (shape c.args.graph.now) (shape c.lower_operand.new.graph) c.args.e.0 c.args.rhs.0 (parts-ready source (shape c.args.graph.now) c.args.e.0 (λ outer. ap (λ n. opened_in c.args.e.0 n outer) c.requires.form) c.requires.ready) is c.in_ok-left.ensures.lowered.keeps.spares.targets c.in_ok-left.ensures.lowered.keeps.grows c.in_ok-left.ensures.lowered.keeps.sound c.in_ok-left.ensures.lowered.keeps.«open»)
 
 pub lower_binary-returns-in_err-right-clause-refused : goal.lower_binary-returns-in_err-right-clause-refused
 lower_binary-returns-in_err-right-clause-refused t c =
@@ -188,8 +235,8 @@ pub lower_if-lower_operand-requires : goal.lower_if-lower_operand-requires
 lower_if-lower_operand-requires t c =
     let source = source_of c.args.context.now in
     let is = condition-part source c.args.e.0 c.args.condition.0 c.args.then_branch.0 c.args.else_branch c.requires.form in
-    let below = part-below source c.args.e.0 c.args.condition.0 c.requires.ready is in
-    (omega (arith, below), ready-part source (shape c.args.graph.now) (shape c.args.graph.now) c.args.e.0 c.args.condition.0 c.requires.ready is c.requires.ready.sound c.requires.ready.«open»)
+    let below = part-below source c.args.e.0 c.args.condition.0 c.requires.ready.checked is in
+    (omega (arith, below), part-ready source (shape c.args.graph.now) c.args.e.0 c.args.condition.0 (parts-ready source (shape c.args.graph.now) c.args.e.0 (λ outer. ap (λ n. opened_in c.args.e.0 n outer) c.requires.form) c.requires.ready) is)
 
 pub lower_if-returns-in_err-test-clause-refused : goal.lower_if-returns-in_err-test-clause-refused
 lower_if-returns-in_err-test-clause-refused t c =
@@ -211,10 +258,10 @@ lower_if-lower_into-requires t c =
     let s2 = shape c.fork.new.graph in
     let forked = c.in_ok-branches.ensures.forked in
     let is = then-part source c.args.e.0 c.args.condition.0 c.args.then_branch.0 c.args.else_branch c.requires.form in
-    let below = part-below source c.args.e.0 c.args.then_branch.0 c.requires.ready is in (
+    let below = part-below source c.args.e.0 c.args.then_branch.0 c.requires.ready.checked is in (
       omega (arith, below),
       (
-        (ready-part source s0 s2 c.args.e.0 c.args.then_branch.0 c.requires.ready is forked.sound forked.«open»).ready,
+        (ready-part source s0 s2 c.args.e.0 c.args.then_branch.0 (parts-ready source s0 c.args.e.0 (λ outer. ap (λ n. opened_in c.args.e.0 n outer) c.requires.form) c.requires.ready) is (forked.spares.targets ∙ c.in_ok-test.ensures.lowered.keeps.spares.targets) (grows-trans s0 s1 s2 c.in_ok-test.ensures.lowered.keeps.grows forked.grows) forked.sound forked.«open»).ready,
         placed-later s0 s2 (grows-trans s0 s1 s2 c.in_ok-test.ensures.lowered.keeps.grows forked.grows) c.args.place.local.0 c.requires.placed,
       ),
     )
@@ -249,7 +296,7 @@ lower_if-lower_tail-requires t c =
     let gone = c.go_on.ensures source one.sound in (
       omega arith,
       (
-        ready-in source s0 s4 c.args.e.0 c.requires.ready gone.sound gone.«open»,
+        parts-ready-in source s0 s4 c.args.e.0 (parts-ready source s0 c.args.e.0 (λ outer. ap (λ n. opened_in c.args.e.0 n outer) c.requires.form) c.requires.ready) (gone.targets ∙ one.spares.targets ∙ forked.spares.targets ∙ c.in_ok-test.ensures.lowered.keeps.spares.targets) (grows-trans s0 s2 s4 (grows-trans s0 s1 s2 c.in_ok-test.ensures.lowered.keeps.grows forked.grows) (grows-trans s2 s3 s4 one.grows gone.grows)) gone.sound gone.«open»,
         (
           else-part source c.args.e.0 c.args.condition.0 c.args.then_branch.0 c.args.else_branch c.requires.form,
           placed-later s2 s4 (grows-trans s2 s3 s4 one.grows gone.grows) c.args.place.local.0 placed,
@@ -304,8 +351,8 @@ pub lower_logic-lower_operand-requires : goal.lower_logic-lower_operand-requires
 lower_logic-lower_operand-requires t c =
     let source = source_of c.args.context.now in
     let is = left-part source c.args.e.0 c.args.op c.args.lhs.0 c.args.rhs.0 c.requires.form in
-    let below = part-below source c.args.e.0 c.args.lhs.0 c.requires.ready is in
-    (omega (arith, below), ready-part source (shape c.args.graph.now) (shape c.args.graph.now) c.args.e.0 c.args.lhs.0 c.requires.ready is c.requires.ready.sound c.requires.ready.«open»)
+    let below = part-below source c.args.e.0 c.args.lhs.0 c.requires.ready.checked is in
+    (omega (arith, below), part-ready source (shape c.args.graph.now) c.args.e.0 c.args.lhs.0 (parts-ready source (shape c.args.graph.now) c.args.e.0 (λ outer. ap (λ n. opened_in c.args.e.0 n outer) c.requires.form) c.requires.ready) is)
 
 pub lower_logic-returns-in_err-left-clause-refused : goal.lower_logic-returns-in_err-left-clause-refused
 lower_logic-returns-in_err-left-clause-refused t c =
@@ -350,11 +397,11 @@ lower_logic-lower_into-requires t c =
     let one = keeps-decided source s2 s3 c.in_ok-left.left c.args.place (ExprId c.args.e) forked.«open» c.in_ok-assign.ensures.added forked.sound in
     let gone = c.go_on.ensures source one.sound in
     let is = right-part source c.args.e.0 c.args.op c.args.lhs.0 c.args.rhs.0 c.requires.form in
-    let below = part-below source c.args.e.0 c.args.rhs.0 c.requires.ready is in
+    let below = part-below source c.args.e.0 c.args.rhs.0 c.requires.ready.checked is in
     let grown : Grows s0 s2 = grows-trans s0 s1 s2 c.in_ok-left.ensures.lowered.keeps.grows forked.grows in (
       omega (arith, below),
       (
-        (ready-part source s0 s4 c.args.e.0 c.args.rhs.0 c.requires.ready is gone.sound gone.«open»).ready,
+        (ready-part source s0 s4 c.args.e.0 c.args.rhs.0 (parts-ready source s0 c.args.e.0 (λ outer. ap (λ n. opened_in c.args.e.0 n outer) c.requires.form) c.requires.ready) is (gone.targets ∙ one.spares.targets ∙ forked.spares.targets ∙ c.in_ok-left.ensures.lowered.keeps.spares.targets) (grows-trans s0 s2 s4 grown (grows-trans s2 s3 s4 one.grows gone.grows)) gone.sound gone.«open»).ready,
         placed-later s0 s4 (grows-trans s0 s2 s4 grown (grows-trans s2 s3 s4 one.grows gone.grows)) c.args.place.local.0 c.requires.placed,
       ),
     )
@@ -415,8 +462,8 @@ pub lower_assignment-lower_place-requires : goal.lower_assignment-lower_place-re
 lower_assignment-lower_place-requires t c =
     let source = source_of c.args.context.now in
     let is = value-part source c.args.e.0 c.args.target.0 c.args.value.0 c.requires.form in
-    let below = part-below source c.args.e.0 c.args.value.0 c.requires.ready is in
-    (omega (arith, below), ready-part source (shape c.args.graph.now) (shape c.args.graph.now) c.args.e.0 c.args.value.0 c.requires.ready is c.requires.ready.sound c.requires.ready.«open»)
+    let below = part-below source c.args.e.0 c.args.value.0 c.requires.ready.checked is in
+    (omega (arith, below), part-ready source (shape c.args.graph.now) c.args.e.0 c.args.value.0 (parts-ready source (shape c.args.graph.now) c.args.e.0 (λ outer. ap (λ n. opened_in c.args.e.0 n outer) c.requires.form) c.requires.ready) is)
 
 pub lower_assignment-returns-in_err-place-clause-refused : goal.lower_assignment-returns-in_err-place-clause-refused
 lower_assignment-returns-in_err-place-clause-refused t c =
@@ -463,6 +510,17 @@ pub lower_statements-loop-statement-init : goal.lower_statements-loop-statement-
 lower_statements-loop-statement-init t c =
     (lowers-none (source_of c.args.context.now) (shape c.args.graph.now) c.requires.ready.sound c.requires.ready.«open», All-nil (IsBuiltThrough (source_of c.args.context.now)))
 
+pub lower_statements-lower_statement-requires : goal.lower_statements-lower_statement-requires
+lower_statements-lower_statement-requires t c =
+    let source = source_of c.args.context.now in
+    let kept = c.loop-statement.invariant.0.keeps in (
+      omega arith,
+      (
+        parts-ready-in source (shape c.args.graph.now) (shape c.loop-statement.graph) c.args.e.0 c.requires.ready kept.spares.targets kept.grows kept.sound kept.«open»,
+        record { statements = c.args.statements.now; form = c.requires.form; within = Contains-get_or c.args.statements.now c.loop-statement.statement-index _ c.loop-statement-test.true },
+      ),
+    )
+
 pub lower_statements-loop-statement-preserved : goal.lower_statements-loop-statement-preserved
 lower_statements-loop-statement-preserved t c =
     let source = source_of c.args.context.now in
@@ -478,8 +536,8 @@ pub lower_tail-lower_into-requires : goal.lower_tail-lower_into-requires
 lower_tail-lower_into-requires t c =
     let source = source_of c.args.context.now in
     let is = subst (λ (o : Option _). IfSome o (λ one. Contains (parts_of (node source c.args.e.0)) one.0)) c.in-Some.is c.requires.part in
-    let below = part-below source c.args.e.0 c.in-Some.tail.0 c.requires.ready is in
-    (omega (arith, below), ((ready-part source (shape c.args.graph.now) (shape c.args.graph.now) c.args.e.0 c.in-Some.tail.0 c.requires.ready is c.requires.ready.sound c.requires.ready.«open»).ready, c.requires.placed))
+    let below = part-below source c.args.e.0 c.in-Some.tail.0 c.requires.ready.checked is in
+    (omega (arith, below), ((part-ready source (shape c.args.graph.now) c.args.e.0 c.in-Some.tail.0 c.requires.ready is).ready, c.requires.placed))
 
 pub lower_tail-returns-in-Some-clause-refused : goal.lower_tail-returns-in-Some-clause-refused
 lower_tail-returns-in-Some-clause-refused t c =
@@ -533,8 +591,8 @@ pub lower_let-lower_place-requires : goal.lower_let-lower_place-requires
 lower_let-lower_place-requires t c =
     let source = source_of c.args.context.now in
     let is = part-of-statement source c.args.e.0 _ c.args.initializer.0 c.requires.stands (0, omega arith, refl) in
-    let below = part-below source c.args.e.0 c.args.initializer.0 c.requires.ready is in
-    (omega (arith, below), ready-part source (shape c.args.graph.now) (shape c.args.graph.now) c.args.e.0 c.args.initializer.0 c.requires.ready is c.requires.ready.sound c.requires.ready.«open»)
+    let below = part-below source c.args.e.0 c.args.initializer.0 c.requires.ready.checked is in
+    (omega (arith, below), part-ready source (shape c.args.graph.now) c.args.e.0 c.args.initializer.0 c.requires.ready is)
 
 pub lower_let-returns-in_err-place-clause-refused : goal.lower_let-returns-in_err-place-clause-refused
 lower_let-returns-in_err-place-clause-refused t c =
@@ -581,8 +639,8 @@ pub lower_expr_statement-lower_place-requires : goal.lower_expr_statement-lower_
 lower_expr_statement-lower_place-requires t c =
     let source = source_of c.args.context.now in
     let is = part-of-statement source c.args.e.0 _ c.args.expr.0 c.requires.stands (0, omega arith, refl) in
-    let below = part-below source c.args.e.0 c.args.expr.0 c.requires.ready is in
-    (omega (arith, below), ready-part source (shape c.args.graph.now) (shape c.args.graph.now) c.args.e.0 c.args.expr.0 c.requires.ready is c.requires.ready.sound c.requires.ready.«open»)
+    let below = part-below source c.args.e.0 c.args.expr.0 c.requires.ready.checked is in
+    (omega (arith, below), part-ready source (shape c.args.graph.now) c.args.e.0 c.args.expr.0 c.requires.ready is)
 
 pub lower_expr_statement-returns-in_err-place-clause-refused : goal.lower_expr_statement-returns-in_err-place-clause-refused
 lower_expr_statement-returns-in_err-place-clause-refused t c =
@@ -643,14 +701,14 @@ lower_block-lower_tail-requires t c =
     let kept = c.in_ok-lower_statements.ensures.lowered.keeps in (
       omega arith,
       (
-        ready-in source s0 s1 c.args.e.0 c.requires.ready kept.sound kept.«open»,
+        parts-ready-in source s0 s1 c.args.e.0 (parts-ready source s0 c.args.e.0 (λ outer. ap (λ n. opened_in c.args.e.0 n outer) c.requires.form) c.requires.ready) kept.spares.targets kept.grows kept.sound kept.«open»,
         (tail-part source c.args.e.0 c.args.statements.now c.args.tail c.requires.form, placed-later s0 s1 kept.grows c.args.place.local.0 c.requires.placed),
       ),
     )
 
 pub lower_block-lower_statements-requires : goal.lower_block-lower_statements-requires
 lower_block-lower_statements-requires t c =
-    (omega arith, (c.requires.ready, (c.args.tail, c.requires.form ∙ ap (λ s. Some (Block s c.args.tail)) (sym c.as_slice.ensures))))
+    (omega arith, (parts-ready (source_of c.args.context.now) (shape c.args.graph.now) c.args.e.0 (λ outer. ap (λ n. opened_in c.args.e.0 n outer) c.requires.form) c.requires.ready, subst (λ n. HasStatements n c.as_slice.result.now) (sym c.requires.form) (sym c.as_slice.ensures)))
 
 pub lower_block-leave_scope-requires-clause-sound : goal.lower_block-leave_scope-requires-clause-sound
 lower_block-leave_scope-requires-clause-sound t c =
@@ -696,3 +754,258 @@ lower_block-returns-clause-lowered t c =
     let last = c.in_ok-lower_tail.ensures.lowered cell (local_of-grows s0 s1 first.keeps.grows cell c.args.place.local.0 found) in
     let left = scope-left s0 s2 c.push_drop_scope-scope.result.0 (marked_in_block source c.args.statements.now c.args.tail) c.push_drop_scope-scope.ensures (block-inner source s0 s1 s2 c.args.statements.now c.args.tail cell first last) source s3 c.in_ok-leave_scope.ensures in
     lowers-block source s0 s1 s2 s3 c.args.e.0 c.args.statements.now c.args.tail cell c.requires.ready c.requires.form first last left
+
+-- a labelled block
+
+pub lower_labelled-returns-in_err-blocks-clause-refused : goal.lower_labelled-returns-in_err-blocks-clause-refused
+lower_labelled-returns-in_err-blocks-clause-refused t c =
+    refused-exit (RefusesAt (source_of c.args.context.now) c.args.e.0) _ c.from_residual.result c.from_residual.ensures.1 (refuses-no-memory (source_of c.args.context.now) c.args.e.0)
+
+pub lower_labelled-lower_statements-requires : goal.lower_labelled-lower_statements-requires
+lower_labelled-lower_statements-requires t c =
+    let source = source_of c.args.context.now in
+    let s0 = shape c.args.graph.now in
+    let s1 = shape c.enter_loop.new.graph in
+    let blocks = c.in_ok-blocks.blocks in
+    let entered = c.in_ok-blocks.ensures.entered in
+    let opened = opened-is blocks c.args.e (Some c.args.label) c.in_ok-blocks.ensures.node c.in_ok-blocks.ensures.label in
+    let place-is = c.in_ok-blocks.ensures.place in
+    let placed : IsPlaced s0 blocks.place.local.0 = subst (λ (p : Place). IsPlaced s0 p.local.0) (sym place-is) c.requires.placed in
+    let parts = parts-entered source s0 s1 c.args.e.0 (Some c.args.label) (target_of_blocks blocks) c.requires.ready entered opened (λ outer. ap (λ n. opened_in c.args.e.0 n outer) c.requires.form) placed in
+    (omega arith, (parts, subst (λ n. HasStatements n c.as_slice.result.now) (sym c.requires.form) (sym c.as_slice.ensures)))
+
+pub lower_labelled-lower_tail-requires : goal.lower_labelled-lower_tail-requires
+lower_labelled-lower_tail-requires t c =
+    let source = source_of c.args.context.now in
+    let s0 = shape c.args.graph.now in
+    let s1 = shape c.enter_loop.new.graph in
+    let blocks = c.in_ok-blocks.blocks in
+    let entered = c.in_ok-blocks.ensures.entered in
+    let opened = opened-is blocks c.args.e (Some c.args.label) c.in_ok-blocks.ensures.node c.in_ok-blocks.ensures.label in
+    let place-is = c.in_ok-blocks.ensures.place in
+    let placed : IsPlaced s0 blocks.place.local.0 = subst (λ (p : Place). IsPlaced s0 p.local.0) (sym place-is) c.requires.placed in
+    let parts = parts-entered source s0 s1 c.args.e.0 (Some c.args.label) (target_of_blocks blocks) c.requires.ready entered opened (λ outer. ap (λ n. opened_in c.args.e.0 n outer) c.requires.form) placed in
+    let s2 = shape c.lower_statements.new.graph in
+    let kept = c.in_ok-lower_statements.ensures.lowered.keeps in (
+      omega arith,
+      (
+        parts-ready-in source s1 s2 c.args.e.0 parts kept.spares.targets kept.grows kept.sound kept.«open»,
+        (labelled-tail-part source c.args.e.0 c.args.label c.args.statements.now c.args.tail c.requires.form, placed-later s0 s2 (grows-trans s0 s1 s2 entered.grows kept.grows) c.args.place.local.0 c.requires.placed),
+      ),
+    )
+
+pub lower_labelled-leave_scope-requires-clause-sound : goal.lower_labelled-leave_scope-requires-clause-sound
+lower_labelled-leave_scope-requires-clause-sound t c =
+    let source = source_of c.args.context.now in
+    let s0 = shape c.args.graph.now in
+    let s1 = shape c.enter_loop.new.graph in
+    let entered = c.in_ok-blocks.ensures.entered in
+    let s2 = shape c.lower_statements.new.graph in
+    let s3 = shape c.lower_tail.new.graph in
+    let first : LowersStatements source s1 s2 c.args.statements.now = subst (λ (list : List Statement). LowersStatements source s1 s2 list) c.as_slice.ensures c.in_ok-lower_statements.ensures.lowered in
+    let here-placed = placed-later s0 s2 (grows-trans s0 s1 s2 entered.grows first.keeps.grows) c.args.place.local.0 c.requires.placed in
+    let last = c.in_ok-lower_tail.ensures.lowered here-placed.cell here-placed.found in
+    last.keeps.sound
+
+pub lower_labelled-leave_scope-requires-clause-opened : goal.lower_labelled-leave_scope-requires-clause-opened
+lower_labelled-leave_scope-requires-clause-opened t c =
+    let source = source_of c.args.context.now in
+    let s0 = shape c.args.graph.now in
+    let s1 = shape c.enter_loop.new.graph in
+    let entered = c.in_ok-blocks.ensures.entered in
+    let s2 = shape c.lower_statements.new.graph in
+    let s3 = shape c.lower_tail.new.graph in
+    let first : LowersStatements source s1 s2 c.args.statements.now = subst (λ (list : List Statement). LowersStatements source s1 s2 list) c.as_slice.ensures c.in_ok-lower_statements.ensures.lowered in
+    let here-placed = placed-later s0 s2 (grows-trans s0 s1 s2 entered.grows first.keeps.grows) c.args.place.local.0 c.requires.placed in
+    let last = c.in_ok-lower_tail.ensures.lowered here-placed.cell here-placed.found in
+    last.keeps.«open»
+
+pub lower_labelled-leave_scope-requires-clause-within : goal.lower_labelled-leave_scope-requires-clause-within
+lower_labelled-leave_scope-requires-clause-within t c =
+    let source = source_of c.args.context.now in
+    let s0 = shape c.args.graph.now in
+    let s1 = shape c.enter_loop.new.graph in
+    let entered = c.in_ok-blocks.ensures.entered in
+    let s2 = shape c.lower_statements.new.graph in
+    let s3 = shape c.lower_tail.new.graph in
+    let first : LowersStatements source s1 s2 c.args.statements.now = subst (λ (list : List Statement). LowersStatements source s1 s2 list) c.as_slice.ensures c.in_ok-lower_statements.ensures.lowered in
+    let here-placed = placed-later s0 s2 (grows-trans s0 s1 s2 entered.grows first.keeps.grows) c.args.place.local.0 c.requires.placed in
+    let last = c.in_ok-lower_tail.ensures.lowered here-placed.cell here-placed.found in
+    opened-within s1 s3 c.push_drop_scope-scope.result.0 (marked_in_block source c.args.statements.now c.args.tail) c.push_drop_scope-scope.ensures
+    (block-inner source s1 s2 s3 c.args.statements.now c.args.tail here-placed.cell first last)
+
+pub lower_labelled-returns-in_err-leave_scope-clause-refused : goal.lower_labelled-returns-in_err-leave_scope-clause-refused
+lower_labelled-returns-in_err-leave_scope-clause-refused t c =
+    refused-exit (RefusesAt (source_of c.args.context.now) c.args.e.0) _ c.from_residual-in_err-leave_scope.result c.from_residual-in_err-leave_scope.ensures.1 (refuses-no-memory (source_of c.args.context.now) c.args.e.0)
+
+pub lower_labelled-leave_loop-requires : goal.lower_labelled-leave_loop-requires
+lower_labelled-leave_loop-requires t c =
+    let source = source_of c.args.context.now in
+    let s0 = shape c.args.graph.now in
+    let s1 = shape c.enter_loop.new.graph in
+    let entered = c.in_ok-blocks.ensures.entered in
+    let s2 = shape c.lower_statements.new.graph in
+    let s3 = shape c.lower_tail.new.graph in
+    let first : LowersStatements source s1 s2 c.args.statements.now = subst (λ (list : List Statement). LowersStatements source s1 s2 list) c.as_slice.ensures c.in_ok-lower_statements.ensures.lowered in
+    let here-placed = placed-later s0 s2 (grows-trans s0 s1 s2 entered.grows first.keeps.grows) c.args.place.local.0 c.requires.placed in
+    let last = c.in_ok-lower_tail.ensures.lowered here-placed.cell here-placed.found in
+    let s4 = shape c.leave_scope.new.graph in
+    let left = scope-left s1 s3 c.push_drop_scope-scope.result.0 (marked_in_block source c.args.statements.now c.args.tail) c.push_drop_scope-scope.ensures (block-inner source s1 s2 s3 c.args.statements.now c.args.tail here-placed.cell first last) source s4 c.in_ok-leave_scope.ensures in
+    record {
+      opened = left.«open»;
+      reserved = reserved-spared (scoped-spares s1 s3 s4 (spares-trans s1 s2 s3 first.keeps.spares last.keeps.spares) s1.scope left.spares) entered.end_reserved;
+    }
+
+pub lower_labelled-returns-clause-built : goal.lower_labelled-returns-clause-built
+lower_labelled-returns-clause-built t c =
+    let source = source_of c.args.context.now in
+    built-labelled source c.args.e.0 c.args.label c.args.statements.now c.args.tail c.requires.form
+    (subst (λ (list : List Statement). All (IsBuiltThrough source) list) c.as_slice.ensures c.in_ok-lower_statements.ensures.built)
+    c.in_ok-lower_tail.ensures.built
+
+pub lower_labelled-returns-clause-lowered : goal.lower_labelled-returns-clause-lowered
+lower_labelled-returns-clause-lowered t c =
+    λ cell found.
+    let source = source_of c.args.context.now in
+    let s0 = shape c.args.graph.now in
+    let s1 = shape c.enter_loop.new.graph in
+    let blocks = c.in_ok-blocks.blocks in
+    let entered = c.in_ok-blocks.ensures.entered in
+    let opened = opened-is blocks c.args.e (Some c.args.label) c.in_ok-blocks.ensures.node c.in_ok-blocks.ensures.label in
+    let place-is = c.in_ok-blocks.ensures.place in
+    let placed : IsPlaced s0 blocks.place.local.0 = subst (λ (p : Place). IsPlaced s0 p.local.0) (sym place-is) c.requires.placed in
+    let parts = parts-entered source s0 s1 c.args.e.0 (Some c.args.label) (target_of_blocks blocks) c.requires.ready entered opened (λ outer. ap (λ n. opened_in c.args.e.0 n outer) c.requires.form) placed in
+    let s2 = shape c.lower_statements.new.graph in
+    let s3 = shape c.lower_tail.new.graph in
+    let s4 = shape c.leave_scope.new.graph in
+    let s5 = shape c.leave_loop.new.graph in
+    let target = target_of_blocks blocks in
+    let first : LowersStatements source s1 s2 c.args.statements.now = subst (λ (list : List Statement). LowersStatements source s1 s2 list) c.as_slice.ensures c.in_ok-lower_statements.ensures.lowered in
+    let last = c.in_ok-lower_tail.ensures.lowered cell (local_of-grows s0 s2 (grows-trans s0 s1 s2 entered.grows first.keeps.grows) cell c.args.place.local.0 found) in
+    let left = scope-left s1 s3 c.push_drop_scope-scope.result.0 (marked_in_block source c.args.statements.now c.args.tail) c.push_drop_scope-scope.ensures (block-inner source s1 s2 s3 c.args.statements.now c.args.tail cell first last) source s4 c.in_ok-leave_scope.ensures in
+    let targets = left.spares.targets ∙ last.keeps.spares.targets ∙ first.keeps.spares.targets ∙ entered.targets in
+    lowers-labelled source s0 s1 s2 s3 s4 s5 c.args.e.0 c.args.label c.args.statements.now c.args.tail target cell c.requires.form c.requires.ready entered opened (found ∙ ap (λ (p : Place). Some p.local.0) (sym place-is)) first last left
+    (c.leave_loop.ensures source target s0.targets left.sound targets)
+
+-- a loop
+
+pub lower_loop-returns-in_err-blocks-clause-refused : goal.lower_loop-returns-in_err-blocks-clause-refused
+lower_loop-returns-in_err-blocks-clause-refused t c =
+    refused-exit (RefusesAt (source_of c.args.context.now) c.args.e.0) _ c.from_residual.result c.from_residual.ensures.1 (refuses-no-memory (source_of c.args.context.now) c.args.e.0)
+
+pub lower_loop-lower_place-requires : goal.lower_loop-lower_place-requires
+lower_loop-lower_place-requires t c =
+    let source = source_of c.args.context.now in
+    let s0 = shape c.args.graph.now in
+    let s1 = shape c.enter_loop.new.graph in
+    let blocks = c.in_ok-blocks.blocks in
+    let entered = c.in_ok-blocks.ensures.entered in
+    let opened = opened-is blocks c.args.e c.args.label c.in_ok-blocks.ensures.node c.in_ok-blocks.ensures.label in
+    let place-is = c.in_ok-blocks.ensures.place in
+    let placed : IsPlaced s0 blocks.place.local.0 = subst (λ (p : Place). IsPlaced s0 p.local.0) (sym place-is) c.requires.placed in
+    let parts = parts-entered source s0 s1 c.args.e.0 c.args.label (target_of_blocks blocks) c.requires.ready entered opened (λ outer. ap (λ n. opened_in c.args.e.0 n outer) c.requires.form) placed in
+    let is = body-part source c.args.e.0 c.args.label c.args.body.0 c.requires.form in
+    let below = part-below source c.args.e.0 c.args.body.0 c.requires.ready.checked is in
+    (omega (arith, below), part-ready source s1 c.args.e.0 c.args.body.0 parts is)
+
+pub lower_loop-returns-in_err-lower_place-clause-refused : goal.lower_loop-returns-in_err-lower_place-clause-refused
+lower_loop-returns-in_err-lower_place-clause-refused t c =
+    let source = source_of c.args.context.now in
+    refused-exit (RefusesAt source c.args.e.0) _ c.from_residual-in_err-lower_place.result c.from_residual-in_err-lower_place.ensures.1
+    (λ error same. subst (RefusesAt source c.args.e.0) (sym same) (refuses-part source c.args.e.0 c.args.body.0 _ (body-part source c.args.e.0 c.args.label c.args.body.0 c.requires.form) c.in_err-lower_place.ensures.refused))
+
+pub lower_loop-leave_scope-requires-clause-within : goal.lower_loop-leave_scope-requires-clause-within
+lower_loop-leave_scope-requires-clause-within t c =
+    let source = source_of c.args.context.now in
+    opened-within (shape c.enter_loop.new.graph) (shape c.lower_place.new.graph) c.push_drop_scope-scope.result.0 (marked_as_place source c.args.body.0) c.push_drop_scope-scope.ensures c.in_ok-lower_place.ensures.lowered.keeps.scope
+
+pub lower_loop-returns-in_err-leave_scope-clause-refused : goal.lower_loop-returns-in_err-leave_scope-clause-refused
+lower_loop-returns-in_err-leave_scope-clause-refused t c =
+    refused-exit (RefusesAt (source_of c.args.context.now) c.args.e.0) _ c.from_residual-in_err-leave_scope.result c.from_residual-in_err-leave_scope.ensures.1 (refuses-no-memory (source_of c.args.context.now) c.args.e.0)
+
+pub lower_loop-leave_loop-requires : goal.lower_loop-leave_loop-requires
+lower_loop-leave_loop-requires t c =
+    let source = source_of c.args.context.now in
+    let s0 = shape c.args.graph.now in
+    let s1 = shape c.enter_loop.new.graph in
+    let entered = c.in_ok-blocks.ensures.entered in
+    let s2 = shape c.lower_place.new.graph in
+    let s3 = shape c.leave_scope.new.graph in
+    let place = c.in_ok-lower_place.ensures.lowered in
+    let left = scope-left s1 s2 c.push_drop_scope-scope.result.0 (marked_as_place source c.args.body.0) c.push_drop_scope-scope.ensures place.keeps.scope source s3 c.in_ok-leave_scope.ensures in
+    record { opened = left.«open»; reserved = reserved-spared (scoped-spares s1 s2 s3 place.keeps.spares s1.scope left.spares) entered.end_reserved }
+
+pub lower_loop-returns-clause-built : goal.lower_loop-returns-clause-built
+lower_loop-returns-clause-built t c =
+    built-loop (source_of c.args.context.now) c.args.e.0 c.args.label c.args.body.0 c.requires.form c.in_ok-lower_place.ensures.built
+
+pub lower_loop-returns-clause-lowered : goal.lower_loop-returns-clause-lowered
+lower_loop-returns-clause-lowered t c =
+    λ cell found.
+    let source = source_of c.args.context.now in
+    let s0 = shape c.args.graph.now in
+    let s1 = shape c.enter_loop.new.graph in
+    let blocks = c.in_ok-blocks.blocks in
+    let entered = c.in_ok-blocks.ensures.entered in
+    let opened = opened-is blocks c.args.e c.args.label c.in_ok-blocks.ensures.node c.in_ok-blocks.ensures.label in
+    let place-is = c.in_ok-blocks.ensures.place in
+    let placed : IsPlaced s0 blocks.place.local.0 = subst (λ (p : Place). IsPlaced s0 p.local.0) (sym place-is) c.requires.placed in
+    let parts = parts-entered source s0 s1 c.args.e.0 c.args.label (target_of_blocks blocks) c.requires.ready entered opened (λ outer. ap (λ n. opened_in c.args.e.0 n outer) c.requires.form) placed in
+    let s2 = shape c.lower_place.new.graph in
+    let s3 = shape c.leave_scope.new.graph in
+    let place = c.in_ok-lower_place.ensures.lowered in
+    let left = scope-left s1 s2 c.push_drop_scope-scope.result.0 (marked_as_place source c.args.body.0) c.push_drop_scope-scope.ensures place.keeps.scope source s3 c.in_ok-leave_scope.ensures in
+    let s4 = shape c.leave_loop.new.graph in
+    let target = target_of_blocks blocks in
+    lowers-loop source s0 s1 s2 s3 s4 c.args.e.0 c.args.label c.args.body.0 c.in_ok-lower_place.field-0.local.0 target cell c.requires.form c.requires.ready entered opened (found ∙ ap (λ (p : Place). Some p.local.0) (sym place-is)) place left
+    (c.leave_loop.ensures source target s0.targets left.sound (left.spares.targets ∙ place.keeps.spares.targets ∙ entered.targets))
+
+-- a `break`
+
+pub lower_break-returns-in_err-blocks-clause-refused : goal.lower_break-returns-in_err-blocks-clause-refused
+lower_break-returns-in_err-blocks-clause-refused t c =
+    let source = source_of c.args.context.now in
+    refused-exit (RefusesAt source c.args.e.0) _ c.from_residual.result c.from_residual.ensures.1
+    (λ error same. subst (RefusesAt source c.args.e.0) (sym (same ∙ c.in_err-blocks.ensures.refused)) (refuses-break source (shape c.args.graph.now) c.args.e.0 c.args.label c.args.value c.requires.ready c.requires.form c.in_err-blocks.ensures.missing))
+
+pub lower_break-lower_tail-requires : goal.lower_break-lower_tail-requires
+lower_break-lower_tail-requires t c =
+    let source = source_of c.args.context.now in
+    let s0 = shape c.args.graph.now in
+    let target = target_of_blocks c.in_ok-blocks.blocks in
+    let around = meant-has (IsInside s0 c.args.e.0) c.args.label s0.targets target c.requires.ready.around.inside c.in_ok-blocks.ensures.found in
+    let parts = parts-ready source s0 c.args.e.0 (λ outer. ap (λ n. opened_in c.args.e.0 n outer) c.requires.form) c.requires.ready in
+    (omega arith, (parts, (break-part source c.args.e.0 c.args.label c.args.value c.requires.form, around.placed)))
+
+pub lower_break-jump-requires-clause-sound : goal.lower_break-jump-requires-clause-sound
+lower_break-jump-requires-clause-sound t c =
+    let source = source_of c.args.context.now in
+    let s0 = shape c.args.graph.now in
+    let target = target_of_blocks c.in_ok-blocks.blocks in
+    let around = meant-has (IsInside s0 c.args.e.0) c.args.label s0.targets target c.requires.ready.around.inside c.in_ok-blocks.ensures.found in
+    (c.in_ok-lower_tail.ensures.lowered around.placed.cell around.placed.found).keeps.sound
+
+pub lower_break-jump-requires-clause-opened : goal.lower_break-jump-requires-clause-opened
+lower_break-jump-requires-clause-opened t c =
+    let source = source_of c.args.context.now in
+    let s0 = shape c.args.graph.now in
+    let target = target_of_blocks c.in_ok-blocks.blocks in
+    let around = meant-has (IsInside s0 c.args.e.0) c.args.label s0.targets target c.requires.ready.around.inside c.in_ok-blocks.ensures.found in
+    (c.in_ok-lower_tail.ensures.lowered around.placed.cell around.placed.found).keeps.«open»
+
+pub lower_break-returns-in_err-jump-clause-refused : goal.lower_break-returns-in_err-jump-clause-refused
+lower_break-returns-in_err-jump-clause-refused t c =
+    refused-exit (RefusesAt (source_of c.args.context.now) c.args.e.0) _ c.from_residual-in_err-jump.result c.from_residual-in_err-jump.ensures.1 (refuses-no-memory (source_of c.args.context.now) c.args.e.0)
+
+pub lower_break-returns-clause-built : goal.lower_break-returns-clause-built
+lower_break-returns-clause-built t c =
+    built-break (source_of c.args.context.now) c.args.e.0 c.args.label c.args.value c.requires.form c.in_ok-lower_tail.ensures.built
+
+pub lower_break-returns-clause-lowered : goal.lower_break-returns-clause-lowered
+lower_break-returns-clause-lowered t c =
+    λ cell.
+    let source = source_of c.args.context.now in
+    let s0 = shape c.args.graph.now in
+    let target = target_of_blocks c.in_ok-blocks.blocks in
+    let around = meant-has (IsInside s0 c.args.e.0) c.args.label s0.targets target c.requires.ready.around.inside c.in_ok-blocks.ensures.found in
+    lowers-break source s0 (shape c.lower_tail.new.graph) (shape c.jump.new.graph) c.args.e.0 c.args.label c.args.value target c.requires.form c.requires.ready c.in_ok-blocks.ensures.found c.in_ok-lower_tail.ensures.lowered c.in_ok-jump.ensures cell

@@ -1,5 +1,5 @@
 -- A part has a lower number than its expression. At one expression the operand comes before the place, the place before
--- its local, that before what is evaluated into it, then the forms, the statements of a block, one of them, and its kind.
+-- its local, that before what is evaluated into it, then the expression itself, the forms, the statements of a block, one of them, and its kind.
 use Rattle.std.proofs.Common.{◌+◌, ◌*◌, take}
 use Rattle.std.specs.Prelude.{All}
 use Rattle.mir_lower.specs.Built.{IsBuiltThrough}
@@ -9,16 +9,19 @@ use Rattle.mir_lower.specs.Lowered.{LowersStatements}
 use Rattle.mir_lower.proofs.lower.+lower.Given as goal
 
 abbrev pub decreases-lower_operand : goal.decreases-lower_operand
-decreases-lower_operand l = 10 * l.e.0 + 8
+decreases-lower_operand l = 10 * l.e.0 + 9
 
 abbrev pub decreases-lower_place : goal.decreases-lower_place
-decreases-lower_place l = 10 * l.e.0 + 7
+decreases-lower_place l = 10 * l.e.0 + 8
 
 abbrev pub decreases-lower_temp : goal.decreases-lower_temp
-decreases-lower_temp l = 10 * l.e.0 + 6
+decreases-lower_temp l = 10 * l.e.0 + 7
 
 abbrev pub decreases-lower_into : goal.decreases-lower_into
-decreases-lower_into l = 10 * l.e.0 + 5
+decreases-lower_into l = 10 * l.e.0 + 6
+
+abbrev pub decreases-lower_own : goal.decreases-lower_own
+decreases-lower_own l = 10 * l.e.0 + 5
 
 abbrev pub decreases-lower_unary : goal.decreases-lower_unary
 decreases-lower_unary l = 10 * l.e.0 + 4
@@ -37,6 +40,15 @@ decreases-lower_assignment l = 10 * l.e.0 + 4
 
 abbrev pub decreases-lower_block : goal.decreases-lower_block
 decreases-lower_block l = 10 * l.e.0 + 4
+
+abbrev pub decreases-lower_labelled : goal.decreases-lower_labelled
+decreases-lower_labelled l = 10 * l.e.0 + 4
+
+abbrev pub decreases-lower_loop : goal.decreases-lower_loop
+decreases-lower_loop l = 10 * l.e.0 + 4
+
+abbrev pub decreases-lower_break : goal.decreases-lower_break
+decreases-lower_break l = 10 * l.e.0 + 4
 
 abbrev pub decreases-lower_statements : goal.decreases-lower_statements
 decreases-lower_statements l = 10 * l.e.0 + 3

@@ -1,0 +1,17 @@
+-- The scopes are left, the block is ended, and a new one is opened.
+use Rattle.std.proofs.Common.{drop}
+use Rattle.std.proofs.lemmas.Result.{on_ok_weaker}
+use Rattle.mir.specs.declared.span.MirSpan.TheVariants.{ExprId}
+use Rattle.source_meaning.specs.Source.{drops}
+use Rattle.mir_lower.specs.Contexts.{source_of}
+use Rattle.mir_lower.specs.Graph.{shape}
+use Rattle.mir_lower.proofs.Jumps.{jumps}
+use Rattle.mir_lower.proofs.jump.jump.Goals as goal
+
+pub returns : goal.returns
+returns c =
+    let source = source_of c.args.context.now in
+    let s0 = shape c.args.graph.now in
+    on_ok_weaker c.open_block.result
+    (λ same. jumps source s0 (shape c.leave_marked.new.graph) (shape c.set_terminator.new.self) (shape c.open_block.new.self) c.args.to (ExprId c.args.e) (drops source (drop c.args.drop_scope.0 s0.scope)) c.in_ok-leave_marked.ensures c.set_terminator.ensures same)
+    c.open_block.ensures

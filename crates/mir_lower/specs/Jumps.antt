@@ -1,0 +1,42 @@
+-- Loops and labelled blocks in the graph, and the jumps to them.
+use Rattle.std.specs.Prelude.{◌≡◌, ℕ, ◌≤◌, ◌∷◌, length, Option, Some, None}
+use Rattle.mir.specs.declared.errors.MirLowerError.{MirLowerError}
+use Rattle.mir.specs.declared.errors.MirLowerError.TheVariants as refusal
+use Rattle.mir.specs.Memory.{Memory}
+use Rattle.mir.specs.Run.{Frame}
+use Rattle.source_meaning.specs.Source.{Source}
+use Rattle.types.specs.declared.ids.LabelId.{LabelId}
+use Rattle.mir_lower.specs.Branches.{IsReserved}
+use Rattle.mir_lower.specs.Does.{Entry, here, start_of, IsFrameOf, Comes}
+use Rattle.mir_lower.specs.Graph.{Shape, OpenTarget, with_targets}
+use Rattle.mir_lower.specs.Growth.{Grows, Spares, IsSound, IsOpen}
+
+-- A loop or a labelled block was entered: the current block leads to the one where it begins, which is the current one now, and
+-- the block behind it is reserved.
+pub record IsEntered (source : Source) (old new : Shape) (target : OpenTarget) : Type 0 where
+  pub grows : Grows old new
+  pub spares : Spares old (with_targets old.targets new)
+  pub sound : IsSound source new
+  pub «open» : IsOpen new
+  pub scope : new.scope ≡ old.scope
+  pub targets : new.targets ≡ target ∷ old.targets
+  pub kept : target.kept ≡ length old.scope
+  pub begins : here new ≡ start_of target.begin_block
+  pub end_reserved : IsReserved new target.end_block
+  pub end_new : length old.blocks ≤ target.end_block
+  pub heads : (whole : Shape) (frame : Frame) → Grows new whole → IsFrameOf whole frame → (memory : Memory) → Comes frame 0 (here old) memory (Entry target.begin_block) memory
+
+-- A jump was added: from where it stands the run leaves all scopes inside the target, over a number of blocks, and is then about
+-- to enter another block. The code behind it stands in a new block.
+pub record HasJumped (source : Source) (old new : Shape) (to turns : ℕ) : Type 0 where
+  pub grows : Grows old new
+  pub spares : Spares old new
+  pub sound : IsSound source new
+  pub «open» : IsOpen new
+  pub scope : new.scope ≡ old.scope
+  pub heads : (whole : Shape) (frame : Frame) → Grows new whole → IsFrameOf whole frame → (memory : Memory) → Comes frame turns (here old) memory (Entry to) memory
+
+-- the refusal of a jump that means no loop and no labelled block: a label that none has, or else that of a jump without a label
+abbrev pub without_target : Option LabelId → MirLowerError → MirLowerError
+without_target (Some label) unlabelled = refusal.UnresolvedLabel
+without_target None unlabelled = unlabelled

@@ -1,0 +1,99 @@
+//! Loops and labelled blocks, and the jumps to them.
+
+ghost use Rattle.std.specs.Prelude.{◌≡◌, drop, IfOk, IfErr, OnOk, Some, None, List, ◌∷◌};
+ghost use Rattle.source_meaning.specs.Source.{Source, drops};
+ghost use Rattle.mir_lower.specs.Branches.{IsReserved, HasGoneOn};
+ghost use Rattle.mir_lower.specs.Contexts.{source_of};
+ghost use Rattle.mir_lower.specs.Graph.{OpenTarget, shape, target_of_blocks, meant_target, with_targets};
+ghost use Rattle.mir_lower.specs.Growth.{IsSound, IsOpen};
+ghost use Rattle.mir_lower.specs.Jumps.{IsEntered, HasJumped, without_target};
+
+use crate::branch::go_on;
+use crate::context::Context;
+use crate::graph::{DropScopeToken, Graph, LoopBlocks};
+use crate::leave::leave_marked;
+use mir::{BasicBlockId, MirLowerError, MirSpan, Place, Terminator, TerminatorKind};
+use world::{ExprId, LabelId, NoMemory};
+
+/// Enters a loop or a labelled block: the current block leads to the one where it begins, which is opened. The block behind it
+/// is reserved.
+pub(crate) fn enter_loop(
+    context: &Context<'_>,
+    graph: &mut Graph,
+    node: ExprId,
+    label: Option<LabelId>,
+    place: Place,
+) -> Result<LoopBlocks, NoMemory>
+    requires sound { IsSound (source_of context.now) (shape graph.old) }
+    requires opened { IsOpen (shape graph.old) }
+    ensures entered { IfOk result (λ blocks. IsEntered (source_of context.now) (shape graph.old) (shape graph.new) (target_of_blocks blocks)) }
+    ensures node { IfOk result (λ blocks. blocks.node ≡ node) }
+    ensures label { IfOk result (λ blocks. blocks.label ≡ label) }
+    ensures place { IfOk result (λ blocks. blocks.place ≡ place) }
+{
+    let begin = graph.reserve_block(context.alloc)?;
+    let end = graph.reserve_block(context.alloc)?;
+    let blocks = LoopBlocks {
+        node,
+        label,
+        begin,
+        end,
+        place,
+        drop_scope: graph.push_drop_scope(),
+    };
+    graph.push_loop(blocks)?;
+    go_on(graph, begin, begin, node);
+    Ok(blocks)
+}
+
+/// Leaves the innermost loop or labelled block: the current block leads to another one, and the block behind the loop is opened.
+/// It takes no memory.
+pub(crate) fn leave_loop(graph: &mut Graph, blocks: LoopBlocks, to: BasicBlockId)
+    requires opened { IsOpen (shape graph.old) }
+    requires reserved { IsReserved (shape graph.old) blocks.end.0 }
+    ensures { (source : Source) (first : OpenTarget) (outer : List OpenTarget) → IsSound source (shape graph.old) → (shape graph.old).targets ≡ first ∷ outer
+        → HasGoneOn source (with_targets outer (shape graph.old)) (shape graph.new) to.0 blocks.end.0 }
+{
+    graph.pop_loop();
+    go_on(graph, to, blocks.end, blocks.node);
+}
+
+/// The loop or labelled block that a jump means.
+pub(crate) fn target_of_jump(
+    graph: &Graph,
+    label: Option<LabelId>,
+    unlabelled: MirLowerError,
+) -> Result<LoopBlocks, MirLowerError>
+    ensures found { IfOk result (λ blocks. meant_target label (shape graph.now).targets ≡ Some (target_of_blocks blocks)) }
+    ensures missing { IfErr result (λ error. meant_target label (shape graph.now).targets ≡ None) }
+    ensures refused { IfErr result (λ error. error ≡ without_target label unlabelled) }
+{
+    match graph.innermost(label) {
+        Some(blocks) => Ok(blocks),
+        None => match label {
+            Some(_) => Err(MirLowerError::UnresolvedLabel),
+            None => Err(unlabelled),
+        },
+    }
+}
+
+/// Jumps to a block: all scopes inside the target are left, and what follows goes into a new block that nothing leads to. A block
+/// that would be the 2^32nd has no id: `NoMemory`.
+pub(crate) fn jump(
+    context: &Context<'_>,
+    graph: &mut Graph,
+    drop_scope: DropScopeToken,
+    to: BasicBlockId,
+    e: ExprId,
+) -> Result<(), NoMemory>
+    requires sound { IsSound (source_of context.now) (shape graph.old) }
+    requires opened { IsOpen (shape graph.old) }
+    ensures { OnOk result (HasJumped (source_of context.now) (shape graph.old) (shape graph.new) to.0 (drops (source_of context.now) (drop drop_scope.0 (shape graph.old).scope))) }
+{
+    leave_marked(context, graph, drop_scope, e)?;
+    graph.set_terminator(Terminator {
+        span: MirSpan::ExprId(e),
+        kind: TerminatorKind::Goto { target: to },
+    });
+    graph.open_block(context.alloc)
+}
