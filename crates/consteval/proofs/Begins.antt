@@ -11,16 +11,17 @@ use Rattle.mir.specs.declared.body.Local.{Local}
 use Rattle.mir.specs.declared.body.MirBody.{MirBody}
 use Rattle.mir.specs.declared.errors.MirEvalError.{MirEvalError}
 use Rattle.mir.specs.declared.errors.MirEvalError as error
+use Rattle.mir.specs.Errors.{layout_error_of}
 use Rattle.mir.specs.Memory.{Interval, Memory, first_memory, with_cell, placed, cell_before, cells_of}
 use Rattle.mir.specs.Run.{Frame, begun}
 use Rattle.mir_lower.specs.Simulates.{Simulates}
 use Rattle.mir_lower.proofs.Aligned.{are-aligned}
 use Rattle.mir_lower.proofs.Placing.{places-all}
 use Rattle.mir_lower.proofs.Whole.{begun-cells}
-use Rattle.source_meaning.specs.Source.{Source, Cell, Result as Slot, Node, Binding, cell_type, node_type, root}
+use Rattle.source_meaning.specs.Source.{Source, Cell, Result as Slot, Node, Binding, Never, cell_type, diverges, own_type, node_type, root}
 use Rattle.mir_lower.specs.Growth.{IsUsed}
-use Rattle.consteval.specs.Answers.{EndsEvaluation}
-use Rattle.consteval.proofs.Faults.{without-layout, without-size}
+use Rattle.consteval.specs.Answers.{EndsEvaluation, IsUnsized}
+use Rattle.consteval.proofs.Faults.{NeverRunsFor, never-without-layout, never-without-size, without-layout, without-size}
 use Rattle.source_meaning.specs.Valid.{itself, IsPlain, AreLaidOut, HasSizedLayout, HasDefinedCost}
 
 -- the types of a plain body that began have layouts
@@ -56,6 +57,11 @@ begun-from : (world : HirDatabase) (body : MirBody) (all : List Interval × Memo
 unfolding begun
 begun-from world body all is = ap (λ (r : Result (List Interval × Memory) MirEvalError). elim r [ Ok a ↦ Ok (record { body = body; cells = a.0 }, a.1) | Err e ↦ Err e ]) is
 
+-- what the cell of a `!` holds is of the expression's own type
+never-typed : (test : Bool) (own : Option Ty) (ty : Ty) → cond test own None ≡ Some ty → own ≡ Some ty
+never-typed true own ty is = is
+never-typed false own ty is = absurd cc
+
 -- a body with a defined cost can begin
 pub begins : (source : Source) (body : MirBody) → Simulates source body → HasDefinedCost source → (start : Frame × Memory) × (begun source.world body ≡ Ok start)
 begins source body simulates cost =
@@ -65,29 +71,28 @@ begins source body simulates cost =
       of-type local ty is layout = (layout.layout, ap (option_and_then (layout_of source.world)) (sym is) ∙ layout.found, layout.sized)
 
       by-cell : (local : Local) (cell : Cell) → IsUsed source cell → cell_type source cell ≡ Some local.ty → HasLayout source.world local
-      by-cell local Slot used is = of-type local (node_type source (root source)) is (cost.nodes (root source) itself)
-      by-cell local (Node e) used is = of-type local (node_type source e) is (cost.nodes e used)
+      by-cell local Slot used is = of-type local (node_type source (root source)) is (let root-sized = cost.nodes (root source) itself in root-sized.of_value)
+      by-cell local (Node e) used is = of-type local (node_type source e) is (let sized-node = cost.nodes e used in sized-node.of_value)
+      by-cell local (Never e) used is = of-type local (own_type source e) (never-typed (diverges source e) (own_type source e) local.ty is) (let sized-node = cost.nodes e used in sized-node.of_itself)
       by-cell local (Binding b) used is = of-type local (Some local.ty) refl (cost.bindings b local.ty is)
 
       sized : (l : ℕ) (local : Local) → slice_get body.locals l ≡ Some local → HasLayout source.world local
       sized l local there = let cell = simulates.cells l local there in by-cell local cell.0 cell.1 cell.2
 
-module _ (source : Source) (limits : Limits) where
-  abbrev World : HirDatabase
-  World = source.world
-
+-- what holds of the refusals for a type without a layout or without a size
+module _ (World : HirDatabase) (Fails : MirEvalError → Type 0) (lacks-layout : (ty : Ty) → layout_of World ty ≡ None → Fails (error.LayoutError (layout_error_of ty) ty)) (lacks-size : (ty : Ty) (text : List ℕ) → IsUnsized World ty → Fails (error.TypeIsUnsized ty text)) where
   -- a refusal is for a type without a layout or without a size
   abbrev FailsForType : {A : Type 0} → Result A MirEvalError → Type 0
   FailsForType (Ok a) = Unit {0}
-  FailsForType (Err e) = EndsEvaluation source limits e
+  FailsForType (Err e) = Fails e
 
   placed-fails : (ty : Ty) (found : Option Layout) (memory : Memory) → layout_of World ty ≡ found → FailsForType (placed ty found memory)
   unfolding placed
-  placed-fails ty None memory is = without-layout source limits ty is
+  placed-fails ty None memory is = lacks-layout ty is
   placed-fails ty (Some layout) memory is = by-size layout.sized refl where
     by-size : (b : Bool) → layout.sized ≡ b → FailsForType (cond b (Ok (with_cell layout memory)) (Err (error.TypeIsUnsized ty (codes "no unsized local in extending stack"))))
     by-size true sized = tt
-    by-size false sized = without-size source limits ty (codes "no unsized local in extending stack") (layout, is, sized)
+    by-size false sized = lacks-size ty (codes "no unsized local in extending stack") (layout, is, sized)
 
   before-fails : (cell : Interval) (rest : Result (List Interval × Memory) MirEvalError) → FailsForType rest → FailsForType (cell_before cell rest)
   before-fails cell (Ok all) h = tt
@@ -108,6 +113,14 @@ module _ (source : Source) (limits : Limits) where
   unfolding begun
   begun-fails body = then-fails (cells_of World body.locals first_memory) _ (cells-fail body.locals first_memory) (λ all. tt)
 
-  -- a body can't begin for a local whose type has no layout or no size
-  pub begun-refusal : (body : MirBody) (e : MirEvalError) → begun World body ≡ Err e → EndsEvaluation source limits e
-  begun-refusal body e is = subst (λ (r : Result (Frame × Memory) MirEvalError). FailsForType r) is (begun-fails body)
+  begun-fails-for : (body : MirBody) (e : MirEvalError) → begun World body ≡ Err e → Fails e
+  begun-fails-for body e is = subst (λ (r : Result (Frame × Memory) MirEvalError). FailsForType r) is (begun-fails body)
+
+-- a body can't begin for a local whose type has no layout or no size
+pub begun-refusal : (source : Source) (limits : Limits) (body : MirBody) (e : MirEvalError) → begun source.world body ≡ Err e → EndsEvaluation source limits e
+begun-refusal source limits body e is =
+    begun-fails-for source.world (EndsEvaluation source limits) (without-layout source limits) (without-size source limits) body e is
+
+pub begun-never : (source : Source) (limits : Limits) (body : MirBody) (e : MirEvalError) → begun source.world body ≡ Err e → NeverRunsFor source limits e
+begun-never source limits body e is =
+    begun-fails-for source.world (NeverRunsFor source limits) (never-without-layout source limits) (never-without-size source limits) body e is

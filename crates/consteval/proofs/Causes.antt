@@ -52,11 +52,12 @@ module _ (before after : Kept) (stays : Stays before after) (def : DefWithBodyId
         nests = runs.ran.nests;
         start = runs.ran.start;
         began = runs.ran.began;
+        fits = runs.ran.fits;
         entered = (let is = runs.ran.entered in omega arith);
         is = refl;
       })))
       (⊎_elim (λ never. inr (inl (record { none = never.none; fault = error.NoMemory; is = refl; refuses = inl refl })))
-      (λ out. inr (inr (record { pointers = out.pointers; nests = out.nests; start = out.start; began = out.began; entered = out.entered; is = refl }))))
+      (λ out. inr (inr (record { pointers = out.pointers; nests = out.nests; start = out.start; began = out.began; fits = out.fits; entered = out.entered; is = refl }))))
 
   pub cause-out : (answer : Result Const ConstEvalError) → HasCause before def args limits turns answer → HasCause after def args limits turns (Err constant.NoMemory)
   cause-out answer cause =

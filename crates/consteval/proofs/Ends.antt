@@ -1,5 +1,5 @@
 -- How a run of a lowered body ends, by what its source means.
-use Rattle.std.proofs.Common.{◌≡◌, ◌≢◌, ℕ, ◌+◌, ◌-◌, ◌<◌, ◌≤◌, ◌⊎◌, ⊎_elim, inl, inr, List, [], Option, Some, None, Result, Ok, Err, refl, sym, ap, ◌∙◌, subst, arith}
+use Rattle.std.proofs.Common.{◌≡◌, ◌≢◌, ℕ, suc, ◌+◌, ◌-◌, ◌<◌, ◌≤◌, ◌⊎◌, ⊎_elim, inl, inr, List, [], Option, Some, None, Result, Ok, Err, refl, sym, ap, ◌∙◌, subst, arith}
 use Rattle.std.specs.Prelude.{slice_get}
 use Rattle.std.proofs.lemmas.Bool.{cases_lt}
 use Rattle.types.specs.declared.ty.Const.{Const}
@@ -13,8 +13,8 @@ use Rattle.mir.specs.Memory.{Memory}
 use Rattle.mir.specs.Run.{Frame, Ending, Returned, Faulted, Ended, out_of_blocks, bad_read, begun}
 use Rattle.mir_eval.specs.Machine.{on_a_level, outcome_of}
 use Rattle.mir_lower.specs.Simulates.{EndsAfter, EndsAs, Simulates, error_of}
-use Rattle.source_meaning.specs.Ends.{Cost, End, Go, Jumps, Faults, Stuck, More, Fault, Panic, Undefined, JumpsNowhere}
-use Rattle.source_meaning.specs.Meaning.{Gives}
+use Rattle.source_meaning.specs.Ends.{Cost, End, Go, Jumps, Faults, Stuck, More, Fault, Panic, Undefined, GoesOn, IsOver, JumpsNowhere}
+use Rattle.source_meaning.specs.Meaning.{Gives, meaning_of}
 use Rattle.source_meaning.specs.Source.{Source, Store, node_type, root}
 use Rattle.consteval.specs.Kept.{run_of}
 use Rattle.consteval.proofs.Faults.{framed, overflowed}
@@ -59,6 +59,12 @@ same-fault e other h = cc
 abbrev EndsWell : End (List ℕ) → Type 0
 EndsWell end = (end ≢ Stuck) × JumpsNowhere end
 
+-- what a source comes to at some amount of fuel: an end, or as many blocks as are asked for
+pub record ComesTo (source : Source) (many : ℕ) (end : End (List ℕ)) : Type 0 where
+  pub fuel : ℕ
+  pub reached : meaning_of source fuel ≡ end
+  pub goes_on : GoesOn many end
+
 module _ (source : Source) (body : MirBody) (simulates : Simulates source body) (start : Frame × Memory) (began : begun source.world body ≡ Ok start) (limits : Limits) (nests : 0 < limits.nesting) where
   abbrev Run : ℕ → Ended
   Run = run_of body start
@@ -80,8 +86,19 @@ module _ (source : Source) (body : MirBody) (simulates : Simulates source body) 
   returned : (bytes : List ℕ) → (Run limits.blocks).ending ≡ Returned bytes → Outcome ≡ on_a_level Levels (Ok (constant_of simulates.slot.0.ty bytes))
   returned bytes is = ap (outcome_of Levels body) is ∙ returned-outcome Levels body simulates.slot.0 bytes simulates.slot.1
 
-  value-of-end : (end : End (List ℕ)) → Gives source end → EndsAs end Run → EndsWell end → (konst : Const) → Ok konst ≡ Outcome → GivesValue source konst
-  value-of-end (Go bytes store cost) gives ends well konst h =
+  -- what the source comes to, at one block more than the limit
+  abbrev Comes : End (List ℕ) → Type 0
+  Comes end = ComesTo source (suc limits.blocks) end
+
+  -- where that is no end, the run is out of blocks
+  more-blocks : (cost : Cost) → Comes (More cost) → EndsAs (More cost) Run → (limits.blocks < cost.turns) × (Run limits.blocks ≡ out_of_blocks)
+  more-blocks cost comes ends =
+      let many = comes.goes_on in
+      let less : limits.blocks < cost.turns = omega arith in
+      (less, ends limits.blocks less)
+
+  value-of-end : (end : End (List ℕ)) → Comes end → EndsAs end Run → EndsWell end → (konst : Const) → Ok konst ≡ Outcome → GivesValue source konst
+  value-of-end (Go bytes store cost) comes ends well konst h =
       ⊎_elim (λ out. absurd (value-is-no-fault konst _ (h ∙ out-of-blocks out.1)))
       (λ is. record {
         ty = simulates.slot.0.ty;
@@ -89,36 +106,36 @@ module _ (source : Source) (body : MirBody) (simulates : Simulates source body) 
         bytes = bytes;
         store = store;
         cost = cost;
-        gives = gives;
+        gives = record { fuel = comes.fuel; reached = comes.reached; over = tt };
         same = value-on-level Levels (constant_of simulates.slot.0.ty bytes) konst (h ∙ returned bytes is);
       })
       (runs-under cost.turns (Returned bytes) Run ends limits.blocks)
-  value-of-end (Jumps to store cost) gives ends well konst h = absurd well.1
-  value-of-end (Faults fault cost) gives ends well konst h =
+  value-of-end (Jumps to store cost) comes ends well konst h = absurd well.1
+  value-of-end (Faults fault cost) comes ends well konst h =
       ⊎_elim (λ out. absurd (value-is-no-fault konst _ (h ∙ out-of-blocks out.1))) (λ is. absurd (value-is-no-fault konst _ (h ∙ faulted (error_of fault) is)))
       (runs-under cost.turns (Faulted (error_of fault)) Run ends limits.blocks)
-  value-of-end Stuck gives ends well konst h = absurd (well.0 refl)
-  value-of-end (More cost) gives ends well konst h = absurd gives.over
+  value-of-end Stuck comes ends well konst h = absurd (well.0 refl)
+  value-of-end (More cost) comes ends well konst h = absurd (value-is-no-fault konst _ (h ∙ out-of-blocks (more-blocks cost comes ends).1))
 
   -- a run that handed out a value entered as many blocks as the source counts
-  counts-of-end : (end : End (List ℕ)) → Gives source end → EndsAs end Run → EndsWell end → (konst : Const) → Ok konst ≡ Outcome → CountsBlocks source (limits.blocks - (Run limits.blocks).left)
-  counts-of-end (Go bytes store cost) gives ends well konst h =
+  counts-of-end : (end : End (List ℕ)) → Comes end → EndsAs end Run → EndsWell end → (konst : Const) → Ok konst ≡ Outcome → CountsBlocks source (limits.blocks - (Run limits.blocks).left)
+  counts-of-end (Go bytes store cost) comes ends well konst h =
       ⊎_elim (λ less. absurd (value-is-no-fault konst _ (h ∙ out-of-blocks (ends.with_fewer limits.blocks less))))
-      (λ le. record { bytes = bytes; store = store; cost = cost; gives = gives; same = entered-with cost.turns (Returned bytes) Run ends limits.blocks le })
+      (λ le. record { bytes = bytes; store = store; cost = cost; gives = record { fuel = comes.fuel; reached = comes.reached; over = tt }; same = entered-with cost.turns (Returned bytes) Run ends limits.blocks le })
       (cases_lt limits.blocks cost.turns)
-  counts-of-end (Jumps to store cost) gives ends well konst h = absurd well.1
-  counts-of-end (Faults fault cost) gives ends well konst h =
+  counts-of-end (Jumps to store cost) comes ends well konst h = absurd well.1
+  counts-of-end (Faults fault cost) comes ends well konst h =
       ⊎_elim (λ out. absurd (value-is-no-fault konst _ (h ∙ out-of-blocks out.1))) (λ is. absurd (value-is-no-fault konst _ (h ∙ faulted (error_of fault) is)))
       (runs-under cost.turns (Faulted (error_of fault)) Run ends limits.blocks)
-  counts-of-end Stuck gives ends well konst h = absurd (well.0 refl)
-  counts-of-end (More cost) gives ends well konst h = absurd gives.over
+  counts-of-end Stuck comes ends well konst h = absurd (well.0 refl)
+  counts-of-end (More cost) comes ends well konst h = absurd (value-is-no-fault konst _ (h ∙ out-of-blocks (more-blocks cost comes ends).1))
 
   -- a run that was out of blocks passes the limit
-  passes : (end : End (List ℕ)) (e : MirEvalError) → Gives source end → limits.blocks < (cost_in end).turns → (Run limits.blocks ≡ out_of_blocks) → Err e ≡ Outcome → EndsEvaluation source limits e
-  passes end e gives less out h =
+  passes : (end : End (List ℕ)) (e : MirEvalError) → Comes end → limits.blocks < (cost_in end).turns → (Run limits.blocks ≡ out_of_blocks) → Err e ≡ Outcome → EndsEvaluation source limits e
+  passes end e comes less out h =
       let is = same-fault e _ (h ∙ out-of-blocks out) in
       subst (EndsEvaluation source limits) (sym is)
-      (framed source limits error.ExecutionLimitExceeded [] (gives.fuel, subst (λ reached. limits.blocks < (cost_in reached).turns) (sym gives.reached) less))
+      (framed source limits error.ExecutionLimitExceeded [] (comes.fuel, subst (λ reached. limits.blocks < (cost_in reached).turns) (sym comes.reached) less))
 
   -- a value for which there is no level of nesting passes the limit
   too-deep : (value : Const) (e : MirEvalError) → Err e ≡ on_a_level Levels (Ok value) → EndsEvaluation source limits e
@@ -132,23 +149,31 @@ module _ (source : Source) (body : MirBody) (simulates : Simulates source body) 
   frame-of (Panic word) cost gives = record { cost = cost; gives = gives }
   frame-of (Undefined text) cost gives = record { cost = cost; gives = gives }
 
-  fault-of-end : (end : End (List ℕ)) → Gives source end → EndsAs end Run → EndsWell end → (e : MirEvalError) → Err e ≡ Outcome → EndsEvaluation source limits e
-  fault-of-end (Go bytes store cost) gives ends well e h =
-      ⊎_elim (λ out. passes (Go bytes store cost) e gives out.0 out.1 h) (λ is. too-deep (constant_of simulates.slot.0.ty bytes) e (h ∙ returned bytes is))
+  fault-of-end : (end : End (List ℕ)) → Comes end → EndsAs end Run → EndsWell end → (e : MirEvalError) → Err e ≡ Outcome → EndsEvaluation source limits e
+  fault-of-end (Go bytes store cost) comes ends well e h =
+      ⊎_elim (λ out. passes (Go bytes store cost) e comes out.0 out.1 h) (λ is. too-deep (constant_of simulates.slot.0.ty bytes) e (h ∙ returned bytes is))
       (runs-under cost.turns (Returned bytes) Run ends limits.blocks)
-  fault-of-end (Jumps to store cost) gives ends well e h = absurd well.1
-  fault-of-end (Faults fault cost) gives ends well e h =
-      ⊎_elim (λ out. passes (Faults fault cost) e gives out.0 out.1 h)
+  fault-of-end (Jumps to store cost) comes ends well e h = absurd well.1
+  fault-of-end (Faults fault cost) comes ends well e h =
+      ⊎_elim (λ out. passes (Faults fault cost) e comes out.0 out.1 h)
       (λ is.
       let same = same-fault e _ (h ∙ faulted (error_of fault) is) in
-      subst (EndsEvaluation source limits) (sym same) (framed source limits (error_of fault) [] (frame-of fault cost gives)))
+      subst (EndsEvaluation source limits) (sym same) (framed source limits (error_of fault) [] (frame-of fault cost (record { fuel = comes.fuel; reached = comes.reached; over = tt }))))
       (runs-under cost.turns (Faulted (error_of fault)) Run ends limits.blocks)
-  fault-of-end Stuck gives ends well e h = absurd (well.0 refl)
-  fault-of-end (More cost) gives ends well e h = absurd gives.over
+  fault-of-end Stuck comes ends well e h = absurd (well.0 refl)
+  fault-of-end (More cost) comes ends well e h = let out = more-blocks cost comes ends in passes (More cost) e comes out.0 out.1 h
 
-  -- how the run ends by an end that the source has
-  ends-as : (end : End (List ℕ)) → Gives source end → EndsAs end Run
-  ends-as end gives = subst (λ e. EndsAs e Run) gives.reached (simulates.runs gives.fuel start began)
+  -- where the source has no end, the run is out of blocks
+  endless-of-end : (end : End (List ℕ)) → Comes end → EndsAs end Run → ¬ IsOver end → Outcome ≡ Err (error.InFunction error.ExecutionLimitExceeded [])
+  endless-of-end (Go bytes store cost) comes ends none = absurd (none tt)
+  endless-of-end (Jumps to store cost) comes ends none = absurd (none tt)
+  endless-of-end (Faults fault cost) comes ends none = absurd (none tt)
+  endless-of-end Stuck comes ends none = absurd (none tt)
+  endless-of-end (More cost) comes ends none = out-of-blocks (more-blocks cost comes ends).1
+
+  -- how the run ends by what the source comes to
+  ends-as : (end : End (List ℕ)) (fuel : ℕ) → meaning_of source fuel ≡ end → EndsAs end Run
+  ends-as end fuel reached = subst (λ e. EndsAs e Run) reached (simulates.runs fuel start began)
 
   -- a value that is within the limits is handed out
   pub completes-value : (ty : Ty) (bytes : List ℕ) (store : Store) (cost : Cost) → node_type source (root source) ≡ Some ty → Gives source (Go bytes store cost) → IsWithinLimits cost limits → Outcome ≡ Ok (constant_of ty bytes)
@@ -156,23 +181,27 @@ module _ (source : Source) (body : MirBody) (simulates : Simulates source body) 
       let same : simulates.slot.0.ty ≡ ty = (let slot = simulates.slot.2 in cc) in
       let deep = value-nests source bytes store cost gives in
       let bound = within.nesting in
-      returned bytes (runs-with cost.turns (Returned bytes) Run (ends-as (Go bytes store cost) gives) limits.blocks within.turns)
+      returned bytes (runs-with cost.turns (Returned bytes) Run (ends-as (Go bytes store cost) gives.fuel gives.reached) limits.blocks within.turns)
       ∙ has-level Levels (Ok (constant_of simulates.slot.0.ty bytes)) (omega arith)
       ∙ ap (λ t. Ok (constant_of t bytes)) same
 
   -- a panic that is within the limits is handed out
   pub completes-panic : (word : List ℕ) (cost : Cost) → Gives source (Faults (Panic word) cost) → IsWithinLimits cost limits → Outcome ≡ Err (error.InFunction (error.Panic word) [])
   completes-panic word cost gives within =
-      faulted (error.Panic word) (runs-with cost.turns (Faulted (error.Panic word)) Run (ends-as (Faults (Panic word) cost) gives) limits.blocks within.turns)
+      faulted (error.Panic word) (runs-with cost.turns (Faulted (error.Panic word)) Run (ends-as (Faults (Panic word) cost) gives.fuel gives.reached) limits.blocks within.turns)
 
   -- a value that was handed out is what the source means
-  pub gives-value : (end : End (List ℕ)) → Gives source end → EndsWell end → (konst : Const) → Ok konst ≡ Outcome → GivesValue source konst
-  gives-value end gives well konst h = value-of-end end gives (ends-as end gives) well konst h
+  pub gives-value : (end : End (List ℕ)) → Comes end → EndsWell end → (konst : Const) → Ok konst ≡ Outcome → GivesValue source konst
+  gives-value end comes well konst h = value-of-end end comes (ends-as end comes.fuel comes.reached) well konst h
 
   -- over exactly as many blocks as that counts
-  pub counts-value : (end : End (List ℕ)) → Gives source end → EndsWell end → (konst : Const) → Ok konst ≡ Outcome → CountsBlocks source (limits.blocks - (Run limits.blocks).left)
-  counts-value end gives well konst h = counts-of-end end gives (ends-as end gives) well konst h
+  pub counts-value : (end : End (List ℕ)) → Comes end → EndsWell end → (konst : Const) → Ok konst ≡ Outcome → CountsBlocks source (limits.blocks - (Run limits.blocks).left)
+  counts-value end comes well konst h = counts-of-end end comes (ends-as end comes.fuel comes.reached) well konst h
 
   -- a fault that was handed out is one that the source means, or the limit that it passes
-  pub gives-fault : (end : End (List ℕ)) → Gives source end → EndsWell end → (e : MirEvalError) → Err e ≡ Outcome → EndsEvaluation source limits e
-  gives-fault end gives well e h = fault-of-end end gives (ends-as end gives) well e h
+  pub gives-fault : (end : End (List ℕ)) → Comes end → EndsWell end → (e : MirEvalError) → Err e ≡ Outcome → EndsEvaluation source limits e
+  gives-fault end comes well e h = fault-of-end end comes (ends-as end comes.fuel comes.reached) well e h
+
+  -- a source without an end passes the limit on blocks
+  pub gives-no-end : (end : End (List ℕ)) → Comes end → ¬ IsOver end → Outcome ≡ Err (error.InFunction error.ExecutionLimitExceeded [])
+  gives-no-end end comes none = endless-of-end end comes (ends-as end comes.fuel comes.reached) none

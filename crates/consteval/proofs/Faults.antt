@@ -7,14 +7,14 @@ use Rattle.world.specs.declared.limits.Limits.{Limits}
 use Rattle.mir.specs.declared.errors.MirEvalError.{MirEvalError, MirEvalError-F, fold-roll-MirEvalError, map-MirEvalError, out-MirEvalError}
 use Rattle.mir.specs.declared.errors.MirEvalError.TheOpen as layer
 use Rattle.mir.specs.declared.errors.MirEvalError.TheViews.{out-roll-MirEvalError, roll-out-MirEvalError}
-use Rattle.mir.specs.declared.errors.MirEvalError.TheVariants.{rolls-InFunction, rolls-LayoutError, rolls-TypeIsUnsized, rolls-Panic, rolls-UndefinedBehavior, rolls-ExecutionLimitExceeded, rolls-StackOverflow}
+use Rattle.mir.specs.declared.errors.MirEvalError.TheVariants.{rolls-InFunction, rolls-NoMemory, rolls-LayoutError, rolls-TypeIsUnsized, rolls-Panic, rolls-UndefinedBehavior, rolls-ExecutionLimitExceeded, rolls-MemoryLimitExceeded, rolls-StackOverflow}
 use Rattle.mir.specs.declared.errors.MirEvalError as error
 use Rattle.mir.specs.declared.errors.MirLowerError.{MirLowerError}
 use Rattle.mir.specs.declared.errors.MirLowerError.TheVariants as refusal
 use Rattle.mir.specs.declared.errors.TrailEntry.{TrailEntry}
 use Rattle.mir.specs.Errors.{from_eval_error, from_lower_error, layout_error_of}
 use Rattle.source_meaning.specs.Source.{Source}
-use Rattle.consteval.specs.Answers.{EndsEvaluation, EndsFrame, EndsIn, EndsLayer, EndsLowering, GivesPanic, IsUnsized, panic_layer, panic_word}
+use Rattle.consteval.specs.Answers.{NeverRuns, NeverRunsLayer, EndsEvaluation, EndsFrame, EndsIn, EndsLayer, EndsLowering, GivesPanic, IsUnsized, PassesBytes, panic_layer, panic_word}
 use Rattle.consteval.proofs.Nesting.{passes-nesting}
 
 -- a frame's fault, wrapped in it
@@ -36,6 +36,42 @@ without-size source limits ty text ends =
 pub overflowed : (source : Source) (limits : Limits) → limits.nesting < 2 → EndsEvaluation source limits error.StackOverflow
 overflowed source limits less =
     subst (EndsLayer source limits) (sym (ap out-MirEvalError (sym rolls-StackOverflow) ∙ out-roll-MirEvalError layer.StackOverflow)) (passes-nesting source limits.nesting less)
+
+-- a limit on bytes that the source's cells pass
+pub overfull : (source : Source) (limits : Limits) → PassesBytes source limits.bytes → EndsEvaluation source limits error.MemoryLimitExceeded
+overfull source limits passes =
+    subst (EndsLayer source limits) (sym (ap out-MirEvalError (sym rolls-MemoryLimitExceeded) ∙ out-roll-MirEvalError layer.MemoryLimitExceeded)) passes
+
+-- refusals of a run
+module _ (source : Source) (limits : Limits) where
+  abbrev pub NeverRunsFor : MirEvalError → Type 0
+  NeverRunsFor e = NeverRunsLayer source limits (out-MirEvalError e)
+
+  pub never-without-layout : (ty : Ty) → layout_of source.world ty ≡ None → NeverRunsFor (error.LayoutError (layout_error_of ty) ty)
+  never-without-layout ty none =
+      let e = layout_error_of ty in
+      subst (NeverRunsLayer source limits) (sym (ap out-MirEvalError (sym (rolls-LayoutError e ty)) ∙ out-roll-MirEvalError (layer.LayoutError e ty))) (refl, none)
+
+  pub never-without-size : (ty : Ty) (text : List ℕ) → IsUnsized source.world ty → NeverRunsFor (error.TypeIsUnsized ty text)
+  never-without-size ty text ends =
+      subst (NeverRunsLayer source limits) (sym (ap out-MirEvalError (sym (rolls-TypeIsUnsized ty text)) ∙ out-roll-MirEvalError (layer.TypeIsUnsized ty text))) ends
+
+  pub never-without-level : limits.nesting ≡ 0 → NeverRunsFor error.StackOverflow
+  never-without-level none =
+      subst (NeverRunsLayer source limits) (sym (ap out-MirEvalError (sym rolls-StackOverflow) ∙ out-roll-MirEvalError layer.StackOverflow)) none
+
+  pub never-without-room : PassesBytes source limits.bytes → NeverRunsFor error.MemoryLimitExceeded
+  never-without-room passes =
+      subst (NeverRunsLayer source limits) (sym (ap out-MirEvalError (sym rolls-MemoryLimitExceeded) ∙ out-roll-MirEvalError layer.MemoryLimitExceeded)) passes
+
+  pub carried-never : (e : MirEvalError) → NeverRunsFor e → NeverRuns source limits (from_eval_error e)
+  carried-never error.NoMemory never =
+      absurd (subst (NeverRunsLayer source limits) (ap out-MirEvalError (sym rolls-NoMemory) ∙ out-roll-MirEvalError layer.NoMemory) never)
+  carried-never _ never = never
+
+  pub carried-unlowered : (e : MirLowerError) → EndsLowering source e → NeverRuns source limits (from_lower_error e)
+  carried-unlowered refusal.NoMemory ends = absurd ends
+  carried-unlowered _ ends = ends
 
 -- faults and refusals, as they are carried
 pub carried-fault : (source : Source) (limits : Limits) (e : MirEvalError) → EndsEvaluation source limits e → EndsIn source limits (from_eval_error e)
@@ -78,6 +114,7 @@ ends-in-panic source limits e word ends says = by (out-MirEvalError e) ends (sym
   by : (l : MirEvalError-F MirEvalError) → EndsLayer source limits l → panic_layer (map-MirEvalError MirEvalError (Option (List ℕ)) panic_word l) ≡ Some word → GivesPanic source word
   by (layer.InFunction inner trail) ends says = frame-panic source limits inner word ends says
   by layer.StackOverflow ends says = absurd (none-some word says)
+  by layer.MemoryLimitExceeded ends says = absurd (none-some word says)
   by (layer.LayoutError e ty) ends says = absurd (none-some word says)
   by (layer.TypeIsUnsized ty text) ends says = absurd (none-some word says)
   by _ ends says = absurd ends

@@ -1,5 +1,5 @@
 -- What the answer to a definition says of its source.
-use Rattle.std.proofs.Common.{◌≡◌, ◌≢◌, ℕ, ◌⊎◌, ⊎_elim, inl, inr, List, Option, Some, None, Result, Ok, Err, refl, sym, ap, ◌∙◌, subst, arith}
+use Rattle.std.proofs.Common.{◌≡◌, ◌≢◌, ℕ, suc, ◌⊎◌, ⊎_elim, inl, inr, List, Option, Some, None, Result, Ok, Err, refl, sym, ap, ◌∙◌, subst, arith}
 use Rattle.std.specs.Prelude.{Contains, IfErr, slice_get, option_and_then}
 use Rattle.world.specs.declared.database.BodyRow.{BodyRow}
 use Rattle.world.specs.declared.database.HirDatabase.{HirDatabase}
@@ -17,22 +17,23 @@ use Rattle.mir.specs.declared.errors.MirLowerError.{MirLowerError}
 use Rattle.mir.specs.declared.errors.MirLowerError.TheVariants as refusal
 use Rattle.mir.specs.Errors.{from_lower_error, from_eval_error}
 use Rattle.mir_lower.specs.Simulates.{Simulates}
-use Rattle.source_meaning.proofs.Lasting.{bodies_end}
+use Rattle.source_meaning.proofs.Lasting.{bodies_go_on}
 use Rattle.source_meaning.proofs.Sizes.{plain_is_never_stuck, plain_jumps_nowhere}
-use Rattle.source_meaning.specs.Ends.{Panic, Stuck, IsOver, JumpsNowhere}
+use Rattle.source_meaning.specs.Ends.{Panic, Stuck, JumpsNowhere}
 use Rattle.source_meaning.specs.Meaning.{meaning_of}
 use Rattle.source_meaning.specs.Source.{Source}
 use Rattle.source_meaning.specs.Valid.{AreLaidOut, HasDefinedCost}
-use Rattle.consteval.specs.Answers.{GivesValue, CountsBlocks, GivesPanic, AnswersWithin, EndsIn, HasCause, AnswersBody, RunsTo, RefusesBody, carried, panic_word}
+use Rattle.consteval.specs.Answers.{GivesValue, CountsBlocks, GivesPanic, AnswersWithin, AnswersEndless, HasNoEnd, OrNoMemory, PassesBytes, past_blocks, EndsIn, HasCause, AnswersBody, RunsTo, RefusesBody, carried, panic_word}
 use Rattle.consteval.specs.Kept.{Kept, Lowered, IsSound, IsLowered, Ran, source_of}
 use Rattle.consteval.specs.Valid.{IsValid}
 use Rattle.consteval.proofs.Begins.{has-layouts}
 use Rattle.consteval.proofs.Causes.{carried-value}
-use Rattle.consteval.proofs.Ends.{completes-value, completes-panic, gives-value, counts-value, gives-fault}
-use Rattle.consteval.proofs.Faults.{carried-fault, carried-refusal, ends-in-panic}
+use Rattle.consteval.proofs.Bytes.{fault-takes, value-takes}
+use Rattle.consteval.proofs.Ends.{ComesTo, completes-value, completes-panic, gives-value, counts-value, gives-fault, gives-no-end}
+use Rattle.consteval.proofs.Faults.{carried-fault, carried-never, carried-refusal, carried-unlowered, ends-in-panic}
 use Rattle.consteval.proofs.Keeping.{kept-body-lowered}
 use Rattle.consteval.proofs.Nesting.{fault-nests, value-nests}
-use Rattle.consteval.proofs.Refused.{run-refusal, run-is-refused-by-nesting, lowering-refusal, lowering-is-not-refused}
+use Rattle.consteval.proofs.Refused.{run-refusal, run-never, run-is-refused-by-limits, lowering-refusal, lowering-is-not-refused}
 
 -- the body of a definition of a checked world is checked
 pub checked-body : (world : HirDatabase) (def : DefWithBodyId) (row : BodyRow) → IsChecked world → body_row world def ≡ Some row → IsCheckedBody row.body row.infer
@@ -50,8 +51,11 @@ module _ (world : HirDatabase) (checked : IsChecked world) (def : DefWithBodyId)
       let same : lowered.row ≡ row = (let is = lowered.found in let there = valid.body in cc) in
       subst (λ (r : BodyRow). Simulates (source_of world r) body) same lowered.simulates
 
-  ended : (fuel : ℕ) × IsOver (meaning_of Of fuel)
-  ended = bodies_end Of (checked-body world def row checked valid.body)
+  -- the source ends, or counts more blocks than a limit
+  comes : (limits : Limits) → (fuel : ℕ) × ComesTo Of (suc limits.blocks) (meaning_of Of fuel)
+  comes limits =
+      let reached = bodies_go_on Of (suc limits.blocks) (checked-body world def row checked valid.body) in
+      (reached.0, record { fuel = reached.0; reached = refl; goes_on = reached.1 })
 
   ends-well : AreLaidOut Of → (fuel : ℕ) → (meaning_of Of fuel ≢ Stuck) × JumpsNowhere (meaning_of Of fuel)
   ends-well laid fuel =
@@ -64,8 +68,8 @@ module _ (world : HirDatabase) (checked : IsChecked world) (def : DefWithBodyId)
         let simulates = simulated body lowered in
         let ran = runs.ran in
         let laid = has-layouts Of body ran.start checked simulates ran.began valid.plain in
-        let end = ended in
-        gives-value Of body simulates ran.start ran.began limits ran.nests (meaning_of Of end.0) (record { fuel = end.0; reached = refl; over = end.1 }) (ends-well laid end.0) konst
+        let end = comes limits in
+        gives-value Of body simulates ran.start ran.began limits ran.nests (meaning_of Of end.0) end.1 (ends-well laid end.0) konst
         (carried-value runs.outcome konst (sym is ∙ runs.is) ∙ ran.ended)
 
     run-counts : (body : MirBody) → IsLowered world def body → RunsTo world def body limits turns answer → (konst : Const) → answer ≡ Ok konst → CountsBlocks Of turns
@@ -73,9 +77,9 @@ module _ (world : HirDatabase) (checked : IsChecked world) (def : DefWithBodyId)
         let simulates = simulated body lowered in
         let ran = runs.ran in
         let laid = has-layouts Of body ran.start checked simulates ran.began valid.plain in
-        let end = ended in
+        let end = comes limits in
         subst (CountsBlocks Of) (sym ran.entered)
-        (counts-value Of body simulates ran.start ran.began limits ran.nests (meaning_of Of end.0) (record { fuel = end.0; reached = refl; over = end.1 }) (ends-well laid end.0) konst
+        (counts-value Of body simulates ran.start ran.began limits ran.nests (meaning_of Of end.0) end.1 (ends-well laid end.0) konst
         (carried-value runs.outcome konst (sym is ∙ runs.is) ∙ ran.ended))
 
     run-closed : (body : MirBody) → IsLowered world def body → RunsTo world def body limits turns answer → IfErr answer (EndsIn Of limits)
@@ -85,9 +89,9 @@ module _ (world : HirDatabase) (checked : IsChecked world) (def : DefWithBodyId)
       by (Err e) ran =
           let simulates = simulated body lowered in
           let laid = has-layouts Of body ran.start checked simulates ran.began valid.plain in
-          let end = ended in
+          let end = comes limits in
           carried-fault Of limits e
-          (gives-fault Of body simulates ran.start ran.began limits ran.nests (meaning_of Of end.0) (record { fuel = end.0; reached = refl; over = end.1 }) (ends-well laid end.0) e ran.ended)
+          (gives-fault Of body simulates ran.start ran.began limits ran.nests (meaning_of Of end.0) end.1 (ends-well laid end.0) e ran.ended)
 
     run-completes : (body : MirBody) → IsLowered world def body → RunsTo world def body limits turns answer → AnswersWithin Of limits answer
     run-completes body lowered runs =
@@ -98,6 +102,13 @@ module _ (world : HirDatabase) (checked : IsChecked world) (def : DefWithBodyId)
           panic = λ word cost gives within. inl (runs.is ∙ ap carried (ran.ended ∙ completes-panic Of body simulates ran.start ran.began limits ran.nests word cost gives within));
         }
 
+    run-endless : (body : MirBody) → IsLowered world def body → HasNoEnd Of → RunsTo world def body limits turns answer → answer ≡ Err past_blocks
+    run-endless body lowered none runs =
+        let simulates = simulated body lowered in
+        let ran = runs.ran in
+        let end = comes limits in
+        runs.is ∙ ap carried (ran.ended ∙ gives-no-end Of body simulates ran.start ran.began limits ran.nests (meaning_of Of end.0) end.1 (none end.0))
+
     out-of-memory : answer ≡ Err constant.NoMemory → AnswersWithin Of limits answer
     out-of-memory none = record { value = λ ty bytes store cost typed gives within. inr none; panic = λ word cost gives within. inr none }
 
@@ -107,6 +118,14 @@ module _ (world : HirDatabase) (checked : IsChecked world) (def : DefWithBodyId)
         record {
           value = λ ty bytes store cost typed gives within. absurd (let nests = value-nests Of bytes store cost gives in let bound = within.nesting in omega arith);
           panic = λ word cost gives within. absurd (let nests = fault-nests Of (Panic word) cost gives in let bound = within.nesting in omega arith);
+        }
+
+    -- where the cells take more bytes than the limit, no cost is within the limits
+    without-room : PassesBytes Of limits.bytes → AnswersWithin Of limits answer
+    without-room passes =
+        record {
+          value = λ ty bytes store cost typed gives within. absurd (let takes = value-takes Of bytes store cost gives in let bound = within.bytes in omega arith);
+          panic = λ word cost gives within. absurd (let takes = fault-takes Of (Panic word) cost gives in let bound = within.bytes in omega arith);
         }
 
     abbrev Closed : Result Const ConstEvalError → Type 0
@@ -127,15 +146,36 @@ module _ (world : HirDatabase) (checked : IsChecked world) (def : DefWithBodyId)
         ⊎_elim (run-closed body lowered)
         (⊎_elim
         (λ never. subst Closed (sym never.is)
-        (⊎_elim (λ none. subst (λ e. EndsIn Of limits (from_eval_error e)) (sym none) tt) (λ refuses. carried-fault Of limits never.fault (run-refusal world def args row limits body never.fault valid refuses)) never.refuses))
+        (⊎_elim (λ none. subst (λ e. EndsIn Of limits (from_eval_error e)) (sym none) tt) (λ refuses. carried-fault Of limits never.fault (run-refusal world def args row limits body never.fault valid (simulated body lowered) refuses)) never.refuses))
         (λ out. subst Closed (sym out.is) tt))
 
     body-completes : (body : MirBody) → IsLowered world def body → HasDefinedCost Of → AnswersBody world def body limits turns answer → AnswersWithin Of limits answer
     body-completes body lowered cost answers =
         ⊎_elim (λ runs. run-completes body lowered runs)
         (⊎_elim
-        (λ never. ⊎_elim (λ none. out-of-memory (never.is ∙ ap (λ e. Err (from_eval_error e)) none)) (λ refuses. without-level (run-is-refused-by-nesting world def args row limits body never.fault valid (simulated body lowered) cost refuses)) never.refuses)
+        (λ never. ⊎_elim (λ none. out-of-memory (never.is ∙ ap (λ e. Err (from_eval_error e)) none)) (λ refuses. ⊎_elim without-level without-room (run-is-refused-by-limits world def args row limits body never.fault valid (simulated body lowered) cost refuses)) never.refuses)
         (λ out. out-of-memory out.is)) answers
+
+    -- an answer that has one of the two, whatever the limits are
+    always : OrNoMemory answer (Err past_blocks) → AnswersEndless Of limits answer
+    always is = record { ends = inl is; within = λ cost nests room. is }
+
+    body-endless : (body : MirBody) → IsLowered world def body → HasNoEnd Of → AnswersBody world def body limits turns answer → AnswersEndless Of limits answer
+    body-endless body lowered none answers =
+        ⊎_elim (λ runs. always (inl (run-endless body lowered none runs)))
+        (⊎_elim
+        (λ never. ⊎_elim (λ lacks. always (inr (never.is ∙ ap (λ e. Err (from_eval_error e)) lacks)))
+        (λ refuses. record {
+          ends = inr (record {
+            fault = from_eval_error never.fault;
+            is = never.is;
+            never = carried-never Of limits never.fault (run-never world def args row limits body never.fault valid (simulated body lowered) refuses);
+          });
+          within = λ cost nests room.
+              absurd (⊎_elim (λ zero-levels. omega arith) (λ passes. omega arith) (run-is-refused-by-limits world def args row limits body never.fault valid (simulated body lowered) cost refuses));
+        })
+        never.refuses)
+        (λ out. always (inr out.is))) answers
 
     module _ (kept : Kept) (same : kept.world ≡ world) (sound : IsSound kept) where
       lowered-from : (body : MirBody) → Contains kept.entries (Lowered def body) → IsLowered world def body
@@ -171,3 +211,14 @@ module _ (world : HirDatabase) (checked : IsChecked world) (def : DefWithBodyId)
       answer-completes cost =
           ⊎_elim (λ has. body-completes has.body (lowered-from has.body has.found) cost (answers-in has.body has.answers))
           (λ never. out-of-memory (never.is ∙ ap (λ e. Err (from_lower_error e)) (lowering-is-not-refused world def args row never.fault checked valid cost (refusal-in never.fault never.refuses))))
+
+      -- a source without an end is answered by the limit on blocks, unless no run began
+      pub answer-endless : HasNoEnd Of → HasCause kept def args limits turns answer → AnswersEndless Of limits answer
+      answer-endless none =
+          ⊎_elim (λ has. body-endless has.body (lowered-from has.body has.found) none (answers-in has.body has.answers))
+          (λ never. ⊎_elim (λ lacks. always (inr (never.is ∙ ap (λ e. Err (from_lower_error e)) lacks)))
+          (λ unlowered. record {
+            ends = inr (record { fault = from_lower_error never.fault; is = never.is; never = carried-unlowered Of limits never.fault unlowered });
+            within = λ cost nests room. inr (never.is ∙ ap (λ e. Err (from_lower_error e)) (lowering-is-not-refused world def args row never.fault checked valid cost (refusal-in never.fault never.refuses)));
+          })
+          (lowering-refusal world def args row never.fault checked valid (refusal-in never.fault never.refuses)))

@@ -1,4 +1,5 @@
 pub mod Begins
+pub mod Bytes
 pub mod Causes
 pub mod Elements
 pub mod Ends

@@ -1,5 +1,5 @@
 -- What a valid body is refused for: a type without a layout or without a size, or want of memory, and that alone where its cost is defined.
-use Rattle.std.proofs.Common.{◌≡◌, ℕ, ◌<◌, ◌≤◌, ◌⊎◌, ⊎_elim, inl, inr, eqb-true, Bool, true, false, List, [], Option, Some, refl, sym, ap, ◌∙◌, subst, arith}
+use Rattle.std.proofs.Common.{◌≡◌, ℕ, ◌<◌, ◌≤◌, ◌⊎◌, ⊎_elim, inl, inr, eqb-true, Bool, true, false, List, [], Option, Some, Err, refl, sym, ap, ◌∙◌, subst, arith, None}
 use Rattle.std.specs.Prelude.{option_and_then, option_map, not, ◌==◌, ◌||◌}
 use Rattle.source_meaning.specs.Core.{CoreExpr, Number}
 use Rattle.source_meaning.specs.Core as expr
@@ -17,38 +17,61 @@ use Rattle.world.specs.Checked.{IsChecked}
 use Rattle.numbers.specs.Bytes.{is_width}
 use Rattle.mir.specs.declared.body.MirBody.{MirBody}
 use Rattle.mir.specs.declared.errors.MirEvalError.{MirEvalError}
+use Rattle.mir.specs.declared.errors.MirEvalError as error
 use Rattle.mir.specs.declared.errors.MirLowerError.{MirLowerError}
 use Rattle.mir.specs.declared.errors.MirLowerError.TheVariants as refusal
-use Rattle.mir_lower.specs.Refusals.{IsNumber, RefusesNode, RefusesInferred}
+use Rattle.mir.specs.Run.{begun}
+use Rattle.mir_lower.specs.Refusals.{IsNumber, RefusesNode, RefusesInferred, JumpsTo}
 use Rattle.mir_lower.proofs.Causes.{built-is-complete, built-is-no-unbuilt, built-has-local, built-is-resolved}
 use Rattle.mir_lower.specs.Simulates.{Simulates}
 use Rattle.source_meaning.proofs.Built.{plain_is_built}
 use Rattle.source_meaning.proofs.Layouts.{integer_is_width}
 use Rattle.source_meaning.specs.Source.{Source, node, root}
-use Rattle.source_meaning.specs.Valid.{Evaluates, IsInteger, HasPlainForm, IsPlainNode, HasDefinedCost}
-use Rattle.consteval.specs.Answers.{EndsEvaluation, EndsLowering, RefusesBody, RefusesRun, has_errors, has_generics, is_empty, is_erroneous, is_unbuilt, is_unbuilt_item}
+use Rattle.source_meaning.specs.Valid.{Evaluates, IsInteger, HasPlainForm, IsPlainNode, HasDefinedCost, FitsAround, JumpsFit}
+use Rattle.consteval.specs.Answers.{EndsEvaluation, EndsLowering, PassesBytes, RefusesBody, RefusesRun, has_errors, has_generics, is_empty, is_erroneous, is_unbuilt, is_unbuilt_item}
+use Rattle.source_meaning.specs.Around.{Opened, meant}
+use Rattle.types.specs.declared.ids.LabelId.{LabelId}
 use Rattle.types.specs.declared.ids.ExprId.{ExprId}
 use Rattle.types.specs.declared.ty.GenericArg.{GenericArg}
 use Rattle.consteval.specs.Kept.{source_of}
 use Rattle.consteval.specs.Valid.{IsValid}
-use Rattle.consteval.proofs.Begins.{begins, begun-refusal}
-use Rattle.consteval.proofs.Faults.{overflowed}
+use Rattle.consteval.proofs.Begins.{begins, begun-never, begun-refusal}
+use Rattle.consteval.proofs.Bytes.{taken-within}
+use Rattle.consteval.proofs.Faults.{NeverRunsFor, never-without-level, never-without-room, overflowed, overfull}
 
--- a run of a valid body is not refused but for the limit on nesting, or for a type without a layout or without a size
-pub run-refusal : (world : HirDatabase) (def : DefWithBodyId) (args : GenericArgs) (row : BodyRow) (limits : Limits) (body : MirBody) (e : MirEvalError) → IsValid world def args row → RefusesRun world def body limits e → EndsEvaluation (source_of world row) limits e
-run-refusal world def args row limits body e valid =
-    ⊎_elim (λ none. let is = none.1 in let there = valid.pointers in absurd cc)
-    (⊎_elim (λ other. absurd (let is = other.2 in let there = valid.pointers in other.3 cc))
-    (⊎_elim
-    (λ deep. let none = deep.2 in subst (EndsEvaluation (source_of world row) limits) (sym deep.0) (overflowed (source_of world row) limits (omega arith)))
-    (λ refused. begun-refusal (source_of world row) limits body e refused.2)))
+module _ (world : HirDatabase) (def : DefWithBodyId) (args : GenericArgs) (row : BodyRow) (limits : Limits) (body : MirBody) (e : MirEvalError) (valid : IsValid world def args row) (simulates : Simulates (source_of world row) body) where
+  -- A refusal of a run of a valid body is for the limit on nesting, for a type without a layout or without a size, or for the limit
+  -- on bytes.
+  refusal-cases : {A : Type 0} → RefusesRun world def body limits e → ((e ≡ error.StackOverflow) → (limits.nesting ≡ 0) → A) → ((begun world body ≡ Err e) → A) → ((e ≡ error.MemoryLimitExceeded) → PassesBytes (source_of world row) limits.bytes → A) → A
+  refusal-cases refuses by-nesting by-type by-bytes =
+      ⊎_elim (λ none. let is = none.1 in let there = valid.pointers in absurd cc)
+      (⊎_elim (λ other. absurd (let is = other.2 in let there = valid.pointers in other.3 cc))
+      (⊎_elim (λ deep. by-nesting deep.0 deep.2)
+      (⊎_elim (λ refused. by-type refused.2) (λ full.
+      let taken = taken-within (source_of world row) body full.3 simulates full.4 in
+      let passes = full.5 in
+      by-bytes full.0 (omega arith)))))
+      refuses
 
--- a valid body with a defined cost can begin where there is a level of nesting for its run
-pub run-is-refused-by-nesting : (world : HirDatabase) (def : DefWithBodyId) (args : GenericArgs) (row : BodyRow) (limits : Limits) (body : MirBody) (e : MirEvalError) → IsValid world def args row → Simulates (source_of world row) body → HasDefinedCost (source_of world row) → RefusesRun world def body limits e → limits.nesting ≡ 0
-run-is-refused-by-nesting world def args row limits body e valid simulates cost =
-    ⊎_elim (λ none. let is = none.1 in let there = valid.pointers in absurd cc)
-    (⊎_elim (λ other. absurd (let is = other.2 in let there = valid.pointers in other.3 cc))
-    (⊎_elim (λ deep. deep.2) (λ refused. absurd (let can = begins (source_of world row) body simulates cost in let is = can.1 in let other = refused.2 in cc))))
+  pub run-refusal : RefusesRun world def body limits e → EndsEvaluation (source_of world row) limits e
+  run-refusal refuses =
+      refusal-cases refuses (λ is none. subst (EndsEvaluation (source_of world row) limits) (sym is) (overflowed (source_of world row) limits (omega arith)))
+      (begun-refusal (source_of world row) limits body e)
+      (λ is passes. subst (EndsEvaluation (source_of world row) limits) (sym is) (overfull (source_of world row) limits passes))
+
+  -- so none begins
+  pub run-never : RefusesRun world def body limits e → NeverRunsFor (source_of world row) limits e
+  run-never refuses =
+      refusal-cases refuses (λ is none. subst (NeverRunsFor (source_of world row) limits) (sym is) (never-without-level (source_of world row) limits none))
+      (begun-never (source_of world row) limits body e)
+      (λ is passes. subst (NeverRunsFor (source_of world row) limits) (sym is) (never-without-room (source_of world row) limits passes))
+
+  -- a valid body with a defined cost can begin where there is a level of nesting for its run and room for its cells
+  pub run-is-refused-by-limits : HasDefinedCost (source_of world row) → RefusesRun world def body limits e → (limits.nesting ≡ 0) ⊎ PassesBytes (source_of world row) limits.bytes
+  run-is-refused-by-limits cost refuses =
+      refusal-cases refuses (λ is none. inl none)
+      (λ refused. absurd (let can = begins (source_of world row) body simulates cost in let is = can.1 in cc))
+      (λ is passes. inr passes)
 
 -- two numbers that differ are told apart
 not-by : (size width : ℕ) (b : Bool) → (size == width) ≡ b → width < size → b ≡ false
@@ -76,22 +99,54 @@ number-is-integer : (source : Source) (e : ℕ) (form : Option CoreExpr) (ty : T
 number-is-integer source e (Some (expr.Literal (Number n))) ty plain number = plain
 number-is-integer source e _ ty plain number = absurd number
 
+-- a jump that fits what stands around it has a target
+open-target : (source : Source) (form : Option CoreExpr) → form ≡ Some (expr.Continue None) → FitsAround source [] form → ⊥
+unfolding meant
+open-target source form is fits = let none = (subst (FitsAround source []) is fits).means in cc
+
+plain-target : (source : Source) (value : Option ExprId) (form : Option CoreExpr) → form ≡ Some (expr.Break None value) → FitsAround source [] form → ⊥
+unfolding meant
+plain-target source value form is fits = let none = (subst (FitsAround source []) is fits).means in cc
+
+named-target : (source : Source) (outer : List Opened) (label : LabelId) (form : Option CoreExpr) → JumpsTo label form → FitsAround source outer form → meant (Some label) outer ≡ None → ⊥
+named-target source outer label (Some (expr.Break given value)) jumps fits lacks =
+    let none = ap (λ (l : Option LabelId). meant l outer) jumps ∙ lacks in
+    let there = fits.means in
+    cc
+named-target source outer label (Some (expr.Continue given)) jumps fits lacks =
+    let none = ap (λ (l : Option LabelId). meant l outer) jumps ∙ lacks in
+    let there = fits.means in
+    cc
+named-target source outer label (Some (expr.Literal l)) jumps fits lacks = jumps
+named-target source outer label (Some (expr.Path name)) jumps fits lacks = jumps
+named-target source outer label (Some (expr.Strict operation operands)) jumps fits lacks = jumps
+named-target source outer label (Some (expr.Logic op left right)) jumps fits lacks = jumps
+named-target source outer label (Some (expr.If condition then_branch else_branch)) jumps fits lacks = jumps
+named-target source outer label (Some (expr.Assign assigned value)) jumps fits lacks = jumps
+named-target source outer label (Some (expr.Block statements tail)) jumps fits lacks = jumps
+named-target source outer label (Some (expr.Labelled own statements tail)) jumps fits lacks = jumps
+named-target source outer label (Some (expr.Loop own body)) jumps fits lacks = jumps
+named-target source outer label None jumps fits lacks = jumps
+
 -- a plain form is refused for want of memory, or as a number literal whose type has no layout
-refuses-node : (source : Source) (e : ℕ) (error : MirLowerError) → IsChecked source.world → IsPlainNode source e → Evaluates source (root source) e → RefusesNode source e error → (error ≡ refusal.NoMemory) ⊎ EndsLowering source error
-refuses-node source e (refusal.LayoutError layout_error) checked plain at refuses = inr (e, at, refuses)
-refuses-node source e refusal.IncompleteExpr checked plain at refuses = absurd (built-is-complete source e (plain_is_built source e plain) refuses)
-refuses-node source e (refusal.UnresolvedName name) checked plain at refuses = absurd (built-is-resolved source e (node source e) name (plain_is_built source e plain) refuses)
-refuses-node source e refusal.InaccessibleLocal checked plain at refuses = absurd (built-has-local source e (node source e) (plain_is_built source e plain) refuses)
-refuses-node source e refusal.HasErrors checked plain at refuses = absurd refuses
-refuses-node source e (refusal.TypeError text) checked plain at refuses =
+refuses-node : (source : Source) (e : ℕ) (error : MirLowerError) → IsChecked source.world → JumpsFit source [] (root source) → IsPlainNode source e → Evaluates source (root source) e → RefusesNode source e error → (error ≡ refusal.NoMemory) ⊎ EndsLowering source error
+refuses-node source e (refusal.LayoutError layout_error) checked fits plain at refuses = inr (e, at, refuses)
+refuses-node source e refusal.IncompleteExpr checked fits plain at refuses = absurd (built-is-complete source e (plain_is_built source e plain) refuses)
+refuses-node source e (refusal.UnresolvedName name) checked fits plain at refuses = absurd (built-is-resolved source e (node source e) name (plain_is_built source e plain) refuses)
+refuses-node source e refusal.InaccessibleLocal checked fits plain at refuses = absurd (built-has-local source e (node source e) (plain_is_built source e plain) refuses)
+refuses-node source e refusal.HasErrors checked fits plain at refuses = absurd refuses
+refuses-node source e refusal.ContinueWithoutLoop checked fits plain at refuses = absurd (open-target source (node source e) refuses.0 (fits [] e refuses.1))
+refuses-node source e refusal.BreakWithoutLoop checked fits plain at refuses = absurd (plain-target source refuses.0 (node source e) refuses.1 (fits [] e refuses.2))
+refuses-node source e refusal.UnresolvedLabel checked fits plain at refuses = absurd (named-target source refuses.2.0 refuses.0 (node source e) refuses.1 (fits refuses.2.0 e refuses.2.1) refuses.2.2)
+refuses-node source e (refusal.TypeError text) checked fits plain at refuses =
     let layout : layout_of source.world plain.ty ≡ Some refuses.2 = ap (option_and_then (layout_of source.world)) (sym plain.has_type) ∙ refuses.3 in
     absurd (wide-is-no-width refuses.2.size (integer_is_width source.world plain.ty refuses.2 checked (number-is-integer source e (node source e) plain.ty plain.form refuses.1) layout) refuses.4)
-refuses-node source e (refusal.NotSupported text) checked plain at refuses = absurd (built-is-no-unbuilt source e (node source e) (plain_is_built source e plain) refuses.1)
-refuses-node source e refusal.NoMemory checked plain at refuses = inl refl
+refuses-node source e (refusal.NotSupported text) checked fits plain at refuses = absurd (built-is-no-unbuilt source e (node source e) (plain_is_built source e plain) refuses.1)
+refuses-node source e refusal.NoMemory checked fits plain at refuses = inl refl
 
 -- where types have sizes, no number literal lacks a layout
 sized-is-lowered : (source : Source) (e : MirLowerError) → HasDefinedCost source → EndsLowering source e → ⊥
-sized-is-lowered source (refusal.LayoutError layout_error) cost ends = let is = ends.2.1 in let there = (cost.nodes ends.0 ends.1).found in cc
+sized-is-lowered source (refusal.LayoutError layout_error) cost ends = let is = ends.2.1 in let sized = cost.nodes ends.0 ends.1 in let there = sized.of_itself.found in cc
 sized-is-lowered source _ cost ends = ends
 
 -- there is no typing error where inference found none
@@ -125,7 +180,7 @@ lowering-refusal world def args row e checked valid =
     (⊎_elim (λ none. absurd (let is = none.missing in let there = valid.body in cc)) (λ refused.
     let same : refused.row ≡ row = (let is = refused.found in let there = valid.body in cc) in
     ⊎_elim (λ drops. absurd (valid.dropless drops.1))
-    (λ at. refuses-node (source_of world row) at.0 e checked (valid.plain.nodes at.0 at.1) at.1 at.2)
+    (λ at. refuses-node (source_of world row) at.0 e checked valid.plain.jumps (valid.plain.nodes at.0 at.1) at.1 at.2)
     (subst (λ (r : BodyRow). RefusesInferred (source_of world r) e) same refused.refuses)))))
 
 -- a valid body with a defined cost is lowered, but for want of memory

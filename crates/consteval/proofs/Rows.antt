@@ -1,10 +1,17 @@
 -- The rows of a definition's body, as look-ups give them.
-use Rattle.std.proofs.Common.{◌≡◌, Option, Some, None, refl, sym, ap, ◌∙◌, subst}
-use Rattle.std.specs.Prelude.{option_map}
+use Rattle.std.proofs.Common.{◌≡◌, Bool, true, false, List, [], ◌∷◌, ◌⊎◌, ⊎_elim, inr, Option, Some, None, refl, sym, ap, ◌∙◌, subst}
+use Rattle.std.specs.Prelude.{◌≢◌, ◌||◌, IsTrue, not, option_map}
 use Rattle.world.specs.declared.body.Body.{Body}
 use Rattle.world.specs.declared.database.BodyRow.{BodyRow}
 use Rattle.world.specs.declared.database.HirDatabase.{HirDatabase}
 use Rattle.types.specs.declared.ids.DefWithBodyId.{DefWithBodyId}
+use Rattle.types.specs.declared.ids.ExprId.{ExprId}
+use Rattle.types.specs.declared.ty.GenericArgs.{GenericArgs}
+use Rattle.mir.specs.declared.errors.MirLowerError.{MirLowerError}
+use Rattle.mir.specs.declared.errors.MirLowerError.TheVariants as refusal
+use Rattle.mir_lower.specs.Refusals.{Refuses, RefusesInferred}
+use Rattle.consteval.specs.Answers.{RefusesBody, is_empty, is_erroneous, is_unbuilt, has_errors}
+use Rattle.consteval.specs.Kept.{source_of}
 use Rattle.world.specs.declared.infer.InferenceResult.{InferenceResult}
 use Rattle.world.specs.Lookups.{body_row}
 use Rattle.world.specs.Checked.{IsChecked, IsCheckedBody}
@@ -26,3 +33,25 @@ row-of None body infer b i = absurd cc
 module _ (world : HirDatabase) (def : DefWithBodyId) (body : Body) (infer : InferenceResult) (row : RowOf (body_row world def) body infer) where
   pub row-checked : IsChecked world → IsCheckedBody body infer
   row-checked checked = subst (λ (r : BodyRow). IsCheckedBody r.body r.infer) row.is (checked-body world def row.row checked row.there)
+
+-- where inference met no error there is no typing error
+no-typing-errors : (erroneous : Bool) (mismatches : List ExprId) → (erroneous || not (is_empty mismatches)) ≡ false → IsTrue erroneous ⊎ (mismatches ≢ []) → ⊥
+no-typing-errors true mismatches none errors = absurd cc
+no-typing-errors false [] none errors = ⊎_elim (λ erroneous. absurd cc) (λ some. some refl) errors
+no-typing-errors false (e ∷ rest) none errors = absurd cc
+
+-- a body without typing errors is refused for what its lowering refuses
+pub lowering-refuses : (world : HirDatabase) (def : DefWithBodyId) (args : GenericArgs) (row : BodyRow) (body : Body) (infer : InferenceResult) (e : MirLowerError) → row ≡ record { body = body; infer = infer } → body_row world def ≡ Some row → is_erroneous world def ≡ false → is_unbuilt world def args ≡ false → Refuses (record { world = world; body = body; infer = infer }) e → (e ≡ refusal.NoMemory) ⊎ RefusesBody world def args e
+lowering-refuses world def args row body infer e is found erroneous built refuses =
+    let there : is_erroneous world def ≡ has_errors (Some infer) =
+    ap (λ (r : Option BodyRow). has_errors (option_map (λ row. row.infer) r)) found ∙ ap (λ (r : BodyRow). has_errors (Some r.infer)) is in
+    let none : has_errors (Some infer) ≡ false = sym there ∙ erroneous in
+    ⊎_elim (λ errors. absurd (no-typing-errors infer.erroneous infer.mismatches none errors.1))
+    (λ inferred. inr (inr (inr (inr (record {
+      no_errors = erroneous;
+      built = built;
+      row = row;
+      found = found;
+      refuses = subst (λ (r : BodyRow). RefusesInferred (source_of world r) e) (sym is) inferred;
+    })))))
+    refuses

@@ -1,6 +1,7 @@
 -- How a run begins and ends, as its machine tells it.
-use Rattle.std.proofs.Common.{◌≡◌, ◌≢◌, ℕ, ◌-◌, ◌≤◌, ⊎_elim, inl, inr, eqb-true, Bool, true, false, if◌then◌else◌, Option, Some, None, Result, Ok, Err, refl, sym, ap, ◌∙◌, subst, arith}
-use Rattle.std.specs.Prelude.{IsSome, codes}
+use Rattle.std.proofs.Common.{◌≡◌, ◌≢◌, ℕ, ◌-◌, ◌<◌, ◌≤◌, ◌⊎◌, ⊎_elim, inl, inr, eqb-true, Bool, true, false, cond, if◌then◌else◌, Option, Some, None, Result, Ok, Err, refl, sym, ap, ◌∙◌, subst, arith}
+use Rattle.std.specs.Prelude.{IsSome, codes, nat_le}
+use borrow.Author.Tests.{leb-true, leb-false}
 use Rattle.world.specs.declared.database.HirDatabase.{HirDatabase}
 use Rattle.world.specs.declared.limits.Limits.{Limits}
 use Rattle.types.specs.declared.ids.DefWithBodyId.{DefWithBodyId}
@@ -12,6 +13,7 @@ use Rattle.mir.specs.Memory.{Memory}
 use Rattle.mir.specs.Run.{Frame, begun, entering}
 use Rattle.mir_eval.specs.Evaluators.{outcome, Became}
 use Rattle.mir_eval.specs.Machine.{Machine, State, Fresh, Going, Over, on_a_level, pointer_bytes, outcome_of, finished, blocks_left, left_in, levels_held, nesting_left, turns_of}
+use Rattle.mir_eval.specs.Room.{bytes_taken, within_bytes}
 use Rattle.mir_eval.specs.Start.{is_own_width, started, start_of}
 use Rattle.mir_lower.proofs.Whole.{begun-cells}
 use Rattle.consteval.specs.Answers.{AnswersBody, RefusesRun, carried}
@@ -20,7 +22,7 @@ use Rattle.consteval.proofs.Nesting.{made-on-level, refused-on-level}
 
 -- the machine of a body's owner before it begins
 abbrev pub fresh : HirDatabase → DefWithBodyId → Limits → Machine
-fresh world def limits = record { world = world; owner = def; blocks = limits.blocks; nesting = limits.nesting; state = Fresh }
+fresh world def limits = record { world = world; owner = def; blocks = limits.blocks; nesting = limits.nesting; bytes = limits.bytes; state = Fresh }
 
 own-width : (width : Option ℕ) → is_own_width width ≡ true → width ≡ Some 8
 own-width (Some width) own = ap Some (eqb-true width 8 own)
@@ -38,11 +40,28 @@ started-going : (r : Result (Frame × Memory) MirEvalError) (block blocks : ℕ)
 started-going (Ok start) block blocks state h = (start, refl, (let same : Going start.0 start.1 block blocks ≡ state = cc in sym same))
 started-going (Err e) block blocks state h = cc
 
+-- what is within a limit on bytes, and what isn't
+within-ok : (bytes : ℕ) (r : Result (Frame × Memory) MirEvalError) (start : Frame × Memory) → within_bytes bytes r ≡ Ok start → (r ≡ Ok start) × (bytes_taken start.1 ≤ bytes)
+within-ok bytes (Ok placed) start h = by (nat_le (bytes_taken placed.1) bytes) refl h where
+  by : (test : Bool) → nat_le (bytes_taken placed.1) bytes ≡ test → ◌≡◌ {A = Result (Frame × Memory) MirEvalError} (cond test (Ok placed) (Err error.MemoryLimitExceeded)) (Ok start) → ◌≡◌ {A = Result (Frame × Memory) MirEvalError} (Ok placed) (Ok start) × (bytes_taken start.1 ≤ bytes)
+  by true is h =
+      let same : placed ≡ start = cc in
+      (ap Ok same, subst (λ (s : Frame × Memory). bytes_taken s.1 ≤ bytes) same (leb-true (bytes_taken placed.1) bytes is))
+  by false is h = absurd cc
+within-ok bytes (Err e) start h = absurd cc
+
+within-refused : (bytes : ℕ) (r : Result (Frame × Memory) MirEvalError) (e : MirEvalError) → within_bytes bytes r ≡ Err e → (r ≡ Err e) ⊎ ((e ≡ error.MemoryLimitExceeded) × (start : Frame × Memory) × (r ≡ Ok start) × (bytes < bytes_taken start.1))
+within-refused bytes (Ok placed) e h = by (nat_le (bytes_taken placed.1) bytes) refl h where
+  by : (test : Bool) → nat_le (bytes_taken placed.1) bytes ≡ test → ◌≡◌ {A = Result (Frame × Memory) MirEvalError} (cond test (Ok placed) (Err error.MemoryLimitExceeded)) (Err e) → (◌≡◌ {A = Result (Frame × Memory) MirEvalError} (Ok placed) (Err e)) ⊎ ((e ≡ error.MemoryLimitExceeded) × (start : Frame × Memory) × ◌≡◌ {A = Result (Frame × Memory) MirEvalError} (Ok placed) (Ok start) × (bytes < bytes_taken start.1))
+  by true is h = absurd cc
+  by false is h = inr ((let same : error.MemoryLimitExceeded ≡ e = cc in sym same), placed, refl, leb-false (bytes_taken placed.1) bytes is)
+within-refused bytes (Err other) e h = inl h
+
 -- what a machine begins with, by the size of a pointer of its owner's crate
 abbrev BeginsBy : Bool → HirDatabase → MirBody → Limits → Result State MirEvalError
 BeginsBy own world body limits =
     if own
-    then on_a_level limits.nesting (started (begun world body) body.start_block.0 limits.blocks)
+    then on_a_level limits.nesting (started (within_bytes limits.bytes (begun world body)) body.start_block.0 limits.blocks)
     else Err (error.NotSupported (codes "targets with different pointer size from host"))
 
 -- why a machine doesn't begin
@@ -53,8 +72,10 @@ start-refused world def body limits e there is = by-width (is_own_width (pointer
   by-width true own h =
       let pointers = own-width (pointer_bytes world def) own in
       ⊎_elim (λ deep. inr (inr (inl (deep.0, pointers, deep.1))))
-      (λ refused. inr (inr (inr (pointers, refused.0, started-refused (begun world body) body.start_block.0 limits.blocks e refused.1))))
-      (refused-on-level limits.nesting (started (begun world body) body.start_block.0 limits.blocks) e h)
+      (λ refused.
+      ⊎_elim (λ placed. inr (inr (inr (inl (pointers, refused.0, placed))))) (λ full. inr (inr (inr (inr (full.0, pointers, refused.0, full.1, full.2, full.3)))))
+      (within-refused limits.bytes (begun world body) e (started-refused (within_bytes limits.bytes (begun world body)) body.start_block.0 limits.blocks e refused.1)))
+      (refused-on-level limits.nesting (started (within_bytes limits.bytes (begun world body)) body.start_block.0 limits.blocks) e h)
   by-width false own h =
       let same : error.NotSupported (codes "targets with different pointer size from host") ≡ e = cc in
       let width = other-width (pointer_bytes world def) own there in
@@ -66,13 +87,15 @@ unfolding start_of
 start-begun world def body limits after is blocks nesting = by-width (is_own_width (pointer_bytes world def)) refl is where
   by-width : (own : Bool) → is_own_width (pointer_bytes world def) ≡ own → BeginsBy own world body limits ≡ Ok after.state → HasBegun world def body limits after
   by-width true own h =
-      let made = made-on-level limits.nesting (started (begun world body) body.start_block.0 limits.blocks) after.state h in
-      let going = started-going (begun world body) body.start_block.0 limits.blocks after.state made.1 in
+      let made = made-on-level limits.nesting (started (within_bytes limits.bytes (begun world body)) body.start_block.0 limits.blocks) after.state h in
+      let going = started-going (within_bytes limits.bytes (begun world body)) body.start_block.0 limits.blocks after.state made.1 in
+      let fits = within-ok limits.bytes (begun world body) going.0 going.1 in
       record {
         pointers = own-width (pointer_bytes world def) own;
         nests = made.0;
         start = going.0;
-        began = going.1;
+        began = fits.0;
+        fits = fits.1;
         blocks = blocks;
         nesting = nesting;
         state = going.2;
@@ -114,6 +137,7 @@ run-answers world def body limits turns before after told has became tells count
           nests = has.nests;
           start = has.start;
           began = has.began;
+          fits = has.fits;
           ended = same-outcome told _ (tells ∙ ap outcome state) ∙ ap (λ (b : MirBody). outcome_of (limits.nesting - 1) b (run_of body has.start limits.blocks).ending) own-body;
           entered = counts ∙ ap (λ s. after.blocks - blocks_left after.blocks s) state ∙ ap (λ n. n - (run_of body has.start limits.blocks).left) limit;
         };
@@ -131,6 +155,7 @@ run-answers world def body limits turns before after told has became tells count
         nests = has.nests;
         start = has.start;
         began = has.began;
+        fits = has.fits;
         entered = omega arith;
         is = ap carried (same-outcome told (Err error.NoMemory) (tells ∙ ap outcome state));
       }))

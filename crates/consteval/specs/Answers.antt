@@ -26,11 +26,14 @@ use Rattle.mir.specs.Memory.{Memory}
 use Rattle.mir.specs.Run.{Frame, begun}
 use Rattle.mir_eval.specs.Evaluators.{crate_or_first}
 use Rattle.mir_eval.specs.Machine.{pointer_bytes}
+use Rattle.mir_eval.specs.Room.{bytes_taken}
 use Rattle.mir_lower.specs.Refusals.{RefusesAt, RefusesInferred}
 use Rattle.world.specs.declared.infer.InferenceResult.{InferenceResult}
-use Rattle.source_meaning.specs.Ends.{Cost, no_cost, End, Go, Jumps, Faults, Stuck, More, Panic, Undefined}
+use Rattle.source_meaning.specs.Ends.{Cost, no_cost, End, Go, Jumps, Faults, Stuck, More, Panic, Undefined, IsOver}
+use Rattle.source_meaning.specs.Entering.{entering}
 use Rattle.source_meaning.specs.Meaning.{Gives, meaning_of}
 use Rattle.source_meaning.specs.Source.{Source, Store, node_type, root}
+use Rattle.source_meaning.specs.Valid.{HasDefinedCost}
 use Rattle.consteval.specs.Kept.{Kept, Lowered, Ran, run_of, source_of}
 
 -- a constant of a type, with these bytes and no memory behind them
@@ -95,6 +98,10 @@ PassesBlocks source blocks = (fuel : ℕ) × (blocks < (cost_in (meaning_of sour
 abbrev pub PassesNesting : Source → ℕ → Type 0
 PassesNesting source nesting = (fuel : ℕ) × (nesting < (cost_in (meaning_of source fuel)).nesting)
 
+-- on entering it the source counts more bytes for its cells than a limit
+abbrev pub PassesBytes : Source → ℕ → Type 0
+PassesBytes source bytes = bytes < (entering source).bytes
+
 -- a type has a layout without a size
 abbrev pub IsUnsized : HirDatabase → Ty → Type 0
 IsUnsized world ty = (layout : Layout) × (layout_of world ty ≡ Some layout) × (layout.sized ≡ false)
@@ -111,12 +118,13 @@ EndsFrame source limits _ = ⊥
 abbrev pub EndsLayer : Source → Limits → MirEvalError-F MirEvalError → Type 0
 EndsLayer source limits (layer.InFunction inner trail) = EndsFrame source limits inner
 EndsLayer source limits layer.StackOverflow = PassesNesting source limits.nesting
+EndsLayer source limits layer.MemoryLimitExceeded = PassesBytes source limits.bytes
 EndsLayer source limits (layer.LayoutError e ty) = (e ≡ layout_error_of ty) × (layout_of source.world ty ≡ None)
 EndsLayer source limits (layer.TypeIsUnsized ty text) = IsUnsized source.world ty
 EndsLayer source limits _ = ⊥
 
--- how the evaluation of a valid definition's body can end without a value: with its frame, past the limit on nesting, or for
--- a local whose type has no layout or no size
+-- how the evaluation of a valid definition's body can end without a value: with its frame, past the limit on nesting or that
+-- on bytes, or for a local whose type has no layout or no size
 abbrev pub EndsEvaluation : Source → Limits → MirEvalError → Type 0
 EndsEvaluation source limits e = EndsLayer source limits (out-MirEvalError e)
 
@@ -135,16 +143,53 @@ EndsIn source limits constant.NoMemory = Unit {0}
 abbrev pub OrNoMemory : Result Const ConstEvalError → Result Const ConstEvalError → Type 0
 OrNoMemory answer expected = (answer ≡ expected) ⊎ (answer ≡ Err constant.NoMemory)
 
--- a cost is within the limits on blocks and on nesting
+-- a cost is within all limits
 pub record IsWithinLimits (cost : Cost) (limits : Limits) : Type 0 where
   pub turns : cost.turns ≤ limits.blocks
   pub nesting : cost.nesting ≤ limits.nesting
+  pub bytes : cost.bytes ≤ limits.bytes
 
 -- within the limits the answer is what the source means, or want of memory
 pub record AnswersWithin (source : Source) (limits : Limits) (answer : Result Const ConstEvalError) : Type 0 where
   pub value : (ty : Ty) (bytes : List ℕ) (store : Store) (cost : Cost) → node_type source (root source) ≡ Some ty →
       Gives source (Go bytes store cost) → IsWithinLimits cost limits → OrNoMemory answer (Ok (constant_of ty bytes))
   pub panic : (word : List ℕ) (cost : Cost) → Gives source (Faults (Panic word) cost) → IsWithinLimits cost limits → OrNoMemory answer (Err (panic_of word))
+
+-- the source has no end, whatever fuel there is
+abbrev pub HasNoEnd : Source → Type 0
+HasNoEnd source = (fuel : ℕ) → ¬ IsOver (meaning_of source fuel)
+
+-- the error of a root's run that may enter no more blocks
+abbrev pub past_blocks : ConstEvalError
+past_blocks = constant.MirEvalError (error.InFunction error.ExecutionLimitExceeded [])
+
+-- the outermost part of a refusal of a run
+abbrev pub NeverRunsLayer : Source → Limits → MirEvalError-F MirEvalError → Type 0
+NeverRunsLayer source limits layer.StackOverflow = limits.nesting ≡ 0
+NeverRunsLayer source limits layer.MemoryLimitExceeded = PassesBytes source limits.bytes
+NeverRunsLayer source limits (layer.LayoutError e ty) = (e ≡ layout_error_of ty) × (layout_of source.world ty ≡ None)
+NeverRunsLayer source limits (layer.TypeIsUnsized ty text) = IsUnsized source.world ty
+NeverRunsLayer source limits _ = ⊥
+
+-- Every error, but for want of memory, for which no run of a valid definition begins: a number literal whose type has no
+-- layout, no level of nesting, more bytes than the limit, or a local whose type has no layout or no size.
+abbrev pub NeverRuns : Source → Limits → ConstEvalError → Type 0
+NeverRuns source limits (constant.MirLowerError e) = EndsLowering source e
+NeverRuns source limits (constant.MirEvalError e) = NeverRunsLayer source limits (out-MirEvalError e)
+NeverRuns source limits constant.NoMemory = ⊥
+
+-- no run began, for such an error
+pub record RefusesToRun (source : Source) (limits : Limits) (answer : Result Const ConstEvalError) : Type 0 where
+  pub fault : ConstEvalError
+  pub is : answer ≡ Err fault
+  pub never : NeverRuns source limits fault
+
+-- The answer for a source that has no end: its run enters as many blocks as the limit allows, and no more, or memory ran out,
+-- or no run began. Where the types have sizes, there is a level of nesting for the run, and the bytes that the source counts on entering
+-- it are within the limit, a run begins, unless memory ran out.
+pub record AnswersEndless (source : Source) (limits : Limits) (answer : Result Const ConstEvalError) : Type 0 where
+  pub ends : OrNoMemory answer (Err past_blocks) ⊎ RefusesToRun source limits answer
+  pub within : HasDefinedCost source → 0 < limits.nesting → (entering source).bytes ≤ limits.bytes → OrNoMemory answer (Err past_blocks)
 
 -- a machine's outcome as an answer
 abbrev pub carried : Result Const MirEvalError → Result Const ConstEvalError
@@ -217,13 +262,14 @@ RefusesBody world def args e =
     RefusesErrors world def e ⊎ RefusesUnbuilt world def args e ⊎ RefusesMissing world def args e ⊎ RefusesLowering world def args e
 
 -- A body could not begin: the size of the crate's pointers isn't known, or it is another than 8 bytes, or else there is no
--- level of nesting for the run, or else a local can have no cell.
+-- level of nesting for the run, or else a local can have no cell, or else the cells take more bytes than the limit.
 abbrev pub RefusesRun : HirDatabase → DefWithBodyId → MirBody → Limits → MirEvalError → Type 0
 RefusesRun world def body limits e =
     ((e ≡ error.TargetDataLayoutNotAvailable (crate_or_first world def)) × (pointer_bytes world def ≡ None))
     ⊎ ((e ≡ error.NotSupported (codes "targets with different pointer size from host")) × (width : ℕ) × (pointer_bytes world def ≡ Some width) × (width ≢ 8))
     ⊎ ((e ≡ error.StackOverflow) × (pointer_bytes world def ≡ Some 8) × (limits.nesting ≡ 0))
     ⊎ ((pointer_bytes world def ≡ Some 8) × (0 < limits.nesting) × (begun world body ≡ Err e))
+    ⊎ ((e ≡ error.MemoryLimitExceeded) × (pointer_bytes world def ≡ Some 8) × (0 < limits.nesting) × (start : Frame × Memory) × (begun world body ≡ Ok start) × (limits.bytes < bytes_taken start.1))
 
 -- no run of a body began, for want of memory or for a cause that the answer tells
 pub record NeverBegins (world : HirDatabase) (def : DefWithBodyId) (body : MirBody) (limits : Limits) (turns : ℕ) (answer : Result Const ConstEvalError) : Type 0 where
@@ -238,6 +284,7 @@ pub record RunsOut (world : HirDatabase) (def : DefWithBodyId) (body : MirBody) 
   pub nests : 0 < limits.nesting
   pub start : Frame × Memory
   pub began : begun world body ≡ Ok start
+  pub fits : bytes_taken start.1 ≤ limits.bytes
   pub entered : turns ≤ limits.blocks - (run_of body start limits.blocks).left
   pub is : answer ≡ Err constant.NoMemory
 

@@ -1,5 +1,5 @@
 -- What is kept of finished evaluations, as its callers see it.
-use Rattle.std.specs.Prelude.{◌≡◌, ℕ, ◌-◌, ◌<◌, List, [], ◌∷◌, ◌++◌, take, Some, Result, Ok, Contains, map, slice_get}
+use Rattle.std.specs.Prelude.{◌≡◌, ℕ, ◌-◌, ◌<◌, ◌≤◌, List, [], ◌∷◌, ◌++◌, take, Some, Result, Ok, Contains, map, slice_get}
 use Rattle.world.specs.declared.database.HirDatabase.{HirDatabase}
 use Rattle.world.specs.declared.database.BodyRow.{BodyRow}
 use Rattle.world.specs.declared.limits.Limits.{Limits}
@@ -10,6 +10,7 @@ use Rattle.mir.specs.declared.body.MirBody.{MirBody}
 use Rattle.mir.specs.Memory.{Memory}
 use Rattle.mir.specs.Run.{Frame, Ended, begun, entering}
 use Rattle.mir_eval.specs.Machine.{Machine, Going, outcome_of, pointer_bytes}
+use Rattle.mir_eval.specs.Room.{bytes_taken}
 use Rattle.mir_lower.specs.Simulates.{Simulates}
 use Rattle.source_meaning.specs.Source.{Source}
 use Rattle.consteval.specs.declared.kept.Held.{Held}
@@ -68,23 +69,25 @@ pub record IsLowered (world : HirDatabase) (def : DefWithBodyId) (body : MirBody
 abbrev pub run_of : MirBody → Frame × Memory → ℕ → Ended
 run_of body start blocks = entering blocks start.0 start.1 body.start_block.0
 
--- a machine is about to enter the body's first block, there is a level of nesting for its run, and the pointers of its
--- owner's crate have 8 bytes
+-- a machine is about to enter the body's first block, there is a level of nesting for its run, its cells are within the limit
+-- on bytes, and the pointers of its owner's crate have 8 bytes
 pub record HasBegun (world : HirDatabase) (def : DefWithBodyId) (body : MirBody) (limits : Limits) (machine : Machine) : Type 0 where
   pub pointers : pointer_bytes world def ≡ Some 8
   pub nests : 0 < limits.nesting
   pub start : Frame × Memory
   pub began : begun world body ≡ Ok start
+  pub fits : bytes_taken start.1 ≤ limits.bytes
   pub blocks : machine.blocks ≡ limits.blocks
   pub nesting : machine.nesting ≡ limits.nesting
   pub state : machine.state ≡ Going start.0 start.1 body.start_block.0 limits.blocks
 
 -- A run of a kept body came to this outcome, over so many blocks. It took one level of nesting for itself, and handed out
--- its value from those that were left.
+-- its value from those that were left. Its cells took no more bytes than the limit.
 pub record Ran (world : HirDatabase) (body : MirBody) (limits : Limits) (turns : ℕ) (outcome : Result Const _) : Type 0 where
   pub nests : 0 < limits.nesting
   pub start : Frame × Memory
   pub began : begun world body ≡ Ok start
+  pub fits : bytes_taken start.1 ≤ limits.bytes
   pub ended : outcome ≡ outcome_of (limits.nesting - 1) body (run_of body start limits.blocks).ending
   pub entered : turns ≡ limits.blocks - (run_of body start limits.blocks).left
 

@@ -72,7 +72,7 @@ impl<'w> Evaluations<'w> {
     ghost use Rattle.consteval.specs.declared.kept.Key.TheVariants as key;
     ghost use Rattle.consteval.specs.Kept.{Lowered, Value, IsKept, IsLowered, IsSound, IsValueOf, RestsOn, Stays, entry_of, key_of, source_of, with_entry};
     ghost use Rattle.consteval.specs.Valid.{IsValid};
-    ghost use Rattle.consteval.specs.Answers.{GivesValue, CountsBlocks, GivesPanic, AnswersWithin, EndsIn, HasCause, RefusesBody, panic_word};
+    ghost use Rattle.consteval.specs.Answers.{GivesValue, CountsBlocks, GivesPanic, AnswersWithin, AnswersEndless, HasNoEnd, EndsIn, HasCause, RefusesBody, panic_word};
 
     /// Evaluations that have kept nothing yet. It takes no memory.
     pub fn new(alloc: Global, world: &'w CheckedWorld) -> Result<Evaluations<'w>, NoMemory>
@@ -245,6 +245,8 @@ impl<'w> Evaluations<'w> {
         ensures closed { (row : _) → IsValid self.old.world def args.now row → IfErr result.result (EndsIn (source_of self.old.world row) limits.now) }
         ensures complete { (row : _) → IsValid self.old.world def args.now row → HasDefinedCost (source_of self.old.world row)
             → AnswersWithin (source_of self.old.world row) limits.now result.result }
+        ensures endless { (row : _) → IsValid self.old.world def args.now row → HasNoEnd (source_of self.old.world row)
+            → AnswersEndless (source_of self.old.world row) limits.now result.result }
         ensures cause { HasCause self.new def args.now limits.now result.turns result.result }
         ensures turns { result.turns ≤ limits.now.blocks }
         ensures stays { Stays self.old self.new }

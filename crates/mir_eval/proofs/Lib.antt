@@ -1,3 +1,4 @@
 pub mod Blocks
 pub mod CellLists
+pub mod Laying
 pub mod Padded

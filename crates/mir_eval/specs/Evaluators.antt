@@ -21,6 +21,7 @@ machine_of evaluator =
       owner = evaluator.owner;
       blocks = evaluator.blocks;
       nesting = evaluator.nesting;
+      bytes = evaluator.bytes;
       state = state_of evaluator.phase;
     }
 

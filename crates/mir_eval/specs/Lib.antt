@@ -1,5 +1,6 @@
 pub mod Evaluators
 pub mod Machine
 pub mod Phases
+pub mod Room
 pub mod Start
 pub mod Steps

@@ -26,6 +26,8 @@ pub record Machine : Type 0 where
   pub blocks : ℕ
   -- how deep runs and the parts of values may be nested
   pub nesting : ℕ
+  -- how many bytes the cells of a run's locals may take
+  pub bytes : ℕ
   pub state : State
 
 -- the size of a pointer of the owner's crate, where it is known

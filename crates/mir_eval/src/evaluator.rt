@@ -1,6 +1,6 @@
 //! The machine as its callers use it: made, begun once, run to its end, and taken apart.
 
-ghost use Rattle.std.specs.Prelude.{◌≡◌, ◌↔◌, ◌⊎◌, [], slice_get, option_and_then, codes, IfOk, IfErr, OnOk, OnErr, IsOk, IsSome, IsTrue};
+ghost use Rattle.std.specs.Prelude.{◌≡◌, ◌↔◌, ◌⊎◌, ◌^◌, ◌≤◌, [], slice_get, option_and_then, codes, IfOk, IfErr, OnOk, OnErr, IsOk, IsSome, IsTrue};
 ghost use Rattle.mir_eval.specs.Start.{is_own_width};
 ghost use Rattle.mir.specs.declared.errors.MirEvalError as error;
 
@@ -28,6 +28,8 @@ pub struct Evaluator<'a> {
     owner: DefWithBodyId,
     blocks: u64,
     nesting: u32,
+    bytes: u64,
+    ghost few_bytes: { bytes ≤ 2 ^ 59 },
     phase: Phase,
 }
 
@@ -81,7 +83,7 @@ impl<'a> Evaluator<'a> {
         limits: &Limits,
     ) -> Result<Evaluator<'a>, MirEvalError>
         requires { IsWithin limits.now }
-        ensures made { IfOk result (λ evaluator. machine_of evaluator ≡ record { world = db.now; owner = owner; blocks = limits.now.blocks; nesting = limits.now.nesting; state = Fresh }) }
+        ensures made { IfOk result (λ evaluator. machine_of evaluator ≡ record { world = db.now; owner = owner; blocks = limits.now.blocks; nesting = limits.now.nesting; bytes = limits.now.bytes; state = Fresh }) }
         ensures refused { IfErr result (λ e. e ≡ error.TargetDataLayoutNotAvailable (crate_or_first db.now owner)) }
         ensures variant { IsOk result ↔ IsSome (pointer_bytes db.now owner) }
     {
@@ -93,6 +95,7 @@ impl<'a> Evaluator<'a> {
                 owner,
                 blocks: limits.blocks,
                 nesting: limits.nesting,
+                bytes: limits.bytes,
                 phase: Phase::Fresh,
             }),
             None => Err(MirEvalError::TargetDataLayoutNotAvailable(krate.unwrap_or(Crate(0)))),
@@ -102,7 +105,10 @@ impl<'a> Evaluator<'a> {
     /// Begins a run of the body, which takes one level of nesting for itself. The refusals, in this
     /// order: `NotSupported` where the pointers of the owner's crate have another size than 8 bytes;
     /// `StackOverflow` where the limit on nesting is 0; `LayoutError` or `TypeIsUnsized` for the first
-    /// local whose type has no layout or no size; `NoMemory`. After a refusal nothing was begun.
+    /// local whose type has no layout or no size; `MemoryLimitExceeded` where the stack with the cells of
+    /// all locals would have more bytes, the one at its start aside, than the limit on bytes. `NoMemory`,
+    /// for want of memory alone, may come in place of any of them and of a run. The stack is taken once
+    /// it is known to be within the limit. After a refusal nothing was begun.
     #[tactic(auto, unfolding(crate::specs::Start::start_of))]
     pub fn begin(&mut self, body: Rc<MirBody>) -> Result<(), MirEvalError>
         requires { IsTrue (is_fresh (machine_of self.old).state) }
@@ -118,7 +124,7 @@ impl<'a> Evaluator<'a> {
         if self.nesting == 0 {
             return Err(MirEvalError::StackOverflow);
         }
-        match Run::start(self.alloc, self.db, body, self.blocks) {
+        match Run::start(self.alloc, self.db, body, self.blocks, self.bytes) {
             Ok(run) => {
                 self.phase = Phase::Going(run);
                 Ok(())

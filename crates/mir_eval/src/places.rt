@@ -1,12 +1,13 @@
 //! The cells of a body's locals, placed on the stack.
 
-ghost use Rattle.std.specs.Prelude.{◌≡◌, ◌⊎◌, ◌-◌, ◌++◌, codes, length, replicate, Ok, Err, IfOk, IfErr, IfSome, OnOk};
+ghost use Rattle.std.specs.Prelude.{◌≡◌, ◌⊎◌, ◌^◌, ◌<◌, ◌≤◌, true, codes, length, map, replicate, Some, Ok, Err, IfOk, IfErr, IfSome, IfNone};
 ghost use Rattle.world.specs.Lookups.{layout_of};
 ghost use Rattle.mir.specs.declared.errors.MirEvalError as error;
 ghost use Rattle.mir.specs.Errors.{layout_error_of};
-ghost use Rattle.mir.specs.Memory.{first_memory, aligned, with_cell, placed, cells_of};
-ghost use Rattle.mir_eval.specs.Steps.{interval_of, memory};
+ghost use Rattle.mir.specs.Memory.{Memory, first_memory, aligned, with_cell, placed, cells_of};
+ghost use Rattle.mir_eval.specs.Steps.{interval_of};
 ghost use Rattle.mir_eval.specs.Phases.{cells_and_memory};
+ghost use Rattle.mir_eval.specs.Room.{zeros, AddsCell, within_bytes};
 
 use crate::cells::Cell;
 use mir::{Local, MirEvalError, layout_error_of};
@@ -20,46 +21,79 @@ pub(crate) struct Placed {
     pub stack: Vec<u8>,
 }
 
-/// The first address from one on that an alignment divides, where it is below 2^64.
+/// The cells of locals, and the length of the stack with all of them.
+#[derive(Drop)]
+struct Room {
+    cells: Vec<Cell>,
+    end: u64,
+}
+
+/// A cell, and the length of the stack with it.
+#[derive(Clone, Copy, PartialEq, Eq, Debug)]
+struct Next {
+    cell: Cell,
+    end: u64,
+}
+
+/// The first address from one on that an alignment divides.
 #[tactic(auto, unfolding(mir::specs::Memory::aligned))]
-fn aligned(address: u64, align: u64) -> Option<u64>
-    ensures { IfSome result (λ a. a ≡ aligned address align) }
+fn aligned(address: u64, align: u64) -> u128
+    ensures is { result ≡ aligned address align }
+    ensures below { result < 2 ^ 65 }
 {
     if align == 0 {
-        return Some(0);
+        return 0;
     }
-    match address.checked_add(align - 1) {
-        Some(last) => Some(last / align * align),
-        None => None,
-    }
+    (address as u128 + (align - 1) as u128) / align as u128 * align as u128
 }
 
-/// Zeros at the end of the stack, up to a length.
-fn grow(stack: &mut Vec<u8>, end: u64) -> Result<(), NoMemory>
-    ensures { OnOk result (stack.new.items ≡ stack.old.items ++ replicate (end - length stack.old.items) 0) }
+/// A cell at the first address from the stack's end on that the alignment divides, where the stack with
+/// it has at most `most` bytes.
+#[tactic(auto, using(crate::proofs::Laying::zeros_cell, crate::proofs::Laying::zeros_length))]
+fn next_cell(end: u64, layout: &Layout, most: u64) -> Option<Next>
+    requires { end ≤ most }
+    ensures some { IfSome result (λ next. with_cell layout.now (zeros end) ≡ (interval_of next.cell, zeros next.end)) }
+    ensures within { IfSome result (λ next. next.end ≤ most) }
+    ensures none { IfNone result (most < length (with_cell layout.now (zeros end)).1.stack) }
 {
-    if end as usize > stack.len() {
-        stack.resize(end as usize, 0)?;
+    let size = layout.size;
+    let address = aligned(end, layout.align);
+    let last = address + size as u128;
+    if last > most as u128 {
+        return None;
     }
-    Ok(())
-}
-
-/// A zeroed cell at the first address from the stack's end on that the alignment divides.
-#[tactic(auto, unfolding(mir::specs::Memory::with_cell))]
-fn add_cell(stack: &mut Vec<u8>, layout: &Layout) -> Result<Cell, NoMemory>
-    ensures { IfOk result (λ cell. with_cell layout.now (memory stack.old.items) ≡ (interval_of cell, memory stack.new.items)) }
-{
-    let Some(address) = aligned(stack.len() as u64, layout.align) else {
-        return Err(NoMemory);
+    let cell = Cell {
+        address: address as u64,
+        size,
     };
-    let Some(end) = address.checked_add(layout.size) else {
-        return Err(NoMemory);
-    };
-    grow(stack, end)?;
-    Ok(Cell {
-        address,
-        size: layout.size,
+    let last = last as u64;
+    Some(Next {
+        cell,
+        end: if last < end { end } else { last },
     })
+}
+
+/// One more cell behind the others, where the stack with it has at most `most` bytes. There is no end
+/// where the stack has more.
+fn add_cell(
+    cells: &mut Vec<Cell>,
+    end: Option<u64>,
+    layout: &Layout,
+    most: u64,
+) -> Result<Option<u64>, NoMemory>
+    requires { IfSome end (λ end. end ≤ most) }
+    ensures { IfOk result (AddsCell layout.now most (map interval_of cells.old.items) end (map interval_of cells.new.items)) }
+{
+    let Some(end) = end else {
+        return Ok(None);
+    };
+    match next_cell(end, layout, most) {
+        Some(next) => {
+            cells.push(next.cell)?;
+            Ok(Some(next.end))
+        }
+        None => Ok(None),
+    }
 }
 
 /// The refusal of a local whose type has no layout.
@@ -86,16 +120,12 @@ fn without_size(alloc: Global, ty: &Ty) -> MirEvalError
     }
 }
 
-/// A local's cell, at the end of the stack.
+/// The layout of a local's type, which has a size.
 #[tactic(auto, unfolding(mir::specs::Memory::placed))]
-fn place(
-    alloc: Global,
-    db: &HirDatabase,
-    stack: &mut Vec<u8>,
-    ty: &Ty,
-) -> Result<Cell, MirEvalError>
-    ensures ok { IfOk result (λ cell. placed ty.now (layout_of db.now ty.now) (memory stack.old.items) ≡ Ok (interval_of cell, memory stack.new.items)) }
-    ensures err { IfErr result (λ e. (e ≡ error.NoMemory) ⊎ (placed ty.now (layout_of db.now ty.now) (memory stack.old.items) ≡ Err e)) }
+fn sized_layout<'w>(alloc: Global, db: &'w HirDatabase, ty: &Ty) -> Result<&'w Layout, MirEvalError>
+    ensures found { IfOk result (λ layout. layout_of db.now ty.now ≡ Some layout.now) }
+    ensures sized { IfOk result (λ layout. layout.now.sized ≡ true) }
+    ensures err { IfErr result (λ e. (e ≡ error.NoMemory) ⊎ ((memory : Memory) → placed ty.now (layout_of db.now ty.now) memory ≡ Err e)) }
 {
     let Some(layout) = db.layout_of(ty) else {
         return Err(without_layout(alloc, ty));
@@ -103,36 +133,70 @@ fn place(
     if !layout.sized {
         return Err(without_size(alloc, ty));
     }
-    match add_cell(stack, layout) {
-        Ok(cell) => Ok(cell),
-        Err(_) => Err(MirEvalError::NoMemory),
+    Ok(layout)
+}
+
+/// Where the cells of locals lie, each behind the one before. A local whose type has no layout or no size
+/// is refused before a stack that would pass the limit on bytes, wherever it stands. No stack is taken.
+fn lay_out(
+    alloc: Global,
+    db: &HirDatabase,
+    locals: &[Local],
+    bytes: u64,
+) -> Result<Room, MirEvalError>
+    requires { bytes ≤ 2 ^ 59 }
+    ensures ok { IfOk result (λ room. within_bytes bytes (cells_of db.now locals.now first_memory) ≡ Ok (map interval_of room.cells.items, zeros room.end)) }
+    ensures err { IfErr result (λ e. (e ≡ error.NoMemory) ⊎ (within_bytes bytes (cells_of db.now locals.now first_memory) ≡ Err e)) }
+{
+    let most = bytes + 1;
+    let mut cells = Vec::new(alloc);
+    let mut end = Some(1);
+    for local in locals {
+        let layout = match sized_layout(alloc, db, &local.ty) {
+            Ok(layout) => layout,
+            Err(e) => return Err(e),
+        };
+        end = match add_cell(&mut cells, end, layout, most) {
+            Ok(end) => end,
+            Err(_) => return Err(MirEvalError::NoMemory),
+        };
+    }
+    match end {
+        Some(end) => Ok(Room { cells, end }),
+        None => Err(MirEvalError::MemoryLimitExceeded),
     }
 }
 
-/// One cell for each local in order, and the stack with all of them.
-#[tactic(auto, unfolding(mir::specs::Memory::cells_of), using(crate::proofs::CellLists::before_one))]
+/// A stack of this length, of zeros.
+fn zeroed(alloc: Global, end: u64) -> Result<Vec<u8>, NoMemory>
+    ensures { IfOk result (λ stack. stack.items ≡ replicate end 0) }
+{
+    let mut stack = Vec::new(alloc);
+    stack.resize(end as usize, 0)?;
+    Ok(stack)
+}
+
+/// One cell for each local in order, and the stack with all of them, where that takes no more bytes than
+/// the limit.
 pub(crate) fn place_all(
     alloc: Global,
     db: &HirDatabase,
     locals: &[Local],
+    bytes: u64,
 ) -> Result<Placed, MirEvalError>
-    ensures ok { IfOk result (λ all. cells_of db.now locals.now first_memory ≡ Ok (cells_and_memory all)) }
-    ensures err { IfErr result (λ e. (e ≡ error.NoMemory) ⊎ (cells_of db.now locals.now first_memory ≡ Err e)) }
+    requires { bytes ≤ 2 ^ 59 }
+    ensures ok { IfOk result (λ all. within_bytes bytes (cells_of db.now locals.now first_memory) ≡ Ok (cells_and_memory all)) }
+    ensures err { IfErr result (λ e. (e ≡ error.NoMemory) ⊎ (within_bytes bytes (cells_of db.now locals.now first_memory) ≡ Err e)) }
 {
-    let mut cells = Vec::new(alloc);
-    let mut stack = Vec::new(alloc);
-    match stack.push(0) {
-        Ok(()) => {}
-        Err(_) => return Err(MirEvalError::NoMemory),
+    let room = match lay_out(alloc, db, locals, bytes) {
+        Ok(room) => room,
+        Err(e) => return Err(e),
+    };
+    match zeroed(alloc, room.end) {
+        Ok(stack) => Ok(Placed {
+            cells: room.cells,
+            stack,
+        }),
+        Err(_) => Err(MirEvalError::NoMemory),
     }
-    for local in locals {
-        match place(alloc, db, &mut stack, &local.ty) {
-            Ok(cell) => match cells.push(cell) {
-                Ok(()) => {}
-                Err(_) => return Err(MirEvalError::NoMemory),
-            },
-            Err(e) => return Err(e),
-        }
-    }
-    Ok(Placed { cells, stack })
 }

@@ -1,6 +1,6 @@
 //! A run that has begun, and the phases of an evaluator.
 
-ghost use Rattle.std.specs.Prelude.{◌≡◌, ◌⊎◌, IfOk, IfErr, IfSome, IfNone};
+ghost use Rattle.std.specs.Prelude.{◌≡◌, ◌⊎◌, ◌^◌, ◌≤◌, Err, IfOk, IfErr, IfSome, IfNone};
 
 use crate::cells::Cell;
 use crate::faults::Fault;
@@ -41,21 +41,24 @@ impl Run {
     ghost use Rattle.mir.specs.Run.{begun};
     ghost use Rattle.mir_eval.specs.Machine.{Over, outcome_of, stepped, finished};
     ghost use Rattle.mir_eval.specs.Steps.{ending_of};
+    ghost use Rattle.mir_eval.specs.Room.{within_bytes};
     ghost use Rattle.mir_eval.specs.Start.{started};
     ghost use Rattle.mir_eval.specs.Phases.{going, Reached};
 
-    /// The run of a body under a limit on blocks, before its first block.
-    #[tactic(auto, unfolding(mir::specs::Run::begun))]
+    /// The run of a body under limits on blocks and on bytes, before its first block.
+    #[tactic(auto, unfolding(mir::specs::Run::begun), using(crate::proofs::Laying::begun_within))]
     pub(crate) fn start(
         alloc: Global,
         db: &HirDatabase,
         body: Rc<MirBody>,
         blocks: u64,
+        bytes: u64,
     ) -> Result<Run, MirEvalError>
-        ensures ok { IfOk result (λ run. started (begun db.now body.value) body.value.start_block.0 blocks ≡ Ok (going run)) }
-        ensures err { IfErr result (λ e. (e ≡ error.NoMemory) ⊎ (begun db.now body.value ≡ Err e)) }
+        requires { bytes ≤ 2 ^ 59 }
+        ensures ok { IfOk result (λ run. started (within_bytes bytes (begun db.now body.value)) body.value.start_block.0 blocks ≡ Ok (going run)) }
+        ensures err { IfErr result (λ e. (e ≡ error.NoMemory) ⊎ (within_bytes bytes (begun db.now body.value) ≡ Err e)) }
     {
-        match place_all(alloc, db, body.locals.as_slice()) {
+        match place_all(alloc, db, body.locals.as_slice(), bytes) {
             Ok(placed) => {
                 let block = body.start_block;
                 Ok(Run {

@@ -1,12 +1,14 @@
 -- The row of a body is checked, and its graph is kept as that row's.
-use Rattle.std.proofs.Common.{◌≡◌, Some, sym, subst}
-use Rattle.std.proofs.lemmas.Result.{IfOk-weaker}
+use Rattle.std.proofs.Common.{◌≡◌, ◌⊎◌, false, Some, ap, sym, subst, ◌∙◌}
+use Rattle.std.proofs.lemmas.Result.{IfErr-weaker, IfOk-weaker}
+use Rattle.mir.specs.declared.errors.MirLowerError.TheVariants as refusal
 use Rattle.mir_lower.specs.Simulates.{Simulates}
 use Rattle.world.specs.Lookups.{body_row}
 use Rattle.world.specs.declared.database.BodyRow.{BodyRow}
 use Rattle.world.specs.declared.database.HirDatabase.{HirDatabase}
+use Rattle.consteval.specs.Answers.{RefusesBody, has_errors, is_erroneous, is_unbuilt}
 use Rattle.consteval.specs.Kept.{source_of}
-use Rattle.consteval.proofs.Rows.{row-of, row-checked}
+use Rattle.consteval.proofs.Rows.{lowering-refuses, row-of, row-checked}
 use Rattle.consteval.proofs.lowering.lower.Goals as goal
 
 pub lower_to_mir-requires-clause-checked : goal.lower_to_mir-requires-clause-checked
@@ -27,3 +29,14 @@ returns-clause-lowered c =
           (subst (λ (row : BodyRow). Simulates (source_of db row) lowered) (sym found.is) simulates);
     })
     c.lower_to_mir.ensures.simulates
+
+pub returns-clause-refused : goal.returns-clause-refused
+returns-clause-refused c =
+    let db = c.db-db.result.now in
+    let found = row-of (body_row db c.args.def) c.in-Some.body.now c.in-Some-infer.infer.now c.in-Some.ensures c.in-Some-infer.ensures in
+    let erroneous : is_erroneous db c.args.def ≡ false = sym (ap has_errors c.infer.ensures) ∙ sym c.has_errors.ensures ∙ c.if-has_errors.false in
+    let built : is_unbuilt db c.args.def c.args.args.now ≡ false = sym c.is_unbuilt.ensures ∙ c.if-is_unbuilt.false in
+    IfErr-weaker c.lower_to_mir.result _ _
+    (λ e refuses. subst (λ (world : HirDatabase). (e ≡ refusal.NoMemory) ⊎ RefusesBody world c.args.def c.args.args.now e) c.db-db.ensures.same
+    (lowering-refuses db c.args.def c.args.args.now found.row c.in-Some.body.now c.in-Some-infer.infer.now e found.is found.there erroneous built refuses))
+    c.lower_to_mir.ensures.refused

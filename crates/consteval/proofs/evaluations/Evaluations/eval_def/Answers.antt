@@ -2,7 +2,7 @@
 use Rattle.std.proofs.Common.{subst}
 use Rattle.world.specs.Checked.{IsChecked}
 use Rattle.consteval.proofs.Causes.{cause-out, cause-stays, cause-value}
-use Rattle.consteval.proofs.Headline.{answer-value, answer-counts, answer-closed, answer-panic, answer-completes}
+use Rattle.consteval.proofs.Headline.{answer-value, answer-counts, answer-closed, answer-panic, answer-completes, answer-endless}
 use Rattle.consteval.proofs.Keeping.{kept-value, stays-then}
 use Rattle.consteval.proofs.evaluations.Evaluations.eval_def.Goals as goal
 
@@ -45,6 +45,13 @@ returns-in-Ok-clause-complete c row valid cost =
     let answer = c.answer-evaluated.result in
     answer-completes c.args.self.now.world (subst IsChecked told.stays.world told.checked) c.args.def c.args.args.now row valid c.args.limits.now answer.turns answer.result
     c.answer-evaluated.new.self told.stays.world told.sound cost told.cause
+
+pub returns-in-Ok-clause-endless : goal.returns-in-Ok-clause-endless
+returns-in-Ok-clause-endless c row valid none =
+    let told = c.answer-evaluated.ensures in
+    let answer = c.answer-evaluated.result in
+    answer-endless c.args.self.now.world (subst IsChecked told.stays.world told.checked) c.args.def c.args.args.now row valid c.args.limits.now answer.turns answer.result
+    c.answer-evaluated.new.self told.stays.world told.sound none told.cause
 
 pub returns-in-Ok-clause-cause : goal.returns-in-Ok-clause-cause
 returns-in-Ok-clause-cause c =
