@@ -1,7 +1,6 @@
 -- Bytes that are read from a source.
-use Rattle.std.proofs.Common.{◌≡◌, ℕ, suc, ◌+◌, ◌<◌, ◌≤◌, List, [], ◌∷◌, ◌++◌, Option, None, Some, length, take, drop, option_map, IfSome, refl, sym, ap, subst, ◌∙◌, append_assoc, length-append, length-drop, arith}
-use Rattle.std.proofs.Math.Seq.{take-add}
-use Rattle.std.proofs.lemmas.List.{take-append-drop, append-nil, drop_at, take_all}
+use Rattle.std.proofs.Common.{◌≡◌, ℕ, suc, ◌+◌, ◌<◌, ◌≤◌, List, [], ◌∷◌, ◌++◌, Option, None, Some, length, take, drop, option_map, IfSome, refl, sym, ap, subst, ◌∙◌, append_assoc, length-append, arith}
+use Rattle.std.proofs.lemmas.List.{take-append-drop, append-nil, drop_at}
 use Rattle.mirconst_input.specs.Input.{Moves, most_bytes, IsReadToEnd, Takes, TakesFew}
 use Rattle.mirconst_input.specs.Refusals.{IsTooLong}
 
@@ -36,7 +35,7 @@ none_left bytes (Some all) (Some rest) moves none = rw none refl
 pub read_to_end : (bytes : List ℕ) (left left' : Option (List ℕ)) → Moves [] left bytes left' → IfSome left' (λ rest. rest ≡ []) →
     length bytes ≤ most_bytes → IsReadToEnd left left' bytes
 read_to_end bytes left left' moves none few =
-    record { told = all_moved bytes left left' moves none; ended = none_left bytes left left' moves none; few = few }
+    record { whole = all_moved bytes left left' moves none; ended = none_left bytes left left' moves none; few = few }
 
 -- the bytes that were read are the front of those that there were
 pub takes_few : (bytes : List ℕ) (left left' : Option (List ℕ)) → Moves [] left bytes left' → length bytes ≤ 67108865 → TakesFew left left'

@@ -1,5 +1,5 @@
--- The causes of the statuses, from those of the callees.
-use Rattle.std.proofs.Common.{◌≡◌, ℕ, ◌≤◌, List, Option, None, Some, Ok, inl, inr, subst, arith}
+-- The causes of the statuses with which a function ends a run, from those of the functions that it calls.
+use Rattle.std.proofs.Common.{◌≡◌, ℕ, ◌≤◌, List, None, Some, Ok, inl, inr, subst, arith}
 use Rattle.std.specs.Prelude.{IsUtf8, position}
 use Rattle.serde_json.specs.Data.{Data}
 use Rattle.serde_json.specs.Read.{read}
@@ -11,6 +11,7 @@ use Rattle.world_json.specs.Input.{world_of}
 use Rattle.mirconst_input.specs.Goals.{is_misfit}
 use Rattle.mirconst_input.specs.Input.{IsNoJson}
 use Rattle.mirconst_input.specs.Refusals.{IsOfRead, IsOfReading, IsOfInput, IsOfTree, IsOfCheck, IsOfGoal}
+use Rattle.mirconst_input.specs.Streams.{Streams}
 use Rattle.mirconst_input.specs.declared.status.Status.{Status}
 use Rattle.mirconst_input.specs.declared.status.Status.TheVariants.{Values, Errors, BadWords, NotJson, NotAWorld, BadWorld, TooLong, ReadFault, WriteFault, NoMemory}
 
@@ -19,19 +20,19 @@ since_before : (before between after : ℕ) → before ≤ between → HasCause 
 since_before before between after rising (inl rose) = inl (omega arith)
 since_before before between after rising (inr full) = inr full
 
--- the status of one read is that of reading the input
-pub read_refused : (left left' : Option (List ℕ)) (before between after : ℕ) (status : Status) → before ≤ between → IsOfRead between after status →
-    IsOfReading left left' before after status
-read_refused left left' before between after Values rising is = absurd is
-read_refused left left' before between after Errors rising is = absurd is
-read_refused left left' before between after BadWords rising is = absurd is
-read_refused left left' before between after NotJson rising is = absurd is
-read_refused left left' before between after (NotAWorld path) rising is = absurd is
-read_refused left left' before between after (BadWorld invalid) rising is = absurd is
-read_refused left left' before between after TooLong rising is = absurd is
-read_refused left left' before between after ReadFault rising is = since_before before between after rising is
-read_refused left left' before between after WriteFault rising is = absurd is
-read_refused left left' before between after NoMemory rising is = tt
+-- the status with which one read ends a run is one of reading the input
+pub read_refused : (before after : Streams) (between : ℕ) (status : Status) → before.failed_reads ≤ between → IsOfRead between after.failed_reads status →
+    IsOfReading before after status
+read_refused before after between Values rising is = absurd is
+read_refused before after between Errors rising is = absurd is
+read_refused before after between BadWords rising is = absurd is
+read_refused before after between NotJson rising is = absurd is
+read_refused before after between (NotAWorld path) rising is = absurd is
+read_refused before after between (BadWorld invalid) rising is = absurd is
+read_refused before after between TooLong rising is = absurd is
+read_refused before after between ReadFault rising is = since_before before.failed_reads between after.failed_reads rising is
+read_refused before after between WriteFault rising is = absurd is
+read_refused before after between NoMemory rising is = tt
 
 -- bytes that aren't parsed are no JSON
 pub no_json : (bytes : List ℕ) → (IsUtf8 bytes → read bytes ≡ None) → IsNoJson bytes
@@ -40,7 +41,7 @@ no_json bytes none tree is =
     let something : read bytes ≡ Some tree = is.json in
     absurd cc
 
--- the status of a JSON tree is that of the bytes
+-- the status with which a JSON tree ends a run is one of its bytes
 pub tree_refused : (bytes : List ℕ) (tree : Data) (status : Status) → IsUtf8 bytes → read bytes ≡ Some tree → IsOfTree tree status → IsOfInput bytes status
 tree_refused bytes tree Values utf8 json is = absurd is
 tree_refused bytes tree Errors utf8 json is = absurd is
@@ -53,7 +54,7 @@ tree_refused bytes tree ReadFault utf8 json is = absurd is
 tree_refused bytes tree WriteFault utf8 json is = absurd is
 tree_refused bytes tree NoMemory utf8 json is = tt
 
--- the status of a world that fails the check is that of the bytes
+-- the status with which a HIR database that fails its check ends a run is one of the bytes that it was read from
 pub check_refused : (bytes : List ℕ) (tree : Data) (world : HirDatabase) (goals : List Goal) (status : Status) → IsUtf8 bytes → read bytes ≡ Some tree →
     world_of tree ≡ Ok (world, goals) → IsOfCheck world status → IsOfInput bytes status
 check_refused bytes tree world goals Values utf8 json stands is = absurd is
@@ -68,7 +69,7 @@ check_refused bytes tree world goals ReadFault utf8 json stands is = absurd is
 check_refused bytes tree world goals WriteFault utf8 json stands is = absurd is
 check_refused bytes tree world goals NoMemory utf8 json stands is = tt
 
--- the status of a wrong goal is that of the bytes
+-- the status for a goal that doesn't fit the HIR database is one of the bytes that both were read from
 pub goal_refused : (bytes : List ℕ) (tree : Data) (passed world : HirDatabase) (goals : List Goal) (place : ℕ) (status : Status) → IsUtf8 bytes → read bytes ≡ Some tree →
     world_of tree ≡ Ok (world, goals) → passed ≡ world → first_failure world ≡ None → position (is_misfit passed) goals ≡ Some place → IsOfGoal place status →
     IsOfInput bytes status

@@ -1,10 +1,11 @@
--- Exit codes and the lines that are printed for statuses.
+-- The exit codes of the program for the ways in which a run ends, and the lines that it prints for them.
 use Rattle.std.specs.Prelude.{ℕ, List, [], ◌++◌, codes}
 use Rattle.mirconst_input.specs.declared.status.Status.{Status}
 use Rattle.mirconst_input.specs.declared.status.Status.TheVariants.{Values, Errors, BadWords, NotJson, NotAWorld, BadWorld, TooLong, ReadFault, WriteFault, NoMemory}
 use Rattle.world_check.specs.declared.fault.CheckRow.{CheckRow}
 use Rattle.world_check.specs.declared.fault.CheckRow.TheVariants.{C1, C2, C3, C4, C5, C6, C7}
 
+-- the exit code of the program
 abbrev pub code_of : Status → ℕ
 code_of Values = 0
 code_of Errors = 1
@@ -17,6 +18,7 @@ code_of ReadFault = 7
 code_of WriteFault = 8
 code_of NoMemory = 9
 
+-- the name of a condition in the check of a HIR database
 abbrev pub row_text : CheckRow → List ℕ
 row_text C1 = codes "C1"
 row_text C2 = codes "C2"
@@ -26,7 +28,7 @@ row_text C5 = codes "C5"
 row_text C6 = codes "C6"
 row_text C7 = codes "C7"
 
--- the line that is printed for a status; empty if all goals were answered
+-- the line that the program prints for the way in which a run ends; empty if the results of all goals were written
 abbrev pub line_of : Status → List ℕ
 line_of Values = []
 line_of Errors = []

@@ -1,4 +1,4 @@
-//! The checked world and the goals in the bytes of the input.
+//! The checked HIR database and the goals in the bytes of the input.
 
 ghost use Rattle.std.specs.Prelude.{◌≡◌, IfOk, IfErr, OnOk, IsUtf8, position};
 ghost use Rattle.serde_json.specs.Read.{read};
@@ -23,32 +23,28 @@ fn tree(alloc: Global, bytes: &[u8]) -> Result<Value, Status>
     ensures json { IfOk result (λ tree. read bytes.now ≡ Some (view tree)) }
     ensures refused { IfErr result (λ status. IsOfInput bytes.now status) }
 {
-    match Value::from_slice(alloc, bytes) {
-        Ok(tree) => Ok(tree),
-        Err(e) => {
-            if e.is_memory() {
-                Err(Status::NoMemory)
-            } else {
-                Err(Status::NotJson)
-            }
+    Value::from_slice(alloc, bytes).map_err(|e| {
+        if e.is_memory() {
+            Status::NoMemory
+        } else {
+            Status::NotJson
         }
-    }
+    })
 }
 
-/// Reads the world and the goals from a JSON tree, and drops the tree: it takes much more memory than the
-/// world, which the check then has for itself.
+/// Reads the HIR database and the goals from a JSON tree, and drops the tree: it takes much more memory than
+/// the database, which the check then has for itself.
 fn world_and_goals(alloc: Global, tree: Value) -> Result<(HirDatabase, List<Goal>), Status>
     ensures stands { IfOk result (λ input. world_of (view tree) ≡ Ok input) }
     ensures refused { IfErr result (λ status. IsOfTree (view tree) status) }
 {
-    match read_world(alloc, &tree) {
-        Ok(input) => Ok(input),
-        Err(NotAWorld::At(path)) => Err(Status::NotAWorld(path)),
-        Err(NotAWorld::NoMemory) => Err(Status::NoMemory),
-    }
+    read_world(alloc, &tree).map_err(|fault| match fault {
+        NotAWorld::At(path) => Status::NotAWorld(path),
+        NotAWorld::NoMemory => Status::NoMemory,
+    })
 }
 
-/// Checks a world.
+/// Checks the conditions on a HIR database.
 fn checked(alloc: Global, db: HirDatabase) -> Result<CheckedWorld, Status>
     ensures same { IfOk result (λ world. world ≡ db) }
     ensures passes { OnOk result (first_failure db ≡ None) }
@@ -60,7 +56,7 @@ fn checked(alloc: Global, db: HirDatabase) -> Result<CheckedWorld, Status>
     }
 }
 
-/// The status of a world that fails the check.
+/// The status of a HIR database that fails the check of its conditions.
 fn refused(fault: CheckFault) -> Status
     ensures { IsOfFault fault result }
 {
@@ -70,13 +66,14 @@ fn refused(fault: CheckFault) -> Status
     }
 }
 
+/// Whether a definition is a variant of an enum, which can't be a goal.
 fn is_variant(def: DefWithBodyId) -> bool
     ensures { result ≡ is_variant def }
 {
     matches!(def, DefWithBodyId::VariantId(_))
 }
 
-/// Whether optional limits are none, or at most the greatest ones.
+/// Whether a goal's limits are left out, or at most the greatest ones that are allowed.
 fn are_within(limits: Option<Limits>) -> bool
     ensures { result ≡ are_within limits }
 {
@@ -86,8 +83,8 @@ fn are_within(limits: Option<Limits>) -> bool
     }
 }
 
-/// Whether a goal is wrong: its definition is a variant or out of range, an id in its generic arguments is
-/// out of range, or its limits are too great.
+/// Whether a goal doesn't fit the HIR database: its definition is a variant of an enum or out of range, an id in
+/// its generic arguments is out of range, or its limits are too great.
 fn is_misfit(world: &CheckedWorld, goal: &Goal) -> bool
     ensures { result ≡ is_misfit world.now goal.now }
 {
@@ -97,25 +94,22 @@ fn is_misfit(world: &CheckedWorld, goal: &Goal) -> bool
         || !are_within(goal.limits)
 }
 
-/// The index of the first wrong goal.
+/// The index of the first goal that doesn't fit the HIR database.
 fn first_misfit(world: &CheckedWorld, goals: &[Goal]) -> Option<usize>
     ensures { result ≡ position (is_misfit world.now) goals.now }
 {
     goals.iter().position(|goal| is_misfit(world, goal))
 }
 
-/// The index of the first wrong goal: its definition is a variant or out of range, an id in its generic
-/// arguments is out of range, or its limits are too great.
+/// The index of the first goal that doesn't fit the HIR database: its definition is a variant of an enum or out
+/// of range, an id in its generic arguments is out of range, or its limits are too great.
 pub fn goals_fit(world: &CheckedWorld, goals: &List<Goal>) -> Option<u64>
     ensures { result ≡ position (is_misfit world.now) goals.now }
 {
-    match first_misfit(world, goals.as_slice()) {
-        Some(i) => Some(i as u64),
-        None => None,
-    }
+    first_misfit(world, goals.as_slice()).map(|i| i as u64)
 }
 
-/// The status of an input with a wrong goal.
+/// The status of an input with a goal that doesn't fit its HIR database.
 fn misfit(alloc: Global, i: u64) -> Status
     ensures { IsOfGoal i result }
 {
@@ -125,7 +119,7 @@ fn misfit(alloc: Global, i: u64) -> Status
     }
 }
 
-/// The path of a goal in the input, as `goals[3]`.
+/// The path of a goal in the JSON of the input, as `goals[3]`.
 fn misfit_path(alloc: Global, i: u64) -> Result<Text, NoMemory>
     ensures { IfOk result (λ path. path ≡ goal_path i) }
 {
@@ -133,7 +127,8 @@ fn misfit_path(alloc: Global, i: u64) -> Result<Text, NoMemory>
     Text::from_str(alloc, path.as_str())
 }
 
-/// The world and the goals in the bytes of the input, if the world passes the check and no goal is wrong.
+/// The HIR database and the goals in the bytes of the input, if the database passes the check of its
+/// conditions and each goal fits it.
 #[tactic(auto, using(crate::proofs::Standing::stands_for, crate::proofs::Refusing::tree_refused, crate::proofs::Refusing::check_refused, crate::proofs::Refusing::goal_refused))]
 pub fn checked_input(alloc: Global, bytes: &[u8]) -> Result<(CheckedWorld, List<Goal>), Status>
     ensures stands { IfOk result (λ input. StandsFor bytes.now input.0 input.1) }

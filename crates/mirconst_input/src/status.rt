@@ -1,26 +1,28 @@
-//! The ways in which a run ends.
+//! The ways in which a run of the program ends.
 
 ghost use Rattle.std.specs.Prelude.{◌≡◌, Some};
 ghost use Rattle.mirconst_input.specs.Statuses.{row_text};
 
+use std::alloc::AllocError;
 use std::fmt;
-use world::Text;
+use world::{NoMemory, Text};
 use world_check::{CheckRow, InvalidWorld};
 
-/// How a run ends.
+/// How a run of the program ends.
 #[derive(PartialEq, Eq, Debug, Drop)]
 pub enum Status {
-    /// Every goal has a value.
+    /// Every goal, a definition to be evaluated as a constant, has a value.
     Values,
-    /// Some goal has no value.
+    /// Some goal has an error in place of a value.
     Errors,
-    /// The command line is no command.
+    /// The arguments of the program are no command.
     BadWords,
     /// The input is not JSON.
     NotJson,
-    /// The input is JSON, but no world with goals in it; with the path of the first part that doesn't fit.
+    /// The input is JSON, but no HIR database with goals that fit it; with the path of the first part that is
+    /// wrong.
     NotAWorld(Text),
-    /// The world fails the check.
+    /// The HIR database of the input fails the check of its conditions; with the first one and its place.
     BadWorld(InvalidWorld),
     /// The input is too long.
     TooLong,
@@ -32,7 +34,7 @@ pub enum Status {
     NoMemory,
 }
 
-/// The name of a row of the check.
+/// The name of a condition in the check of a HIR database.
 fn row_text(row: CheckRow) -> &'static str
     ensures { result.now ≡ row_text row }
 {
@@ -50,7 +52,7 @@ fn row_text(row: CheckRow) -> &'static str
 impl Status {
     ghost use Rattle.mirconst_input.specs.Statuses.{code_of, line_of};
 
-    /// The exit code.
+    /// The exit code of the program.
     pub fn code(&self) -> u8
         ensures { result ≡ code_of self.now }
     {
@@ -69,7 +71,28 @@ impl Status {
     }
 }
 
-/// The line that is printed for a status; empty if all goals were answered.
+impl From<NoMemory> for Status {
+    ghost use Rattle.mirconst_input.specs.declared.status.Status.TheVariants as status;
+
+    ghost from_gives = { λ _ error. error ≡ status.NoMemory };
+
+    fn from(_error: NoMemory) -> Status {
+        Status::NoMemory
+    }
+}
+
+impl From<AllocError> for Status {
+    ghost use Rattle.mirconst_input.specs.declared.status.Status.TheVariants as status;
+
+    ghost from_gives = { λ _ error. error ≡ status.NoMemory };
+
+    fn from(_error: AllocError) -> Status {
+        Status::NoMemory
+    }
+}
+
+/// The line that the program prints for the way in which a run ends; empty if the results of all goals were
+/// written.
 impl fmt::Display for Status {
     ghost use Rattle.mirconst_input.specs.Statuses.{line_of};
 

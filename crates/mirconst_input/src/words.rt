@@ -3,7 +3,7 @@
 ghost use Rattle.std.specs.Prelude.{◌≡◌};
 ghost use Rattle.mirconst_input.specs.Words.{is_command};
 
-/// Whether the words are a command: none, or `eval` alone.
+/// Whether the arguments of the program are a command to evaluate the input: none, or `eval` alone.
 pub fn is_command(words: &Vec<String>) -> bool
     ensures { result ≡ is_command words.now.items }
 {

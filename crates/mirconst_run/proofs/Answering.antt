@@ -1,4 +1,4 @@
--- Answers to goals, one after another.
+-- The outcomes of evaluating goals, one after another.
 use Rattle.std.proofs.Common.{◌≡◌, ◌∙◌, ℕ, zero, suc, cond, ◌+◌, ◌<◌, ◌≤◌, List, [], ◌∷◌, ◌++◌, length, get_or, take, refl, sym, subst, arith}
 use Rattle.std.proofs.lemmas.Bool.Decides.{nat_tests}
 use Rattle.std.proofs.lemmas.Iterator.Adapters.{position_from-zero}
@@ -15,7 +15,7 @@ use Rattle.check_names.specs.Known.{are_args_known, is_def_known}
 use Rattle.std.specs.Prelude.{Bool, true, false, Some, None, not, ◌&&◌, ◌||◌, ◌^◌, nat_le, position}
 use Rattle.world.specs.declared.database.HirDatabase.{HirDatabase}
 
--- answers to goals, followed by the answer to one more
+-- the outcomes of evaluating goals, followed by the outcome of evaluating one more
 last_too : (before between after : Kept) (goals : List Goal) (answers : List Evaluated) (goal : Goal) (answer : Evaluated) →
     AreAnswers before goals answers between → IsGoalAnswer between after goal answer → AreAnswers before (goals ++ goal ∷ []) (answers ++ answer ∷ []) after
 last_too before between after [] [] goal answer same one =
@@ -32,12 +32,12 @@ one_more before between after goals answers answers' i d answer within more firs
     let whole = last_too before between after (take i goals) answers (get_or goals i d) answer firsts one in
     rw (take_more goals i d within, more) whole
 
--- the answers of evaluations that have kept nothing yet
+-- the outcomes of evaluations of which the first began with no lowered body and no value kept
 pub from_nothing : (world : HirDatabase) (before after : Kept) (goals : List Goal) (answers : List Evaluated) → before ≡ nothing_kept world →
     AreAnswers before goals answers after → (after : Kept) × AreAnswers (nothing_kept world) goals answers after
 from_nothing world before after goals answers same are = (after, subst (λ (kept : Kept). AreAnswers kept goals answers after) same are)
 
--- an answer under the goal's limits answers the goal
+-- the outcome of evaluating the definition of a goal under the goal's limits is the outcome of the goal
 pub goal_answer : (before after : Kept) (goal : Goal) (limits : Limits) (answer : Evaluated) → limits ≡ limits_of goal →
     IsAnswer before after goal.def goal.args limits answer → is_want_of_memory answer.result ≡ false → IsGoalAnswer before after goal answer
 goal_answer before after goal limits answer same answers in_memory = record {

@@ -1,4 +1,4 @@
--- The report, one outcome after another.
+-- The text of the report, one evaluation after another.
 use Rattle.std.proofs.Common.{◌≡◌, ℕ, suc, ◌+◌, ◌<◌, ◌≤◌, List, [], ◌∷◌, ◌++◌, length, get_or, drop, refl, sym, ap, ◌∙◌, append_assoc, drop-cons, length-drop, arith}
 use Rattle.std.proofs.lemmas.List.{append-nil, nil_from_length}
 use Rattle.consteval.specs.declared.evaluated.Evaluated.{Evaluated}
@@ -6,7 +6,7 @@ use Rattle.mirconst_run.specs.Report.{report_from}
 use Rattle.report_text.specs.Goals.{goal_text}
 use Rattle.world.specs.declared.database.HirDatabase.{HirDatabase}
 
--- the lines of an outcome
+-- the lines for the outcome of the evaluation of goal `number`
 abbrev pub lines : HirDatabase → ℕ → Evaluated → List ℕ
 lines world number outcome = goal_text world number outcome.result outcome.output outcome.turns
 

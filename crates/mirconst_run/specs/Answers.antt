@@ -1,25 +1,25 @@
--- The answers to the goals.
-use Rattle.std.specs.Prelude.{◌≡◌, ◌≤◌, ℕ, Bool, true, false, List, [], ◌∷◌, Result, Ok, Err, Option, Some, None, not, ◌||◌, Contains, IfErr, IsOk, is_ok, unwrap_or}
+-- The outcomes of the evaluations of goals. A goal is a definition whose body is to be evaluated as a constant, with generic
+-- arguments and with limits on the evaluation.
+use Rattle.std.specs.Prelude.{◌≡◌, ◌≤◌, ℕ, Bool, true, false, List, [], ◌∷◌, Result, Ok, Err, Some, Contains, IfErr, IsOk, is_ok, unwrap_or}
 use Rattle.mir.specs.declared.errors.ConstEvalError.{ConstEvalError}
 use Rattle.mir.specs.declared.errors.ConstEvalError.TheVariants as constant
 use Rattle.mir.specs.declared.errors.MirEvalError.{MirEvalError}
-use Rattle.world.specs.Limits.{default_limits, is_within}
+use Rattle.world.specs.Limits.{default_limits}
 use Rattle.world.specs.declared.limits.Limits.{Limits}
 use Rattle.source_meaning.specs.Valid.{HasDefinedCost}
 use Rattle.consteval.specs.Kept.{Kept, IsSound, Stays, Value, source_of}
 use Rattle.consteval.specs.Valid.{IsValid}
-use Rattle.consteval.specs.Answers.{GivesValue, CountsBlocks, GivesPanic, AnswersWithin, EndsIn, HasCause, panic_word}
+use Rattle.consteval.specs.Answers.{GivesValue, CountsBlocks, GivesPanic, AnswersWithin, AnswersEndless, HasNoEnd, EndsIn, HasCause, panic_word}
 use Rattle.consteval.specs.declared.evaluated.Evaluated.{Evaluated}
 use Rattle.world.specs.declared.database.BodyRow.{BodyRow}
 use Rattle.world.specs.declared.database.HirDatabase.{HirDatabase}
 use Rattle.types.specs.declared.ids.DefWithBodyId.{DefWithBodyId}
-use Rattle.types.specs.declared.ids.DefWithBodyId.TheVariants.{VariantId}
 use Rattle.types.specs.declared.ty.Const.{Const}
 use Rattle.types.specs.declared.ty.GenericArgs.{GenericArgs}
 use Rattle.world_json.specs.declared.goal.Goal.{Goal}
-use Rattle.check_names.specs.Known.{are_args_known, is_def_known}
 
--- the answer to a definition under limits, with the bodies and values that are kept before and after it
+-- the outcome of evaluating a definition under limits, with the lowered bodies and the values that are kept, for later evaluations to
+-- take over, before and after it
 pub record IsAnswer (before after : Kept) (def : DefWithBodyId) (args : GenericArgs) (limits : Limits) (answer : Evaluated) : Type 0 where
   pub printed : answer.output ≡ ([], [])
   pub value : (row : BodyRow) (konst : Const) → IsValid before.world def args row → answer.result ≡ Ok konst →
@@ -31,29 +31,32 @@ pub record IsAnswer (before after : Kept) (def : DefWithBodyId) (args : GenericA
   pub closed : (row : BodyRow) → IsValid before.world def args row → IfErr answer.result (EndsIn (source_of before.world row) limits)
   pub complete : (row : BodyRow) → IsValid before.world def args row → HasDefinedCost (source_of before.world row) →
       AnswersWithin (source_of before.world row) limits answer.result
+  pub endless : (row : BodyRow) → IsValid before.world def args row → HasNoEnd (source_of before.world row) →
+      AnswersEndless (source_of before.world row) limits answer.result
   pub cause : HasCause after def args limits answer.turns answer.result
   pub turns : answer.turns ≤ limits.blocks
   pub stays : Stays before after
   pub kept : IsOk answer.result → (konst : Const) × Contains after.entries (Value def konst)
   pub sound : IsSound after
 
--- an answer is the error for want of memory
+-- whether an evaluation ended since memory ran out
 abbrev pub is_want_of_memory : Result Const ConstEvalError → Bool
 is_want_of_memory (Ok konst) = false
 is_want_of_memory (Err constant.NoMemory) = true
 is_want_of_memory (Err (constant.MirLowerError error)) = false
 is_want_of_memory (Err (constant.MirEvalError error)) = false
 
--- the limits of a goal, or the default ones if it has none
+-- the limits on the evaluation of a goal, or the default ones where it has none
 abbrev pub limits_of : Goal → Limits
 limits_of goal = unwrap_or goal.limits default_limits
 
--- the answer to a goal under its limits, if memory did not run out
+-- the outcome of evaluating a goal under its limits, where memory did not run out
 pub record IsGoalAnswer (before after : Kept) (goal : Goal) (answer : Evaluated) : Type 0 where
   pub answers : IsAnswer before after goal.def goal.args (limits_of goal) answer
   pub in_memory : is_want_of_memory answer.result ≡ false
 
--- the answers to goals in order; each evaluation begins with the bodies and values that the one before has kept
+-- the outcomes of evaluating goals in order; each evaluation begins with the lowered bodies and the values that are kept after the one
+-- before
 abbrev pub AreAnswers : Kept → List Goal → List Evaluated → Kept → Type 0
 AreAnswers before [] [] after = before ≡ after
 AreAnswers before [] (answer ∷ answers) after = ⊥
@@ -61,9 +64,10 @@ AreAnswers before (goal ∷ goals) [] after = ⊥
 AreAnswers before (goal ∷ goals) (answer ∷ answers) after =
     (between : Kept) × IsGoalAnswer before between goal answer × AreAnswers between goals answers after
 
--- no body and no value is kept yet
+-- a HIR database of which no lowered body and no value is kept yet
 abbrev pub nothing_kept : HirDatabase → Kept
 nothing_kept world = record { world = world; entries = [] }
 
+-- whether an evaluation gave a value
 abbrev pub has_value : Evaluated → Bool
 has_value answer = is_ok answer.result

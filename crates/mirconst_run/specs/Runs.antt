@@ -1,4 +1,4 @@
--- What a run has read and written, by its status.
+-- What a run of the program has read and written, by the status that it ends with.
 use Rattle.std.specs.Prelude.{◌≡◌, ℕ, ◌<◌, Bool, true, false, List, ◌++◌, length, take, drop, String, Option, ◌⊎◌, option_map, IfSome}
 use Rattle.std.specs.List.{list_all}
 use Rattle.std.specs.declared.alloc.Global.{Global}
@@ -13,16 +13,18 @@ use Rattle.mirconst_input.specs.declared.status.Status.TheVariants.{Values, Erro
 use Rattle.mirconst_run.specs.Answers.{AreAnswers, has_value, nothing_kept}
 use Rattle.mirconst_input.specs.Input.{most_bytes, IsReadToEnd, StandsFor, IsNoJson, HasMisfit, HasMisfitGoal, HasFailure}
 use Rattle.mirconst_run.specs.Report.{report_text}
+use Rattle.mirconst_input.specs.Streams.{Streams}
 use Rattle.mirconst_input.specs.Words.{is_command}
 
--- the outcomes of the goals in these bytes, and their world
+-- The bytes of the input are the JSON of this HIR database and of goals, which are definitions to be evaluated as constants; these
+-- are the outcomes of the evaluations, in the order of the goals.
 pub record AreOutcomes (bytes : List ℕ) (world : HirDatabase) (outcomes : List Evaluated) : Type 0 where
   pub goals : List Goal
   pub input : StandsFor bytes world goals
   pub after : Kept
   pub answers : AreAnswers (nothing_kept world) goals outcomes after
 
--- a text is the report of the goals in these bytes; `all` says whether each goal has a value
+-- a text is the report on the goals in these bytes of the input; `all` says whether the evaluation of each goal gave a value
 pub record IsReportOf (bytes text : List ℕ) (all : Bool) : Type 0 where
   pub world : HirDatabase
   pub outcomes : List Evaluated
@@ -30,100 +32,95 @@ pub record IsReportOf (bytes text : List ℕ) (all : Bool) : Type 0 where
   pub valued : list_all has_value outcomes ≡ all
   pub reported : text ≡ report_text world outcomes
 
--- the report of the goals in these bytes was written after the bytes that were there before
+-- the report on the goals in these bytes of the input was written after what was written before
 pub record IsReported (bytes : List ℕ) (all : Bool) (written written' : Option (List ℕ)) : Type 0 where
   pub text : List ℕ
   pub is_report : IsReportOf bytes text all
-  pub appended : written' ≡ option_map (λ before. before ++ text) written
+  pub appended : written' ≡ option_map (λ earlier. earlier ++ text) written
 
--- a run whose goals were answered: the input was read to its end, and the report was written
-pub record IsAnswered (left left' written written' : Option (List ℕ)) (all : Bool) : Type 0 where
+-- The goals of a run were evaluated: its input was read to the end, and the report on them was written. `all` says whether the
+-- evaluation of each goal gave a value.
+pub record IsAnswered (before after : Streams) (all : Bool) : Type 0 where
   pub bytes : List ℕ
-  pub read : IsReadToEnd left left' bytes
-  pub reported : IsReported bytes all written written'
+  pub read : IsReadToEnd before.left after.left bytes
+  pub reported : IsReported bytes all before.written after.written
 
--- some bytes from the front of a text were written after the bytes that were there before
+-- some bytes from the front of a text were written after what was written before
 pub record IsBegun (text : List ℕ) (written written' : Option (List ℕ)) : Type 0 where
   pub count : ℕ
-  pub appended : written' ≡ option_map (λ before. before ++ take count text) written
+  pub appended : written' ≡ option_map (λ earlier. earlier ++ take count text) written
 
--- some bytes from the front of the report of the goals in these bytes were written
+-- some bytes from the front of the report on the goals in these bytes of the input were written
 pub record IsReportBegun (bytes : List ℕ) (written written' : Option (List ℕ)) : Type 0 where
   pub text : List ℕ
   pub all : Bool
   pub is_report : IsReportOf bytes text all
   pub begun : IsBegun text written written'
 
--- a run whose command line is no command
-pub record StopsAtWords (words : List (String Global)) (left left' written written' : Option (List ℕ)) : Type 0 where
+-- a run ended since the arguments of the program are no command: nothing was read or written
+pub record StopsAtWords (words : List (String Global)) (before after : Streams) : Type 0 where
   pub no_command : is_command words ≡ false
-  pub nothing_read : left' ≡ left
-  pub nothing_written : written' ≡ written
+  pub nothing_read : after.left ≡ before.left
+  pub nothing_written : after.written ≡ before.written
 
--- a run whose input is not JSON
-pub record StopsAtJson (left left' written written' : Option (List ℕ)) : Type 0 where
+-- a run ended since its input is not JSON
+pub record StopsAtJson (before after : Streams) : Type 0 where
   pub bytes : List ℕ
-  pub read : IsReadToEnd left left' bytes
+  pub read : IsReadToEnd before.left after.left bytes
   pub no_json : IsNoJson bytes
-  pub nothing_written : written' ≡ written
+  pub nothing_written : after.written ≡ before.written
 
--- a run whose input is JSON, but no world with goals in it; the path is that of the first part that doesn't fit
-pub record StopsAtWorld (path : List ℕ) (left left' written written' : Option (List ℕ)) : Type 0 where
+-- a run ended since its input is JSON, but no HIR database with goals that fit it; the path is that of the first part that is wrong
+pub record StopsAtWorld (path : List ℕ) (before after : Streams) : Type 0 where
   pub bytes : List ℕ
-  pub read : IsReadToEnd left left' bytes
+  pub read : IsReadToEnd before.left after.left bytes
   pub misfit : HasMisfit bytes path ⊎ HasMisfitGoal bytes path
-  pub nothing_written : written' ≡ written
+  pub nothing_written : after.written ≡ before.written
 
--- a run whose input has a world that fails the check
-pub record StopsAtCheck (invalid : InvalidWorld) (left left' written written' : Option (List ℕ)) : Type 0 where
+-- a run ended since the HIR database of its input fails the check of its conditions
+pub record StopsAtCheck (invalid : InvalidWorld) (before after : Streams) : Type 0 where
   pub bytes : List ℕ
-  pub read : IsReadToEnd left left' bytes
+  pub read : IsReadToEnd before.left after.left bytes
   pub fails : HasFailure bytes invalid
-  pub nothing_written : written' ≡ written
+  pub nothing_written : after.written ≡ before.written
 
--- a run whose input is too long: one byte above the greatest length was taken
-pub record StopsAtLength (left left' written written' : Option (List ℕ)) : Type 0 where
-  pub longer : IfSome left (λ bytes. most_bytes < length bytes)
-  pub taken : left' ≡ option_map (drop 67108865) left
-  pub nothing_written : written' ≡ written
+-- a run ended since its input is longer than the greatest length: one byte more than that was read
+pub record StopsAtLength (before after : Streams) : Type 0 where
+  pub longer : IfSome before.left (λ bytes. most_bytes < length bytes)
+  pub taken : after.left ≡ option_map (drop 67108865) before.left
+  pub nothing_written : after.written ≡ before.written
 
--- a run where a read failed
-pub record StopsAtRead (faults faults' : ℕ) (written written' : Option (List ℕ)) : Type 0 where
-  pub cause : HasCause faults faults'
-  pub nothing_written : written' ≡ written
+-- a run ended since a read of its input failed
+pub record StopsAtRead (before after : Streams) : Type 0 where
+  pub cause : HasCause before.failed_reads after.failed_reads
+  pub nothing_written : after.written ≡ before.written
 
--- a run where a write failed
-pub record StopsAtWrite (left left' written written' : Option (List ℕ)) (faults faults' : ℕ) : Type 0 where
+-- a run ended since a write of its report failed
+pub record StopsAtWrite (before after : Streams) : Type 0 where
   pub bytes : List ℕ
-  pub read : IsReadToEnd left left' bytes
-  pub cause : HasCause faults faults'
-  pub begun : IsReportBegun bytes written written'
+  pub read : IsReadToEnd before.left after.left bytes
+  pub cause : HasCause before.failed_writes after.failed_writes
+  pub begun : IsReportBegun bytes before.written after.written
 
--- a run that ran out of memory
-pub record StopsForMemory (written written' : Option (List ℕ)) : Type 0 where
-  pub nothing_written : written' ≡ written
+-- a run ended since memory ran out
+pub record StopsForMemory (before after : Streams) : Type 0 where
+  pub nothing_written : after.written ≡ before.written
 
--- The meaning of a status of a run for a command that ended without a report.
-abbrev pub Stops : Option (List ℕ) → Option (List ℕ) → ℕ → ℕ → Option (List ℕ) → Option (List ℕ) → ℕ → ℕ → Status → Type 0
-Stops left left' source_faults source_faults' written written' sink_faults sink_faults' NotJson = StopsAtJson left left' written written'
-Stops left left' source_faults source_faults' written written' sink_faults sink_faults' (NotAWorld path) =
-    StopsAtWorld path left left' written written'
-Stops left left' source_faults source_faults' written written' sink_faults sink_faults' (BadWorld invalid) =
-    StopsAtCheck invalid left left' written written'
-Stops left left' source_faults source_faults' written written' sink_faults sink_faults' TooLong = StopsAtLength left left' written written'
-Stops left left' source_faults source_faults' written written' sink_faults sink_faults' ReadFault =
-    StopsAtRead source_faults source_faults' written written'
-Stops left left' source_faults source_faults' written written' sink_faults sink_faults' WriteFault =
-    StopsAtWrite left left' written written' sink_faults sink_faults'
-Stops left left' source_faults source_faults' written written' sink_faults sink_faults' NoMemory = StopsForMemory written written'
-Stops left left' source_faults source_faults' written written' sink_faults sink_faults' status = ⊥
+-- what the status says of a run that had a command and ended before the report was written, from its source and sink before and
+-- after it
+abbrev pub Stops : Streams → Streams → Status → Type 0
+Stops before after NotJson = StopsAtJson before after
+Stops before after (NotAWorld path) = StopsAtWorld path before after
+Stops before after (BadWorld invalid) = StopsAtCheck invalid before after
+Stops before after TooLong = StopsAtLength before after
+Stops before after ReadFault = StopsAtRead before after
+Stops before after WriteFault = StopsAtWrite before after
+Stops before after NoMemory = StopsForMemory before after
+Stops before after status = ⊥
 
--- The meaning of a status of a run. The arguments are its command line; then, before and after the run, the bytes that are left to read, the count of
--- failed reads, the bytes that are written, and the count of failed writes.
-abbrev pub Means : List (String Global) → Option (List ℕ) → Option (List ℕ) → ℕ → ℕ → Option (List ℕ) → Option (List ℕ) → ℕ → ℕ → Status → Type 0
-Means words left left' source_faults source_faults' written written' sink_faults sink_faults' Values = IsAnswered left left' written written' true
-Means words left left' source_faults source_faults' written written' sink_faults sink_faults' Errors = IsAnswered left left' written written' false
-Means words left left' source_faults source_faults' written written' sink_faults sink_faults' BadWords =
-    StopsAtWords words left left' written written'
-Means words left left' source_faults source_faults' written written' sink_faults sink_faults' status =
-    Stops left left' source_faults source_faults' written written' sink_faults sink_faults' status
+-- what the status says of a run, from the arguments of the program and its source and sink before and after the run
+abbrev pub Means : List (String Global) → Streams → Streams → Status → Type 0
+Means words before after Values = IsAnswered before after true
+Means words before after Errors = IsAnswered before after false
+Means words before after BadWords = StopsAtWords words before after
+Means words before after status = Stops before after status

@@ -1,4 +1,4 @@
-//! Evaluates the goals in their order.
+//! Evaluates goals, which are definitions to be evaluated as constants, in their order.
 
 ghost use Rattle.std.specs.Prelude.{◌≡◌, true, false, None, IfOk, IfErr, OnOk, position};
 ghost use Rattle.std.specs.List.{list_all};
@@ -15,7 +15,7 @@ use world::{Const, Limits, List, NoMemory};
 use world_check::CheckedWorld;
 use world_json::Goal;
 
-/// Whether an answer is the error for want of memory.
+/// Whether an evaluation ended since memory ran out.
 fn is_want_of_memory(answer: &Result<Const, ConstEvalError>) -> bool
     ensures { result ≡ is_want_of_memory answer.now }
 {
@@ -27,7 +27,7 @@ fn is_want_of_memory(answer: &Result<Const, ConstEvalError>) -> bool
     }
 }
 
-/// The limits of a goal, or the default ones if it has none.
+/// The limits on the evaluation of a goal, or the default ones where it has none.
 #[tactic(auto, using(crate::proofs::Answering::within))]
 fn limits_of(goal: &Goal) -> Limits
     requires { are_within goal.now.limits ≡ true }
@@ -40,7 +40,7 @@ fn limits_of(goal: &Goal) -> Limits
     }
 }
 
-/// Evaluates a goal.
+/// Evaluates the definition of a goal under its limits.
 fn answer(evaluations: &mut Evaluations, goal: &Goal) -> Result<Evaluated, NoMemory>
     requires { are_within goal.now.limits ≡ true }
     ensures { IfOk result (λ outcome. IsGoalAnswer evaluations.old evaluations.new goal.now outcome) }
@@ -53,7 +53,8 @@ fn answer(evaluations: &mut Evaluations, goal: &Goal) -> Result<Evaluated, NoMem
     Ok(outcome)
 }
 
-/// Evaluates goals in order.
+/// Evaluates goals in order; each evaluation takes over the lowered bodies and the values that those before it
+/// have kept.
 fn answer_all(
     alloc: Global,
     evaluations: &mut Evaluations,
@@ -70,7 +71,7 @@ fn answer_all(
     Ok(outcomes)
 }
 
-/// Evaluates the goals of a world in order, with nothing kept before the first.
+/// Evaluates goals in a HIR database in order, with no lowered body and no value kept before the first.
 #[tactic(auto, using(crate::proofs::Answering::from_nothing))]
 pub(crate) fn answers(
     alloc: Global,
@@ -84,7 +85,7 @@ pub(crate) fn answers(
     answer_all(alloc, &mut evaluations, goals.as_slice())
 }
 
-/// Whether each outcome has a value.
+/// Whether each of the evaluations gave a value.
 pub(crate) fn all_have_values(outcomes: &[Evaluated]) -> bool
     ensures { result ≡ list_all has_value outcomes.now }
 {

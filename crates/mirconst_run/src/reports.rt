@@ -1,4 +1,4 @@
-//! The report.
+//! The text of the report on the evaluations of goals.
 
 ghost use Rattle.std.specs.Prelude.{◌≡◌, ◌++◌, IfOk, OnOk};
 ghost use Rattle.mirconst_run.specs.Report.{report_text};
@@ -9,7 +9,7 @@ use report_text::goal_text;
 use std::alloc::Global;
 use world::{Bytes, HirDatabase, List, NoMemory};
 
-/// Adds the lines of one outcome.
+/// Adds the lines for the outcome of one evaluation at the end of a text.
 fn push_goal(
     alloc: Global,
     db: &HirDatabase,
@@ -31,7 +31,7 @@ fn push_goal(
     Ok(())
 }
 
-/// The lines of all outcomes.
+/// The lines for the outcomes of all evaluations.
 #[tactic(auto, using(crate::proofs::Reporting::one_more, crate::proofs::Reporting::all_done))]
 fn report_of(alloc: Global, db: &HirDatabase, outcomes: &[Evaluated]) -> Result<Bytes, NoMemory>
     ensures { IfOk result (λ text. text ≡ report_text db.now outcomes.now) }
@@ -43,7 +43,8 @@ fn report_of(alloc: Global, db: &HirDatabase, outcomes: &[Evaluated]) -> Result<
     Ok(Bytes::from_vec(out))
 }
 
-/// The report of the outcomes of goals, in their order, with the names of the world.
+/// The report on the outcomes of evaluating goals, in their order, with the names that the HIR database gives to
+/// items.
 pub fn report(
     alloc: Global,
     db: &HirDatabase,

@@ -1,4 +1,4 @@
--- The texts of types, generic arguments and constants, from those of their parts.
+-- The texts of types, generic arguments and constants, from the texts of their parts.
 use Rattle.std.proofs.Common.{◌≡◌, ◌∙◌, List, map, ap, rules}
 use Rattle.std.specs.Prelude.{codes}
 use Rattle.std.proofs.lemmas.Simd.{map-map}
@@ -21,53 +21,53 @@ use Rattle.world.specs.declared.database.HirDatabase.{HirDatabase}
 use Rattle.report_text.specs.Consts.{bytes_text}
 use Rattle.report_text.specs.Names.{adt_name, alias_name, callable_name, const_param_name, general_const_name, trait_name}
 use Rattle.report_text.specs.Texts.{with_args}
-use Rattle.report_text.specs.Types.{told_text, tuple_text, array_text, pointer_to_function_text, dynamic_text, ty_told, type_text, const_text, arg_text, args_texts, bound_text}
+use Rattle.report_text.specs.Types.{rendered_text, tuple_text, array_text, pointer_to_function_text, dynamic_text, rendered_ty, type_text, const_text, arg_text, args_texts, bound_text}
 
--- the kind that is rendered for a type is its kind in the table of operators
-pub told_kind : (world : HirDatabase) (ty : Ty) → (ty_told world ty).kind ≡ kind_of ty
-unfolding ty_told kind_of
-told_kind world type.Bool = search (the_lemmas, rules)
-told_kind world (type.Int _) = search (the_lemmas, rules)
-told_kind world (type.Uint _) = search (the_lemmas, rules)
-told_kind world _ = search (the_lemmas, rules)
+-- the kind of a type's values with which the type is rendered is the one that operators take them as
+pub rendered_kind : (world : HirDatabase) (ty : Ty) → (rendered_ty world ty).kind ≡ kind_of ty
+unfolding rendered_ty kind_of
+rendered_kind world type.Bool = search (the_lemmas, rules)
+rendered_kind world (type.Int _) = search (the_lemmas, rules)
+rendered_kind world (type.Uint _) = search (the_lemmas, rules)
+rendered_kind world _ = search (the_lemmas, rules)
 
-told_texts : (world : HirDatabase) (tys : List Ty) → map told_text (map (ty_told world) tys) ≡ map (type_text world) tys
-told_texts world tys = map-map told_text (ty_told world) tys
+rendered_texts : (world : HirDatabase) (tys : List Ty) → map rendered_text (map (rendered_ty world) tys) ≡ map (type_text world) tys
+rendered_texts world tys = map-map rendered_text (rendered_ty world) tys
 
 pub tuple_is : (world : HirDatabase) (fields : List Ty) → type_text world (type.Tuple fields) ≡ tuple_text (map (type_text world) fields)
-unfolding ty_told
+unfolding rendered_ty
 tuple_is world fields =
-    let layer : type_text world (type.Tuple fields) ≡ tuple_text (map told_text (map (ty_told world) fields)) = search (the_lemmas, rules) in
-    layer ∙ ap tuple_text (told_texts world fields)
+    let layer : type_text world (type.Tuple fields) ≡ tuple_text (map rendered_text (map (rendered_ty world) fields)) = search (the_lemmas, rules) in
+    layer ∙ ap tuple_text (rendered_texts world fields)
 
 pub array_is : (world : HirDatabase) (element : Ty) (len : Const) → type_text world (type.Array element len) ≡ array_text (type_text world element) (const_text world len)
-unfolding ty_told const_text
+unfolding rendered_ty const_text
 array_is world element len = search (the_lemmas, rules)
 
 pub adt_is : (world : HirDatabase) (id : AdtId) (args : GenericArgs) → type_text world (type.Adt id args) ≡ with_args (adt_name world id) (args_texts world args)
-unfolding ty_told args_texts
+unfolding rendered_ty args_texts
 adt_is world id args = search (the_lemmas, rules)
 
 pub fn_def_is : (world : HirDatabase) (id : CallableDefId) (args : GenericArgs) → type_text world (type.FnDef id args) ≡ with_args (callable_name world id) (args_texts world args)
-unfolding ty_told args_texts
+unfolding rendered_ty args_texts
 fn_def_is world id args = search (the_lemmas, rules)
 
 pub fn_ptr_is : (world : HirDatabase) (params : List Ty) (ret : Ty) → type_text world (type.FnPtr params ret) ≡ pointer_to_function_text (map (type_text world) params) (type_text world ret)
-unfolding ty_told
+unfolding rendered_ty
 fn_ptr_is world params ret =
-    let layer : type_text world (type.FnPtr params ret) ≡ pointer_to_function_text (map told_text (map (ty_told world) params)) (ty_told world ret).text = search (the_lemmas, rules) in
-    layer ∙ ap (λ texts. pointer_to_function_text texts (ty_told world ret).text) (told_texts world params)
+    let layer : type_text world (type.FnPtr params ret) ≡ pointer_to_function_text (map rendered_text (map (rendered_ty world) params)) (rendered_ty world ret).text = search (the_lemmas, rules) in
+    layer ∙ ap (λ texts. pointer_to_function_text texts (rendered_ty world ret).text) (rendered_texts world params)
 
 pub dynamic_is : (world : HirDatabase) (bounds : List TraitRef) → type_text world (type.Dynamic bounds) ≡ dynamic_text (map (bound_text world) bounds)
-unfolding ty_told bound_text
+unfolding rendered_ty bound_text
 dynamic_is world bounds = search (the_lemmas, rules)
 
 pub alias_is : (world : HirDatabase) (id : AliasId) (args : GenericArgs) → type_text world (type.Alias id args) ≡ with_args (alias_name world id) (args_texts world args)
-unfolding ty_told args_texts
+unfolding rendered_ty args_texts
 alias_is world id args = search (the_lemmas, rules)
 
 pub type_arg_is : (world : HirDatabase) (ty : Ty) → arg_text world (arg.Ty ty) ≡ type_text world ty
-unfolding arg_text ty_told
+unfolding arg_text rendered_ty
 type_arg_is world ty = search (the_lemmas, rules)
 
 pub const_arg_is : (world : HirDatabase) (konst : Const) → arg_text world (arg.Konst konst) ≡ const_text world konst
@@ -83,10 +83,10 @@ unfolding bound_text args_texts
 bound_is world bound = search (the_lemmas, rules)
 
 pub value_is : (world : HirDatabase) (value : ValueConst) → const_text world (constant.Value value) ≡ bytes_text (kind_of value.ty) value.memory
-unfolding const_text ty_told
+unfolding const_text rendered_ty
 value_is world value =
-    let layer : const_text world (constant.Value value) ≡ bytes_text (ty_told world value.ty).kind value.memory = search (the_lemmas, rules) in
-    layer ∙ ap (λ kind. bytes_text kind value.memory) (told_kind world value.ty)
+    let layer : const_text world (constant.Value value) ≡ bytes_text (rendered_ty world value.ty).kind value.memory = search (the_lemmas, rules) in
+    layer ∙ ap (λ kind. bytes_text kind value.memory) (rendered_kind world value.ty)
 
 pub param_is : (world : HirDatabase) (param : ParamConst) → const_text world (constant.Param param) ≡ const_param_name world param.id
 unfolding const_text

@@ -11,7 +11,7 @@ use Rattle.report_text.specs.Texts.{hex_text}
 abbrev pub number_text : Bool → List ℕ → List ℕ
 number_text signed bytes = if is_width (length bytes) then signed_decimal (number_of signed bytes) else hex_text bytes
 
--- the bytes of a value: a number if its type is an integer type, else hexadecimal digits
+-- the text of a value's bytes, by the kind of its type's values: a number if they are integers, else hexadecimal digits
 abbrev pub bytes_text : Option Kind → List ℕ → List ℕ
 bytes_text (Some Signed) bytes = number_text true bytes
 bytes_text (Some Unsigned) bytes = number_text false bytes

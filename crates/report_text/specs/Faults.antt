@@ -14,17 +14,20 @@ use Rattle.report_text.specs.Ids.{crate_text, def_text, span_text}
 use Rattle.report_text.specs.Texts.{bracketed, named, quoted}
 use Rattle.report_text.specs.Types.{type_text}
 
+-- why a type has no layout
 abbrev pub layout_error_text : LayoutError → List ℕ
 layout_error_text layout.HasPlaceholder = codes "HasPlaceholder"
 layout_error_text layout.Unknown = codes "Unknown"
 
--- the text of a frame that an error passed through
+-- the text of a stack frame that an error passed through: the place of the call in the source, and the body that it is in
 abbrev pub entry_text : TrailEntry → List ℕ
 entry_text entry = span_text entry.span ++ (codes " of " ++ def_text entry.caller)
 
+-- the text of all stack frames that an error passed through, in brackets
 abbrev pub trail_text : List TrailEntry → List ℕ
 trail_text trail = bracketed (map entry_text trail)
 
+-- why a body could not be lowered to MIR
 abbrev pub lower_error_text : MirLowerError → List ℕ
 lower_error_text (lower.LayoutError error) = named (codes "LayoutError") (layout_error_text error ∷ [])
 lower_error_text lower.IncompleteExpr = codes "IncompleteExpr"
@@ -32,10 +35,13 @@ lower_error_text (lower.UnresolvedName name) = named (codes "UnresolvedName") (q
 lower_error_text lower.HasErrors = codes "HasErrors"
 lower_error_text (lower.TypeError text) = named (codes "TypeError") (quoted text ∷ [])
 lower_error_text (lower.NotSupported text) = named (codes "NotSupported") (quoted text ∷ [])
+lower_error_text lower.ContinueWithoutLoop = codes "ContinueWithoutLoop"
+lower_error_text lower.BreakWithoutLoop = codes "BreakWithoutLoop"
+lower_error_text lower.UnresolvedLabel = codes "UnresolvedLabel"
 lower_error_text lower.InaccessibleLocal = codes "InaccessibleLocal"
 lower_error_text lower.NoMemory = codes "NoMemory"
 
--- the text of an error, from that of the error inside it
+-- the text of an error of running MIR, from that of the error that it wraps, if it wraps one
 abbrev pub eval_layer_text : HirDatabase → MirEvalError-F (List ℕ) → List ℕ
 eval_layer_text world (eval.LayoutError error ty) = named (codes "LayoutError") (layout_error_text error ∷ type_text world ty ∷ [])
 eval_layer_text world (eval.TargetDataLayoutNotAvailable krate) = named (codes "TargetDataLayoutNotAvailable") (crate_text krate ∷ [])
@@ -49,10 +55,11 @@ eval_layer_text world eval.StackOverflow = codes "StackOverflow"
 eval_layer_text world eval.MemoryLimitExceeded = codes "MemoryLimitExceeded"
 eval_layer_text world eval.NoMemory = codes "NoMemory"
 
+-- the text of an error of running MIR
 unfoldable pub eval_error_text : HirDatabase → MirEvalError → List ℕ
 eval_error_text world = fold-MirEvalError (List ℕ) (eval_layer_text world)
 
--- the text of an error of constant evaluation, after the phase that it is from
+-- the text of an error of constant evaluation, after the phase that it is from: lowering to MIR, or running the MIR
 abbrev pub fault_text : HirDatabase → ConstEvalError → List ℕ
 fault_text world (constant.MirLowerError error) = codes "lower " ++ lower_error_text error
 fault_text world (constant.MirEvalError error) = codes "eval " ++ eval_error_text world error

@@ -13,7 +13,7 @@ use numbers::Kind;
 use std::alloc::Global;
 use world::{Bytes, Const, HirDatabase, NoMemory};
 
-/// A number in decimal digits.
+/// The text of a number, in decimal digits.
 fn decimal_text(alloc: Global, number: IntValue) -> Result<Bytes, NoMemory>
     ensures { IfOk result (λ text. text ≡ signed_decimal (number_in number)) }
 {
@@ -32,7 +32,7 @@ fn decimal_text(alloc: Global, number: IntValue) -> Result<Bytes, NoMemory>
     Bytes::from_slice(alloc, digits.as_str().as_bytes())
 }
 
-/// The number of an integer type with these bytes.
+/// The text of the number that an integer type has at these bytes.
 fn number_text(alloc: Global, signed: bool, bytes: &[u8]) -> Result<Bytes, NoMemory>
     ensures { IfOk result (λ text. text ≡ number_text signed bytes.now) }
 {

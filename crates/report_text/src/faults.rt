@@ -13,7 +13,7 @@ use mir::{ConstEvalError, LayoutError, MirEvalError, MirLowerError, TrailEntry};
 use std::alloc::Global;
 use world::{Bytes, Crate, HirDatabase, List, NoMemory, Text, Ty};
 
-/// Why a type has no layout.
+/// The text of why a type has no layout.
 fn layout_error_text(alloc: Global, error: LayoutError) -> Result<Bytes, NoMemory>
     ensures { IfOk result (λ text. text ≡ layout_error_text error) }
 {
@@ -23,7 +23,8 @@ fn layout_error_text(alloc: Global, error: LayoutError) -> Result<Bytes, NoMemor
     }
 }
 
-/// The text of a frame that an error passed through.
+/// The text of a stack frame that an error passed through: the place of the call in the source, and the body
+/// that it is in.
 fn entry_text(alloc: Global, entry: TrailEntry) -> Result<Bytes, NoMemory>
     ensures { IfOk result (λ text. text ≡ entry_text entry) }
 {
@@ -32,7 +33,7 @@ fn entry_text(alloc: Global, entry: TrailEntry) -> Result<Bytes, NoMemory>
     enclosed(alloc, span.as_slice(), b" of ", caller.as_slice())
 }
 
-/// The texts of the frames that an error passed through.
+/// The texts of the stack frames that an error passed through.
 fn entry_texts(alloc: Global, trail: &[TrailEntry]) -> Result<List<Bytes>, NoMemory>
     ensures { IfOk result (λ texts. texts ≡ map entry_text trail.now) }
 {
@@ -43,7 +44,7 @@ fn entry_texts(alloc: Global, trail: &[TrailEntry]) -> Result<List<Bytes>, NoMem
     Ok(texts)
 }
 
-/// The text of all frames that an error passed through, in brackets.
+/// The text of all stack frames that an error passed through, in brackets.
 fn trail_text(alloc: Global, trail: &List<TrailEntry>) -> Result<Bytes, NoMemory>
     ensures { IfOk result (λ text. text ≡ trail_text trail.now) }
 {
@@ -59,7 +60,7 @@ fn with_quoted(alloc: Global, name: &[u8], text: &Text) -> Result<Bytes, NoMemor
     named_one(alloc, name, part)
 }
 
-/// Why a body could not be lowered.
+/// The text of why a body could not be lowered to MIR.
 fn lower_error_text(alloc: Global, error: &MirLowerError) -> Result<Bytes, NoMemory>
     ensures { IfOk result (λ text. text ≡ lower_error_text error.now) }
 {
@@ -73,6 +74,9 @@ fn lower_error_text(alloc: Global, error: &MirLowerError) -> Result<Bytes, NoMem
         MirLowerError::HasErrors => Bytes::from_slice(alloc, b"HasErrors"),
         MirLowerError::TypeError(text) => with_quoted(alloc, b"TypeError", text),
         MirLowerError::NotSupported(text) => with_quoted(alloc, b"NotSupported", text),
+        MirLowerError::ContinueWithoutLoop => Bytes::from_slice(alloc, b"ContinueWithoutLoop"),
+        MirLowerError::BreakWithoutLoop => Bytes::from_slice(alloc, b"BreakWithoutLoop"),
+        MirLowerError::UnresolvedLabel => Bytes::from_slice(alloc, b"UnresolvedLabel"),
         MirLowerError::InaccessibleLocal => Bytes::from_slice(alloc, b"InaccessibleLocal"),
         MirLowerError::NoMemory => Bytes::from_slice(alloc, b"NoMemory"),
     }
@@ -109,7 +113,8 @@ fn no_target_text(alloc: Global, krate: Crate) -> Result<Bytes, NoMemory>
     named_one(alloc, b"TargetDataLayoutNotAvailable", part)
 }
 
-/// The text of an error inside a function, from that of the inner error.
+/// The text of an error that was raised in a function, from the text of that error and the stack frames that it
+/// passed through.
 fn in_function_text(
     alloc: Global,
     inner: Bytes,
@@ -121,7 +126,7 @@ fn in_function_text(
     named_two(alloc, b"InFunction", inner, trail)
 }
 
-/// The text of an error of a run.
+/// The text of an error of running MIR.
 #[tactic(auto, unfolding(crate::specs::Faults::eval_error_text))]
 fn eval_error_text(alloc: Global, db: &HirDatabase, error: &MirEvalError) -> Result<Bytes, NoMemory>
     ensures { IfOk result (λ text. text ≡ eval_error_text db.now error.now) }
@@ -146,7 +151,8 @@ fn eval_error_text(alloc: Global, db: &HirDatabase, error: &MirEvalError) -> Res
     }
 }
 
-/// The text of an error of constant evaluation, after the phase that it is from.
+/// The text of an error of constant evaluation, after the phase that it is from: lowering to MIR, or running the
+/// MIR.
 pub(crate) fn fault_text(
     alloc: Global,
     db: &HirDatabase,

@@ -1,4 +1,4 @@
-//! The lines of a goal.
+//! The lines of the report for a goal, which is a definition that was evaluated as a constant.
 
 ghost use Rattle.std.specs.Prelude.{◌≡◌, codes, IfOk};
 ghost use Rattle.report_text.specs.Goals.{answer_text, result_text, output_line, output_lines, turns_line, answer_line, result_lines, goal_text};
@@ -13,7 +13,7 @@ use mir_eval::MirOutput;
 use std::alloc::Global;
 use world::{Bytes, Const, HirDatabase, NoMemory};
 
-/// The text of a constant that a goal has as its answer: for a value, its type and its bytes.
+/// The text of the constant that an evaluation gave: for a value, its type and its bytes.
 fn answer_text(alloc: Global, db: &HirDatabase, konst: &Const) -> Result<Bytes, NoMemory>
     ensures { IfOk result (λ text. text ≡ answer_text db.now konst.now) }
 {
@@ -27,7 +27,7 @@ fn answer_text(alloc: Global, db: &HirDatabase, konst: &Const) -> Result<Bytes, 
     }
 }
 
-/// The text of an answer: a constant or an error.
+/// The text of the result of an evaluation: a constant or an error.
 fn result_text(
     alloc: Global,
     db: &HirDatabase,
@@ -47,7 +47,7 @@ fn result_text(
     }
 }
 
-/// The line with the bytes that were written to an output stream; empty if there are none.
+/// The line with the bytes that an evaluation wrote to an output stream; empty if there are none.
 fn output_line(alloc: Global, name: &[u8], bytes: &[u8]) -> Result<Bytes, NoMemory>
     ensures { IfOk result (λ text. text ≡ output_line name.now bytes.now) }
 {
@@ -61,7 +61,7 @@ fn output_line(alloc: Global, name: &[u8], bytes: &[u8]) -> Result<Bytes, NoMemo
     }
 }
 
-/// The lines with the bytes that were written to the standard output and the standard error.
+/// The lines with the bytes that an evaluation wrote to the standard output and the standard error.
 fn output_lines(alloc: Global, output: &MirOutput) -> Result<Bytes, NoMemory>
     ensures { IfOk result (λ text. text ≡ output_lines output.now) }
 {
@@ -70,7 +70,7 @@ fn output_lines(alloc: Global, output: &MirOutput) -> Result<Bytes, NoMemory>
     joined(alloc, stdout.as_slice(), stderr.as_slice())
 }
 
-/// The line with the number of basic blocks that were entered.
+/// The line with the number of basic blocks that an evaluation entered.
 fn turns_line(alloc: Global, turns: u64) -> Result<Bytes, NoMemory>
     ensures { IfOk result (λ text. text ≡ turns_line turns) }
 {
@@ -78,7 +78,7 @@ fn turns_line(alloc: Global, turns: u64) -> Result<Bytes, NoMemory>
     enclosed(alloc, b"  turns ", digits.as_str().as_bytes(), b"\n")
 }
 
-/// The line with a goal's answer.
+/// The line with the result of a goal's evaluation.
 fn answer_line(
     alloc: Global,
     db: &HirDatabase,
@@ -93,7 +93,7 @@ fn answer_line(
     enclosed(alloc, b"goal ", digits.as_str().as_bytes(), rest.as_slice())
 }
 
-/// The lines of the memory that an answer refers to.
+/// The lines for the memory behind the addresses in the result of an evaluation.
 fn result_lines(
     alloc: Global,
     db: &HirDatabase,
@@ -109,8 +109,8 @@ fn result_lines(
     }
 }
 
-/// The lines of goal `number`: its answer, how many basic blocks were entered, the bytes that were written,
-/// and the memory that the answer refers to.
+/// The lines for goal `number`: the result of its evaluation, how many basic blocks the evaluation entered, the
+/// bytes that it wrote, and the memory behind the addresses in the result.
 pub fn goal_text(
     alloc: Global,
     db: &HirDatabase,

@@ -1,4 +1,5 @@
-//! The texts of ids of items and of nodes: a word and a number.
+//! The texts of the ids of items, of nodes of a body and of MIR locals: a word for what has the id, and a
+//! number.
 
 ghost use Rattle.std.specs.Prelude.{◌≡◌, IfOk};
 ghost use Rattle.report_text.specs.Ids.{def_text, generic_param_text, trait_text, crate_text, closure_text, local_text, span_text};
@@ -8,7 +9,7 @@ use mir::{LocalId, MirSpan};
 use std::alloc::Global;
 use world::{Bytes, Crate, DefWithBodyId, GenericParamId, InternedClosureId, NoMemory, TraitId};
 
-/// A definition with a body.
+/// The text of a definition with a body.
 pub(crate) fn def_text(alloc: Global, def: DefWithBodyId) -> Result<Bytes, NoMemory>
     ensures { IfOk result (λ text. text ≡ def_text def) }
 {
@@ -20,7 +21,7 @@ pub(crate) fn def_text(alloc: Global, def: DefWithBodyId) -> Result<Bytes, NoMem
     }
 }
 
-/// A generic parameter.
+/// The text of a generic parameter.
 pub(crate) fn generic_param_text(alloc: Global, id: GenericParamId) -> Result<Bytes, NoMemory>
     ensures { IfOk result (λ text. text ≡ generic_param_text id) }
 {
@@ -30,35 +31,35 @@ pub(crate) fn generic_param_text(alloc: Global, id: GenericParamId) -> Result<By
     }
 }
 
-/// A trait.
+/// The text of a trait.
 pub(crate) fn trait_text(alloc: Global, id: TraitId) -> Result<Bytes, NoMemory>
     ensures { IfOk result (λ text. text ≡ trait_text id) }
 {
     numbered(alloc, b"trait#", id.0 as u64)
 }
 
-/// A crate.
+/// The text of a crate.
 pub(crate) fn crate_text(alloc: Global, krate: Crate) -> Result<Bytes, NoMemory>
     ensures { IfOk result (λ text. text ≡ crate_text krate) }
 {
     numbered(alloc, b"crate#", krate.0 as u64)
 }
 
-/// A closure.
+/// The text of a closure.
 pub(crate) fn closure_text(alloc: Global, id: InternedClosureId) -> Result<Bytes, NoMemory>
     ensures { IfOk result (λ text. text ≡ closure_text id) }
 {
     numbered(alloc, b"closure#", id.0 as u64)
 }
 
-/// A local of a lowered body.
+/// The text of a local of a MIR body.
 pub(crate) fn local_text(alloc: Global, id: LocalId) -> Result<Bytes, NoMemory>
     ensures { IfOk result (λ text. text ≡ local_text id) }
 {
     numbered(alloc, b"local#", id.0 as u64)
 }
 
-/// A place in the source.
+/// The text of a place in the source, which is a node of the body that the MIR was lowered from.
 pub(crate) fn span_text(alloc: Global, span: MirSpan) -> Result<Bytes, NoMemory>
     ensures { IfOk result (λ text. text ≡ span_text span) }
 {

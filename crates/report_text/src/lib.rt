@@ -1,4 +1,5 @@
-//! The texts of a report: types, constants, errors, and the lines of a goal.
+//! The texts of the report on evaluations: types, constants, errors, and the lines for a goal, which is a
+//! definition that was evaluated as a constant.
 #![tactic(auto)]
 
 mod consts;

@@ -1,4 +1,4 @@
-//! The lines of the memory that a value refers to.
+//! The lines of the report for the memory behind the addresses in a constant's value.
 
 ghost use Rattle.std.specs.Prelude.{◌≡◌, IfOk};
 ghost use Rattle.std.specs.List.{flat_map};
@@ -9,10 +9,10 @@ use crate::ty::type_text;
 use std::alloc::Global;
 use world::{Bytes, HirDatabase, List, Map, MemoryMap, NoMemory, Ty};
 
-/// The vtable id of a value's first type; the ids of the others follow it.
+/// The vtable id of the first type that a constant's value has one for; the ids of the others follow it.
 const FIRST_TABLE_ID: u64 = 1000;
 
-/// The line of bytes at an address.
+/// The line for the bytes at an address.
 fn entry_line(alloc: Global, address: u64, bytes: &[u8]) -> Result<Bytes, NoMemory>
     ensures { IfOk result (λ text. text ≡ entry_line (address, bytes.now)) }
 {
@@ -22,7 +22,7 @@ fn entry_line(alloc: Global, address: u64, bytes: &[u8]) -> Result<Bytes, NoMemo
     enclosed(alloc, b"  at ", place.as_str().as_bytes(), rest.as_slice())
 }
 
-/// The lines of a map of bytes by address.
+/// The lines for a map of bytes by address.
 fn entry_lines(alloc: Global, entries: &Map<u64, Bytes>) -> Result<Bytes, NoMemory>
     ensures { IfOk result (λ text. text ≡ flat_map entry_line entries.now) }
 {
@@ -34,7 +34,7 @@ fn entry_lines(alloc: Global, entries: &Map<u64, Bytes>) -> Result<Bytes, NoMemo
     Ok(Bytes::from_vec(out))
 }
 
-/// The line with the type of a vtable id.
+/// The line for a vtable id, which stands for the type of a trait object's value.
 fn table_line(alloc: Global, db: &HirDatabase, id: u64, ty: &Ty) -> Result<Bytes, NoMemory>
     ensures { IfOk result (λ text. text ≡ table_line db.now id ty.now) }
 {
@@ -49,7 +49,7 @@ fn table_line(alloc: Global, db: &HirDatabase, id: u64, ty: &Ty) -> Result<Bytes
     )
 }
 
-/// The lines with the types of all vtable ids.
+/// The lines for all vtable ids.
 fn table_lines(alloc: Global, db: &HirDatabase, tys: &List<Ty>) -> Result<Bytes, NoMemory>
     ensures { IfOk result (λ text. text ≡ table_lines db.now 1000 tys.now) }
 {
@@ -64,7 +64,7 @@ fn table_lines(alloc: Global, db: &HirDatabase, tys: &List<Ty>) -> Result<Bytes,
     Ok(Bytes::from_vec(out))
 }
 
-/// The lines of a memory map.
+/// The lines for the memory behind the addresses in a value.
 pub(crate) fn memory_lines(
     alloc: Global,
     db: &HirDatabase,

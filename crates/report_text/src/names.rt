@@ -1,4 +1,4 @@
-//! The names that the world gives to items and parameters.
+//! The names that the HIR database gives to items and parameters.
 
 ghost use Rattle.std.specs.Prelude.{◌≡◌, slice_get};
 ghost use Rattle.std.specs.Option.{option_map};
@@ -9,7 +9,7 @@ use world::{
     Text, TraitId, TypeParamId,
 };
 
-/// The name at an index of a table of names.
+/// The name at an index of a table of names; `{error}` where the index is out of range.
 fn name_at(names: &List<Text>, place: u32) -> &[u8]
     ensures { result.now ≡ name_or_error (slice_get names.now place) }
 {
@@ -43,7 +43,7 @@ pub(crate) fn adt_name(db: &HirDatabase, id: AdtId) -> &[u8]
     }
 }
 
-/// The name of a function, or of the struct or variant of a constructor.
+/// The name of a function, or of the struct or enum variant whose constructor is called as a function.
 pub(crate) fn callable_name(db: &HirDatabase, id: CallableDefId) -> &[u8]
     ensures { result.now ≡ callable_name db.now id }
 {
@@ -60,7 +60,7 @@ pub(crate) fn callable_name(db: &HirDatabase, id: CallableDefId) -> &[u8]
     }
 }
 
-/// A constant's name; `_` if it has none.
+/// A constant's name; `_` for a `const _`, which has none.
 fn name_or_underscore(name: &Option<Text>) -> &[u8]
     ensures { result.now ≡ name_or_underscore name.now }
 {

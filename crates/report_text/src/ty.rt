@@ -13,7 +13,7 @@ use world::{
     TraitRef, Ty, UintTy,
 };
 
-/// A signed integer type.
+/// The text of a signed integer type.
 fn int_text(int: IntTy) -> &'static [u8]
     ensures { result.now ≡ int_text int }
 {
@@ -27,7 +27,7 @@ fn int_text(int: IntTy) -> &'static [u8]
     }
 }
 
-/// An unsigned integer type.
+/// The text of an unsigned integer type.
 fn uint_text(uint: UintTy) -> &'static [u8]
     ensures { result.now ≡ uint_text uint }
 {
@@ -41,7 +41,7 @@ fn uint_text(uint: UintTy) -> &'static [u8]
     }
 }
 
-/// A type of floating-point numbers.
+/// The text of a floating-point type.
 fn float_text(float: FloatTy) -> &'static [u8]
     ensures { result.now ≡ float_text float }
 {
@@ -53,7 +53,7 @@ fn float_text(float: FloatTy) -> &'static [u8]
     }
 }
 
-/// The text before the target type of a reference.
+/// The text before the type that a reference points to.
 fn reference_word(mutability: Mutability) -> &'static [u8]
     ensures { result.now ≡ reference_word mutability }
 {
@@ -63,7 +63,7 @@ fn reference_word(mutability: Mutability) -> &'static [u8]
     }
 }
 
-/// The text before the target type of a raw pointer.
+/// The text before the type that a raw pointer points to.
 fn pointer_word(mutability: Mutability) -> &'static [u8]
     ensures { result.now ≡ pointer_word mutability }
 {
@@ -114,7 +114,7 @@ fn dynamic_text(alloc: Global, bounds: &[Bytes]) -> Result<Bytes, NoMemory>
 
 /// The text of a type, as Rust writes it.
 #[cycle(types)]
-#[tactic(auto, using(crate::proofs::Layers::type_layers), unfolding(crate::specs::Types::ty_told))]
+#[tactic(auto, using(crate::proofs::Layers::type_layers), unfolding(crate::specs::Types::rendered_ty))]
 pub(crate) fn type_text(alloc: Global, db: &HirDatabase, ty: &Ty) -> Result<Bytes, NoMemory>
     ensures { IfOk result (λ text. text ≡ type_text db.now ty.now) }
 {

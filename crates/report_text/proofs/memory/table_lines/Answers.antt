@@ -9,6 +9,6 @@ loop-ty-preserved c =
     let written : c.as_slice.result.now ≡ line = search rules in
     let more = c.in_ok-push_all.ensures ∙ ap (λ (text : List ℕ). c.loop-ty.out.items ++ text) written in
     record {
-      told = tables_more c.args.db.now c.as_slice-items.result.now c.loop-ty.ty-index c.loop-ty.id c.ty-item.result _ _ c.loop-ty-test.true c.ty-item.is c.loop-ty.invariant.id c.loop-ty.invariant.told more;
+      lines = tables_more c.args.db.now c.as_slice-items.result.now c.loop-ty.ty-index c.loop-ty.id c.ty-item.result _ _ c.loop-ty-test.true c.ty-item.is c.loop-ty.invariant.id c.loop-ty.invariant.lines more;
       id = omega (arith, c.loop-ty.invariant.id);
     }
