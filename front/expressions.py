@@ -528,11 +528,11 @@ class Expressions(Patterns):
         return self.thir["blocks"][int(kind["block"][1:])]
 
     def _label_of(self, scope, span):
-        """The label that a jump to this scope needs: none where it is the innermost loop."""
-        loops = [target for target in self.targets if target.is_loop]
+        """The label that a jump to this scope needs: none where it is a loop and the innermost of all targets, as a jump
+        without a label in a block with one means the block."""
         for target in reversed(self.targets):
             if target.scope == scope:
-                if loops and target is loops[-1]:
+                if target.is_loop and target is self.targets[-1]:
                     return None
                 if target.label is None:
                     target.label = self.out.label(f"'l{len(self.out.labels)}")

@@ -4,26 +4,34 @@ import json
 
 from running import ROOT
 from rust_text import read
-from typed_bodies import SCALARS, body_row, world_of_bodies
+from typed_bodies import ALL, LAYOUTS, SCALARS, body_row, world_of_bodies
 from worlds import (
+    BOOL,
+    NEVER,
+    U8,
     USIZE,
     WILD,
+    block,
     body,
+    break_to,
     closure,
     closure_row,
     const,
     enum_row,
+    filled,
     fn_def,
     goal,
     layout,
     literal,
     function,
+    loop,
     static,
     struct_row,
     variant_row,
     world,
 )
 
+TRUE = {"Literal": {"Bool": True}}
 SAMPLE = ROOT / "crates" / "mirconst" / "stdin"
 MOST_BYTES = 67108864
 
@@ -106,14 +114,50 @@ def with_root(root):
     return json_of(world([goal({"ConstId": 0})], consts=[const(body=0)], bodies=[row], layouts=[[USIZE, layout(8, 8)]]))
 
 
+# Which types are listed as `Copy`, by a row's `copies`.
+COPIES = {True: SCALARS, False: [], "all": ALL}
+
+
 def source_world(row):
-    """A world of one constant, whose body is written in Rust, and whose run may have limits on blocks and on nesting."""
-    copy_types = SCALARS if row.get("copies", True) else []
+    """A world of one constant, whose body is written in Rust, and whose run may have limits."""
+    copy_types = COPIES[row.get("copies", True)]
     made = world_of_bodies([(body_row(read(row["source"]), row["type"], copy_types), row["type"])])
-    limits = {name: row[name] for name in ("blocks", "nesting") if name in row}
+    limits = {name: row[name] for name in ("blocks", "nesting", "bytes") if name in row}
     if limits:
         made["goals"][0]["limits"] = {"blocks": 10000000, "nesting": 100, "bytes": 1000000, **limits}
     return json_of(made)
+
+
+def nested_ifs(depth):
+    """So many `if`s, each the first branch of the next one, around the number 7, and their types."""
+    exprs, types = [literal(7)], [U8]
+    for _ in range(depth):
+        inside = len(exprs) - 1
+        exprs += [TRUE, literal(1), filled(If=filled(condition=inside + 1, then_branch=inside, else_branch=inside + 2))]
+        types += [BOOL, U8, U8]
+    return exprs, types
+
+
+def nested_loops(depth):
+    """So many loops, each the body of the next one. A `break` in the innermost one leaves the outermost one with 7."""
+    loops = [loop(place, label=0 if place == depth else None) for place in range(1, depth + 1)]
+    return [literal(7), break_to(0, 0), *loops], [U8, NEVER, *([NEVER] * (depth - 1)), U8]
+
+
+def nested_blocks(depth):
+    """So many labelled blocks, each the tail of the next one, around the number 7."""
+    return [literal(7), *(block(tail=place, label=place) for place in range(depth))], [U8] * (depth + 1)
+
+
+FORMS = {"if": nested_ifs, "loop": nested_loops, "block": nested_blocks}
+
+
+def deep(parts):
+    """A world of one constant, in whose body so many expressions of a form stand, each in the next one."""
+    form, depth = parts
+    exprs, types = FORMS[form](depth)
+    row = body(exprs, found={"expr_types": types, "copy_types": ALL}, labels=["'a"] * depth)
+    return json_of(world([goal({"ConstId": 0})], consts=[const(U8, body=0)], bodies=[row], layouts=LAYOUTS))
 
 
 # The keys of a row that tell its input, with what makes the text of the input.
@@ -128,4 +172,5 @@ INPUTS = {
     "root": lambda row: with_root(row["root"]),
     "unplaced": lambda row: with_binding(row["unplaced"]),
     "source": source_world,
+    "deep": lambda row: deep(row["deep"]),
 }

@@ -82,7 +82,7 @@ def bodies_of(row):
     yield operation(row.op, operands)
     names = "ab"[: len(operands)]
     lets = [("let", name, ty, without_suffix(literal), None) for name, (literal, ty) in zip(names, operands)]
-    yield ("block", lets, operation(row.op, [(("path", name), ty) for name, (_, ty) in zip(names, operands)]))
+    yield ("block", lets, operation(row.op, [(("path", name), ty) for name, (_, ty) in zip(names, operands)]), None)
 
 
 def run_of_table(path):

@@ -1,13 +1,19 @@
-"""Reads bodies that are written in Rust: numbers, truth values, names, operators, blocks, `if`, `let`, and assignments.
+"""Reads bodies that are written in Rust: numbers, truth values, names, operators, blocks, `if`, loops, jumps, `let`, and
+assignments.
 
 A body is read as a tree of tuples, the first part of which says what it is:
 
     ("number", digits, suffix or None)      ("truth", bool)             ("path", name)
     ("unary", operator, operand)            ("binary", operator, left, right)
-    ("assign", operator or None, target, value)                         ("block", statements, tail or None)
-    ("branch", condition, block, block of `else`, another branch or None)
+    ("assign", operator or None, target, value)
+    ("block", statements, tail or None, label or None)
+    ("branch", condition, block, block of `else`, another branch, a jump or None)
+    ("loop", body, label or None)
+    ("leave", value or None, label or None)     ("again", label or None)
 
-An operator is one of the worlds' JSON, as `{"ArithOp": "Add"}`. A statement is one of
+A label is its text, as `'a`. `while c { .. }` is read as the loop with an `if` that it stands for,
+`loop { if c { .. } else { break } }`, where the loop's body is the `if` itself. An operator is one of the worlds' JSON, as
+`{"ArithOp": "Add"}`. A statement is one of
 
     ("let", name, type or None, initializer or None, block of `else` or None)        ("expr", expression)
 """
@@ -30,8 +36,11 @@ UNARY = {"-": "Neg", "!": "Not", "*": "Deref"}
 # Which operators bind as strongly as one another, from the weakest to the strongest.
 LEVELS = (("||",), ("&&",), tuple(COMPARISONS), ("|",), ("^",), ("&",), ("<<", ">>"), ("+", "-"), ("*", "/", "%"))
 
+# What follows a jump that has no value.
+ENDS = (";", "}", ")", "")
+
 TOKEN = re.compile(
-    r"\s*(\d+(?:[iu](?:8|16|32|64|128|size))?|[A-Za-z_]\w*|<<=|>>=|&&|\|\||<<|>>|[-+*/%&|^=!<>]=|[-+*/%&|^=!<>(){};:])"
+    r"\s*(\d+(?:[iu](?:8|16|32|64|128|size))?|'?[A-Za-z_]\w*|<<=|>>=|&&|\|\||<<|>>|[-+*/%&|^=!<>]=|[-+*/%&|^=!<>(){};:])"
 )
 
 
@@ -113,7 +122,17 @@ class Reader:
             return self.block()
         if self.next() == "if":
             return self.branch()
+        if self.next() in ("loop", "while"):
+            return self.loop(None)
         token = self.need()
+        if token[0] == "'":
+            self.need(":")
+            return self.block(token) if self.next() == "{" else self.loop(token)
+        if token == "break":
+            label = self.label()
+            return ("leave", None if self.next() in ENDS else self.expr(), label)
+        if token == "continue":
+            return ("again", self.label())
         if token in UNARY:
             return ("unary", UNARY[token], self.operand())
         if token == "(":
@@ -137,7 +156,18 @@ class Reader:
             second = self.branch() if self.next() == "if" else self.block()
         return ("branch", condition, first, second)
 
-    def block(self):
+    def loop(self, label):
+        """A `loop` or a `while`."""
+        if self.need("loop", "while") == "loop":
+            return ("loop", self.block(), label)
+        condition = self.expr()
+        return ("loop", ("branch", condition, self.block(), ("leave", None, None)), label)
+
+    def label(self):
+        """The label that a jump has, or nothing."""
+        return self.need() if self.next().startswith("'") else None
+
+    def block(self, label=None):
         """Statements and a tail in braces."""
         self.need("{")
         statements, tail = [], None
@@ -148,11 +178,11 @@ class Reader:
                 statements.append(self.let())
                 continue
             found = self.expr()
-            if self.take(";") or (found[0] in ("block", "branch") and self.next() != "}"):
+            if self.take(";") or (found[0] in ("block", "branch", "loop") and self.next() != "}"):
                 statements.append(("expr", found))
             else:
                 tail = found
-        return ("block", statements, tail)
+        return ("block", statements, tail, label)
 
     def let(self):
         """What follows `let`, with the semicolon."""

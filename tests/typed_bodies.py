@@ -1,23 +1,32 @@
 """Makes the typed bodies of a world from the trees that `rust_text.py` reads.
 
 Types are found as Rust finds them: a literal without a suffix has the type that its uses ask for, and `i32` where none
-does. A block without a tail may have any type that is asked for, as where its end isn't reached.
+does. A block without a tail may have any type that is asked for, as where its end isn't reached. A jump, and a loop that
+no `break` leaves, are of type `!`, and become of the type that is asked for, where one is.
+
+A jump means what it means here: one without a label the innermost loop or labelled block, where Rust refuses the block.
 """
+
+from dataclasses import dataclass
 
 from rust_text import NoBody
 from worlds import (
     BOOL,
     INTEGER_SIZES,
+    NEVER,
     UNIT,
     assignment,
     bind,
     block,
+    break_to,
     const,
+    continue_to,
     expr_pat,
     filled,
     goal,
     integer,
     let_statement,
+    loop,
     path,
     sized,
     statement,
@@ -25,18 +34,24 @@ from worlds import (
 )
 
 INTEGERS = {name.lower(): integer(name) for name in INTEGER_SIZES}
-TYPES = {**INTEGERS, "bool": BOOL, "()": UNIT}
-LAYOUTS = [*(sized(integer(name), size) for name, size in INTEGER_SIZES.items()), sized(BOOL, 1), sized(UNIT, 0)]
+TYPES = {**INTEGERS, "bool": BOOL, "()": UNIT, "!": NEVER}
+LAYOUTS = [
+    *(sized(integer(name), size) for name, size in INTEGER_SIZES.items()),
+    sized(BOOL, 1),
+    sized(UNIT, 0),
+    sized(NEVER, 0),
+]
 SCALARS = [BOOL, *INTEGERS.values()]
+ALL = [*SCALARS, UNIT, NEVER]
 
 SHIFTS = ("Shl", "Shr")
 
 
 class Unknown:
-    """A type that isn't known yet, which may have to be an integer."""
+    """A type that isn't known yet, which may have to be an integer, and may be that of something without an end."""
 
     def __init__(self, is_integer=False):
-        self.is_integer, self.known = is_integer, None
+        self.is_integer, self.is_endless, self.known = is_integer, False, None
 
 
 def known(ty):
@@ -57,13 +72,16 @@ def same(left, right):
         raise NoBody(f"{left} and {right} are two types")
     if isinstance(right, Unknown):
         right.is_integer = right.is_integer or left.is_integer
+        right.is_endless = right.is_endless or left.is_endless
     left.known = right
 
 
 def settled(ty):
     """The JSON of a type, once nothing more is learned of it."""
     ty = known(ty)
-    return TYPES[("i32" if ty.is_integer else "()") if isinstance(ty, Unknown) else ty]
+    if not isinstance(ty, Unknown):
+        return TYPES[ty]
+    return TYPES["i32" if ty.is_integer else "!" if ty.is_endless else "()"]
 
 
 def literal_of(digits, suffix):
@@ -73,6 +91,17 @@ def literal_of(digits, suffix):
     return {"Literal": {"Uint" if is_unsigned else "Int": [digits, name]}}
 
 
+@dataclass
+class Target:
+    """A loop or a labelled block that is open: its label, with its number, the type of its value, and whether a `break`
+    means it."""
+
+    label: str | None
+    number: int | None
+    ty: object
+    is_left: bool = False
+
+
 class Draft:
     """A body that is made node by node, in the order in which its nodes have to stand."""
 
@@ -80,6 +109,7 @@ class Draft:
         self.exprs, self.pats, self.bindings = [], [], []
         self.expr_types, self.pat_types, self.binding_types = [], [], []
         self.value_res, self.pat_value_res, self.binding_modes = [], [], []
+        self.labels, self.targets, self.endless = [], [], []
         self.scopes = [{}]
 
     def add(self, node, ty):
@@ -163,12 +193,65 @@ class Draft:
             self.pat_value_res.append([pat, {"LocalBinding": found}])
         return pat
 
-    def block(self, statements, tail, ty):
+    def block(self, statements, tail, label, ty):
+        target = None if label is None else self.open(label, ty)
         self.scopes.append({})
         inside = [self.statement(*parts) for parts in statements]
         last = None if tail is None else self.expr(tail, ty)
         self.scopes.pop()
-        return self.add(block(*inside, tail=last), ty)
+        if target is None:
+            return self.add(block(*inside, tail=last), ty)
+        self.targets.pop()
+        return self.add(block(*inside, tail=last, label=target.number), ty)
+
+    def loop(self, inside, label, ty):
+        target = self.open(label, ty)
+        turn = self.expr(inside, "()")
+        self.targets.pop()
+        node = loop(turn, label=target.number)
+        return self.add(node, ty) if target.is_left else self.add_endless(node, ty)
+
+    def open(self, label, ty):
+        """Opens a loop or a labelled block with a value of this type."""
+        if label is not None:
+            self.labels.append(label)
+        self.targets.append(Target(label, None if label is None else len(self.labels) - 1, ty))
+        return self.targets[-1]
+
+    def target_of(self, label):
+        """What a jump means: with a label the innermost one that has it, and else the innermost one, where there is one."""
+        found = next((target for target in reversed(self.targets) if label in (None, target.label)), None)
+        if found is None and label is not None:
+            raise NoBody(f"no loop or block around has the label {label}")
+        return found
+
+    def leave(self, left_with, label, ty):
+        target = self.target_of(label)
+        given = Unknown() if target is None else target.ty
+        if target is not None:
+            target.is_left = True
+        if left_with is None:
+            same(given, "()")
+        inside = None if left_with is None else self.expr(left_with, given)
+        return self.add_endless(break_to(None if label is None else target.number, inside), ty)
+
+    def again(self, label, ty):
+        target = self.target_of(label)
+        return self.add_endless(continue_to(None if label is None else target.number), ty)
+
+    def add_endless(self, node, ty):
+        """Adds an expression of type `!`, which becomes of this type where that is another one. The answer is its id."""
+        if isinstance(known(ty), Unknown):
+            known(ty).is_endless = True
+        place = self.add(node, "!")
+        self.endless.append((place, ty))
+        return place
+
+    def adjustments(self):
+        """The expressions whose value is adjusted, each with the step: from `!` to the type that is asked for."""
+        for place, ty in self.endless:
+            if settled(ty) != NEVER:
+                yield [place, [{"kind": "NeverToAny", "target": settled(ty)}]]
 
     def statement(self, form, *parts):
         """A statement, which is no node."""
@@ -190,9 +273,9 @@ class Draft:
         """The row of the body, whose root is the last expression."""
         kinds = ("expr_types", "pat_types", "binding_types")
         types = {kind: [settled(ty) for ty in getattr(self, kind)] for kind in kinds}
-        nodes = filled(exprs=self.exprs, pats=self.pats, bindings=self.bindings)
+        nodes = filled(exprs=self.exprs, pats=self.pats, bindings=self.bindings, labels=self.labels)
         names = {"value_res": self.value_res, "pat_value_res": self.pat_value_res, "binding_modes": self.binding_modes}
-        found = filled(**types, **names, copy_types=copy_types)
+        found = filled(**types, expr_adjustments=list(self.adjustments()), **names, copy_types=copy_types)
         return {"body": {**nodes, "body_expr": len(self.exprs) - 1}, "infer": found}
 
 

@@ -22,6 +22,8 @@ const BLOCK_LABEL: u8 = 'done: { if 3 > 2 { break 'done 1; } 2 };
 const BLOCK_LABEL_NOT: u8 = 'done: { if 3 < 2 { break 'done 1; } 2 };
 const BLOCK_LABEL_UNIT: u8 = { let mut a = 1; 'done: { a = 2; if a == 2 { break 'done; } a = 3; } a };
 const BLOCK_IN_LOOP: u32 = { let mut i = 0; let mut s = 0; loop { i += 1; 'skip: { if i % 2 == 0 { break 'skip; } s += i; } if i > 9 { break s; } } };
+const LEFT_FROM_BLOCK: u8 = { let mut x = 0; 'l: loop { 'a: { x = x + 1; if x == 2 { break 'a; } if x == 4 { break 'l; } } } x };
+const AGAIN_FROM_BLOCK: u8 = { let mut x = 0; let mut n = 0; 'l: while x < 9 { 'a: { x = x + 1; if x & 1 == 0 { continue 'l; } if x == 3 { break 'a; } n = n + 1; } n = n + 10; } n };
 const LOOP_IN_BLOCK: u32 = 'found: { let mut i = 2; while i < 50 { if i * i % 37 == 11 { break 'found i; } i += 1; } 0 };
 const BREAK_IN_CONDITION: u32 = { let mut i = 0; loop { i += 1; if (if i > 3 { break } else { i }) > 2 { i += 10; } } i };
 const BREAK_IN_OPERAND: u32 = loop { let a = 3; let _b = a + if a == 3 { break 8 } else { 2 }; };
