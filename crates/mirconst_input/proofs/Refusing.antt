@@ -54,7 +54,7 @@ tree_refused bytes tree ReadFault utf8 json is = absurd is
 tree_refused bytes tree WriteFault utf8 json is = absurd is
 tree_refused bytes tree NoMemory utf8 json is = tt
 
--- the status with which a HIR database that fails its check ends a run is one of the bytes that it was read from
+-- the status with which a world that fails its check ends a run is one of the bytes that it was read from
 pub check_refused : (bytes : List ℕ) (tree : Data) (world : HirDatabase) (goals : List Goal) (status : Status) → IsUtf8 bytes → read bytes ≡ Some tree →
     world_of tree ≡ Ok (world, goals) → IsOfCheck world status → IsOfInput bytes status
 check_refused bytes tree world goals Values utf8 json stands is = absurd is
@@ -69,7 +69,7 @@ check_refused bytes tree world goals ReadFault utf8 json stands is = absurd is
 check_refused bytes tree world goals WriteFault utf8 json stands is = absurd is
 check_refused bytes tree world goals NoMemory utf8 json stands is = tt
 
--- the status for a goal that doesn't fit the HIR database is one of the bytes that both were read from
+-- the status for a wrong goal is one of the bytes that the world and the goals were read from
 pub goal_refused : (bytes : List ℕ) (tree : Data) (passed world : HirDatabase) (goals : List Goal) (place : ℕ) (status : Status) → IsUtf8 bytes → read bytes ≡ Some tree →
     world_of tree ≡ Ok (world, goals) → passed ≡ world → first_failure world ≡ None → position (is_misfit passed) goals ≡ Some place → IsOfGoal place status →
     IsOfInput bytes status

@@ -1,4 +1,4 @@
--- Goals that don't fit a HIR database. A goal is a definition whose body is to be evaluated as a constant, with generic arguments
+-- Goals that are wrong in a world. A goal is a definition whose body is to be evaluated as a constant, with generic arguments
 -- and with limits on the evaluation.
 use Rattle.std.specs.Prelude.{Bool, true, false, Option, Some, None, not, ◌||◌}
 use Rattle.world.specs.Limits.{is_within}
@@ -19,8 +19,8 @@ abbrev pub are_within : Option Limits → Bool
 are_within None = true
 are_within (Some limits) = is_within limits
 
--- Whether a goal doesn't fit a HIR database: its definition is a variant of an enum, or its id or an id in its generic arguments
--- is out of range in the database, or its limits are too great.
+-- Whether a goal is wrong in a world: its definition is a variant of an enum, or its id or an id in its generic arguments
+-- is out of range in the world, or its limits are too great.
 abbrev pub is_misfit : HirDatabase → Goal → Bool
 is_misfit world goal =
     is_variant goal.def || not (is_def_known world goal.def) || not (are_args_known world goal.args) || not (are_within goal.limits)

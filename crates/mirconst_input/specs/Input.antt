@@ -1,4 +1,4 @@
--- The checked HIR database and the goals in the bytes of the input, or what is wrong with them.
+-- The checked world and the goals in the bytes of the input, or what is wrong with them.
 use Rattle.std.specs.Prelude.{◌≡◌, ℕ, ◌≤◌, List, [], ◌++◌, length, drop, Option, None, Some, Ok, Err, IsUtf8, IfSome, codes, decimal, option_map, position}
 use Rattle.serde_json.specs.Data.{Data}
 use Rattle.serde_json.specs.Read.{read}
@@ -35,8 +35,8 @@ pub record Takes (most : ℕ) (left left' : Option (List ℕ)) : Type 0 where
 abbrev pub TakesFew : Option (List ℕ) → Option (List ℕ) → Type 0
 TakesFew left left' = Takes 67108865 left left'
 
--- Bytes are the JSON of a HIR database and of goals, which are definitions to be evaluated as constants. The database passes
--- the check of its conditions, and each goal fits it.
+-- Bytes are the JSON of a world and of goals, which are definitions to be evaluated as constants. The world passes the check
+-- of its conditions, and no goal is wrong in it.
 pub record StandsFor (bytes : List ℕ) (world : HirDatabase) (goals : List Goal) : Type 0 where
   pub tree : Data
   pub utf8 : IsUtf8 bytes
@@ -54,7 +54,7 @@ pub record IsJson (bytes : List ℕ) (tree : Data) : Type 0 where
 abbrev pub IsNoJson : List ℕ → Type 0
 IsNoJson bytes = (tree : Data) → ¬ IsJson bytes tree
 
--- bytes are the text of a JSON tree that is no HIR database with goals; the path is that of the first part of the tree that
+-- bytes are the text of a JSON tree that stands for no world with goals; the path is that of the first part of the tree that
 -- doesn't fit, as `world.consts[0].ty`
 pub record HasMisfit (bytes path : List ℕ) : Type 0 where
   pub tree : Data
@@ -65,8 +65,8 @@ pub record HasMisfit (bytes path : List ℕ) : Type 0 where
 abbrev pub goal_path : ℕ → List ℕ
 goal_path place = codes "goals[" ++ (decimal place ++ codes "]")
 
--- bytes are the JSON of a HIR database and of goals; the database passes the check of its conditions, and the path is that
--- of the first goal that doesn't fit it
+-- bytes are the JSON of a world and of goals; the world passes the check of its conditions, and the path is that of the first
+-- goal that is wrong in it
 pub record HasMisfitGoal (bytes path : List ℕ) : Type 0 where
   pub tree : Data
   pub world : HirDatabase
@@ -78,7 +78,7 @@ pub record HasMisfitGoal (bytes path : List ℕ) : Type 0 where
   pub first : position (is_misfit world) goals ≡ Some place
   pub named : path ≡ goal_path place
 
--- bytes are the JSON of a HIR database and of goals; the database fails the check of its conditions, first at this condition and
+-- bytes are the JSON of a world and of goals; the world fails the check of its conditions, first at this condition and
 -- at this place
 pub record HasFailure (bytes : List ℕ) (invalid : InvalidWorld) : Type 0 where
   pub tree : Data

@@ -30,8 +30,8 @@ IsOfReading before after ReadFault = HasCause before.failed_reads after.failed_r
 IsOfReading before after NoMemory = Unit {0}
 IsOfReading before after status = ⊥
 
--- the status with which the bytes of the input end a run: they are no JSON, or no HIR database with goals, or the database fails
--- the check of its conditions, or a goal doesn't fit it
+-- the status with which the bytes of the input end a run: they are no JSON, or stand for no world with goals, or the world fails
+-- the check of its conditions, or a goal is wrong in it
 abbrev pub IsOfInput : List ℕ → Status → Type 0
 IsOfInput bytes NotJson = IsNoJson bytes
 IsOfInput bytes (NotAWorld path) = HasMisfit bytes path ⊎ HasMisfitGoal bytes path
@@ -39,24 +39,24 @@ IsOfInput bytes (BadWorld invalid) = HasFailure bytes invalid
 IsOfInput bytes NoMemory = Unit {0}
 IsOfInput bytes status = ⊥
 
--- the status with which a JSON tree ends a run: it is no HIR database with goals
+-- the status with which a JSON tree ends a run: it stands for no world with goals
 abbrev pub IsOfTree : Data → Status → Type 0
 IsOfTree tree (NotAWorld path) = world_of tree ≡ Err path
 IsOfTree tree NoMemory = Unit {0}
 IsOfTree tree status = ⊥
 
--- the status with which a HIR database ends a run: it fails the check of its conditions, first at this condition and place
+-- the status with which a world ends a run: it fails the check of its conditions, first at this condition and place
 abbrev pub IsOfCheck : HirDatabase → Status → Type 0
 IsOfCheck world (BadWorld invalid) = first_failure world ≡ Some (invalid.row, invalid.place)
 IsOfCheck world NoMemory = Unit {0}
 IsOfCheck world status = ⊥
 
--- the status for why the check of a HIR database did not pass it
+-- the status for why the check of a world did not pass it
 abbrev pub IsOfFault : CheckFault → Status → Type 0
 IsOfFault (check.InvalidWorld invalid) status = status ≡ BadWorld invalid
 IsOfFault check.NoMemory status = status ≡ NoMemory
 
--- the status for a goal that doesn't fit the HIR database, from its index in the input
+-- the status for a wrong goal, from its index in the input
 abbrev pub IsOfGoal : ℕ → Status → Type 0
 IsOfGoal place (NotAWorld path) = path ≡ goal_path place
 IsOfGoal place NoMemory = Unit {0}

@@ -18,7 +18,7 @@ code_of ReadFault = 7
 code_of WriteFault = 8
 code_of NoMemory = 9
 
--- the name of a condition in the check of a HIR database
+-- the name of a condition in the check of a world
 abbrev pub row_text : CheckRow → List ℕ
 row_text C1 = codes "C1"
 row_text C2 = codes "C2"

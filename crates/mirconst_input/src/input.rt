@@ -1,4 +1,4 @@
-//! The checked HIR database and the goals in the bytes of the input.
+//! The checked world and the goals in the bytes of the input.
 
 ghost use Rattle.std.specs.Prelude.{◌≡◌, IfOk, IfErr, OnOk, IsUtf8, position};
 ghost use Rattle.serde_json.specs.Read.{read};
@@ -32,8 +32,8 @@ fn tree(alloc: Global, bytes: &[u8]) -> Result<Value, Status>
     })
 }
 
-/// Reads the HIR database and the goals from a JSON tree, and drops the tree: it takes much more memory than
-/// the database, which the check then has for itself.
+/// Reads the world and the goals from a JSON tree, and drops the tree: it takes much more memory than
+/// the world, which the check then has for itself.
 fn world_and_goals(alloc: Global, tree: Value) -> Result<(HirDatabase, List<Goal>), Status>
     ensures stands { IfOk result (λ input. world_of (view tree) ≡ Ok input) }
     ensures refused { IfErr result (λ status. IsOfTree (view tree) status) }
@@ -44,7 +44,7 @@ fn world_and_goals(alloc: Global, tree: Value) -> Result<(HirDatabase, List<Goal
     })
 }
 
-/// Checks the conditions on a HIR database.
+/// Checks the conditions on a world.
 fn checked(alloc: Global, db: HirDatabase) -> Result<CheckedWorld, Status>
     ensures same { IfOk result (λ world. world ≡ db) }
     ensures passes { OnOk result (first_failure db ≡ None) }
@@ -56,7 +56,7 @@ fn checked(alloc: Global, db: HirDatabase) -> Result<CheckedWorld, Status>
     }
 }
 
-/// The status of a HIR database that fails the check of its conditions.
+/// The status of a world that fails the check of its conditions.
 fn refused(fault: CheckFault) -> Status
     ensures { IsOfFault fault result }
 {
@@ -77,13 +77,10 @@ fn is_variant(def: DefWithBodyId) -> bool
 fn are_within(limits: Option<Limits>) -> bool
     ensures { result ≡ are_within limits }
 {
-    match limits {
-        Some(limits) => limits.within(),
-        None => true,
-    }
+    limits.is_none_or(|limits| limits.within())
 }
 
-/// Whether a goal doesn't fit the HIR database: its definition is a variant of an enum or out of range, an id in
+/// Whether a goal is wrong in a world: its definition is a variant of an enum or out of range, an id in
 /// its generic arguments is out of range, or its limits are too great.
 fn is_misfit(world: &CheckedWorld, goal: &Goal) -> bool
     ensures { result ≡ is_misfit world.now goal.now }
@@ -94,14 +91,14 @@ fn is_misfit(world: &CheckedWorld, goal: &Goal) -> bool
         || !are_within(goal.limits)
 }
 
-/// The index of the first goal that doesn't fit the HIR database.
+/// The index of the first wrong goal.
 fn first_misfit(world: &CheckedWorld, goals: &[Goal]) -> Option<usize>
     ensures { result ≡ position (is_misfit world.now) goals.now }
 {
     goals.iter().position(|goal| is_misfit(world, goal))
 }
 
-/// The index of the first goal that doesn't fit the HIR database: its definition is a variant of an enum or out
+/// The index of the first goal that is wrong in the world: its definition is a variant of an enum or out
 /// of range, an id in its generic arguments is out of range, or its limits are too great.
 pub fn goals_fit(world: &CheckedWorld, goals: &List<Goal>) -> Option<u64>
     ensures { result ≡ position (is_misfit world.now) goals.now }
@@ -109,14 +106,11 @@ pub fn goals_fit(world: &CheckedWorld, goals: &List<Goal>) -> Option<u64>
     first_misfit(world, goals.as_slice()).map(|i| i as u64)
 }
 
-/// The status of an input with a goal that doesn't fit its HIR database.
+/// The status of an input with a wrong goal.
 fn misfit(alloc: Global, i: u64) -> Status
     ensures { IsOfGoal i result }
 {
-    match misfit_path(alloc, i) {
-        Ok(path) => Status::NotAWorld(path),
-        Err(NoMemory) => Status::NoMemory,
-    }
+    misfit_path(alloc, i).map_or(Status::NoMemory, |path| Status::NotAWorld(path))
 }
 
 /// The path of a goal in the JSON of the input, as `goals[3]`.
@@ -127,8 +121,8 @@ fn misfit_path(alloc: Global, i: u64) -> Result<Text, NoMemory>
     Text::from_str(alloc, path.as_str())
 }
 
-/// The HIR database and the goals in the bytes of the input, if the database passes the check of its
-/// conditions and each goal fits it.
+/// The world and the goals in the bytes of the input, if the world passes the check of its conditions
+/// and no goal is wrong.
 #[tactic(auto, using(crate::proofs::Standing::stands_for, crate::proofs::Refusing::tree_refused, crate::proofs::Refusing::check_refused, crate::proofs::Refusing::goal_refused))]
 pub fn checked_input(alloc: Global, bytes: &[u8]) -> Result<(CheckedWorld, List<Goal>), Status>
     ensures stands { IfOk result (λ input. StandsFor bytes.now input.0 input.1) }

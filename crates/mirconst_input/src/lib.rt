@@ -1,4 +1,4 @@
-//! The input of a run: the command line, the bytes that are read, and the checked HIR database and the goals
+//! The input of a run: the command line, the bytes that are read, and the checked world and the goals
 //! (definitions to be evaluated as constants) in them, or the status of an input that is refused.
 #![tactic(auto)]
 

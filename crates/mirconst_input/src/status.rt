@@ -19,10 +19,10 @@ pub enum Status {
     BadWords,
     /// The input is not JSON.
     NotJson,
-    /// The input is JSON, but no HIR database with goals that fit it; with the path of the first part that is
+    /// The input is JSON that stands for no world with these goals; with the path of the first part that is
     /// wrong.
     NotAWorld(Text),
-    /// The HIR database of the input fails the check of its conditions; with the first one and its place.
+    /// The world of the input fails the check of its conditions; with the first one and its place.
     BadWorld(InvalidWorld),
     /// The input is too long.
     TooLong,
@@ -34,7 +34,7 @@ pub enum Status {
     NoMemory,
 }
 
-/// The name of a condition in the check of a HIR database.
+/// The name of a condition in the check of a world.
 fn row_text(row: CheckRow) -> &'static str
     ensures { result.now ≡ row_text row }
 {

@@ -19,12 +19,7 @@ use world_json::Goal;
 fn is_want_of_memory(answer: &Result<Const, ConstEvalError>) -> bool
     ensures { result ≡ is_want_of_memory answer.now }
 {
-    match answer {
-        Ok(_) => false,
-        Err(ConstEvalError::NoMemory) => true,
-        Err(ConstEvalError::MirLowerError(_)) => false,
-        Err(ConstEvalError::MirEvalError(_)) => false,
-    }
+    matches!(answer, Err(ConstEvalError::NoMemory))
 }
 
 /// The limits on the evaluation of a goal, or the default ones where it has none.
@@ -34,10 +29,7 @@ fn limits_of(goal: &Goal) -> Limits
     ensures same { result ≡ limits_of goal.now }
     ensures within { IsWithin result }
 {
-    match goal.limits {
-        Some(limits) => limits,
-        None => Limits::default_limits(),
-    }
+    goal.limits.unwrap_or_else(|| Limits::default_limits())
 }
 
 /// Evaluates the definition of a goal under its limits.

@@ -9,8 +9,9 @@ use crate::{
 };
 use std::alloc::Global;
 
-/// The world: tables of items and bodies, whose rows are named by their places, tables of layouts and of
-/// what stands for what, whose rows have keys, and the functions that operators and calls stand for.
+/// The world: tables of items and bodies, whose rows are named by their places, tables of layouts, of
+/// the types that aliases stand for and of the functions and constants that impls give, whose rows have
+/// keys, and the functions that operators and calls stand for.
 #[derive(PartialEq, Eq, PartialOrd, Ord, Hash)]
 pub struct HirDatabase {
     pub crates: List<CrateRow>,
@@ -201,7 +202,7 @@ impl HirDatabase {
         Ok((closures, bodies, layouts))
     }
 
-    /// Copies of the tables of what stands for what.
+    /// Copies of the tables `normals`, `impls` and `const_impls`.
     fn copy_choices(
         &self,
         alloc: Global,
