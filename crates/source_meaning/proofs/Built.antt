@@ -4,7 +4,7 @@ use Rattle.world.specs.declared.body.Statement.{Statement}
 use Rattle.world.specs.declared.body.Statement.TheVariants as statement
 use Rattle.types.specs.declared.ty.Ty.{Ty}
 use Rattle.source_meaning.specs.Built.{IsBuiltStatement, IsBuiltForm}
-use Rattle.source_meaning.specs.Core.{CoreExpr, Literal, Path, Strict, Logic, If, Assign, Block, Labelled, Loop, Break, Continue}
+use Rattle.source_meaning.specs.Core.{CoreExpr, Literal, Path, Strict, Logic, If, Assign, Block, Labelled, Loop, Break, Continue, Return}
 use Rattle.source_meaning.specs.Source.{Source, node}
 use Rattle.source_meaning.specs.Valid.{IsPlainStatement, HasPlainForm, IsPlainNode}
 
@@ -30,6 +30,7 @@ plain_form_is_built source e (Some (Labelled label statements tail)) ty plain = 
 plain_form_is_built source e (Some (Loop label body)) ty plain = tt
 plain_form_is_built source e (Some (Break label value)) ty plain = tt
 plain_form_is_built source e (Some (Continue label)) ty plain = tt
+plain_form_is_built source e (Some (Return value)) ty plain = tt
 plain_form_is_built source e None ty plain = plain
 
 pub plain_is_built : (source : Source) (e : ℕ) → IsPlainNode source e → IsBuiltForm source e (node source e)

@@ -13,7 +13,7 @@ use Rattle.types.specs.declared.ids.ExprId.{ExprId}
 use Rattle.types.specs.declared.operators.BinaryOp.{BinaryOp}
 use Rattle.types.specs.declared.operators.BinaryOp.TheVariants as binary
 use Rattle.numbers.specs.Operators.{of_arith, of_compare}
-use Rattle.source_meaning.specs.Core.{CoreExpr, Operation, Literal, Path, Strict, Logic, If, Assign, Block, Labelled, Loop, Break, Continue, core_literal, unary_operation, unary_form, eager_form, binary_form, core_of, is_adjusted_otherwise, names_item}
+use Rattle.source_meaning.specs.Core.{CoreExpr, Operation, Literal, Path, Strict, Logic, If, Assign, Block, Labelled, Loop, Break, Continue, Return, core_literal, unary_operation, unary_form, eager_form, binary_form, core_of, is_adjusted_otherwise, names_item}
 use Rattle.source_meaning.specs.Source.{Source, node}
 use Rattle.source_meaning.specs.Steps.{parts_of, statement_parts}
 use Rattle.source_meaning.proofs.Parts.{nothing_is_contained, among_more, if_parts, block_parts, tail_part}
@@ -73,6 +73,9 @@ part_is_child item (whole.Break value label) core is child within =
     subst (λ parts. Contains parts child) (ap (λ c. parts_of (Some c)) same ∙ tail_part value) within
 part_is_child item (whole.Continue label) core is child within =
     let same : Continue label ≡ core = cc in absurd (nothing_is_contained child (subst (λ c. Contains (parts_of (Some c)) child) (sym same) within))
+part_is_child item (whole.Return value) core is child within =
+    let same : core ≡ Return value = cc in
+    subst (λ parts. Contains parts child) (ap (λ c. parts_of (Some c)) same ∙ tail_part value) within
 part_is_child item _ core is child within = absurd cc
 
 node_from : (adjusted item : Bool) (found : Option Expr) (core : CoreExpr) → if adjusted then None else option_and_then (core_of item) found ≡ Some core →

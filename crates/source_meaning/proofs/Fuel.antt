@@ -11,8 +11,8 @@ use Rattle.source_meaning.specs.Core as expr
 use Rattle.source_meaning.specs.Core.{CoreExpr, Operation}
 use Rattle.source_meaning.specs.Ends.{Cost, turns_alone, End, Go, Jumps, Break, Continue, Return, Faults, Stuck, More, IsOver, after, then_do}
 use Rattle.source_meaning.specs.Events.{marked, marked_as_operand, marked_by_statement}
-use Rattle.source_meaning.specs.Meaning.{Levels, no_fuel, place_of, operand_of, operands_of, strict_into, is_byte, deciding_byte, decided_into, branched, logic_into, tail_into, branch_into, if_into, assign_into, statement_of, statements_of, block_into, caught, again_into, labelled_into, turn_of, loop_into, break_to, into_of, level_above, level_at, meaning_of}
-use Rattle.source_meaning.specs.Source.{Source, Store, Path, Node, Operand, operand_bytes, node, unadjusted, never_marks, own_path, target, root}
+use Rattle.source_meaning.specs.Meaning.{Levels, no_fuel, place_of, operand_of, operands_of, strict_into, is_byte, deciding_byte, decided_into, branched, logic_into, tail_into, branch_into, if_into, assign_into, statement_of, statements_of, block_into, caught, again_into, labelled_into, turn_of, loop_into, break_to, return_into, into_of, level_above, level_at, returned, meaning_of}
+use Rattle.source_meaning.specs.Source.{Source, Store, Path, Result, Node, Operand, operand_bytes, node, unadjusted, never_marks, own_path, target, root}
 
 -- what is over after a cost is over
 over_before : {A : Type 0} (cost : Cost) (end : End A) → IsOver (after cost end) → IsOver end
@@ -61,7 +61,15 @@ caught_agrees e again other_again ended other_ended (Faults fault cost) second s
 caught_agrees e again other_again ended other_ended Stuck second same_again same_ended same over = ap (caught e other_again other_ended) (same tt)
 caught_agrees e again other_again ended other_ended (More cost) second same_again same_ended same over = absurd over
 
--- wherever levels come to an end, others come to the same
+-- where the end of a root agrees with another, so do those of the bodies
+returned_agrees : (source : Source) (first second : End (Unit {0})) → (IsOver first → second ≡ first) → IsOver (returned source first) → returned source second ≡ returned source first
+returned_agrees source (Go done store cost) second same over = ap (returned source) (same tt)
+returned_agrees source (Jumps to store cost) second same over = ap (returned source) (same tt)
+returned_agrees source (Faults fault cost) second same over = ap (returned source) (same tt)
+returned_agrees source Stuck second same over = ap (returned source) (same tt)
+returned_agrees source (More cost) second same over = absurd over
+
+-- wherever the evaluations of some levels end, those of others end the same
 pub record Agrees (below above : Levels) : Type 0 where
   pub place : (around : Around) (e : ℕ) (store : Store) → IsOver ((below around).place e store) → (above around).place e store ≡ (below around).place e store
   pub operand : (around : Around) (e : ℕ) (store : Store) → IsOver ((below around).operand e store) → (above around).operand e store ≡ (below around).operand e store
@@ -159,6 +167,10 @@ module _ (source : Source) (below above : Levels) (agrees : Agrees below above) 
       then_do_agrees (tail_into (below around) value target.path store) (tail_into (above around) value target.path store) _ _ (tail_agrees around value target.path store) (λ done later o. refl) over
   break_agrees around value None store over = refl
 
+  return_agrees : (around : Around) (value : Option ExprId) (store : Store) → IsOver (return_into source below around value store) → return_into source above around value store ≡ return_into source below around value store
+  return_agrees around value store over =
+      then_do_agrees (tail_into (below around) value around.result store) (tail_into (above around) value around.result store) _ _ (tail_agrees around value around.result store) (λ done later o. refl) over
+
   into_agrees : (around : Around) (e : ℕ) (form : Option CoreExpr) (path : Path) (store : Store) → IsOver (into_of source below around e form path store) → into_of source above around e form path store ≡ into_of source below around e form path store
   into_agrees around e (Some (expr.Strict operation operands)) path store over = strict_agrees around operation operands path store over
   into_agrees around e (Some (expr.Logic op left right)) path store over = logic_agrees around op left right path store over
@@ -168,6 +180,7 @@ module _ (source : Source) (below above : Levels) (agrees : Agrees below above) 
   into_agrees around e (Some (expr.Labelled label statements tail)) path store over = labelled_agrees around e label statements tail path store over
   into_agrees around e (Some (expr.Loop label body)) path store over = loop_agrees around e label body path store over
   into_agrees around e (Some (expr.Break label value)) path store over = break_agrees around value (target_of label around.targets) store over
+  into_agrees around e (Some (expr.Return value)) path store over = return_agrees around value store over
   into_agrees around e _ path store over = refl
 
   above_agrees : Agrees (level_above source below) (level_above source above)
@@ -195,4 +208,5 @@ more_agrees source (suc fuel) (suc more) le = above_agrees source (level_at sour
 pub more_fuel : (source : Source) (fuel more : ℕ) → fuel ≤ more → IsOver (meaning_of source fuel) → meaning_of source more ≡ meaning_of source fuel
 unfolding meaning_of
 more_fuel source fuel more le over =
-    after_agrees _ _ _ (then_do_agrees ((level_at source fuel at_root).into (root source) _ _) ((level_at source more at_root).into (root source) _ _) _ _ ((more_agrees source fuel more le).into at_root (root source) _ _) (λ value store o. refl)) over
+    let first = at_root (record { cell = Result }) in
+    after_agrees _ _ _ (returned_agrees source ((level_at source fuel first).into (root source) _ _) ((level_at source more first).into (root source) _ _) ((more_agrees source fuel more le).into first (root source) _ _)) over

@@ -1,4 +1,4 @@
--- Enough fuel comes to an end, or goes on for as many blocks as one likes.
+-- With enough fuel an evaluation ends, or enters as many blocks as one likes.
 use Rattle.std.proofs.Common.{◌≡◌, ℕ, zero, suc, ◌<◌, ◌≤◌, ◌+◌, Bool, true, false, List, [], ◌∷◌, ◌++◌, length, ◌==◌, if◌then◌else◌, Option, Some, None, refl, sym, subst, arith}
 use Rattle.std.specs.Prelude.{flat_map, Contains}
 use Rattle.std.proofs.lemmas.List.Elements.{Contains-append_left, Contains-append_right}
@@ -18,13 +18,13 @@ use Rattle.source_meaning.specs.Core as expr
 use Rattle.source_meaning.specs.Core.{CoreExpr, Operation}
 use Rattle.source_meaning.specs.Ends.{Cost, plus, turns_alone, End, Go, Jumps, Break, Continue, Return, Faults, Stuck, More, GoesOn, after, then_do}
 use Rattle.source_meaning.specs.Events.{marked, marked_as_operand, marked_by_statement}
-use Rattle.source_meaning.specs.Meaning.{Levels, constant_cost, put, put_literal, put_answer, literal_operand, literal_bytes, named_place, named_into, bind, place_of, operand_of, operands_of, is_byte, deciding_byte, reading_cost, decided_into, branched, logic_into, tail_into, branch_into, if_into, statement_of, statements_of, block_into, caught, again_into, turn_of, break_to, continue_to, into_of, level_at, meaning_of}
+use Rattle.source_meaning.specs.Meaning.{Levels, constant_cost, put, put_literal, put_answer, literal_operand, literal_bytes, named_place, named_into, bind, place_of, operand_of, operands_of, is_byte, deciding_byte, reading_cost, decided_into, branched, logic_into, tail_into, branch_into, if_into, statement_of, statements_of, block_into, caught, again_into, turn_of, break_to, continue_to, return_into, into_of, level_at, returned, meaning_of}
 use Rattle.source_meaning.specs.Source.{Source, Store, Path, Result, Node, Binding, zeroed, Operand, Literally, operand_bytes, node, unadjusted, never_marks, own_path, own_type, named_by, pattern, target, root}
 use Rattle.source_meaning.specs.Steps.{parts_of, statement_parts}
 use Rattle.source_meaning.proofs.Core.{part_is_below}
 use Rattle.source_meaning.proofs.Parts.{first_is_contained, rest_is_contained, strict_parts, if_parts, block_parts, tail_part}
 
--- an end, or a lack of fuel that comes only after a number of blocks
+-- an end, or a lack of fuel after at least `limit` blocks
 abbrev Lasts : {A : Type 0} → ℕ → End A → Type 0
 Lasts limit (Go value store cost) = Unit {0}
 Lasts limit (Jumps to store cost) = Unit {0}
@@ -246,6 +246,9 @@ module _ (limit : ℕ) where
     continue_lasts around (Some target) store = tt
     continue_lasts around None store = tt
 
+    return_lasts : (around : Around) (value : Option ExprId) (store : Store) → ((child : ℕ) → Contains (optional value) child → LastsIn below child) → Lasts limit (return_into source below around value store)
+    return_lasts around value store ends = then_do_lasts (tail_into (below around) value around.result store) _ (tail_lasts around value around.result store ends) (λ done later. tt)
+
     into_lasts : (around : Around) (e : ℕ) (form : Option CoreExpr) (path : Path) (store : Store) → node source e ≡ form → Repeats below e → ((child : ℕ) → Contains (parts_of form) child → LastsIn below child) → Lasts limit (into_of source below around e form path store)
     into_lasts around e (Some (expr.Literal literal)) path store is repeats ends = put_literal_lasts source e store path (literal_bytes source e literal)
     into_lasts around e (Some (expr.Path name)) path store is repeats ends = named_into_lasts (named_by source e) path store
@@ -269,9 +272,11 @@ module _ (limit : ℕ) where
     into_lasts around e (Some (expr.Break label value)) path store is repeats ends =
         break_lasts around value (target_of label around.targets) store (λ child within. ends child (subst (λ parts. Contains parts child) (sym (tail_part value)) within))
     into_lasts around e (Some (expr.Continue label)) path store is repeats ends = continue_lasts around (target_of label around.targets) store
+    into_lasts around e (Some (expr.Return value)) path store is repeats ends =
+        return_lasts around value store (λ child within. ends child (subst (λ parts. Contains parts child) (sym (tail_part value)) within))
     into_lasts around e None path store is repeats ends = tt
 
--- the fuel with which each expression below a number comes to an end, or enters so many blocks
+-- the fuel with which each expression numbered below `bound` ends, or enters at least `many` blocks
 fuel_for : ℕ → ℕ → ℕ
 fuel_for zero bound = zero
 fuel_for (suc many) zero = zero
@@ -304,12 +309,26 @@ own_goes_on source checked (suc many) (suc bound) e (suc (suc (suc fuel))) less 
       into = λ a p l. into_from_own (suc many) source (suc (suc fuel)) child a p l (own_goes_on source checked (suc many) bound child (suc (suc fuel)) (omega arith) (omega arith) _ _ l);
     })
 
+returned_lasts : (source : Source) (limit : ℕ) (end : End (Unit {0})) → Lasts limit end → Lasts limit (returned source end)
+unfolding after
+returned_lasts source limit (Go done store cost) lasts = tt
+returned_lasts source limit (Jumps (Break node) store cost) lasts = tt
+returned_lasts source limit (Jumps (Continue node) store cost) lasts = tt
+returned_lasts source limit (Jumps Return store cost) lasts = tt
+returned_lasts source limit (Faults fault cost) lasts = tt
+returned_lasts source limit Stuck lasts = tt
+returned_lasts source limit (More cost) lasts = lasts
+
+-- what stands around the root of a body
+abbrev first_around : Around
+first_around = at_root (record { cell = Result })
+
 -- a body lasts where its root does
-body_lasts : (source : Source) (limit : ℕ) (fuel : ℕ) → Lasts limit ((level_at source fuel at_root).into (root source) (record { cell = Result }) (zeroed source)) → Lasts limit (meaning_of source fuel)
+body_lasts : (source : Source) (limit : ℕ) (fuel : ℕ) → Lasts limit ((level_at source fuel first_around).into (root source) (record { cell = Result }) (zeroed source)) → Lasts limit (meaning_of source fuel)
 unfolding meaning_of
-body_lasts source limit fuel lasts = lasts_after limit _ _ (then_do_lasts limit _ _ lasts (λ value store. tt))
+body_lasts source limit fuel lasts = lasts_after limit _ _ (returned_lasts source limit _ lasts)
 
 pub bodies_go_on : (source : Source) (many : ℕ) → IsCheckedBody source.body source.infer → (fuel : ℕ) × GoesOn many (meaning_of source fuel)
 bodies_go_on source many checked =
     let fuel = fuel_for many (suc (root source)) in
-    (fuel, with_limit many _ (body_lasts source many fuel (into_from_own many source fuel (root source) at_root _ _ (own_goes_on source checked many (suc (root source)) (root source) fuel (omega arith) (omega arith) _ _ _))))
+    (fuel, with_limit many _ (body_lasts source many fuel (into_from_own many source fuel (root source) first_around _ _ (own_goes_on source checked many (suc (root source)) (root source) fuel (omega arith) (omega arith) _ _ _))))

@@ -11,7 +11,7 @@ use Rattle.types.specs.declared.operators.LogicOp.{LogicOp}
 use Rattle.world.specs.declared.body.Statement.{Statement}
 use Rattle.world.specs.declared.body.Statement.TheVariants as statement
 use Rattle.world.specs.Checked.{IsCheckedBody}
-use Rattle.source_meaning.specs.Core.{CoreExpr, CoreLiteral, Operation, Literal, Path, Strict, Logic, If, Assign, Block, Labelled, Loop, Break, Continue, is_literal, is_path}
+use Rattle.source_meaning.specs.Core.{CoreExpr, CoreLiteral, Operation, Literal, Path, Strict, Logic, If, Assign, Block, Labelled, Loop, Break, Continue, Return, is_literal, is_path}
 use Rattle.source_meaning.specs.Events.{Event, Opens, Marks, Closes, place_events, operand_events, step_events, form_events, events_in, events, events_through, Scopes, after_event, scopes_after, innermost, marks_of, marked, marked_itself, marked_as_place, marked_as_operand, marked_by_statement, marked_by_tail, marked_in_block}
 use Rattle.source_meaning.specs.Laws.{ScopesNest}
 use Rattle.source_meaning.specs.Source.{Source, Cell, Node, Binding, Never, node, unadjusted, diverges, never_marks, pattern, bound_by}
@@ -153,6 +153,7 @@ module _ (source : Source) (below : ℕ → List Event) (closed : (e : ℕ) → 
   form_is_closed (Some (Loop label body)) = expression_is_closed body
   form_is_closed (Some (Break label value)) = tail_is_closed value
   form_is_closed (Some (Continue label)) = none_is_closed
+  form_is_closed (Some (Return value)) = tail_is_closed value
   form_is_closed None = none_is_closed
 
 events_in_are_closed : (source : Source) (depth e : ℕ) → IsClosed (events_in depth source e)
@@ -330,6 +331,10 @@ module _ (source : Source) (checked : IsCheckedBody source.body source.infer) (e
   pub break_marks : (label : Option LabelId) (value : Option ExprId) → node source e ≡ Some (Break label value) → marked_itself source e ≡ marked_by_tail source value
   unfolding marked_by_tail
   break_marks label value is = form_marks (Some (Break label value)) is
+
+  pub return_marks : (value : Option ExprId) → node source e ≡ Some (Return value) → marked_itself source e ≡ marked_by_tail source value
+  unfolding marked_by_tail
+  return_marks value is = form_marks (Some (Return value)) is
 
 pub let_marks : (source : Source) (pat : PatId) (e : ExprId) → marked_by_statement source (statement.Let pat (Some e) None) ≡ marked_as_place source e.0 ++ bound_by (pattern source pat.0)
 unfolding marked_by_statement marked_as_place

@@ -17,7 +17,7 @@ IsDefined (Computes bytes) = Unit {0}
 IsDefined (Panics word) = Unit {0}
 IsDefined Undefined = ⊥
 
--- an answer with a meaning, and so many bytes
+-- an answer with a meaning: a value of `size` bytes, or a panic
 abbrev pub Fits : ℕ → Answer → Type 0
 Fits size (Computes bytes) = length bytes ≡ size
 Fits size (Panics word) = Unit {0}
@@ -28,7 +28,7 @@ fits_from_defined size (Computes bytes) defined long = long bytes refl
 fits_from_defined size (Panics word) defined long = tt
 fits_from_defined size Undefined defined long = defined
 
--- a value of a type of integers, or of `bool`, may have so many bytes
+-- a value of an integer type, or of `bool`, may have `size` bytes
 abbrev pub IsLengthOf : Ty → ℕ → Type 0
 IsLengthOf BoolTy size = size ≡ 1
 IsLengthOf (IntTy ty) size = is_width size ≡ true
@@ -78,10 +78,10 @@ divided_is_defined : (op : Operator) (signed : Bool) (size : ℕ) (left right z 
 unfolding divided
 divided_is_defined op signed size left right z = either_is_defined _ (Computes _) (Panics _) tt tt
 
-told_is_defined : (test : Bool) → IsDefined (truth_value test)
+truth_value_is_defined : (test : Bool) → IsDefined (truth_value test)
 unfolding truth_value
-told_is_defined true = tt
-told_is_defined false = tt
+truth_value_is_defined true = tt
+truth_value_is_defined false = tt
 
 on_integers_is_defined : (op : Operator) (signed : Bool) (left right : List ℕ) → is_shift op ≡ false → IsDefined (on_integers op signed left right)
 unfolding on_integers by_bits is_shift
@@ -95,12 +95,12 @@ on_integers_is_defined BitAnd signed left right is = tt
 on_integers_is_defined BitOr signed left right is = tt
 on_integers_is_defined Shl signed left right is = absurd (false≢true (sym is))
 on_integers_is_defined Shr signed left right is = absurd (false≢true (sym is))
-on_integers_is_defined Eq signed left right is = told_is_defined _
-on_integers_is_defined Ne signed left right is = told_is_defined _
-on_integers_is_defined Lt signed left right is = told_is_defined _
-on_integers_is_defined Le signed left right is = told_is_defined _
-on_integers_is_defined Gt signed left right is = told_is_defined _
-on_integers_is_defined Ge signed left right is = told_is_defined _
+on_integers_is_defined Eq signed left right is = truth_value_is_defined _
+on_integers_is_defined Ne signed left right is = truth_value_is_defined _
+on_integers_is_defined Lt signed left right is = truth_value_is_defined _
+on_integers_is_defined Le signed left right is = truth_value_is_defined _
+on_integers_is_defined Gt signed left right is = truth_value_is_defined _
+on_integers_is_defined Ge signed left right is = truth_value_is_defined _
 
 shifted_is_defined : (op : Operator) (signed : Bool) (bytes : List ℕ) (amount : ℕ) → is_shift op ≡ true → IsDefined (shifted op signed bytes amount)
 unfolding shifted is_shift

@@ -19,8 +19,9 @@ use Rattle.source_meaning.specs.Around.{Opened, Target, Around, at_root, marking
 use Rattle.source_meaning.specs.Core as expr
 use Rattle.source_meaning.specs.Core.{CoreExpr, CoreLiteral, Truth, Number, Operation, is_truth}
 use Rattle.source_meaning.specs.Ends.{Cost, no_cost, turns_alone, plus, End, Go, Jumps, Jump, Break, Continue, Return, Faults, Stuck, More, JumpsNowhere, after, then_do}
+use Rattle.source_meaning.specs.Entering.{entering}
 use Rattle.source_meaning.specs.Events.{marked, marked_as_operand, marked_by_statement}
-use Rattle.source_meaning.specs.Meaning.{Level, Levels, value_of, answered, truth_byte, literal_bytes, constant_cost, put, put_literal, put_answer, literal_operand, named_place, named_into, bind, operands_of, strict_into, is_byte, deciding_byte, reading_cost, decided_into, branched, logic_into, tail_into, branch_into, if_into, assign_into, statement_of, statements_of, block_into, caught, again_into, labelled_into, turn_of, loop_into, break_to, break_into, continue_to, continue_into, no_fuel, place_of, operand_of, into_of, level_above, level_at, meaning_of}
+use Rattle.source_meaning.specs.Meaning.{Level, Levels, value_of, answered, truth_byte, literal_bytes, constant_cost, put, put_literal, put_answer, literal_operand, named_place, named_into, bind, operands_of, strict_into, is_byte, deciding_byte, reading_cost, decided_into, branched, logic_into, tail_into, branch_into, if_into, assign_into, statement_of, statements_of, block_into, caught, again_into, labelled_into, turn_of, loop_into, break_to, break_into, continue_to, continue_into, return_into, no_fuel, place_of, operand_of, into_of, level_above, level_at, returned, meaning_of}
 use Rattle.source_meaning.specs.Source.{Source, Store, Path, Cell, Result, Node, Binding, Never, Operand, Literally, At, operand_bytes, same_cell, zeroed, with_cell_bytes, node, unadjusted, never_marks, own_path, own_type, node_type, own_layout, pattern, target, root, cell_type, cell_size}
 use Rattle.source_meaning.specs.Steps.{parts_of, statement_parts, tail_steps}
 use Rattle.source_meaning.specs.Steps as step
@@ -72,13 +73,13 @@ with_bytes_is_sized source store cell bytes sized fits = record { holds_all = λ
 abbrev pub IsNode : List Target → ℕ → Type 0
 IsNode targets node = (target : Target) × Contains targets target × (target.opened.node ≡ node)
 
--- a jump leads to one of these targets
+-- a jump leads to one of these targets, or out of the body
 abbrev pub IsTarget : List Target → Jump → Type 0
 IsTarget targets (Break node) = IsNode targets node
 IsTarget targets (Continue node) = IsNode targets node
-IsTarget targets Return = ⊥
+IsTarget targets Return = Unit {0}
 
--- an end that isn't stuck, and which leaves sized cells where it is a value, or a jump, which leads to a target
+-- an end that isn't stuck, and which leaves sized cells where it is a value, or a jump, which leads to a target or out of the body
 abbrev pub IsSound : {A : Type 0} → Source → List Target → (A → Type 0) → End A → Type 0
 IsSound source targets P (Go value store cost) = IsSized source store × P value
 IsSound source targets P (Jumps to store cost) = IsSized source store × IsTarget targets to
@@ -205,13 +206,15 @@ module _ (source : Source) (checked : IsChecked source.world) where
   OperandsFit (e ∷ rest) (one ∷ others) = OperandFits e one × OperandsFit rest others
   OperandsFit _ _ = ⊥
 
-  -- the targets around an expression are the blocks that are open, and the path of each is of its type
+  -- the targets around an expression are the blocks that are open, and the path of each is of its type; the return path is of the
+  -- root's
   record Stands (outer : List Opened) (around : Around) : Type 0 where
     opened : map (λ target. target.opened) around.targets ≡ outer
     fits : (target : Target) → Contains around.targets target → OwnFits target.opened.node target.path
+    returns : PathFits (root source) around.result
 
   marks_stand : {outer : List Opened} {around : Around} (cells : List Cell) → Stands outer around → Stands outer (marking cells around)
-  marks_stand cells stands = record { opened = stands.opened; fits = stands.fits }
+  marks_stand cells stands = record { opened = stands.opened; fits = stands.fits; returns = stands.returns }
 
   record IsSoundLevel (outer : List Opened) (targets : List Target) (level : Level) : Type 0 where
     place : (e : ℕ) (store : Store) → IsFine source outer e → IsSized source store → IsSound source targets (PathFits e) (level.place e store)
@@ -356,6 +359,7 @@ module _ (source : Source) (checked : IsChecked source.world) where
     operand_is_sound outer around stands e (Some (expr.Loop label body)) store is fine sized = as_place_is_sound outer around stands e store (ap is_truth is) fine sized
     operand_is_sound outer around stands e (Some (expr.Continue label)) store is fine sized = as_place_is_sound outer around stands e store (ap is_truth is) fine sized
     operand_is_sound outer around stands e (Some (expr.Break label value)) store is fine sized = as_place_is_sound outer around stands e store (ap is_truth is) fine sized
+    operand_is_sound outer around stands e (Some (expr.Return value)) store is fine sized = as_place_is_sound outer around stands e store (ap is_truth is) fine sized
     operand_is_sound outer around stands e None store is fine sized = as_place_is_sound outer around stands e store (ap is_truth is) fine sized
 
     operands_are_sound : (outer : List Opened) (around : Around) (stands : Stands outer around) (operands : List ℕ) (store : Store) → ((e : ℕ) → Contains operands e → IsFineOperand source outer e) → IsSized source store → IsSound source around.targets (OperandsFit operands) (operands_of source below around operands store)
@@ -470,7 +474,7 @@ module _ (source : Source) (checked : IsChecked source.world) where
         (λ there. (is.0, there, is.2))
         (Contains-append_cases (target ∷ []) targets is.0 is.1)
 
-    -- a loop or a labelled block catches the jumps to it; others lead to the targets around it
+    -- a loop or a labelled block catches the jumps to it; others lead to the targets around it, or out of the body
     caught_is_sound : (targets : List Target) (target : Target) (again ended : Store → End (Unit {0})) (end : End (Unit {0})) →
         ((store : Store) → IsSized source store → IsSound source targets Nothing (again store)) → ((store : Store) → IsSized source store → IsSound source targets Nothing (ended store)) →
         IsSound source (target ∷ targets) Nothing end → IsSound source targets Nothing (caught target.opened.node again ended end)
@@ -485,7 +489,7 @@ module _ (source : Source) (checked : IsChecked source.world) where
         by_test : (test : Bool) → (node == target.opened.node) ≡ test → IsSound source targets Nothing (if test then after cost (again store) else Jumps (Continue node) store cost)
         by_test true same = after_is_sound source targets Nothing cost (again store) (again_is store is.0)
         by_test false differs = (is.0, further targets target node differs is.1)
-    caught_is_sound targets target again ended (Jumps Return store cost) again_is ended_is is = absurd is.1
+    caught_is_sound targets target again ended (Jumps Return store cost) again_is ended_is is = is
     caught_is_sound targets target again ended (Faults fault cost) again_is ended_is is = tt
     caught_is_sound targets target again ended Stuck again_is ended_is is = is
     caught_is_sound targets target again ended (More cost) again_is ended_is is = tt
@@ -498,6 +502,7 @@ module _ (source : Source) (checked : IsChecked source.world) where
           (λ here. subst (λ t. OwnFits t.opened.node t.path) (only_target (entered e label path around) target here) fits)
           (λ there. stands.fits target there)
           (Contains-append_cases (entered e label path around ∷ []) around.targets target contained);
+      returns = stands.returns;
     }
 
     again_is_sound : (outer : List Opened) (around : Around) (stands : Stands outer around) (e : ℕ) (path : Path) → IsFine source outer e → OwnFits e path → (store : Store) → IsSized source store → IsSound source around.targets Nothing (again_into below around e path store)
@@ -540,6 +545,13 @@ module _ (source : Source) (checked : IsChecked source.world) where
         let found = target_found label around.targets target.target (ap (meant label) stands.opened ∙ target.means) in
         subst (λ given. IsSound source around.targets Nothing (continue_to source around given store)) (sym found.1) (sized, (found.0, found.2, refl))
 
+    -- the value of a `return` goes to the return path, and the jump out of the body
+    return_is_sound : (outer : List Opened) (around : Around) (stands : Stands outer around) (e : ℕ) (value : Option ExprId) (store : Store) → node source e ≡ Some (expr.Return value) → IsFine source outer e → IsSized source store → IsSound source around.targets Nothing (return_into source below around value store)
+    return_is_sound outer around stands e value store is fine sized =
+        let form = form_of e _ is (fine.plain e itself) in
+        then_do_is_sound source around.targets Nothing Nothing (tail_into (below around) value around.result store) _ (tail_is_sound outer around stands value form.ty around.result store form.value_has (stands.returns ∙ form.result_has) (λ child contained.
+        part_is_fine outer e child (Some (expr.Return value)) is (sized_tail source value child contained) fine) sized) (λ done later sized' is'. (sized', tt))
+
     into_is_sound : (outer : List Opened) (around : Around) (stands : Stands outer around) (e : ℕ) (form : Option CoreExpr) (path : Path) (store : Store) → node source e ≡ form → IsFine source outer e → IsSized source store → OwnFits e path → IsSound source around.targets Nothing (into_of source below around e form path store)
     into_is_sound outer around stands e (Some (expr.Literal given)) path store is fine sized fits =
         let plain = fine.plain e itself in
@@ -559,6 +571,7 @@ module _ (source : Source) (checked : IsChecked source.world) where
     into_is_sound outer around stands e (Some (expr.Break label value)) path store is fine sized fits = break_is_sound outer around stands e label value store is fine sized
     into_is_sound outer around stands e (Some (expr.Loop label body)) path store is fine sized fits = loop_is_sound outer around stands e label body path store is fine sized fits
     into_is_sound outer around stands e (Some (expr.Continue label)) path store is fine sized fits = continue_is_sound outer around stands e label store is fine sized
+    into_is_sound outer around stands e (Some (expr.Return value)) path store is fine sized fits = return_is_sound outer around stands e value store is fine sized
     into_is_sound outer around stands e None path store is fine sized fits = absurd (form_of e _ is (fine.plain e itself))
 
     above_is_sound : (outer : List Opened) (around : Around) → Stands outer around → IsSoundLevel outer around.targets (level_above source below around)
@@ -575,30 +588,56 @@ module _ (source : Source) (checked : IsChecked source.world) where
   level_is_sound zero outer around stands = no_fuel_is_sound outer around
   level_is_sound (suc fuel) outer around stands = above_is_sound (level_at source fuel) (level_is_sound fuel) outer around stands
 
-  root_stands : Stands [] at_root
-  root_stands = record { opened = refl; fits = λ target contained. absurd (let less = contained.1 in omega arith) }
+  root_stands : Stands [] (at_root (record { cell = Result }))
+  root_stands = record { opened = refl; fits = λ target contained. absurd (let less = contained.1 in omega arith); returns = refl }
 
-meaning_is_sound : (source : Source) (fuel : ℕ) → IsChecked source.world → IsPlain source → AreLaidOut source → IsSound source [] (λ bytes. Unit {0}) (meaning_of source fuel)
+no_node : (node : ℕ) → IsNode [] node → ⊥
+no_node node is = let less = is.1.1 in omega arith
+
+-- the end of a body that is neither stuck nor a jump
+abbrev IsSettled : End (List ℕ) → Type 0
+IsSettled (Go value store cost) = Unit {0}
+IsSettled (Jumps to store cost) = ⊥
+IsSettled (Faults fault cost) = Unit {0}
+IsSettled Stuck = ⊥
+IsSettled (More cost) = Unit {0}
+
+after_is_settled : (cost : Cost) (end : End (List ℕ)) → IsSettled end → IsSettled (after cost end)
+unfolding after
+after_is_settled cost (Go value store rest) settled = tt
+after_is_settled cost (Jumps to store rest) settled = settled
+after_is_settled cost (Faults fault rest) settled = tt
+after_is_settled cost Stuck settled = settled
+after_is_settled cost (More rest) settled = tt
+
+-- around a root nothing is open, so the only jump out of it is a `return`, which ends the body well
+returned_is_settled : (source : Source) (end : End (Unit {0})) → IsSound source [] Nothing end → IsSettled (returned source end)
+unfolding after
+returned_is_settled source (Go done store cost) sound = tt
+returned_is_settled source (Jumps (Break node) store cost) sound = no_node node sound.1
+returned_is_settled source (Jumps (Continue node) store cost) sound = no_node node sound.1
+returned_is_settled source (Jumps Return store cost) sound = tt
+returned_is_settled source (Faults fault cost) sound = tt
+returned_is_settled source Stuck sound = sound
+returned_is_settled source (More cost) sound = tt
+
+meaning_is_settled : (source : Source) (fuel : ℕ) → IsChecked source.world → IsPlain source → AreLaidOut source → IsSettled (meaning_of source fuel)
 unfolding meaning_of
-meaning_is_sound source fuel checked plain laid_out =
+meaning_is_settled source fuel checked plain laid_out =
+    let first = at_root (record { cell = Result }) in
     let root_is_fine : IsFine source [] (root source) = record { jumps = plain.jumps; plain = plain.nodes; laid_out = laid_out.nodes } in
-    let level = level_is_sound source checked fuel [] at_root (root_stands source checked) in
-    after_is_sound source [] (λ bytes. Unit {0}) _ _ (then_do_is_sound source [] Nothing (λ bytes. Unit {0}) ((level_at source fuel at_root).into (root source) _ _) _ (level.into (root source) _ _ root_is_fine (zeroed_is_sized source) refl) (λ done store sized is. (sized, tt)))
+    let level = level_is_sound source checked fuel [] first (root_stands source checked) in
+    after_is_settled (entering source) _ (returned_is_settled source ((level_at source fuel first).into (root source) _ _) (level.into (root source) _ _ root_is_fine (zeroed_is_sized source) refl))
 
 pub plain_is_never_stuck : (source : Source) (fuel : ℕ) → IsChecked source.world → IsCheckedBody source.body source.infer → IsPlain source → AreLaidOut source → meaning_of source fuel ≢ Stuck
-plain_is_never_stuck source fuel checked body plain laid_out stuck = subst (IsSound source [] (λ bytes. Unit {0})) stuck (meaning_is_sound source fuel checked plain laid_out)
+plain_is_never_stuck source fuel checked body plain laid_out stuck = subst IsSettled stuck (meaning_is_settled source fuel checked plain laid_out)
 
-no_target : (to : Jump) → IsTarget [] to → ⊥
-no_target (Break node) is = let less = is.1.1 in omega arith
-no_target (Continue node) is = let less = is.1.1 in omega arith
-no_target Return is = is
-
-no_jump : {A : Type 0} (source : Source) (P : A → Type 0) (end : End A) → IsSound source [] P end → JumpsNowhere end
-no_jump source P (Go value store cost) sound = tt
-no_jump source P (Jumps to store cost) sound = absurd (no_target to sound.1)
-no_jump source P (Faults fault cost) sound = tt
-no_jump source P Stuck sound = tt
-no_jump source P (More cost) sound = tt
+settled_jumps_nowhere : (end : End (List ℕ)) → IsSettled end → JumpsNowhere end
+settled_jumps_nowhere (Go value store cost) settled = tt
+settled_jumps_nowhere (Jumps to store cost) settled = settled
+settled_jumps_nowhere (Faults fault cost) settled = tt
+settled_jumps_nowhere Stuck settled = tt
+settled_jumps_nowhere (More cost) settled = tt
 
 pub plain_jumps_nowhere : (source : Source) (fuel : ℕ) → IsChecked source.world → IsCheckedBody source.body source.infer → IsPlain source → AreLaidOut source → JumpsNowhere (meaning_of source fuel)
-plain_jumps_nowhere source fuel checked body plain laid_out = no_jump source (λ bytes. Unit {0}) (meaning_of source fuel) (meaning_is_sound source fuel checked plain laid_out)
+plain_jumps_nowhere source fuel checked body plain laid_out = settled_jumps_nowhere (meaning_of source fuel) (meaning_is_settled source fuel checked plain laid_out)

@@ -15,19 +15,21 @@ pub record Target : Type 0 where
   pub path : Path
   pub kept : ℕ
 
--- the loops and labelled blocks that are open, the innermost first, and the cells that came into use in all open scopes, in
--- order: what a jump leaves are those behind the ones that were in use when its target was entered
+-- `targets`: the open loops and labelled blocks, the innermost first. `marks`: the cells marked as live (`StorageLive`) in all open
+-- scopes, the oldest first; a jump drops those behind the first `kept` of its target. `result`: the return path that was handed in
+-- with the body: where its value goes, and where `return` writes.
 pub record Around : Type 0 where
   pub targets : List Target
   pub marks : List Cell
+  pub result : Path
 
--- around the root of a body nothing is open, and nothing is in use
-abbrev pub at_root : Around
-at_root = record { targets = []; marks = [] }
+-- around the root of a body whose value goes where a path leads, nothing is open, and nothing is in use
+abbrev pub at_root : Path → Around
+at_root result = record { targets = []; marks = []; result = result }
 
 -- where more cells came into use
 abbrev pub marking : List Cell → Around → Around
-marking cells around = record { targets = around.targets; marks = around.marks ++ cells }
+marking cells around = record { targets = around.targets; marks = around.marks ++ cells; result = around.result }
 
 -- the target that a loop or a labelled block is, where it is entered
 abbrev pub entered : ℕ → Option LabelId → Path → Around → Target
@@ -35,7 +37,7 @@ entered e label path around = record { opened = record { node = e; label = label
 
 -- inside a loop or a labelled block whose value goes where a path leads
 abbrev pub inside : ℕ → Option LabelId → Path → Around → Around
-inside e label path around = record { targets = entered e label path around ∷ around.targets; marks = around.marks }
+inside e label path around = record { targets = entered e label path around ∷ around.targets; marks = around.marks; result = around.result }
 
 -- whether something has a label
 abbrev pub has_label : LabelId → Option LabelId → Bool

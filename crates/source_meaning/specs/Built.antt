@@ -52,4 +52,5 @@ IsBuiltForm source e (Some (expr.Labelled label statements tail)) = All (IsBuilt
 IsBuiltForm source e (Some (expr.Loop label body)) = Unit {0}
 IsBuiltForm source e (Some (expr.Break label value)) = Unit {0}
 IsBuiltForm source e (Some (expr.Continue label)) = Unit {0}
+IsBuiltForm source e (Some (expr.Return value)) = Unit {0}
 IsBuiltForm source e None = ⊥

@@ -46,7 +46,8 @@ pub data Operation : Type 0 where
 -- An expression of a form that has a meaning. A strict form evaluates all its operands from left to right, and then
 -- computes one operation. `&&` and `||` evaluate their right operand only where the left one doesn't decide, and `if` one of
 -- its branches. An assignment writes a value to what its target names. A `loop` evaluates its body again and again. A `break`
--- ends a loop or a labelled block around it, with a value or without, and a `continue` starts it again.
+-- ends a loop or a labelled block around it, with a value or without, and a `continue` starts it again. A `return` ends the
+-- body, with a value or without.
 pub data CoreExpr : Type 0 where
   Literal : CoreLiteral → CoreExpr
   Path : (name : List ℕ) → CoreExpr
@@ -59,6 +60,7 @@ pub data CoreExpr : Type 0 where
   Loop : (label : Option LabelId) → (body : ℕ) → CoreExpr
   Break : (label : Option LabelId) → (value : Option ExprId) → CoreExpr
   Continue : (label : Option LabelId) → CoreExpr
+  Return : (value : Option ExprId) → CoreExpr
 
 -- a literal of a kind that has a meaning: a truth value or a whole number
 abbrev pub core_literal : SomeLiteral → Option CoreLiteral
@@ -102,6 +104,7 @@ core_of names_item (expr.Block statements tail (Some label)) = Some (Labelled la
 core_of names_item (expr.Loop body label) = Some (Loop label body.0)
 core_of names_item (expr.Break value label) = Some (Break label value)
 core_of names_item (expr.Continue label) = Some (Continue label)
+core_of names_item (expr.Return value) = Some (Return value)
 core_of names_item _ = None
 
 -- the type that a step leads to, where it is `NeverToAny`, the one from `!` to any type

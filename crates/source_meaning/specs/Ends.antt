@@ -80,7 +80,7 @@ IsOver (Faults fault cost) = Unit {0}
 IsOver Stuck = Unit {0}
 IsOver (More cost) = ⊥
 
--- an end, or a lack of fuel that comes only after so many blocks were entered
+-- an end, or a lack of fuel after at least `many` blocks were entered
 abbrev pub GoesOn : {A : Type 0} → ℕ → End A → Type 0
 GoesOn many (Go value store cost) = Unit {0}
 GoesOn many (Jumps to store cost) = Unit {0}

@@ -25,8 +25,8 @@ PlainJumpsNowhere =
     (source : Source) (fuel : ℕ) → IsChecked source.world → IsCheckedBody source.body source.infer → IsPlain source → AreLaidOut source →
     JumpsNowhere (meaning_of source fuel)
 
--- A checked body ends, or goes on for as many blocks as one likes. So a run of it that enters so many blocks has an end, or
--- meets a limit.
+-- For each number `many`, a checked body ends with some fuel, or it enters at least `many` blocks. So under a limit on blocks
+-- it ends or meets the limit.
 abbrev pub BodiesGoOn : Type 0
 BodiesGoOn = (source : Source) (many : ℕ) → IsCheckedBody source.body source.infer → (fuel : ℕ) × GoesOn many (meaning_of source fuel)
 

@@ -246,7 +246,7 @@ loop_into source below around e label body path store =
     after (turns_alone 1) (caught e (again_into below around e path) (again_into below around e path)
     (turn_of source below (inside e label path around) body store))
 
--- how many cells are dropped where a jump leaves all scopes inside its target, at the end of its value
+-- how many drops a jump makes, after its value: one for each cell inside its target that is marked as live and isn't `Copy`
 abbrev pub leaving : Source → Around → Option ExprId → Target → ℕ
 leaving source around value target = drops source (drop target.kept (around.marks ++ marked_by_tail source value))
 
@@ -267,6 +267,11 @@ continue_to source around None store = Stuck
 abbrev pub continue_into : Source → Around → Option LabelId → Store → End (Unit {0})
 continue_into source around label store = continue_to source around (target_of label around.targets) store
 
+-- the value of a `return` goes to the body's return path, all scopes of the body are left, and then the jump out of it
+abbrev pub return_into : Source → Levels → Around → Option ExprId → Store → End (Unit {0})
+return_into source below around value store =
+    then_do (tail_into (below around) value around.result store) (λ _ later. Jumps Return later (turns_alone (drops source (around.marks ++ marked_by_tail source value))))
+
 -- an expression itself evaluated into a path: the forms that have a meaning so far
 abbrev pub into_of : Source → Levels → Around → ℕ → Option CoreExpr → Path → Store → End (Unit {0})
 into_of source below around e (Some (expr.Literal l)) path store = put_literal source e store path (literal_bytes source e l)
@@ -280,6 +285,7 @@ into_of source below around e (Some (expr.Labelled label statements tail)) path 
 into_of source below around e (Some (expr.Loop label body)) path store = loop_into source below around e label body path store
 into_of source below around e (Some (expr.Break label value)) path store = break_into source below around label value store
 into_of source below around e (Some (expr.Continue label)) path store = continue_into source around label store
+into_of source below around e (Some (expr.Return value)) path store = return_into source below around value store
 into_of source below around e None path store = Stuck
 
 -- The meanings at one more unit of fuel. What is adjusted by `NeverToAny` is itself evaluated into its `!` cell, and the path
@@ -296,11 +302,21 @@ unfoldable pub level_at : Source → ℕ → Levels
 level_at source zero = no_fuel
 level_at source (suc fuel) = level_above source (level_at source fuel)
 
--- a body's bytes: from zeroed cells on, its root is evaluated into the result's cell, and what came into use is left
+-- How a body ends, by the end of its root. Where the root has a value, the body's scope is left; a `return` has left it already.
+-- Both give the bytes of the result's cell. A `break` or a `continue` that nothing caught stays one; a plain body has none.
+abbrev pub returned : Source → End (Unit {0}) → End (List ℕ)
+returned source (Go done store cost) = after cost (Go (store Result) store (turns_alone (drops source (marked source (root source)))))
+returned source (Jumps Return store cost) = Go (store Result) store cost
+returned source (Jumps (Break node) store cost) = Jumps (Break node) store cost
+returned source (Jumps (Continue node) store cost) = Jumps (Continue node) store cost
+returned source (Faults fault cost) = Faults fault cost
+returned source Stuck = Stuck
+returned source (More cost) = More cost
+
+-- a body's bytes: from zeroed cells on, its root is evaluated into the result's cell, which is also the return path
 unfoldable pub meaning_of : Source → ℕ → End (List ℕ)
 meaning_of source fuel =
-    after (entering source) (then_do ((level_at source fuel at_root).into (root source) (record { cell = Result }) (zeroed source))
-    (λ _ store. Go (store Result) store (turns_alone (drops source (marked source (root source))))))
+    after (entering source) (returned source ((level_at source fuel (at_root (record { cell = Result }))).into (root source) (record { cell = Result }) (zeroed source)))
 
 -- the end that a source has with enough fuel
 pub record Gives (source : Source) (end : End (List ℕ)) : Type 0 where

@@ -138,7 +138,7 @@ drops source cells = length (filter (is_dropped source) cells)
 pub record Path : Type 0 where
   pub cell : Cell
 
--- the cells that come into use where an expression is evaluated into a place, before what it is made of
+-- the `!` cell of an expression under `NeverToAny`, which is marked as live before the cells of its parts
 abbrev pub never_marks : Source → ℕ → List Cell
 never_marks source e = cond (diverges source e) (Never e ∷ []) []
 

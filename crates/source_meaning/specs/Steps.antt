@@ -7,8 +7,8 @@ use Rattle.world.specs.declared.body.Statement.TheVariants as statement
 use Rattle.source_meaning.specs.Core as expr
 use Rattle.source_meaning.specs.Core.{CoreExpr}
 
--- A step of a form: an expression is evaluated to an operand, to a place, or into the place that the form is evaluated
--- into; a pattern is bound; a scope opens, or closes.
+-- A step of a form: it evaluates an expression to an operand, to a place, or into a given place (the form's own, that of the loop
+-- which a `break` ends, or the return path), binds a pattern, or opens or closes a scope.
 pub data Step : Type 0 where
   Operand : (e : ℕ) → Step
   Place : (e : ℕ) → Step
@@ -24,7 +24,7 @@ statement_steps (statement.Let pat (Some e) None) = Place e.0 ∷ Bind pat.0 ∷
 statement_steps (statement.Expr e has_semi) = Open ∷ Place e.0 ∷ Close ∷ []
 statement_steps _ = []
 
--- an expression that may be left out, into the place that the form is evaluated into
+-- an expression that may be left out, into a place that was there before
 abbrev pub tail_steps : Option ExprId → List Step
 tail_steps (Some e) = Into e.0 ∷ []
 tail_steps None = []
@@ -46,6 +46,7 @@ steps_of (expr.Labelled label statements tail) = Open ∷ block_steps statements
 steps_of (expr.Loop label body) = Open ∷ Place body ∷ Close ∷ []
 steps_of (expr.Break label value) = tail_steps value
 steps_of (expr.Continue label) = []
+steps_of (expr.Return value) = tail_steps value
 
 -- the expression that a step evaluates
 abbrev pub step_part : Step → List ℕ

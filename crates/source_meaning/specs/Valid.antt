@@ -18,8 +18,7 @@ use Rattle.source_meaning.specs.Source.{Source, node, unadjusted, diverges, own_
 use Rattle.source_meaning.specs.Steps.{Step, steps_of, step_part, parts_of}
 use Rattle.source_meaning.specs.Steps as step
 
--- an expression is evaluated where another is: the other itself, and the parts of what is evaluated, whichever branch is
--- taken
+-- `Evaluates source e f`: `f` is `e`, or is evaluated within it; both branches of an `if` count
 pub data Evaluates (source : Source) : ℕ → ℕ → Type 0 where
   itself : {e : ℕ} → Evaluates source e e
   part : {e child f : ℕ} → Contains (parts_of (node source e)) child → Evaluates source child f → Evaluates source e f
@@ -147,6 +146,12 @@ pub record IsPlainPath (source : Source) (e : ℕ) (ty : Ty) : Type 0 where
   pub named : named_by source e ≡ Some (LocalBinding binding)
   pub binding_has : binding_type source binding.0 ≡ Some ty
 
+-- the value of a `return`, where there is one, has the type of the body's result
+pub record HasPlainReturn (source : Source) (value : Option ExprId) : Type 0 where
+  pub ty : Ty
+  pub result_has : node_type source (root source) ≡ Some ty
+  pub value_has : IsPlainTail source value ty
+
 -- a form that has a meaning, at types that fit it
 abbrev pub HasPlainForm : Source → ℕ → Option CoreExpr → Ty → Type 0
 HasPlainForm source e (Some (expr.Literal l)) ty = IsPlainLiteral l ty
@@ -160,6 +165,7 @@ HasPlainForm source e (Some (expr.Labelled label statements tail)) ty = All (IsP
 HasPlainForm source e (Some (expr.Loop label body)) ty = Unit {0}
 HasPlainForm source e (Some (expr.Break label value)) ty = Unit {0}
 HasPlainForm source e (Some (expr.Continue label)) ty = Unit {0}
+HasPlainForm source e (Some (expr.Return value)) ty = HasPlainReturn source value
 HasPlainForm source e None ty = ⊥
 
 -- an expression itself has a plain form, at its own type, which is `!` where `NeverToAny` adjusts it
@@ -179,8 +185,8 @@ opened_in e (Some (expr.Labelled label statements tail)) outer = record { node =
 opened_in e (Some (expr.Loop label body)) outer = record { node = e; label = label } ∷ outer
 opened_in e _ outer = outer
 
--- an expression is evaluated where another is, around which some loops and labelled blocks are open, and these are open around
--- it
+-- `EvaluatesIn source outer e inner f`: `f` is `e`, or is evaluated within it; where the loops and labelled blocks of `outer` are
+-- open around `e`, those of `inner` are open around `f`
 pub data EvaluatesIn (source : Source) : List Opened → ℕ → List Opened → ℕ → Type 0 where
   itself_in : {outer : List Opened} {e : ℕ} → EvaluatesIn source outer e outer e
   part_in : {outer inner : List Opened} {e child f : ℕ} → Contains (parts_of (node source e)) child →
@@ -199,17 +205,17 @@ pub record HasOpenTarget (open_around : List Opened) (label : Option LabelId) : 
   pub target : Opened
   pub means : meant label open_around ≡ Some target
 
--- what is asked of an expression by what stands around it: a jump has a target
+-- what is asked of an expression by what stands around it: a `break` or a `continue` has a target
 abbrev pub FitsAround : Source → List Opened → Option CoreExpr → Type 0
 FitsAround source open_around (Some (expr.Break label value)) = HasPlainTarget source open_around label value
 FitsAround source open_around (Some (expr.Continue label)) = HasOpenTarget open_around label
 FitsAround source open_around _ = Unit {0}
 
--- each jump that is evaluated where an expression is has a target
+-- each `break` and each `continue` that is evaluated where an expression is has a target
 abbrev pub JumpsFit : Source → List Opened → ℕ → Type 0
 JumpsFit source outer e = (inner : List Opened) (f : ℕ) → EvaluatesIn source outer e inner f → FitsAround source inner (node source f)
 
--- each expression that is evaluated has a plain form, and each jump has a target in the body
+-- each expression that is evaluated has a plain form, and each `break` and each `continue` has a target in the body
 pub record IsPlain (source : Source) : Type 0 where
   pub nodes : IsPlainFrom source (root source)
   pub jumps : JumpsFit source [] (root source)
