@@ -73,13 +73,6 @@ abbrev pub Laid : HirDatabase → (all rest : List Local) → List Interval → 
 Laid world all rest cells most (Some end) = (end ≤ most) × (with_before cells (cells_of world rest (zeros end)) ≡ cells_of world all first_memory)
 Laid world all rest cells most None = Past world all rest most
 
-nothing-before : (r : Cells) → with_before [] r ≡ r
-nothing-before (Ok rest) = refl
-nothing-before (Err e) = refl
-
-pub laid-first : (world : HirDatabase) (all : List Local) (most : ℕ) → 1 ≤ most → Laid world all all [] most (Some 1)
-laid-first world all most within = (within, nothing-before (cells_of world all first_memory))
-
 pub laid-within : (world : HirDatabase) (all rest : List Local) (cells : List Interval) (most : ℕ) (end : Option ℕ) → Laid world all rest cells most end → IfSome end (λ last. last ≤ most)
 laid-within world all rest cells most (Some end) laid = laid.0
 laid-within world all rest cells most None laid = tt

@@ -1,4 +1,6 @@
 pub mod Blocks
 pub mod CellLists
 pub mod Laying
+pub mod Operated
 pub mod Padded
+pub mod UnsignedWords

@@ -12,7 +12,7 @@ use Rattle.mir.specs.declared.errors.MirEvalError as error
 use Rattle.mir.specs.Memory.{Memory}
 use Rattle.mir.specs.Run.{Frame, Ending, Returned, Faulted, Stops, GoesTo, entering, next_from, out_of_blocks, bad_read}
 
--- where a run is: not begun, about to enter a block with so many blocks left to enter, or over
+-- where a run is: not begun, about to enter `block` with `left` blocks that it may still enter, or over
 pub data State : Type 0 where
   Fresh : State
   Going : (frame : Frame) (memory : Memory) (block left : ℕ) → State
@@ -43,7 +43,7 @@ value_of body bytes =
       | None ↦ Err (error.InFunction bad_read [])
     ]
 
--- what takes one of so many levels of nesting: it is refused where there is none
+-- a result that takes one of the levels of nesting that are left: `StackOverflow` where none is left
 abbrev pub on_a_level : {A : Type 0} → ℕ → Result A MirEvalError → Result A MirEvalError
 on_a_level zero result = Err error.StackOverflow
 on_a_level (suc levels) result = result
@@ -54,7 +54,7 @@ unfoldable pub outcome_of : (levels : ℕ) → MirBody → Ending → Result Con
 outcome_of levels body (Returned bytes) = on_a_level levels (value_of body bytes)
 outcome_of levels body (Faulted e) = Err (error.InFunction e [])
 
--- the state after one block, with so many levels of nesting left for the value
+-- the state after one block, with `levels` levels of nesting left for the value
 unfoldable pub stepped : (levels : ℕ) → State → State
 stepped levels (Going frame memory block zero) = Over (outcome_of levels frame.body out_of_blocks.ending) 0
 stepped levels (Going frame memory block (suc left)) =
@@ -65,7 +65,7 @@ stepped levels (Going frame memory block (suc left)) =
 stepped levels Fresh = Fresh
 stepped levels (Over result left) = Over result left
 
--- the state at the end of the run, with so many levels of nesting left for the value
+-- the state at the end of the run, with `levels` levels of nesting left for the value
 unfoldable pub finished : (levels : ℕ) → State → State
 finished levels (Going frame memory block left) =
     let ended = entering left frame memory block in

@@ -13,7 +13,7 @@ abbrev pub is_own_width : Option ℕ → Bool
 is_own_width (Some bytes) = bytes == 8
 is_own_width None = false
 
--- a frame and its memory before a block, with so many blocks left to enter, or why there are none
+-- a frame and its memory before `block`, with `blocks` blocks left to enter, or why there are none
 abbrev pub started : Result (Frame × Memory) MirEvalError → ℕ → ℕ → Result State MirEvalError
 started (Ok start) block blocks = Ok (Going start.0 start.1 block blocks)
 started (Err e) block blocks = Err e

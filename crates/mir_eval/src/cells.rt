@@ -6,6 +6,7 @@ ghost use Rattle.mir.specs.Run.{copied, read};
 ghost use Rattle.mir_eval.specs.Steps.{interval_of, memory, left_with};
 
 use crate::faults::Fault;
+use crate::moves::move_bytes;
 use mir::LocalId;
 
 /// Where the cell of a local lies on the stack: its first byte, and how many bytes it has.
@@ -78,6 +79,11 @@ pub(crate) fn copy(stack: &mut [u8], from: Cell, to: Cell) -> Result<(), Fault>
     if last > stack.len() as u64 {
         return Err(Fault::BadWrite);
     }
-    stack.copy_within(from.address as usize..end as usize, to.address as usize);
+    move_bytes(
+        stack,
+        from.address as usize,
+        from.size as usize,
+        to.address as usize,
+    );
     Ok(())
 }

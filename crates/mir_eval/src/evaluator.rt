@@ -152,7 +152,7 @@ impl<'a> Evaluator<'a> {
         }
     }
 
-    /// Runs to the end, and tells whether that is a value or a fault. A value takes one of the levels of
+    /// Runs to the end, and returns whether that is a value or a fault. A value takes one of the levels of
     /// nesting that are left: where there is none, the end is `StackOverflow`, a fault that isn't the
     /// body's own. Want of memory is a fault.
     #[tactic(auto, unfolding(crate::specs::Machine::finished))]
@@ -160,7 +160,7 @@ impl<'a> Evaluator<'a> {
         requires { IsTrue (is_going (machine_of self.old).state) }
         ensures ended { Became (machine_of self.old) (machine_of self.new) (finished (nesting_left (machine_of self.old)) (machine_of self.old).state) }
         ensures over { IsTrue (is_over (machine_of self.new).state) }
-        ensures told { result ≡ turned (machine_of self.new).state }
+        ensures variant { result ≡ turned (machine_of self.new).state }
     {
         let alloc = self.alloc;
         let levels = self.nesting_left();

@@ -5,6 +5,9 @@
 mod cells;
 mod evaluator;
 mod faults;
+mod frames;
+mod moves;
+mod operators;
 mod outcomes;
 mod output;
 mod places;

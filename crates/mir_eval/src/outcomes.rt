@@ -31,7 +31,7 @@ fn copy_of(alloc: Global, bytes: &[u8]) -> Result<Bytes, NoMemory>
     Ok(copy)
 }
 
-/// The value of a body whose return slot has these bytes, with so many levels of nesting left for it.
+/// The value of a body whose return slot has these bytes, with `levels` levels of nesting left for it.
 fn returned(
     alloc: Global,
     body: &MirBody,
@@ -58,7 +58,7 @@ fn returned(
     }
 }
 
-/// What a run hands out at its end, with so many levels of nesting left for its value.
+/// What a run hands out at its end, with `levels` levels of nesting left for its value.
 #[tactic(auto, unfolding(crate::specs::Machine::outcome_of))]
 pub(crate) fn outcome(
     alloc: Global,

@@ -4,6 +4,7 @@ ghost use Rattle.std.specs.Prelude.{◌≡◌, ◌⊎◌, ◌^◌, ◌≤◌, Er
 
 use crate::cells::Cell;
 use crate::faults::Fault;
+use crate::frames::StackFrame;
 use crate::outcomes::outcome;
 use crate::places::place_all;
 use crate::steps::{Exit, enter, enter_all};
@@ -73,7 +74,7 @@ impl Run {
         }
     }
 
-    /// The run, over, with so many levels of nesting left for its value.
+    /// The run, over, with `levels` levels of nesting left for its value.
     fn over(&self, alloc: Global, levels: u32, end: Result<(), Fault>, left: u64) -> Phase
         ensures { Reached result (Over (outcome_of levels self.now.body.value (ending_of self.now.cells.items self.now.stack.items end)) left) }
     {
@@ -93,7 +94,7 @@ impl Run {
         }
     }
 
-    /// Runs one block, and is over where that ends the run. So many levels of nesting are left for its
+    /// Runs one block, and is over where that ends the run. `levels` levels of nesting are left for its
     /// value.
     #[tactic(auto, unfolding(crate::specs::Machine::stepped))]
     pub(crate) fn step(&mut self, alloc: Global, levels: u32) -> Option<Phase>
@@ -105,8 +106,10 @@ impl Run {
         }
         let left = self.left - 1;
         match enter(
-            self.body.as_ref(),
-            self.cells.as_slice(),
+            StackFrame {
+                body: self.body.as_ref(),
+                cells: self.cells.as_slice(),
+            },
             self.stack.as_mut_slice(),
             self.block,
         ) {
@@ -120,14 +123,16 @@ impl Run {
         }
     }
 
-    /// Runs to the end, with so many levels of nesting left for its value.
+    /// Runs to the end, with `levels` levels of nesting left for its value.
     #[tactic(auto, unfolding(crate::specs::Machine::finished))]
     pub(crate) fn finish(&mut self, alloc: Global, levels: u32) -> Phase
         ensures { Reached result (finished levels (going self.old)) }
     {
         let stop = enter_all(
-            self.body.as_ref(),
-            self.cells.as_slice(),
+            StackFrame {
+                body: self.body.as_ref(),
+                cells: self.cells.as_slice(),
+            },
             self.stack.as_mut_slice(),
             self.block,
             self.left,

@@ -1,20 +1,24 @@
 //! The steps of a run: operands, assignments, statements, blocks, and the run itself.
 
-ghost use Rattle.std.specs.Prelude.{◌≡◌, ◌≤◌, IfOk, Some, slice_get, option_and_then, option_copied};
+ghost use Rattle.std.specs.Prelude.{◌≡◌, ◌≤◌, IsTrue, IfOk, IfSome, Ok, Some, slice_get, option_and_then, option_copied};
 ghost use Rattle.numbers.specs.Operators.{kind_of};
 ghost use Rattle.mir.specs.Run.{constant_bytes, copied, read, answered, operated, computed_of, operated_on, rvalue_bytes, operand_bytes, operand_type, after_statement, after_statements, switched, terminated, next_from, entering};
 ghost use Rattle.numbers.specs.Computed.{answer_of, count_of};
-ghost use Rattle.mir_eval.specs.Steps.{interval_of, operated_bytes, frame, memory, left_with, next_of, ended_of};
+ghost use Rattle.mir_eval.specs.Frames.{frame_of};
+ghost use Rattle.mir_eval.specs.Made.{made_bytes};
+ghost use Rattle.mir_eval.specs.Steps.{interval_of, operated_bytes, memory, left_with, next_of, ended_of};
 
 use crate::cells::{Cell, cell_of, copy, read, write};
 use crate::faults::Fault;
+use crate::frames::StackFrame;
+use crate::operators::{Made, byte_of, made_of, wide_word_bytes, word_bytes};
 use crate::words::unsigned;
 use mir::{
     BasicBlock, BasicBlockId, BinOp, MirBody, OperandKind, Place, Rvalue, Statement, StatementKind,
     SwitchTargets, Terminator, TerminatorKind, UnOp,
 };
 use numbers::{Computed, Kind, compute, invert, negate};
-use world::Const;
+use world::{Const, Ty};
 
 /// Where a block leads that doesn't fault.
 #[derive(Clone, Copy, PartialEq, Eq, Debug)]
@@ -43,16 +47,11 @@ fn constant_bytes(konst: &Const) -> Option<&[u8]>
 
 /// The bytes that an operand has now.
 #[tactic(auto, unfolding(mir::specs::Run::operand_bytes))]
-fn operand<'r>(
-    body: &MirBody,
-    cells: &[Cell],
-    stack: &'r [u8],
-    kind: &'r OperandKind,
-) -> Option<&'r [u8]>
-    ensures { option_copied result ≡ operand_bytes (frame body.now cells.now) (memory stack.now) kind.now }
+fn operand<'r>(frame: StackFrame<'_>, stack: &'r [u8], kind: &'r OperandKind) -> Option<&'r [u8]>
+    ensures { option_copied result ≡ operand_bytes (frame_of frame.entry) (memory stack.now) kind.now }
 {
     match kind {
-        OperandKind::Copy(place) => match cell_of(cells, place.local) {
+        OperandKind::Copy(place) => match cell_of(frame.cells, place.local) {
             Some(cell) => read(stack, cell),
             None => None,
         },
@@ -77,16 +76,15 @@ fn operand_kind(body: &MirBody, kind: &OperandKind) -> Option<Kind>
 /// Copies the bytes of an operand to a cell.
 #[tactic(auto, unfolding(mir::specs::Run::operand_bytes, mir::specs::Run::copied))]
 fn assign_operand(
-    body: &MirBody,
-    cells: &[Cell],
+    frame: StackFrame<'_>,
     stack: &mut [u8],
     to: Cell,
     kind: &OperandKind,
 ) -> Result<(), Fault>
-    ensures { left_with stack.new result ≡ copied (memory stack.old) (Some (interval_of to)) (read (operand_bytes (frame body.now cells.now) (memory stack.old) kind.now)) }
+    ensures { left_with stack.new result ≡ copied (memory stack.old) (Some (interval_of to)) (read (operand_bytes (frame_of frame.entry) (memory stack.old) kind.now)) }
 {
     match kind {
-        OperandKind::Copy(place) => match cell_of(cells, place.local) {
+        OperandKind::Copy(place) => match cell_of(frame.cells, place.local) {
             Some(from) => copy(stack, from, to),
             None => Err(Fault::BadRead),
         },
@@ -114,24 +112,23 @@ fn answered(computed: Computed) -> Result<([u8; 16], u8), Fault>
 /// The bytes that an operator makes of two operands.
 #[tactic(auto, unfolding(mir::specs::Run::operated))]
 fn operate(
-    body: &MirBody,
-    cells: &[Cell],
+    frame: StackFrame<'_>,
     stack: &[u8],
     op: BinOp,
     left: &OperandKind,
     right: &OperandKind,
 ) -> Result<([u8; 16], u8), Fault>
-    ensures bytes { operated_bytes result ≡ operated op (operand_type body.now left.now) (operand_type body.now right.now) (operand_bytes (frame body.now cells.now) (memory stack.now) left.now) (operand_bytes (frame body.now cells.now) (memory stack.now) right.now) }
+    ensures bytes { operated_bytes result ≡ operated op (operand_type frame.entry.body.now left.now) (operand_type frame.entry.body.now right.now) (operand_bytes (frame_of frame.entry) (memory stack.now) left.now) (operand_bytes (frame_of frame.entry) (memory stack.now) right.now) }
     ensures count { IfOk result (λ r. r.1 ≤ 16) }
 {
-    let Some(left_bytes) = operand(body, cells, stack, left) else {
+    let Some(left_bytes) = operand(frame, stack, left) else {
         return Err(Fault::BadRead);
     };
-    let Some(right_bytes) = operand(body, cells, stack, right) else {
+    let Some(right_bytes) = operand(frame, stack, right) else {
         return Err(Fault::BadRead);
     };
-    let left_kind = operand_kind(body, left);
-    let right_kind = operand_kind(body, right);
+    let left_kind = operand_kind(frame.body, left);
+    let right_kind = operand_kind(frame.body, right);
     answered(compute(op, left_kind, right_kind, left_bytes, right_bytes))
 }
 
@@ -150,19 +147,18 @@ fn compute_one(op: UnOp, kind: Option<Kind>, bytes: &[u8]) -> Computed
 /// The bytes that an operator makes of one operand.
 #[tactic(auto, unfolding(mir::specs::Run::operated_on))]
 fn operate_on(
-    body: &MirBody,
-    cells: &[Cell],
+    frame: StackFrame<'_>,
     stack: &[u8],
     op: UnOp,
     kind: &OperandKind,
 ) -> Result<([u8; 16], u8), Fault>
-    ensures bytes { operated_bytes result ≡ operated_on op (operand_type body.now kind.now) (operand_bytes (frame body.now cells.now) (memory stack.now) kind.now) }
+    ensures bytes { operated_bytes result ≡ operated_on op (operand_type frame.entry.body.now kind.now) (operand_bytes (frame_of frame.entry) (memory stack.now) kind.now) }
     ensures count { IfOk result (λ r. r.1 ≤ 16) }
 {
-    let Some(bytes) = operand(body, cells, stack, kind) else {
+    let Some(bytes) = operand(frame, stack, kind) else {
         return Err(Fault::BadRead);
     };
-    answered(compute_one(op, operand_kind(body, kind), bytes))
+    answered(compute_one(op, operand_kind(frame.body, kind), bytes))
 }
 
 /// Copies what an operator made to a cell.
@@ -177,25 +173,110 @@ fn assign_made(stack: &mut [u8], to: Cell, made: Result<([u8; 16], u8), Fault>) 
     }
 }
 
-/// Copies what is computed to a cell.
-#[tactic(auto, unfolding(mir::specs::Run::rvalue_bytes))]
-fn assign(
-    body: &MirBody,
-    cells: &[Cell],
+/// Copies the bytes of a number or of a truth value to a cell.
+fn assign_word(stack: &mut [u8], to: Cell, made: Made) -> Result<(), Fault>
+    ensures { left_with stack.new result ≡ copied (memory stack.old) (Some (interval_of to)) (Ok (made_bytes made)) }
+{
+    match made {
+        Made::Word(word) => write(stack, to, &word_bytes(word)),
+        Made::WideWord(word) => write(stack, to, &wide_word_bytes(word)),
+        Made::Truth(truth) => write(stack, to, &byte_of(truth)),
+    }
+}
+
+/// Whether values of a type are unsigned numbers.
+#[inline(always)]
+#[tactic(auto, unfolding(numbers::specs::Operators::kind_of))]
+fn is_uint(ty: &Ty) -> bool
+    ensures { IsTrue result → kind_of ty.now ≡ Some Kind.Unsigned }
+{
+    match ty {
+        Ty::Uint(_) => true,
+        _ => false,
+    }
+}
+
+/// Whether an operand is an unsigned number.
+#[inline(always)]
+#[tactic(auto, unfolding(mir::specs::Run::operand_type))]
+fn is_unsigned(body: &MirBody, kind: &OperandKind) -> bool
+    ensures { IsTrue result → option_and_then kind_of (operand_type body.now kind.now) ≡ Some Kind.Unsigned }
+{
+    match kind {
+        OperandKind::Copy(place) => match body.locals.get(place.local.0 as u64) {
+            Some(local) => is_uint(&local.ty),
+            None => false,
+        },
+        OperandKind::Constant { ty, .. } => is_uint(ty),
+    }
+}
+
+/// What an operator makes of two operands that are unsigned numbers of 8 or of 16 bytes. There is none at other operands,
+/// for a shift, and where the operator panics.
+fn operate_on_words(
+    frame: StackFrame<'_>,
+    stack: &[u8],
+    op: BinOp,
+    left: &OperandKind,
+    right: &OperandKind,
+) -> Option<Made>
+    ensures { IfSome result (λ made. operated op (operand_type frame.entry.body.now left.now) (operand_type frame.entry.body.now right.now) (operand_bytes (frame_of frame.entry) (memory stack.now) left.now) (operand_bytes (frame_of frame.entry) (memory stack.now) right.now) ≡ Ok (made_bytes made)) }
+{
+    if is_unsigned(frame.body, left) && is_unsigned(frame.body, right) {
+        let left_bytes = operand(frame, stack, left)?;
+        let right_bytes = operand(frame, stack, right)?;
+        made_of(op, left_bytes, right_bytes)
+    } else {
+        None
+    }
+}
+
+/// Copies what an operator makes of two operands to a cell. The table of all operators and types is kept out of the loop
+/// over statements.
+#[inline(never)]
+fn assign_by_table(
+    frame: StackFrame<'_>,
     stack: &mut [u8],
     to: Cell,
-    rvalue: &Rvalue,
+    op: BinOp,
+    left: &OperandKind,
+    right: &OperandKind,
 ) -> Result<(), Fault>
-    ensures { left_with stack.new result ≡ copied (memory stack.old) (Some (interval_of to)) (rvalue_bytes (frame body.now cells.now) (memory stack.old) rvalue.now) }
+    ensures { left_with stack.new result ≡ copied (memory stack.old) (Some (interval_of to)) (operated op (operand_type frame.entry.body.now left.now) (operand_type frame.entry.body.now right.now) (operand_bytes (frame_of frame.entry) (memory stack.old) left.now) (operand_bytes (frame_of frame.entry) (memory stack.old) right.now)) }
+{
+    let made = operate(frame, stack, op, left, right);
+    assign_made(stack, to, made)
+}
+
+/// Copies what an operator makes of two operands to a cell.
+fn assign_operated(
+    frame: StackFrame<'_>,
+    stack: &mut [u8],
+    to: Cell,
+    op: BinOp,
+    left: &OperandKind,
+    right: &OperandKind,
+) -> Result<(), Fault>
+    ensures { left_with stack.new result ≡ copied (memory stack.old) (Some (interval_of to)) (operated op (operand_type frame.entry.body.now left.now) (operand_type frame.entry.body.now right.now) (operand_bytes (frame_of frame.entry) (memory stack.old) left.now) (operand_bytes (frame_of frame.entry) (memory stack.old) right.now)) }
+{
+    match operate_on_words(frame, stack, op, left, right) {
+        Some(made) => assign_word(stack, to, made),
+        None => assign_by_table(frame, stack, to, op, left, right),
+    }
+}
+
+/// Copies what is computed to a cell.
+#[tactic(auto, unfolding(mir::specs::Run::rvalue_bytes))]
+fn assign(frame: StackFrame<'_>, stack: &mut [u8], to: Cell, rvalue: &Rvalue) -> Result<(), Fault>
+    ensures { left_with stack.new result ≡ copied (memory stack.old) (Some (interval_of to)) (rvalue_bytes (frame_of frame.entry) (memory stack.old) rvalue.now) }
 {
     match rvalue {
-        Rvalue::Use(operand) => assign_operand(body, cells, stack, to, &operand.kind),
+        Rvalue::Use(operand) => assign_operand(frame, stack, to, &operand.kind),
         Rvalue::CheckedBinaryOp(op, left, right) => {
-            let made = operate(body, cells, stack, *op, &left.kind, &right.kind);
-            assign_made(stack, to, made)
+            assign_operated(frame, stack, to, *op, &left.kind, &right.kind)
         }
         Rvalue::UnaryOp(op, operand) => {
-            let made = operate_on(body, cells, stack, *op, &operand.kind);
+            let made = operate_on(frame, stack, *op, &operand.kind);
             assign_made(stack, to, made)
         }
     }
@@ -203,17 +284,12 @@ fn assign(
 
 /// Runs a statement.
 #[tactic(auto, unfolding(mir::specs::Run::after_statement, mir::specs::Run::copied))]
-fn execute(
-    body: &MirBody,
-    cells: &[Cell],
-    stack: &mut [u8],
-    statement: &StatementKind,
-) -> Result<(), Fault>
-    ensures { left_with stack.new result ≡ after_statement (frame body.now cells.now) (memory stack.old) statement.now }
+fn execute(frame: StackFrame<'_>, stack: &mut [u8], statement: &StatementKind) -> Result<(), Fault>
+    ensures { left_with stack.new result ≡ after_statement (frame_of frame.entry) (memory stack.old) statement.now }
 {
     match statement {
-        StatementKind::Assign(place, rvalue) => match cell_of(cells, place.local) {
-            Some(to) => assign(body, cells, stack, to, rvalue),
+        StatementKind::Assign(place, rvalue) => match cell_of(frame.cells, place.local) {
+            Some(to) => assign(frame, stack, to, rvalue),
             None => Err(Fault::BadWrite),
         },
         StatementKind::FakeRead(_) => Ok(()),
@@ -225,15 +301,14 @@ fn execute(
 /// Runs statements in order, up to the first that faults.
 #[tactic(auto, unfolding(mir::specs::Run::after_statements))]
 fn execute_all(
-    body: &MirBody,
-    cells: &[Cell],
+    frame: StackFrame<'_>,
     stack: &mut [u8],
     statements: &[Statement],
 ) -> Result<(), Fault>
-    ensures { left_with stack.new result ≡ after_statements (frame body.now cells.now) statements.now (memory stack.old) }
+    ensures { left_with stack.new result ≡ after_statements (frame_of frame.entry) statements.now (memory stack.old) }
 {
     for statement in statements {
-        match execute(body, cells, stack, &statement.kind) {
+        match execute(frame, stack, &statement.kind) {
             Ok(()) => {}
             Err(fault) => return Err(fault),
         }
@@ -244,15 +319,14 @@ fn execute_all(
 /// Where a switch leads.
 #[tactic(auto, unfolding(mir::specs::Run::switched))]
 fn branch(
-    body: &MirBody,
-    cells: &[Cell],
+    frame: StackFrame<'_>,
     stack: &[u8],
     discr: &OperandKind,
     targets: &SwitchTargets,
 ) -> Result<Exit, Fault>
-    ensures { next_of cells.now stack.now result ≡ switched (memory stack.now) targets.now (operand_bytes (frame body.now cells.now) (memory stack.now) discr.now) }
+    ensures { next_of frame.entry.cells.now stack.now result ≡ switched (memory stack.now) targets.now (operand_bytes (frame_of frame.entry) (memory stack.now) discr.now) }
 {
-    match operand(body, cells, stack, discr) {
+    match operand(frame, stack, discr) {
         Some(bytes) => {
             if bytes.len() <= 16 {
                 Ok(Exit::GoesTo(targets.target_for_value(unsigned(bytes))))
@@ -267,18 +341,17 @@ fn branch(
 /// What a terminator does.
 #[tactic(auto, unfolding(mir::specs::Run::terminated))]
 fn terminate(
-    body: &MirBody,
-    cells: &[Cell],
+    frame: StackFrame<'_>,
     stack: &[u8],
     terminator: &Option<Terminator>,
 ) -> Result<Exit, Fault>
-    ensures { next_of cells.now stack.now result ≡ terminated (frame body.now cells.now) (memory stack.now) terminator.now }
+    ensures { next_of frame.entry.cells.now stack.now result ≡ terminated (frame_of frame.entry) (memory stack.now) terminator.now }
 {
     match terminator {
         Some(terminator) => match &terminator.kind {
             TerminatorKind::Goto { target } => Ok(Exit::GoesTo(*target)),
             TerminatorKind::SwitchInt { discr, targets } => {
-                branch(body, cells, stack, &discr.kind, targets)
+                branch(frame, stack, &discr.kind, targets)
             }
             TerminatorKind::Return => Ok(Exit::Returns),
             TerminatorKind::Drop { target, .. } => Ok(Exit::GoesTo(*target)),
@@ -290,16 +363,15 @@ fn terminate(
 /// Runs a block.
 #[tactic(auto, unfolding(mir::specs::Run::next_from))]
 pub(crate) fn enter(
-    body: &MirBody,
-    cells: &[Cell],
+    frame: StackFrame<'_>,
     stack: &mut [u8],
     block: BasicBlockId,
 ) -> Result<Exit, Fault>
-    ensures { next_of cells.now stack.new result ≡ next_from (frame body.now cells.now) (memory stack.old) (slice_get body.now.basic_blocks block.0) 0 }
+    ensures { next_of frame.entry.cells.now stack.new result ≡ next_from (frame_of frame.entry) (memory stack.old) (slice_get frame.entry.body.now.basic_blocks block.0) 0 }
 {
-    match body.basic_blocks.get(block.0 as u64) {
-        Some(block) => match execute_all(body, cells, stack, block.statements.as_slice()) {
-            Ok(()) => terminate(body, cells, stack, &block.terminator),
+    match frame.body.basic_blocks.get(block.0 as u64) {
+        Some(block) => match execute_all(frame, stack, block.statements.as_slice()) {
+            Ok(()) => terminate(frame, stack, &block.terminator),
             Err(fault) => Err(fault),
         },
         None => Err(Fault::NoTerminator),
@@ -309,19 +381,18 @@ pub(crate) fn enter(
 /// Runs blocks to the end of the run, at most `left` of them.
 #[tactic(auto, unfolding(mir::specs::Run::entering, mir::specs::Run::going_on), using(crate::proofs::Blocks::enter_one))]
 pub(crate) fn enter_all(
-    body: &MirBody,
-    cells: &[Cell],
+    frame: StackFrame<'_>,
     stack: &mut [u8],
     start: BasicBlockId,
     blocks: u64,
 ) -> Stop
-    ensures { ended_of cells.now stack.new result ≡ entering blocks (frame body.now cells.now) (memory stack.old) start.0 }
+    ensures { ended_of frame.entry.cells.now stack.new result ≡ entering blocks (frame_of frame.entry) (memory stack.old) start.0 }
 {
     let mut block = start;
     let mut left = blocks;
     while left > 0 {
         left -= 1;
-        match enter(body, cells, stack, block) {
+        match enter(frame, stack, block) {
             Ok(Exit::GoesTo(target)) => block = target,
             Ok(Exit::Returns) => {
                 return Stop { end: Ok(()), left };
