@@ -17,9 +17,8 @@ from pathlib import Path
 
 ROOT = Path(__file__).resolve().parent.parent
 MOST_EDITS_OF_ONE, MOST_EDITS, MOST_FUNCTIONS = 3, 40, 100
-# All crates stand on `types`: splitting it would make the longest chain of crates nine. `mir_lower` is
-# still to be split: the reading of forms (`form`, `inferred`, `literal`) can be a crate below it.
-LARGE = {"types": 135, "mir_lower": 119}
+# All crates stand on `types`: splitting it would make the longest chain of crates nine.
+LARGE = {"types": 135}
 FUNCTION = re.compile(r"^ *(?:pub(?:\(crate\))? )?(?:const )?fn (?!drop\(self\))", re.M)
 TEST = re.compile(r"^ *#\[test\]", re.M)
 

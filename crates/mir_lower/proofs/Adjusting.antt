@@ -52,6 +52,8 @@ does-into source s0 s1 s2 e c own path marks targets comes grown does =
           (does.reaches whole frame grows sound is lands behind
           (record {
             marks = ap (λ (scope : List Cell). scope ++ never_marks source e) stands.marks ∙ sym marks;
+            result = stands.result;
+            returns = stands.returns;
             targets = subst (λ (open_targets : List OpenTarget). FrontAll whole lands open_targets around.targets) (sym targets) stands.targets;
           })
           fuel store memory holds));

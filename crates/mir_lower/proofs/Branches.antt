@@ -1,4 +1,4 @@
--- Code that parts into two branches and joins again: what its graphs keep, and where its runs come.
+-- Code that parts into two branches and joins again: what its graphs keep, and which points its runs reach.
 use Rattle.std.proofs.Common.{◌≡◌, ◌≢◌, ℕ, ◌<◌, ◌≤◌, ⊎_elim, List, ◌++◌, length, Some, sym, ap, ◌∙◌, subst, arith, append_assoc}
 use Rattle.mir.specs.declared.operand.OperandKind.{OperandKind}
 use Rattle.mir.specs.Memory.{Memory}
@@ -114,7 +114,7 @@ module _ {source : Source} {s0 s1 s2 s3 s4 s5 s6 : Shape} {operand : OperandKind
         subst (λ (p : Point). Comes frame 1 (here s1) memory p memory) (sym branched.one_ended.begins)
         (branched.forked.left whole frame (grows-trans s2 s6 whole grows2 grows) is memory bytes found short differ)
 
-    -- from the end of either branch the run comes to the join.
+    -- from the end of either branch the run reaches the join.
     pub first-joins : Comes frame 1 (here s3) memory (here s6) memory
     first-joins =
         subst (λ (p : Point). Comes frame 1 (here s3) memory p memory) (sym branched.two_ended.begins)

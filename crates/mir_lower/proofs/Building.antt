@@ -1,8 +1,9 @@
 -- What is lowered is built: an expression by its own form and by its parts.
-use Rattle.std.proofs.Common.{◌≡◌, ℕ, List, [], ◌∷◌, Option, Some, Result, Ok, Err, sym, ap, ◌∙◌, subst}
-use Rattle.std.specs.Prelude.{All, OnOk, flat_map, option_map}
+use Rattle.std.proofs.Common.{◌≡◌, ℕ, Bool, true, false, List, [], ◌∷◌, map, Option, Some, None, sym, ap, ◌∙◌, subst}
+use Rattle.std.specs.Prelude.{All, flat_map, if◌then◌else◌, option_map}
 use Rattle.std.proofs.lemmas.List.Elements.{All-nil, All-cons, All-append, All-contains, All-weaker, All-head, All-tail}
 use Rattle.mir.specs.declared.ids.LocalId.{LocalId}
+use Rattle.source_meaning.specs.Around.{is_meant, meant}
 use Rattle.source_meaning.specs.Built.{IsBinding, NamesBinding, AssignsBinding, IsBuiltStatement}
 use Rattle.source_meaning.specs.Core.{CoreExpr, CoreLiteral, Operation}
 use Rattle.source_meaning.specs.Core as expr
@@ -16,20 +17,16 @@ use Rattle.types.specs.declared.ids.LabelId.{LabelId}
 use Rattle.types.specs.declared.operators.LogicOp.{LogicOp}
 use Rattle.world.specs.Nodes.{optional}
 use Rattle.world.specs.declared.body.Statement.{Statement}
-use Rattle.mir_lower.specs.Built.{IsBuiltLiteral, IsBuiltNode, IsBuilt, IsBuiltThrough}
-use Rattle.mir_lower.specs.Graph.{Shape, binding_local}
-use Rattle.mir_lower.specs.Growth.{IsSound}
-
--- a fact that holds of any answer
-pub on-ok : {T E : Type 0} (P : Type 0) (r : Result T E) → P → OnOk r P
-on-ok P (Ok value) p = p
-on-ok P (Err e) p = tt
+use Rattle.mir_lower.specs.Built.{HasTarget, IsBuiltNode, IsBuilt, IsBuiltThrough}
+use Rattle.body_forms.specs.Literals.{IsBuiltLiteral}
+use Rattle.mir_lower.specs.Graph.{Shape, OpenTarget, binding_local, meant_target, opened_of}
+use Rattle.mir_lower.specs.Growth.{IsAround, IsSound}
 
 -- a binding that has a local is one of the body
 pub has-binding : (source : Source) (s : Shape) (binding : BindingId) (found : Option LocalId) (local : LocalId) → IsSound source s →
     option_map (λ (l : LocalId). l.0) found ≡ binding_local s binding.0 → found ≡ Some local → IsBinding source binding
-has-binding source s binding found local sound told some =
-    let there = sound.allotted.typed (Binding binding.0) local.0 (sym told ∙ ap (option_map (λ (l : LocalId). l.0)) some) in
+has-binding source s binding found local sound same some =
+    let there = sound.allotted.typed (Binding binding.0) local.0 (sym same ∙ ap (option_map (λ (l : LocalId). l.0)) some) in
     record { ty = there.0.ty; typed = there.2 }
 
 -- what is evaluated where an expression is: itself, and what is evaluated where its parts are
@@ -101,8 +98,24 @@ built-labelled source e label statements tail is through last =
 pub built-loop : (source : Source) (e : ℕ) (label : Option LabelId) (body : ℕ) → node source e ≡ Some (expr.Loop label body) → IsBuilt source body → IsBuilt source e
 built-loop source e label body is built = built-node source e (Some (expr.Loop label body)) is tt (one-built source body built)
 
-pub built-break : (source : Source) (e : ℕ) (label : Option LabelId) (value : Option ExprId) → node source e ≡ Some (expr.Break label value) → All (IsBuilt source) (optional value) → IsBuilt source e
-built-break source e label value is built = built-node source e (Some (expr.Break label value)) is tt (subst (All (IsBuilt source)) (sym (tail_part value)) built)
+pub built-break : (source : Source) (e : ℕ) (label : Option LabelId) (value : Option ExprId) → node source e ≡ Some (expr.Break label value) → HasTarget source e label → All (IsBuilt source) (optional value) → IsBuilt source e
+built-break source e label value is target built = built-node source e (Some (expr.Break label value)) is target (subst (All (IsBuilt source)) (sym (tail_part value)) built)
 
-pub built-continue : (source : Source) (e : ℕ) (label : Option LabelId) → node source e ≡ Some (expr.Continue label) → IsBuilt source e
-built-continue source e label is = built-node source e (Some (expr.Continue label)) is tt (All-nil (IsBuilt source))
+pub built-continue : (source : Source) (e : ℕ) (label : Option LabelId) → node source e ≡ Some (expr.Continue label) → HasTarget source e label → IsBuilt source e
+built-continue source e label is target = built-node source e (Some (expr.Continue label)) is target (All-nil (IsBuilt source))
+
+pub built-return : (source : Source) (e : ℕ) (value : Option ExprId) → node source e ≡ Some (expr.Return value) → All (IsBuilt source) (optional value) → IsBuilt source e
+built-return source e value is built = built-node source e (Some (expr.Return value)) is tt (subst (All (IsBuilt source)) (sym (tail_part value)) built)
+
+-- the target that a jump means in the graph is one of those that are open around it
+meant-opened : (label : Option LabelId) (targets : List OpenTarget) (target : OpenTarget) → meant_target label targets ≡ Some target → meant label (map (λ other. other.opened) targets) ≡ Some target.opened
+unfolding meant_target meant
+meant-opened label [] target is = absurd cc
+meant-opened label (first ∷ outer) target is = by-test (is_meant label first.opened) (meant-opened label outer target) is where
+  by-test : (test : Bool) → (meant_target label outer ≡ Some target → meant label (map (λ other. other.opened) outer) ≡ Some target.opened) → if test then Some first else meant_target label outer ≡ Some target → if test then Some first.opened else meant label (map (λ other. other.opened) outer) ≡ Some target.opened
+  by-test true rest same = let one : first ≡ target = cc in ap (λ (t : OpenTarget). Some t.opened) one
+  by-test false rest same = rest same
+
+pub has-target : (source : Source) (s : Shape) (e : ℕ) (label : Option LabelId) (target : OpenTarget) → IsAround source s e → meant_target label s.targets ≡ Some target → HasTarget source e label
+has-target source s e label target around is =
+    record { opened = opened_of s; stands = around.stands; leads = record { target = target.opened; means = meant-opened label s.targets target is } }

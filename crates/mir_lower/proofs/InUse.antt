@@ -1,4 +1,4 @@
--- Locals that come into use in a scope.
+-- Locals that are marked as in use in a scope, each by a `StorageLive`.
 use Rattle.std.proofs.Common.{◌≡◌, ℕ, ◌<◌, true, false, [], ◌∷◌, ◌++◌, length, Option, Some, None, Ok, refl, sym, ap, ◌∙◌, subst, arith}
 use Rattle.std.specs.Prelude.{option_map}
 use Rattle.types.specs.declared.ty.Ty.{Ty}
@@ -129,10 +129,10 @@ given-marked source s0 s1 s2 c local span marked same =
 
 -- where a binding has no local, the body has no such binding, or a closure owns it
 pub lacks-binding : (source : Source) (s : Shape) (b : ℕ) (found : Option LocalId) → IsSound source s → option_map (λ (l : LocalId). l.0) found ≡ binding_local s b → found ≡ None → binding_type source b ≡ None
-lacks-binding source s b found sound told none = by-type (binding_type source b) refl where
+lacks-binding source s b found sound same none = by-type (binding_type source b) refl where
   by-type : (ty : Option Ty) → binding_type source b ≡ ty → binding_type source b ≡ None
   by-type None is = is
   by-type (Some ty) is =
-      let missing : binding_local s b ≡ None = sym told ∙ ap (option_map (λ (l : LocalId). l.0)) none in
+      let missing : binding_local s b ≡ None = sym same ∙ ap (option_map (λ (l : LocalId). l.0)) none in
       let there = (sound.bound b ty is).1 in
       absurd cc

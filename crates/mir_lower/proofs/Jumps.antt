@@ -1,4 +1,4 @@
--- Entering and leaving loops and labelled blocks, and jumping to them: what the graph keeps, and where its runs come.
+-- Entering and leaving loops and labelled blocks, and jumping to them: what the graph keeps, and which points its runs reach.
 use Rattle.std.proofs.Common.{◌≡◌, ℕ, suc, ◌+◌, List, [], ◌∷◌, ◌++◌, map, length, take, Option, Some, refl, sym, ap, ◌∙◌, subst, arith}
 use Rattle.std.specs.Prelude.{reverse, slice_get, if◌then◌else◌}
 use Rattle.std.proofs.lemmas.List.{map-append, reverse-append}

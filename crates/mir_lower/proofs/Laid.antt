@@ -13,7 +13,7 @@ use Rattle.source_meaning.specs.Steps.{parts_of}
 use Rattle.source_meaning.specs.Valid.{opened_in, part_in, itself, part, HasPlainForm, IsPlainNode, IsPlainPath, IsLaidOut, NeedsLayout, own, inside, sized_parts, IsLaidOutNode}
 use Rattle.mir_lower.specs.Graph.{Shape, local_of_type, temp_of}
 use Rattle.mir_lower.specs.Growth.{Grows, IsSound}
-use Rattle.mir_lower.specs.Literals.{IsLiteral}
+use Rattle.body_forms.specs.Literals.{IsLiteral}
 use Rattle.mir_lower.specs.Lowered.{IsPlainWithin, HasLayouts, LaysOut, IsNamed, LowersInto}
 use Rattle.mir_lower.proofs.Sound.{binding-there}
 use Rattle.std.proofs.lemmas.List.Elements.{All-cons}
@@ -42,6 +42,7 @@ opened-laid source e (Some (expr.Assign assigned value)) outer laid all = all
 opened-laid source e (Some (expr.Block statements tail)) outer laid all = all
 opened-laid source e (Some (expr.Break label value)) outer laid all = all
 opened-laid source e (Some (expr.Continue label)) outer laid all = all
+opened-laid source e (Some (expr.Return value)) outer laid all = all
 opened-laid source e None outer laid all = all
 
 -- what is plain where an expression is, is plain where a part of it is
@@ -63,8 +64,8 @@ laid-unadjusted source e form is laid =
 -- a number's layout was looked up
 number-laid : (source : Source) (e : ℕ) (l : CoreLiteral) (bytes : List ℕ) → literal_bytes source e l ≡ Some bytes → is_truth (Some (expr.Literal l)) ≡ false → IsLaidOut source (own_type source e)
 unfolding literal_bytes
-number-laid source e (Truth test) bytes told truth = absurd cc
-number-laid source e (Number n) bytes told truth = by-layout _ (own_layout source e) refl told where
+number-laid source e (Truth test) bytes has_bytes truth = absurd cc
+number-laid source e (Number n) bytes has_bytes truth = by-layout _ (own_layout source e) refl has_bytes where
   by-layout : (f : Layout → List ℕ) (found : Option Layout) → own_layout source e ≡ found → option_map f found ≡ Some bytes → IsLaidOut source (own_type source e)
   by-layout f (Some layout) is h = record { layout = layout; found = is }
   by-layout f None is h = absurd cc
@@ -72,7 +73,7 @@ number-laid source e (Number n) bytes told truth = by-layout _ (own_layout sourc
 pub lays-literal : (source : Source) (s : Shape) (e : ℕ) (l : CoreLiteral) (operand : OperandKind) → unadjusted source e ≡ Some (expr.Literal l) → IsLiteral source e l operand → is_truth (unadjusted source e) ≡ false → LaysOut source s e
 lays-literal source s e l operand form is truth plain layouts f needs =
     subst (IsLaidOutNode source) (alone source e f (ap (sized_parts source) (unadjusted-plain source e (expr.Literal l) form).1) needs)
-    (laid-unadjusted source e (expr.Literal l) form (number-laid source e l is.bytes is.told (sym (ap is_truth form) ∙ truth)))
+    (laid-unadjusted source e (expr.Literal l) form (number-laid source e l is.bytes is.has_bytes (sym (ap is_truth form) ∙ truth)))
 
 pub lays-literal-into : (source : Source) (s : Shape) (e : ℕ) (l : CoreLiteral) → node source e ≡ Some (expr.Literal l) → IsLaidOutNode source e → LaysOut source s e
 lays-literal-into source s e l form laid plain layouts f evaluates = subst (IsLaidOutNode source) (alone source e f (ap (sized_parts source) form) evaluates) laid

@@ -94,7 +94,7 @@ enters-block frame memory block =
           ap (run_from frame memory (Entry block)) none ∙ entering-none frame memory block;
     }
 
--- where the terminator leads to a block, the run comes to its start
+-- where the terminator leads to a block, the run reaches its start
 pub comes-ended : (t : Terminator) (s whole : Shape) (frame : Frame) → IsOpen s → Grows (with_terminator t s) whole → IsFrameOf whole frame → (memory : Memory) (target : ℕ) → terminated frame memory (Some t) ≡ GoesTo memory target → Comes frame 1 (here s) memory (start_of target) memory
 comes-ended t s whole frame opened grows is memory target goes =
     comes-from frame 1 (here s) (Entry target) (start_of target) memory memory memory (heads-ended t s whole frame opened grows is memory target goes) (enters-block frame memory target)
@@ -159,7 +159,7 @@ idles-trans source a b c first second one two =
           comes-trans frame first second (here a) (here b) memory memory (one.comes whole frame (grows-trans b c whole two.grows grows) is memory) (here c) memory (two.comes whole frame grows is memory);
     }
 
--- a run that comes to the end of a block that returns ends with the return slot's bytes
+-- a run that reaches the end of a block that returns ends with the return slot's bytes
 pub ends-return : (s whole : Shape) (frame : Frame) (span : MirSpan) (memory : Memory) (bytes : List ℕ) → IsOpen s → Grows (with_terminator (record { span = span; kind = Return }) s) whole → IsFrameOf whole frame → local_bytes frame memory 0 ≡ Some bytes → EndsAfter 0 (Returned bytes) (run_from frame memory (here s))
 unfolding going_on terminated local_bytes
 ends-return s whole frame span memory bytes opened grows is slot =

@@ -6,12 +6,9 @@ pub mod Blocks
 pub mod Branches
 pub mod Branching
 pub mod Building
-pub mod Causes
 pub mod Conditions
-pub mod Copies
 pub mod Drops
 pub mod Forking
-pub mod Forms
 pub mod Growing
 pub mod Holding
 pub mod InUse
@@ -29,6 +26,7 @@ pub mod Reaching
 pub mod Ready
 pub mod Refused
 pub mod Reserving
+pub mod Returning
 pub mod Room
 pub mod Running
 pub mod Sound

@@ -113,6 +113,8 @@ stands-inside source s0 s1 whole lands around e label target c ready entered ope
     let own-test : (target.opened.node == e) ≡ true = ap (λ (n : ℕ). n == e) own-node ∙ same-number e in
     record {
       marks = stands.marks ∙ sym entered.scope;
+      result = stands.result;
+      returns = stands.returns;
       targets = subst (λ (targets : List OpenTarget). FrontAll whole (lands_inside e target.begin_block target.end_block lands) targets (record { opened = record { node = e; label = label }; path = record { cell = c }; kept = length around.marks } ∷ around.targets)) (sym entered.targets) (
         record {
           opened = sym opened;

@@ -18,7 +18,7 @@ use Rattle.source_meaning.proofs.Marks.{literal_operand_marks, operand_marks, pl
 use Rattle.mir_lower.specs.Does.{Stands, here, run_from, local_bytes, IsFrameOf, Holds, Comes, Landings, Reaches, Nothing, LeadsTo, Fits, Does, DoesPlace}
 use Rattle.mir_lower.specs.Graph.{Shape, local_of}
 use Rattle.mir_lower.specs.Growth.{Grows, IsSound, IsOpen}
-use Rattle.mir_lower.specs.Literals.{IsLiteral}
+use Rattle.body_forms.specs.Literals.{IsLiteral}
 use Rattle.mir_lower.specs.Lowered.{IsGiven, IsNamed, LowersInto, LowersPlace, LowersOperand, Keeps}
 use Rattle.mir_lower.proofs.Growing.{grows-refl, grows-trans}
 use Rattle.mir_lower.proofs.Laid.{lays-literal, lays-name, lays-temp}
@@ -46,7 +46,7 @@ unfolding level_at
 literal-operand source whole frame s e literal operand form is lands around stands zero store memory holds = none-entered (run_from frame memory (here s))
 literal-operand source whole frame s e literal operand form is lands around stands (suc fuel) store memory holds =
     let gives : operand_of source (level_at source fuel) around e (unadjusted source e) store ≡ Go (Literally is.is_constant.ty is.bytes) store (constant_cost source e) =
-    ap (λ f. operand_of source (level_at source fuel) around e f store) form ∙ literal-means source e literal operand store is _ is.told in
+    ap (λ f. operand_of source (level_at source fuel) around e f store) form ∙ literal-means source e literal operand store is _ is.has_bytes in
     subst (Reaches whole lands frame (here s) (here s) memory (Fits source operand whole frame)) (sym gives)
     (memory, comes-refl frame (here s) memory, holds, literal-fits source whole frame e literal operand is)
 

@@ -21,7 +21,7 @@ use Rattle.source_meaning.proofs.Marks.{literal_marks, name_marks}
 use Rattle.mir_lower.specs.Does.{Stands, here, IsFrameOf, Holds, Landings, Reaches, Nothing}
 use Rattle.mir_lower.specs.Graph.{Shape, with_statement, local_of}
 use Rattle.mir_lower.specs.Growth.{Grows, IsSound, IsOpen, IsReady}
-use Rattle.mir_lower.specs.Literals.{IsLiteral}
+use Rattle.body_forms.specs.Literals.{IsLiteral}
 use Rattle.mir_lower.specs.Lowered.{Keeps, IsNamed, LowersOwn}
 use Rattle.mir_lower.proofs.Growing.{grows-trans, with_statement-grows}
 use Rattle.mir_lower.proofs.Laid.{lays-literal-into, lays-name-into}
@@ -73,7 +73,7 @@ lowers-literal source s new e l place operand span ready form is same c local =
     }) where
       reaches : (whole : Shape) (frame : Frame) → Grows (with_statement (assignment place (Use operand) span) s) whole → IsSound source whole → IsFrameOf whole frame → (lands : Landings) (around : Around) → Stands whole s lands around → (fuel : ℕ) (store : Store) (memory : Memory) → Holds whole frame store memory → Reaches whole lands frame (here s) (here (with_statement (assignment place (Use operand) span) s)) memory (Nothing whole frame) (into_of source (level_at source fuel) around e (Some (expr.Literal l)) (record { cell = c }) store)
       reaches whole frame grows sound frame-is lands around stands fuel store memory holds =
-          subst (λ (bytes : Option (List ℕ)). Reaches whole lands frame (here s) (here (with_statement (assignment place (Use operand) span) s)) memory (Nothing whole frame) (put_literal source e store (record { cell = c }) bytes)) (sym is.told)
+          subst (λ (bytes : Option (List ℕ)). Reaches whole lands frame (here s) (here (with_statement (assignment place (Use operand) span) s)) memory (Nothing whole frame) (put_literal source e store (record { cell = c }) bytes)) (sym is.has_bytes)
           (reaches-after whole lands frame (here s) (here s) (here (with_statement (assignment place (Use operand) span) s)) memory memory (Nothing whole frame) (constant_cost source e) (comes-refl frame (here s) memory) (put store (record { cell = c }) is.bytes)
           (assigned-bytes source s whole frame place (Use operand) span ready.«open» sound frame-is lands grows c (local-later s whole _ ready.«open» grows c place.local.0 local) store memory holds is.bytes (literal-computes source whole frame e l operand is store memory holds)))
 

@@ -2,10 +2,10 @@
 use Rattle.std.proofs.Common.{◌≡◌, ℕ, ◌+◌, ◌-◌, ⊎_elim, ap, ◌∙◌, subst, arith}
 use Rattle.std.proofs.lemmas.Bool.{cases_lt}
 use Rattle.mir.specs.Memory.{Memory}
-use Rattle.mir.specs.Run.{Frame, Ending, Faulted, Ended}
+use Rattle.mir.specs.Run.{Frame, Ending, Faulted, Returned, Ended}
 use Rattle.source_meaning.specs.Ends.{Cost, End, Go, Jumps, Faults, Stuck, More, plus, after, then_do}
-use Rattle.source_meaning.specs.Source.{Store}
-use Rattle.mir_lower.specs.Does.{Point, Entry, run_from, Holds, Comes, Landing, Nowhere, Before, Landings, Lands, Reaches}
+use Rattle.source_meaning.specs.Source.{Result, Store}
+use Rattle.mir_lower.specs.Does.{Point, Entry, run_from, Holds, Comes, Landing, Nowhere, Before, Out, Landings, Lands, Reaches}
 use Rattle.mir_lower.specs.Graph.{Shape}
 use Rattle.mir_lower.specs.Simulates.{Enters, EndsAfter, error_of}
 
@@ -59,6 +59,7 @@ lands-after : (whole : Shape) (frame : Frame) (first second : ℕ) (from at : Po
 lands-after whole frame first second from at memory middle store Nowhere comes does = tt
 lands-after whole frame first second from at memory middle store (Before block) comes does =
     (does.0, comes-trans frame first second from at memory middle comes (Entry block) does.0 does.1, does.2)
+lands-after whole frame first second from at memory middle store Out comes does = ends-after frame first second from at memory middle comes (Returned (store Result)) does
 
 -- what an end does from a point on, after the run came to that point
 pub reaches-after : {A : Type 0} (whole : Shape) (lands : Landings) (frame : Frame) (from at to : Point) (memory middle : Memory) (claim : A → Type 0) (cost : Cost) → Comes frame cost.turns from memory at middle → (end : End A) → Reaches whole lands frame at to middle claim end → Reaches whole lands frame from to memory claim (after cost end)

@@ -1,26 +1,26 @@
 -- The causes of refusals, carried upwards, and what is known of an expression's parts.
-use Rattle.std.proofs.Common.{◌≡◌, ℕ, ◌<◌, Bool, true, false, cond, Contains, Option, Some, None, Result, refl, sym, ap, ◌∙◌, subst, ⊎_elim, ◌⊎◌, List, [], ◌∷◌, map}
+use Rattle.std.proofs.Common.{◌≡◌, ℕ, ◌<◌, Bool, true, false, Contains, Option, Some, None, Result, refl, sym, ap, ◌∙◌, subst, ⊎_elim, ◌⊎◌, List, [], ◌∷◌, map}
 use Rattle.std.specs.Prelude.{codes, IfErr, IsErrAnd, flat_map, if◌then◌else◌}
 use Rattle.std.proofs.lemmas.Result.{err_from_is_err_and}
 use Rattle.source_meaning.specs.Core as expr
-use Rattle.source_meaning.specs.Core.{is_literal, is_path, CoreExpr}
+use Rattle.source_meaning.specs.Core.{CoreExpr}
 use Rattle.world.specs.declared.body.Statement.{Statement}
 use Rattle.world.specs.declared.body.Statement.TheVariants as statement
 use Rattle.types.specs.declared.ids.ExprId.{ExprId}
 use Rattle.types.specs.declared.ids.PatId.{PatId}
 use Rattle.mir.specs.declared.errors.MirLowerError.{MirLowerError}
 use Rattle.mir.specs.declared.errors.MirLowerError.TheVariants as refusal
-use Rattle.source_meaning.specs.Source.{Source, node, unadjusted, diverges, root}
+use Rattle.source_meaning.specs.Source.{Source, node, root}
 use Rattle.source_meaning.specs.Steps.{parts_of, statement_parts}
 use Rattle.source_meaning.specs.Valid.{itself, part, EvaluatesIn}
 use Rattle.source_meaning.proofs.Core.{part_is_below}
-use Rattle.mir_lower.specs.declared.form.Form.{Form}
-use Rattle.mir_lower.specs.declared.form.Form.TheVariants as form
-use Rattle.mir_lower.specs.Form.{core_form, HasForm}
+use Rattle.body_forms.specs.declared.form.Form.TheVariants as form
+use Rattle.body_forms.specs.Form.{HasForm}
 use Rattle.mir_lower.specs.Graph.{Shape, OpenTarget, meant_target, opened_of}
 use Rattle.mir_lower.specs.Growth.{IsReady, IsAround}
 use Rattle.mir_lower.specs.Lowered.{IsStatementOf, HasStatements}
-use Rattle.mir_lower.specs.Refusals.{IsUnbuiltStatement, IsUnbuilt, LacksLocal, IsUnresolved, RefusesNode, RefusesPattern, RefusesTarget, RefusesAt, StandsFree, JumpsTo, LetBindsNone}
+use Rattle.mir_lower.specs.Refusals.{RefusesPattern, RefusesTarget, RefusesAt}
+use Rattle.body_forms.specs.Refusals.{IsUnbuiltStatement, IsUnbuilt, LacksLocal, IsUnresolved, RefusesNode, StandsFree, JumpsTo, LetBindsNone}
 use Rattle.world.specs.Checked.{IsCheckedBody}
 use Rattle.types.specs.declared.ids.LabelId.{LabelId}
 use Rattle.source_meaning.specs.Around.{Opened, is_meant, meant}
@@ -59,6 +59,7 @@ unbuilt-statement source e st (Some (expr.Assign assigned value)) statements sam
 unbuilt-statement source e st (Some (expr.Loop label body)) statements same within unbuilt = absurd same
 unbuilt-statement source e st (Some (expr.Break label value)) statements same within unbuilt = absurd same
 unbuilt-statement source e st (Some (expr.Continue label)) statements same within unbuilt = absurd same
+unbuilt-statement source e st (Some (expr.Return value)) statements same within unbuilt = absurd same
 unbuilt-statement source e st None statements same within unbuilt = absurd same
 
 lacking-statement : (source : Source) (e : ℕ) (st : Statement) (form : Option CoreExpr) (statements : List Statement) → HasStatements form statements → Contains statements st → LetBindsNone source st → LacksLocal source e form
@@ -73,6 +74,7 @@ lacking-statement source e st (Some (expr.Assign assigned value)) statements sam
 lacking-statement source e st (Some (expr.Loop label body)) statements same within lacks = absurd same
 lacking-statement source e st (Some (expr.Break label value)) statements same within lacks = absurd same
 lacking-statement source e st (Some (expr.Continue label)) statements same within lacks = absurd same
+lacking-statement source e st (Some (expr.Return value)) statements same within lacks = absurd same
 lacking-statement source e st None statements same within lacks = absurd same
 
 -- the refusal of a statement that isn't built
@@ -136,25 +138,6 @@ refused-exit P Q r returned carries =
     let p = err_from_is_err_and r returned in
     subst (λ (s : Result _ MirLowerError). IfErr s P) (sym p.1) (carries p.0 p.2)
 
--- an adjusted expression is none of the forms for those that use its value
-pub unadjusted-none : (source : Source) (e : ℕ) → diverges source e ≡ true → unadjusted source e ≡ None
-unadjusted-none source e is = ap (λ (test : Bool). cond test None (node source e)) is
-
--- a form that is no literal's, and one that is no path's
-no-literal-form : (f : Form) → ((l : _) → f ≡ form.Literal l → ⊥) → is_literal (core_form f) ≡ false
-no-literal-form (form.Literal l) differ = absurd (differ l refl)
-no-literal-form _ differ = refl
-
-pub no-literal : (source : Source) (e : ℕ) (f : Form) → HasForm source e f → ((l : _) → f ≡ form.Literal l → ⊥) → is_literal (node source e) ≡ false
-no-literal source e f has differ = ap is_literal has.core ∙ no-literal-form f differ
-
-no-path-form : (f : Form) → ((name : _) → f ≡ form.Path name → ⊥) → is_path (core_form f) ≡ false
-no-path-form (form.Path name) differ = absurd (differ name refl)
-no-path-form _ differ = refl
-
-pub no-path : (source : Source) (e : ℕ) (f : Form) → HasForm source e f → ((name : _) → f ≡ form.Path name → ⊥) → is_path (node source e) ≡ false
-no-path source e f has differ = ap is_path has.core ∙ no-path-form f differ
-
 -- a part has a lower number
 pub part-below : (source : Source) (e child : ℕ) → IsCheckedBody source.body source.infer → Contains (parts_of (node source e)) child → child < e
 part-below source e child checked is = part_is_below source checked e child is
@@ -176,6 +159,7 @@ part-of-block source st child (Some (expr.Assign assigned value)) statements sam
 part-of-block source st child (Some (expr.Loop label body)) statements same within is = absurd same
 part-of-block source st child (Some (expr.Break label value)) statements same within is = absurd same
 part-of-block source st child (Some (expr.Continue label)) statements same within is = absurd same
+part-of-block source st child (Some (expr.Return value)) statements same within is = absurd same
 part-of-block source st child None statements same within is = absurd same
 
 pub part-of-statement : (source : Source) (e : ℕ) (st : Statement) (child : ℕ) → IsStatementOf source e st → Contains (statement_parts st) child → Contains (parts_of (node source e)) child

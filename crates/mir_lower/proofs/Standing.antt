@@ -11,6 +11,8 @@ pub marking-fits : {source : Source} {old new whole : Shape} {lands : Landings} 
 marking-fits {whole = whole} {lands = lands} {marked = marked} keeps around stands =
     record {
       marks = ap (λ (marks : List Cell). marks ++ marked) stands.marks ∙ sym keeps.scope;
+      result = stands.result;
+      returns = stands.returns;
       targets = subst (λ (targets : List OpenTarget). FrontAll whole lands targets around.targets) (sym keeps.spares.targets) stands.targets;
     }
 
@@ -19,6 +21,8 @@ pub stands-in : {old new whole : Shape} {lands : Landings} {around : Around} →
 stands-in {whole = whole} {lands = lands} {around = around} scope targets stands =
     record {
       marks = stands.marks ∙ sym scope;
+      result = stands.result;
+      returns = stands.returns;
       targets = subst (λ (open_targets : List OpenTarget). FrontAll whole lands open_targets around.targets) (sym targets) stands.targets;
     }
 
@@ -27,6 +31,8 @@ pub stands-with : {old new whole : Shape} {lands : Landings} {around : Around} �
 stands-with {whole = whole} {lands = lands} {around = around} targets stands =
     record {
       marks = refl;
+      result = stands.result;
+      returns = stands.returns;
       targets = subst (λ (open_targets : List OpenTarget). FrontAll whole lands open_targets around.targets) (sym targets) stands.targets;
     }
 

@@ -25,7 +25,7 @@ use Rattle.source_meaning.proofs.Depth.{operand_is_part}
 use Rattle.source_meaning.proofs.Marks.{strict_marks}
 use Rattle.source_meaning.proofs.Parts.{sized_operand}
 use Rattle.mir_lower.specs.Does.{Stands, here, IsFrameOf, Holds, Landings, Reaches, Nothing, Fits, FitAll}
-use Rattle.mir_lower.specs.Form.{operation_of}
+use Rattle.body_forms.specs.Form.{operation_of}
 use Rattle.mir_lower.specs.Graph.{Shape, with_statement, local_of}
 use Rattle.mir_lower.specs.Growth.{Grows, IsSound, IsOpen, IsReady}
 use Rattle.mir_lower.specs.Lowered.{LaysOut, LowersOwn, LowersOperand, LowersOperands}

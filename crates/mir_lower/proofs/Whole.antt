@@ -7,18 +7,18 @@ use Rattle.world.specs.Lookups.{layout_of}
 use Rattle.mir.specs.declared.body.BasicBlock.{BasicBlock}
 use Rattle.mir.specs.declared.body.Local.{Local}
 use Rattle.mir.specs.declared.body.MirBody.{MirBody}
-use Rattle.mir.specs.declared.body.TerminatorKind.TheVariants.{Return}
+use Rattle.mir.specs.declared.body.TerminatorKind.TheVariants as kind
 use Rattle.mir.specs.declared.span.MirSpan.{MirSpan}
 use Rattle.mir.specs.Memory.{Interval, Memory, first_memory, bytes_at, cells_of}
 use Rattle.mir.specs.Run.{Frame, Ending, Returned, Faulted, entering, begun}
 use Rattle.source_meaning.specs.Around.{at_root}
-use Rattle.source_meaning.specs.Ends.{Cost, turns_alone, plus, End, Go, Jumps, Faults, Stuck, More, after, then_do}
+use Rattle.source_meaning.specs.Ends.{Cost, turns_alone, plus, End, Go, Jumps, Break, Continue, Return, Faults, Stuck, More, after}
 use Rattle.source_meaning.specs.Entering.{body_room, room_of, entering as entering_cost}
 use Rattle.source_meaning.specs.Events.{marked}
-use Rattle.source_meaning.specs.Meaning.{level_at, meaning_of}
-use Rattle.source_meaning.specs.Source.{Source, node_type, root, Cell, Result as Slot, cell_type, cell_layout, drops, Store, zeroed, own_type}
+use Rattle.source_meaning.specs.Meaning.{level_at, meaning_of, returned}
+use Rattle.source_meaning.specs.Source.{Source, node_type, root, Cell, Result as Slot, Path, cell_type, cell_layout, drops, Store, zeroed, own_type}
 use Rattle.source_meaning.specs.Valid.{IsPlain, IsLaidOut, AreLaidOut}
-use Rattle.mir_lower.specs.Does.{FrontAll, Point, Within, here, start_of, run_from, local_bytes, IsFrameOf, Holds, Comes, Nowhere, Landings, Reaches, Nothing}
+use Rattle.mir_lower.specs.Does.{FrontAll, Point, Within, here, start_of, run_from, local_bytes, IsFrameOf, Holds, Comes, Nowhere, Out, Landings, Reaches, Nothing, Stands}
 use Rattle.mir_lower.specs.Graph.{OpenTarget, Shape, no_statements, local_of_type, with_terminator, with_scope}
 use Rattle.mir_lower.specs.Growth.{Grows, IsSound, count_at}
 use Rattle.mir_lower.specs.Leaving.{Idles}
@@ -42,16 +42,27 @@ ends-as-after frame from at memory middle cost comes (Faults fault then) ends = 
 ends-as-after frame from at memory middle cost comes Stuck ends = tt
 ends-as-after frame from at memory middle cost comes (More then) ends = enters-both frame cost.turns then.turns from at memory middle comes ends
 
--- an evaluation, and then the end of the run
-ends-as-then : {A : Type 0} (whole : Shape) (lands : Landings) (frame : Frame) (from at : Point) (memory : Memory) (claim : A → Type 0) (end : End A) (next : A → Store → End (List ℕ)) → Reaches whole lands frame from at memory claim end → ((value : A) (store : Store) (middle : Memory) → Holds whole frame store middle × claim value → EndsAs (next value store) (run_from frame middle at)) → EndsAs (then_do end next) (run_from frame memory from)
-unfolding then_do
-ends-as-then whole lands frame from at memory claim (Go value store cost) next does rest = ends-as-after frame from at memory does.0 cost does.1 (next value store) (rest value store does.0 (does.2, does.3))
-ends-as-then whole lands frame from at memory claim (Jumps to store cost) next does rest = tt
-ends-as-then whole lands frame from at memory claim (Faults fault cost) next does rest = does
-ends-as-then whole lands frame from at memory claim Stuck next does rest = tt
-ends-as-then whole lands frame from at memory claim (More cost) next does rest = does
+-- where the run is after each jump out of a root: a `return` ends it, and of the others nothing is said
+abbrev lands-out : Landings
+lands-out Return = Out
+lands-out (Break node) = Nowhere
+lands-out (Continue node) = Nowhere
 
--- entering the first block takes one
+-- what leaving the body costs
+abbrev pub leaving : Source → ℕ
+leaving source = drops source (marked source (root source))
+
+-- what a body makes of the end of its root, where the run goes on to leave the body's scope and returns
+ends-as-returned : (source : Source) (whole : Shape) (frame : Frame) (from at : Point) (memory : Memory) (end : End (Unit {0})) → Reaches whole lands-out frame from at memory (Nothing whole frame) end →
+    ((store : Store) (middle : Memory) → Holds whole frame store middle → EndsAfter (leaving source) (Returned (store Slot)) (run_from frame middle at)) → EndsAs (returned source end) (run_from frame memory from)
+ends-as-returned source whole frame from at memory (Go done store cost) does rest = ends-as-after frame from at memory does.0 cost does.1 (Go (store Slot) store (turns_alone (leaving source))) (rest store does.0 does.2)
+ends-as-returned source whole frame from at memory (Jumps Return store cost) does rest = does
+ends-as-returned source whole frame from at memory (Jumps (Break node) store cost) does rest = tt
+ends-as-returned source whole frame from at memory (Jumps (Continue node) store cost) does rest = tt
+ends-as-returned source whole frame from at memory (Faults fault cost) does rest = does
+ends-as-returned source whole frame from at memory Stuck does rest = tt
+ends-as-returned source whole frame from at memory (More cost) does rest = does
+
 module _ (frame : Frame) (memory : Memory) (block turns : ℕ) where
   entered-first : Enters turns (run_from frame memory (start_of block)) → Enters (1 + turns) (λ budget. entering budget frame memory block)
   entered-first rest zero less = entering-none frame memory block
@@ -100,29 +111,25 @@ here-first s blocks current =
     let at : List BasicBlock → ℕ → Point = λ bs n. Within n (unwrap_or (option_map (λ (b : BasicBlock). length b.statements) (slice_get bs n)) 0) in
     ap (λ (bs : List BasicBlock). at bs s.current) blocks ∙ ap (λ (n : ℕ). at (no_statements ∷ []) n) current
 
--- what leaving the body costs
-abbrev pub leaving : Source → ℕ
-leaving source = drops source (marked source (root source))
-
 -- the root was lowered, its scope left, and the block ended by a return
 module _ (source : Source) (s0 s1 s2 : Shape) (span : MirSpan) (begins : here s0 ≡ Within 0 0) (nothing : s0.scope ≡ []) (outermost : s0.targets ≡ []) (into : LowersInto source s0 s1 (root source) Slot) (idles : Idles source (with_scope s0.scope s1) s2 (leaving source)) where
   abbrev Whole : Shape
-  Whole = with_terminator (record { span = span; kind = Return }) s2
+  Whole = with_terminator (record { span = span; kind = kind.Return }) s2
 
   first-grows : Grows s1 Whole
   first-grows =
       grows-trans s1 (with_scope s0.scope s1) Whole (with_scope-grows s0.scope s1)
-      (grows-trans (with_scope s0.scope s1) s2 Whole idles.grows (with_terminator-grows (record { span = span; kind = Return }) s2 idles.«open»))
+      (grows-trans (with_scope s0.scope s1) s2 Whole idles.grows (with_terminator-grows (record { span = span; kind = kind.Return }) s2 idles.«open»))
 
   whole-sound : IsSound source Whole
-  whole-sound = with_terminator-sound source (record { span = span; kind = Return }) s2 idles.«open» idles.sound
+  whole-sound = with_terminator-sound source (record { span = span; kind = kind.Return }) s2 idles.«open» idles.sound
 
   -- from the root's end on: the scope is left, and the body returns
   returns-after : (frame : Frame) → IsFrameOf Whole frame → (store : Store) (memory : Memory) → Holds Whole frame store memory → EndsAfter (leaving source) (Returned (store Slot)) (run_from frame memory (here s1))
   returns-after frame is store memory holds =
       let comes : Comes frame (leaving source) (here s1) memory (here s2) memory =
       subst (λ (p : Point). Comes frame (leaving source) p memory (here s2) memory) (here-scope s1 s0.scope)
-      (idles.comes Whole frame (with_terminator-grows (record { span = span; kind = Return }) s2 idles.«open») is memory) in
+      (idles.comes Whole frame (with_terminator-grows (record { span = span; kind = kind.Return }) s2 idles.«open») is memory) in
       let returned = ends-return s2 Whole frame span memory (store Slot) idles.«open» (grows-refl Whole) is (holds.shows Slot 0 refl) in
       let plain : leaving source + 0 ≡ leaving source = omega arith in
       subst (λ (n : ℕ). EndsAfter n (Returned (store Slot)) (run_from frame memory (here s1))) plain
@@ -132,13 +139,15 @@ module _ (source : Source) (s0 s1 s2 : Shape) (span : MirSpan) (begins : here s0
   runs-whole : (frame : Frame) (memory : Memory) → IsFrameOf Whole frame → Holds Whole frame (zeroed source) memory → (fuel : ℕ) → EndsAs (meaning_of source fuel) (λ budget. entering budget frame memory 0)
   unfolding meaning_of
   runs-whole frame memory is holds fuel =
-      let evaluates : End (Unit {0}) = (level_at source fuel at_root).into (root source) (record { cell = Slot }) (zeroed source) in
-      let next : Unit {0} → Store → End (List ℕ) = λ _ store. Go (store Slot) store (turns_alone (leaving source)) in
-      ends-as-entered source frame memory 0 (then_do evaluates next)
-      (subst (λ (p : Point). EndsAs (then_do evaluates next) (run_from frame memory p)) begins
-      (ends-as-then Whole (λ jump. Nowhere) frame (here s0) (here s1) memory (Nothing Whole frame) evaluates next
-      (into.does.reaches Whole frame first-grows whole-sound is (λ jump. Nowhere) at_root (record { marks = sym nothing; targets = subst (λ (targets : List OpenTarget). FrontAll Whole (λ jump. Nowhere) targets []) (sym outermost) tt }) fuel (zeroed source) memory holds)
-      (λ value store middle claims. returns-after frame is store middle claims.0)))
+      let slot : Path = record { cell = Slot } in
+      let evaluates : End (Unit {0}) = (level_at source fuel (at_root slot)).into (root source) slot (zeroed source) in
+      let stands : Stands Whole s0 lands-out (at_root slot) =
+      record { marks = sym nothing; result = refl; returns = refl; targets = subst (λ (targets : List OpenTarget). FrontAll Whole lands-out targets []) (sym outermost) tt } in
+      ends-as-entered source frame memory 0 (returned source evaluates)
+      (subst (λ (p : Point). EndsAs (returned source evaluates) (run_from frame memory p)) begins
+      (ends-as-returned source Whole frame (here s0) (here s1) memory evaluates
+      (into.does.reaches Whole frame first-grows whole-sound is lands-out (at_root slot) stands fuel (zeroed source) memory holds)
+      (returns-after frame is)))
 
   -- what is evaluated has types with layouts, where the locals have
   lays-out : (locals : List Local) → locals ≡ Whole.locals → IsPlain source → ((l : ℕ) (local : Local) → slice_get locals l ≡ Some local → IsLaidOut source (Some local.ty)) → AreLaidOut source

@@ -1,29 +1,28 @@
--- What a typed body has where it is lowered: each expression that is evaluated is of a form that is built, and each number
--- literal's type has a layout.
-use Rattle.std.specs.Prelude.{◌≡◌, ℕ, ◌≤◌, All, Option, Some}
+-- What a typed body has where it is lowered: each expression that is evaluated is of a form that is built, each number
+-- literal's type has a layout, and each `break` and each `continue` means a loop or a labelled block around it.
+use Rattle.std.specs.Prelude.{ℕ, List, [], All, Option, Some}
 use Rattle.source_meaning.specs.Built.{IsBuiltForm, IsBuiltStatement}
-use Rattle.source_meaning.specs.Core.{CoreExpr, CoreLiteral, Truth, Number}
+use Rattle.source_meaning.specs.Core.{CoreExpr}
 use Rattle.source_meaning.specs.Core as expr
-use Rattle.source_meaning.specs.Source.{Source, node, own_layout}
+use Rattle.source_meaning.specs.Around.{Opened}
+use Rattle.source_meaning.specs.Source.{Source, node, root}
 use Rattle.source_meaning.specs.Steps.{statement_parts}
-use Rattle.source_meaning.specs.Valid.{Evaluates}
+use Rattle.source_meaning.specs.Valid.{Evaluates, EvaluatesIn, HasOpenTarget}
+use Rattle.types.specs.declared.ids.LabelId.{LabelId}
 use Rattle.world.specs.declared.body.Statement.{Statement}
-use Rattle.world.specs.declared.layout.Layout.{Layout}
+use Rattle.body_forms.specs.Literals.{IsBuiltLiteral}
 
--- a number literal's type has a layout of at most 16 bytes
-pub record HasNumberLayout (source : Source) (e : ℕ) : Type 0 where
-  pub layout : Layout
-  pub found : own_layout source e ≡ Some layout
-  pub narrow : layout.size ≤ 16
+-- a loop or a labelled block of the body is open around an expression, and a jump with this label, or without one, means it
+pub record HasTarget (source : Source) (e : ℕ) (label : Option LabelId) : Type 0 where
+  pub opened : List Opened
+  pub stands : EvaluatesIn source [] (root source) opened e
+  pub leads : HasOpenTarget opened label
 
--- a literal that is lowered: a truth value, or a number with a layout
-abbrev pub IsBuiltLiteral : Source → ℕ → CoreLiteral → Type 0
-IsBuiltLiteral source e (Truth test) = Unit {0}
-IsBuiltLiteral source e (Number number) = HasNumberLayout source e
-
--- an expression that is lowered, whatever its parts are: its form is built, and a literal has what it needs
+-- an expression that is lowered, whatever its parts are: its form is built, a literal has what it needs, and a jump has a target
 abbrev pub IsBuiltNode : Source → ℕ → Option CoreExpr → Type 0
 IsBuiltNode source e (Some (expr.Literal l)) = IsBuiltLiteral source e l
+IsBuiltNode source e (Some (expr.Break label value)) = HasTarget source e label
+IsBuiltNode source e (Some (expr.Continue label)) = HasTarget source e label
 IsBuiltNode source e form = IsBuiltForm source e form
 
 -- each expression that is evaluated where one is, is built

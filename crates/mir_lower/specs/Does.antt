@@ -2,11 +2,11 @@
 use Rattle.std.specs.Prelude.{◌≡◌, ◌≢◌, ℕ, ◌+◌, ◌≤◌, List, ◌∷◌, [], Option, Some, slice_get, option_and_then, unwrap_or, ◌⊎◌}
 use Rattle.mir.specs.declared.operand.OperandKind.{OperandKind}
 use Rattle.mir.specs.Memory.{Interval, Memory, bytes_at}
-use Rattle.mir.specs.Run.{Frame, Faulted, Ended, running, entering, operand_bytes as mir_bytes, operand_type as mir_type}
+use Rattle.mir.specs.Run.{Frame, Faulted, Returned, Ended, running, entering, operand_bytes as mir_bytes, operand_type as mir_type}
 use Rattle.source_meaning.specs.Around.{Around, Target}
-use Rattle.source_meaning.specs.Ends.{End, Go, Jumps, Faults, Stuck, More, Jump, Break, Continue}
+use Rattle.source_meaning.specs.Ends.{End, Go, Jumps, Faults, Stuck, More, Jump, Break, Continue, Return}
 use Rattle.source_meaning.specs.Meaning.{level_at, operands_of, statements_of, tail_into, bind}
-use Rattle.source_meaning.specs.Source.{Source, pattern, target, Cell, Path, Store, Operand, operand_bytes, operand_type}
+use Rattle.source_meaning.specs.Source.{Source, pattern, target, Cell, Result, Path, Store, Operand, operand_bytes, operand_type}
 use Rattle.world.specs.declared.body.Statement.{Statement}
 use Rattle.types.specs.declared.ids.ExprId.{ExprId}
 use Rattle.mir_lower.specs.Graph.{Shape, OpenTarget, local_of}
@@ -50,27 +50,30 @@ pub record IsFrameOf (s : Shape) (frame : Frame) : Type 0 where
 pub record Holds (s : Shape) (frame : Frame) (store : Store) (memory : Memory) : Type 0 where
   pub shows : (cell : Cell) (local : ℕ) → local_of s cell ≡ Some local → local_bytes frame memory local ≡ Some (store cell)
 
--- the run comes from a point to another, over so many blocks
+-- the run goes from one point to another, and enters `turns` blocks on the way
 pub record Comes (frame : Frame) (turns : ℕ) (from : Point) (memory : Memory) (to : Point) (later : Memory) : Type 0 where
   pub with_more : (more : ℕ) → run_from frame memory from (turns + more) ≡ run_from frame later to more
   pub with_fewer : Enters turns (run_from frame memory from)
 
--- where the run comes to when the source jumps: it is about to enter a block, or nothing is said of it
+-- where the run is when the source has jumped: about to enter a block, or at its end with the result; or nothing is said of it
 pub data Landing : Type 0 where
   Nowhere : Landing
   Before : (block : ℕ) → Landing
+  Out : Landing
 
--- where the run comes to at each jump of the source
+-- where the run is after each jump of the source
 abbrev pub Landings : Type 0
 Landings = Jump → Landing
 
--- the run comes to where a jump lands, over exactly so many blocks, with a memory that holds the store
+-- The run reaches where a jump lands, after exactly `turns` blocks, with a memory that holds the store; or it ends after
+-- exactly `turns` blocks, with the bytes that the store has for the result.
 abbrev pub Lands : Shape → Frame → Point → Memory → Store → ℕ → Landing → Type 0
 Lands whole frame from memory store turns Nowhere = Unit {0}
 Lands whole frame from memory store turns (Before block) = (later : Memory) × Comes frame turns from memory (Entry block) later × Holds whole frame store later
+Lands whole frame from memory store turns Out = EndsAfter turns (Returned (store Result)) (run_from frame memory from)
 
--- From a point the run does what an end says, over exactly as many blocks as that counts: it comes to another point with a
--- memory that holds the store, and the claim on the value holds; or it comes to where a jump lands; or it ends. Where the fuel
+-- From a point the run does what an end says, over exactly as many blocks as that counts: it reaches another point with a
+-- memory that holds the store, and the claim on the value holds; or it reaches where a jump lands; or it ends. Where the fuel
 -- ran out, the run enters as many blocks as were counted up to there.
 abbrev pub Reaches : {A : Type 0} → Shape → Landings → Frame → Point → Point → Memory → (A → Type 0) → End A → Type 0
 Reaches whole lands frame from to memory claim (Go value store cost) =
@@ -95,9 +98,12 @@ FrontAll whole lands [] [] = Unit {0}
 FrontAll whole lands (target ∷ outer) (front ∷ others) = Fronts whole lands target front × FrontAll whole lands outer others
 FrontAll whole lands _ _ = ⊥
 
--- what stands around the code in the meaning is what stands around it in the graph
+-- what stands around the code in the meaning is what stands around it in the graph; the body's value goes to the result, and a
+-- `return` ends the run
 pub record Stands (whole old : Shape) (lands : Landings) (around : Around) : Type 0 where
   pub marks : around.marks ≡ old.scope
+  pub result : around.result ≡ record { cell = Result }
+  pub returns : lands Return ≡ Out
   pub targets : FrontAll whole lands old.targets around.targets
 
 -- What code does: in each graph that the new one grows to, where jumps land in the blocks of the loops and labelled blocks

@@ -202,6 +202,6 @@ meant_target label (target ∷ outer) = if is_meant label target.opened then Som
 abbrev pub opened_of : Shape → List Opened
 opened_of s = map (λ target. target.opened) s.targets
 
--- a cell that comes into use in the innermost open scope
+-- the graph with a cell marked as in use in the innermost open scope, where its local has a `StorageLive`
 abbrev pub with_mark : Cell → Shape → Shape
 with_mark cell s = with_scope (s.scope ++ cell ∷ []) s

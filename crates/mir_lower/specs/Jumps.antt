@@ -1,15 +1,16 @@
 -- Loops and labelled blocks in the graph, and the jumps to them.
-use Rattle.std.specs.Prelude.{◌≡◌, ℕ, ◌≤◌, ◌∷◌, length, Option, Some, None}
+use Rattle.std.specs.Prelude.{◌≡◌, ℕ, ◌≤◌, List, ◌∷◌, length, Option, Some, None}
 use Rattle.mir.specs.declared.errors.MirLowerError.{MirLowerError}
 use Rattle.mir.specs.declared.errors.MirLowerError.TheVariants as refusal
 use Rattle.mir.specs.Memory.{Memory}
-use Rattle.mir.specs.Run.{Frame}
+use Rattle.mir.specs.Run.{Frame, Returned}
 use Rattle.source_meaning.specs.Source.{Source}
 use Rattle.types.specs.declared.ids.LabelId.{LabelId}
 use Rattle.mir_lower.specs.Branches.{IsReserved}
-use Rattle.mir_lower.specs.Does.{Entry, here, start_of, IsFrameOf, Comes}
+use Rattle.mir_lower.specs.Does.{Entry, here, start_of, run_from, local_bytes, IsFrameOf, Comes}
 use Rattle.mir_lower.specs.Graph.{Shape, OpenTarget, with_targets}
 use Rattle.mir_lower.specs.Growth.{Grows, Spares, IsSound, IsOpen}
+use Rattle.mir_lower.specs.Simulates.{EndsAfter}
 
 -- A loop or a labelled block was entered: the current block leads to the one where it begins, which is the current one now, and
 -- the block behind it is reserved.
@@ -36,7 +37,18 @@ pub record HasJumped (source : Source) (old new : Shape) (to turns : ℕ) : Type
   pub scope : new.scope ≡ old.scope
   pub heads : (whole : Shape) (frame : Frame) → Grows new whole → IsFrameOf whole frame → (memory : Memory) → Comes frame turns (here old) memory (Entry to) memory
 
--- the refusal of a jump that means no loop and no labelled block: a label that none has, or else that of a jump without a label
+-- A return was added: from where it stands the run leaves all open scopes, over a number of blocks, and ends with the bytes of the
+-- return slot. The code behind it stands in a new block.
+pub record HasReturned (source : Source) (old new : Shape) (turns : ℕ) : Type 0 where
+  pub grows : Grows old new
+  pub spares : Spares old new
+  pub sound : IsSound source new
+  pub «open» : IsOpen new
+  pub scope : new.scope ≡ old.scope
+  pub ends : (whole : Shape) (frame : Frame) → Grows new whole → IsFrameOf whole frame → (memory : Memory) (bytes : List ℕ) →
+      local_bytes frame memory 0 ≡ Some bytes → EndsAfter turns (Returned bytes) (run_from frame memory (here old))
+
+-- the refusal of a jump without a target: `UnresolvedLabel` if it has a label, else the given one
 abbrev pub without_target : Option LabelId → MirLowerError → MirLowerError
 without_target (Some label) unlabelled = refusal.UnresolvedLabel
 without_target None unlabelled = unlabelled

@@ -11,7 +11,7 @@ use Rattle.mir_lower.specs.Growth.{Grows, Spares, IsSound, IsOpen}
 abbrev pub one_if : Bool → ℕ
 one_if test = cond test 1 0
 
--- the code goes on, over so many blocks, with memory as it was
+-- the code goes on after exactly `turns` blocks, with memory as it was
 pub record Idles (source : Source) (old new : Shape) (turns : ℕ) : Type 0 where
   pub grows : Grows old new
   pub spares : Spares old new

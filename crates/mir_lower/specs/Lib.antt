@@ -1,12 +1,8 @@
-pub mod Contexts
-pub mod Copies
 pub mod Does
-pub mod Form
 pub mod Graph
 pub mod Jumps
 pub mod Growth
 pub mod Leaving
-pub mod Literals
 pub mod Lowered
 pub mod Order
 pub mod Refusals

@@ -96,7 +96,7 @@ pub record IsTargeted (source : Source) (s : Shape) (assigned local : ℕ) : Typ
   pub names : target source assigned ≡ Some binding
   pub found : binding_local s binding.0 ≡ Some local
 
--- the value of a cell was assigned to a target: no cell comes into use
+-- the value of a cell was assigned to a target: no cell is marked as in use
 pub record Assigns (source : Source) (old new : Shape) (assigned : ℕ) (cell : Cell) : Type 0 where
   pub keeps : Keeps source old new []
   pub does : DoesAssign source old new assigned cell

@@ -14,12 +14,12 @@ use Rattle.source_meaning.specs.Valid.{IsPlain, IsLaidOut, AreLaidOut}
 use Rattle.world.specs.Lookups.{layout_of}
 use Rattle.mir_lower.specs.Growth.{IsUsed}
 
--- a run enters so many blocks at least: under a budget of fewer it runs out of them
+-- a run enters at least `turns` blocks: under a budget of fewer it runs out of them
 abbrev pub Enters : ℕ → (ℕ → Ended) → Type 0
 Enters turns run = (fewer : ℕ) → fewer < turns → run fewer ≡ out_of_blocks
 
--- A run under every budget: it ends so, after exactly so many blocks. With just as many blocks or more it ends so and
--- leaves the rest, and with fewer it runs out of them.
+-- A run under every budget: it ends in `ending`, after exactly `turns` blocks. With just as many blocks or more it ends so
+-- and leaves the rest, and with fewer it runs out of them.
 pub record EndsAfter (turns : ℕ) (ending : Ending) (run : ℕ → Ended) : Type 0 where
   pub with_more : (more : ℕ) → run (turns + more) ≡ record { ending = ending; left = more }
   pub with_fewer : Enters turns run

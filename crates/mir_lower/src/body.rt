@@ -5,17 +5,15 @@ ghost use Rattle.source_meaning.specs.Source.{Source};
 ghost use Rattle.world.specs.Checked.{IsChecked, IsCheckedBody};
 ghost use Rattle.source_meaning.specs.Source.{root};
 ghost use Rattle.mir_lower.specs.Built.{IsBuilt};
-ghost use Rattle.mir_lower.specs.Contexts.{source_of};
+ghost use Rattle.body_forms.specs.Contexts.{source_of};
 ghost use Rattle.mir_lower.specs.Order.{AreInOrder};
 ghost use Rattle.mir_lower.specs.Refusals.{Refuses, RefusesAt, RefusesInferred, are_some_dropped, needs_drops};
 ghost use Rattle.mir_lower.specs.Simulates.{Simulates};
 
-use crate::context::Context;
 use crate::first::first_graph;
-use crate::inferred::{copy_types, is_copy};
 use crate::leave::leave_scope;
 use crate::lower::lower_into;
-use crate::unbuilt::form_not_built;
+use body_forms::{Context, form_not_built, is_copy};
 use mir::{Local, LocalId, MirBody, MirLowerError, MirSpan, Place, Terminator, TerminatorKind};
 use std::alloc::Global;
 use world::{Body, DefWithBodyId, HirDatabase, InferenceResult};
@@ -45,13 +43,7 @@ pub fn lower_to_mir(
     if infer.erroneous || !infer.mismatches.as_slice().is_empty() {
         return Err(MirLowerError::HasErrors);
     }
-    let context = Context {
-        alloc,
-        db,
-        body,
-        infer,
-        copy_types: copy_types(alloc, infer)?,
-    };
+    let context = Context::new(alloc, db, body, infer)?;
     lower_inferred(&context, owner)
 }
 

@@ -4,12 +4,12 @@ ghost use Rattle.std.specs.Prelude.{◌≡◌, IfOk, IfErr};
 ghost use Rattle.mir.specs.declared.errors.MirLowerError.TheVariants as refusal;
 ghost use Rattle.source_meaning.specs.Source.{Source};
 ghost use Rattle.mir_lower.specs.Branches.{IsReserved, IsForked, HasGoneOn};
-ghost use Rattle.mir_lower.specs.Contexts.{source_of};
+ghost use Rattle.body_forms.specs.Contexts.{source_of};
 ghost use Rattle.mir_lower.specs.Graph.{shape};
 ghost use Rattle.mir_lower.specs.Growth.{IsSound, IsOpen};
 
-use crate::context::Context;
 use crate::graph::Graph;
+use body_forms::Context;
 use mir::{
     BasicBlockId, MirLowerError, MirSpan, Operand, SwitchTargets, Terminator, TerminatorKind,
 };

@@ -1,17 +1,17 @@
-//! Loops and labelled blocks, and the jumps to them.
+//! Loops and labelled blocks, the jumps to them, and the jump out of the body.
 
 ghost use Rattle.std.specs.Prelude.{◌≡◌, drop, IfOk, IfErr, OnOk, Some, None, List, ◌∷◌};
 ghost use Rattle.source_meaning.specs.Source.{Source, drops};
 ghost use Rattle.mir_lower.specs.Branches.{IsReserved, HasGoneOn};
-ghost use Rattle.mir_lower.specs.Contexts.{source_of};
+ghost use Rattle.body_forms.specs.Contexts.{source_of};
 ghost use Rattle.mir_lower.specs.Graph.{OpenTarget, shape, target_of_blocks, meant_target, with_targets};
 ghost use Rattle.mir_lower.specs.Growth.{IsSound, IsOpen};
-ghost use Rattle.mir_lower.specs.Jumps.{IsEntered, HasJumped, without_target};
+ghost use Rattle.mir_lower.specs.Jumps.{IsEntered, HasJumped, HasReturned, without_target};
 
 use crate::branch::go_on;
-use crate::context::Context;
 use crate::graph::{DropScopeToken, Graph, LoopBlocks};
 use crate::leave::leave_marked;
+use body_forms::Context;
 use mir::{BasicBlockId, MirLowerError, MirSpan, Place, Terminator, TerminatorKind};
 use world::{ExprId, LabelId, NoMemory};
 
@@ -94,6 +94,25 @@ pub(crate) fn jump(
     graph.set_terminator(Terminator {
         span: MirSpan::ExprId(e),
         kind: TerminatorKind::Goto { target: to },
+    });
+    graph.open_block(context.alloc)
+}
+
+/// Returns from the body: all open scopes are left, and what follows goes into a new block that nothing leads to. A block that would
+/// be the 2^32nd has no id: `NoMemory`.
+pub(crate) fn return_from(
+    context: &Context<'_>,
+    graph: &mut Graph,
+    e: ExprId,
+) -> Result<(), NoMemory>
+    requires sound { IsSound (source_of context.now) (shape graph.old) }
+    requires opened { IsOpen (shape graph.old) }
+    ensures { OnOk result (HasReturned (source_of context.now) (shape graph.old) (shape graph.new) (drops (source_of context.now) (shape graph.old).scope)) }
+{
+    leave_marked(context, graph, DropScopeToken(0), e)?;
+    graph.set_terminator(Terminator {
+        span: MirSpan::ExprId(e),
+        kind: TerminatorKind::Return,
     });
     graph.open_block(context.alloc)
 }

@@ -5,14 +5,13 @@ ghost use Rattle.mir.specs.declared.statement.StatementKind.TheVariants.{Storage
 ghost use Rattle.mir.specs.declared.body.TerminatorKind.TheVariants.{Drop as Dropping};
 ghost use Rattle.std.specs.Option.{option_copied};
 ghost use Rattle.source_meaning.specs.Source.{cell_type, is_dropped, drops};
-ghost use Rattle.mir_lower.specs.Contexts.{source_of};
+ghost use Rattle.body_forms.specs.Contexts.{source_of};
 ghost use Rattle.mir_lower.specs.Graph.{shape, with_statement, with_block, with_terminator, with_scope, cell_of};
 ghost use Rattle.mir_lower.specs.Growth.{IsSound, IsOpen};
 ghost use Rattle.mir_lower.specs.Leaving.{Idles, one_if};
 
-use crate::context::Context;
 use crate::graph::{DropScopeToken, Graph, Held, Marked};
-use crate::inferred::{binding_ty, is_copy, never_type, value_type};
+use body_forms::{Context, binding_ty, is_copy, never_type, value_type};
 use mir::{
     BasicBlockId, LocalId, MirSpan, Place, Statement, StatementKind, Terminator, TerminatorKind,
 };

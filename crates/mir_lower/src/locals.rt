@@ -7,18 +7,16 @@ ghost use Rattle.source_meaning.specs.Source.{Cell, Node, Binding, Never, node, 
 ghost use Rattle.source_meaning.specs.Core as expr;
 ghost use Rattle.source_meaning.specs.Core.{is_path, local_named};
 ghost use Rattle.world.specs.declared.infer.ValueNs.TheVariants.{LocalBinding};
-ghost use Rattle.mir_lower.specs.Contexts.{source_of};
+ghost use Rattle.body_forms.specs.Contexts.{source_of};
 ghost use Rattle.mir_lower.specs.Graph.{shape, with_statement, local_of};
 ghost use Rattle.mir_lower.specs.Growth.{IsSound, IsOpen, IsReady, IsReadyPart};
 ghost use Rattle.mir_lower.specs.Lowered.{IsGiven, IsNamed, Binds, IsTargeted, Assigns};
 ghost use Rattle.source_meaning.specs.Built.{AssignsBinding, BindsBinding, NamesBinding};
-ghost use Rattle.mir_lower.specs.Refusals.{RefusesNode, RefusesPattern, RefusesTarget};
+ghost use Rattle.mir_lower.specs.Refusals.{RefusesPattern, RefusesTarget};
+ghost use Rattle.body_forms.specs.Refusals.{RefusesNode};
 
-use crate::context::Context;
-use crate::form::{name_bound, target_path};
 use crate::graph::{Graph, Held};
-use crate::inferred::{node_ty, own_ty};
-use crate::unbuilt::form_not_built;
+use body_forms::{Context, form_not_built, name_bound, node_ty, own_ty, target_path};
 use mir::{
     LocalId, MirLowerError, MirSpan, Operand, OperandKind, Place, Rvalue, Statement, StatementKind,
 };
@@ -88,7 +86,7 @@ pub(crate) fn place_named(
     }
 }
 
-/// The local of a binding comes into use in the innermost open scope.
+/// Adds `StorageLive` of a binding's local, in the innermost open scope.
 fn storage_live(
     context: &Context<'_>,
     graph: &mut Graph,
@@ -109,7 +107,7 @@ fn storage_live(
     Ok(())
 }
 
-/// A local for the value of an expression comes into use in the innermost open scope.
+/// Adds `StorageLive` of a local for the value of an expression, in the innermost open scope.
 pub(crate) fn new_temp(
     context: &Context<'_>,
     graph: &mut Graph,
@@ -129,7 +127,7 @@ pub(crate) fn new_temp(
     Ok(Place { local })
 }
 
-/// A local for the `!` of an expression comes into use in the innermost open scope.
+/// Adds `StorageLive` of a local for the `!` of an expression, in the innermost open scope.
 pub(crate) fn new_never(
     context: &Context<'_>,
     graph: &mut Graph,

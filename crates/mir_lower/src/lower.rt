@@ -8,8 +8,8 @@ ghost use Rattle.source_meaning.specs.Core as expr;
 ghost use Rattle.source_meaning.specs.Meaning.{deciding_byte};
 ghost use Rattle.source_meaning.specs.Steps.{parts_of};
 ghost use Rattle.world.specs.declared.body.Statement.TheVariants as statement_kind;
-ghost use Rattle.mir_lower.specs.Contexts.{source_of};
-ghost use Rattle.mir_lower.specs.Form.{core_value, operation_of};
+ghost use Rattle.body_forms.specs.Contexts.{source_of};
+ghost use Rattle.body_forms.specs.Form.{core_value, operation_of};
 ghost use Rattle.mir_lower.specs.Graph.{shape, local_of};
 ghost use Rattle.mir_lower.specs.Growth.{IsPlaced, IsReady, ArePartsReady, IsReadyPart};
 ghost use Rattle.mir_lower.specs.Lowered.{HasStatements, LowersInto, LowersPlace, LowersOperand, LowersStatements, LowersTail, IsStatementOf, LowersOwn};
@@ -19,16 +19,15 @@ ghost use Rattle.std.specs.Prelude.{All, Contains, IfSome};
 ghost use Rattle.world.specs.Nodes.{optional};
 
 use crate::branch::{fork, go_on};
-use crate::context::Context;
-use crate::form::{Form, form_at, literal_at, path_at};
 use crate::graph::Graph;
-use crate::inferred::diverges;
-use crate::jump::{enter_loop, jump, leave_loop, target_of_jump};
+use crate::jump::{enter_loop, jump, leave_loop, return_from, target_of_jump};
 use crate::leave::leave_scope;
-use crate::literal::{LiteralValue, lower_literal};
 use crate::locals::{assign, assign_target, bind, fake_read, new_never, new_temp, place_named};
-use crate::unbuilt::form_not_built;
-use mir::{BinOp, MirLowerError, MirSpan, Operand, OperandKind, Place, Rvalue, UnOp};
+use body_forms::{
+    Context, Form, LiteralValue, diverges, form_at, form_not_built, literal_at, lower_literal,
+    path_at,
+};
+use mir::{BinOp, LocalId, MirLowerError, MirSpan, Operand, OperandKind, Place, Rvalue, UnOp};
 use world::{ExprId, LabelId, List, LogicOp, PatId, Statement, Text, TryClone};
 
 /// A place as an operand.
@@ -206,6 +205,7 @@ fn lower_own(
         Form::Loop(label, body) => lower_loop(context, graph, e, label, body, place),
         Form::Break(label, value) => lower_break(context, graph, e, label, value),
         Form::Continue(label) => lower_continue(context, graph, e, label),
+        Form::Return(value) => lower_return(context, graph, e, value),
         Form::Incomplete => Err(MirLowerError::IncompleteExpr),
         Form::Unbuilt => Err(form_not_built(context.alloc)),
     }
@@ -453,6 +453,26 @@ fn lower_continue(
 {
     let blocks = target_of_jump(graph, label, MirLowerError::ContinueWithoutLoop)?;
     jump(context, graph, blocks.drop_scope, blocks.begin, e)?;
+    Ok(())
+}
+
+/// A `return`: its value, where it has one, goes to the return slot, and then the body returns.
+#[cycle(lower)]
+fn lower_return(
+    context: &Context<'_>,
+    graph: &mut Graph,
+    e: ExprId,
+    value: Option<ExprId>,
+) -> Result<(), MirLowerError>
+    requires ready { IsReady (source_of context.now) (shape graph.old) e.0 }
+    requires form { node (source_of context.now) e.0 ≡ Some (expr.Return value) }
+    ensures lowered { OnOk result ((cell : Cell) → LowersOwn (source_of context.now) (shape graph.old) (shape graph.new) e.0 cell) }
+    ensures built { OnOk result (IsBuilt (source_of context.now) e.0) }
+    ensures refused { IfErr result (RefusesAt (source_of context.now) e.0) }
+{
+    let slot = Place { local: LocalId(0) };
+    lower_tail(context, graph, e, value, slot)?;
+    return_from(context, graph, e)?;
     Ok(())
 }
 

@@ -5,7 +5,7 @@ use Rattle.mir.specs.declared.span.MirSpan.TheVariants.{ExprId}
 use Rattle.source_meaning.specs.Events.{marked}
 use Rattle.source_meaning.specs.Source.{root, Result}
 use Rattle.source_meaning.specs.Valid.{itself}
-use Rattle.mir_lower.specs.Contexts.{source_of}
+use Rattle.body_forms.specs.Contexts.{source_of}
 use Rattle.mir_lower.specs.Graph.{Shape, shape}
 use Rattle.mir_lower.specs.Lowered.{LowersInto}
 use Rattle.mir_lower.specs.Refusals.{RefusesAt}

@@ -1,6 +1,6 @@
 -- A body that may need a drop function is refused for it.
 use Rattle.std.proofs.Common.{sym, ap, ◌∙◌}
-use Rattle.mir_lower.specs.Contexts.{source_of}
+use Rattle.body_forms.specs.Contexts.{source_of}
 use Rattle.mir_lower.specs.Refusals.{needs_drops}
 use Rattle.mir_lower.proofs.Needed.{refuses-drops}
 use Rattle.mir_lower.proofs.body.lower_inferred.Goals as goal

@@ -1,7 +1,7 @@
 -- Three blocks are reserved, the current one is ended by a switch, and the first of the three is opened.
 use Rattle.std.proofs.Common.{ap, ◌∙◌}
 use Rattle.mir.specs.declared.span.MirSpan.TheVariants.{ExprId}
-use Rattle.mir_lower.specs.Contexts.{source_of}
+use Rattle.body_forms.specs.Contexts.{source_of}
 use Rattle.mir_lower.specs.Graph.{shape, with_entered}
 use Rattle.mir_lower.proofs.Forking.{forks, parts-by-pair}
 use Rattle.mir_lower.proofs.Reserving.{stays-open}

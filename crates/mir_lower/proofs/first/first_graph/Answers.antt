@@ -1,6 +1,6 @@
 -- No binding at first, and one more after each turn.
 use Rattle.std.proofs.Common.{◌+◌, Some, sym, ap, ◌∙◌, subst}
-use Rattle.mir_lower.specs.Contexts.{source_of}
+use Rattle.body_forms.specs.Contexts.{source_of}
 use Rattle.mir_lower.specs.Graph.{shape}
 use Rattle.mir_lower.specs.Growth.{IsFirst}
 use Rattle.mir_lower.proofs.Beginning.{first-none, first-more}

@@ -3,7 +3,7 @@ use Rattle.std.proofs.Common.{Bool, sym, ◌∙◌, subst}
 use Rattle.std.proofs.lemmas.Result.{on_ok_weaker}
 use Rattle.mir.specs.declared.span.MirSpan.TheVariants.{ExprId}
 use Rattle.std.specs.Prelude.{None}
-use Rattle.mir_lower.specs.Contexts.{source_of}
+use Rattle.body_forms.specs.Contexts.{source_of}
 use Rattle.mir_lower.specs.Graph.{shape}
 use Rattle.mir_lower.specs.Leaving.{Idles, one_if}
 use Rattle.mir_lower.proofs.Leaving.{idles-drop, idles-refl}

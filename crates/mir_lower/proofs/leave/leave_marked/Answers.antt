@@ -3,7 +3,7 @@ use Rattle.std.proofs.Common.{◌≡◌, ℕ, suc, ◌-◌, length, Some, refl, 
 use Rattle.std.specs.Prelude.{slice_get}
 use Rattle.std.proofs.lemmas.List.{length-map}
 use Rattle.source_meaning.specs.Source.{drops}
-use Rattle.mir_lower.specs.Contexts.{source_of}
+use Rattle.body_forms.specs.Contexts.{source_of}
 use Rattle.mir_lower.specs.Graph.{shape, cell_of}
 use Rattle.mir_lower.specs.Leaving.{Idles}
 use Rattle.mir_lower.proofs.Drops.{marked-left, nothing-left, left-as-marked}

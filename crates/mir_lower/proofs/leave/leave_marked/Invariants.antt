@@ -1,7 +1,7 @@
 -- The locals behind a place were left, and are still marked. The place is behind those that stay, or none was left yet.
 use Rattle.std.proofs.Common.{◌≡◌, ◌≤◌, ◌⊎◌, length, drop}
 use Rattle.source_meaning.specs.Source.{drops}
-use Rattle.mir_lower.specs.Contexts.{source_of}
+use Rattle.body_forms.specs.Contexts.{source_of}
 use Rattle.mir_lower.specs.Graph.{shape}
 use Rattle.mir_lower.specs.Leaving.{Idles}
 use Rattle.mir_lower.proofs.leave.leave_marked.Given as goal

@@ -1,8 +1,8 @@
--- The name's local comes into use, and the place is copied to it.
+-- The name's local has its `StorageLive`, and the place is copied to it.
 use Rattle.std.proofs.Common.{sym, refl}
 use Rattle.std.proofs.lemmas.Result.{on_ok_weaker}
 use Rattle.mir.specs.declared.span.MirSpan.TheVariants.{PatId}
-use Rattle.mir_lower.specs.Contexts.{source_of}
+use Rattle.body_forms.specs.Contexts.{source_of}
 use Rattle.mir_lower.specs.Graph.{shape}
 use Rattle.mir_lower.proofs.Building.{has-binding}
 use Rattle.mir_lower.proofs.InUse.{lacks-binding}

@@ -2,7 +2,7 @@
 use Rattle.std.proofs.Common.{Some, sym, ap, ◌∙◌}
 use Rattle.mir.specs.declared.span.MirSpan.TheVariants.{ExprId}
 use Rattle.source_meaning.specs.Source.{Never}
-use Rattle.mir_lower.specs.Contexts.{source_of}
+use Rattle.body_forms.specs.Contexts.{source_of}
 use Rattle.mir_lower.specs.Graph.{shape}
 use Rattle.mir_lower.proofs.InUse.{marks-never, given-marked}
 use Rattle.mir_lower.proofs.locals.new_never.Goals as goal

@@ -1,8 +1,8 @@
 -- The path names a binding that the body lacks.
 use Rattle.std.proofs.Common.{Some, sym, ap, ◌∙◌, subst}
-use Rattle.mir_lower.specs.Contexts.{source_of}
+use Rattle.body_forms.specs.Contexts.{source_of}
 use Rattle.mir_lower.specs.Graph.{shape}
-use Rattle.mir_lower.specs.Refusals.{LacksLocal}
+use Rattle.body_forms.specs.Refusals.{LacksLocal}
 use Rattle.mir_lower.proofs.Building.{has-binding}
 use Rattle.mir_lower.proofs.InUse.{lacks-binding}
 use Rattle.mir_lower.proofs.locals.place_named.Goals as goal

@@ -1,5 +1,5 @@
 -- The target names a binding, which has a local or isn't one of the body's.
-use Rattle.mir_lower.specs.Contexts.{source_of}
+use Rattle.body_forms.specs.Contexts.{source_of}
 use Rattle.mir_lower.specs.Graph.{shape}
 use Rattle.mir_lower.proofs.Assignments.{names-target}
 use Rattle.mir_lower.proofs.Building.{has-binding}

@@ -5,9 +5,9 @@ use Rattle.std.proofs.lemmas.Result.{IfOk-weaker, on_ok_weaker, IfErr-weaker}
 use Rattle.mir.specs.declared.errors.MirLowerError.TheVariants as refusal
 use Rattle.mir.specs.declared.span.MirSpan.TheVariants.{ExprId}
 use Rattle.source_meaning.specs.Events.{marked_as_place, marked_in_block}
-use Rattle.source_meaning.specs.Source.{Node, Never, node}
+use Rattle.source_meaning.specs.Source.{Result, Node, Never, node}
 use Rattle.source_meaning.proofs.Never.{unadjusted-plain}
-use Rattle.mir_lower.specs.Contexts.{source_of}
+use Rattle.body_forms.specs.Contexts.{source_of}
 use Rattle.mir_lower.specs.Graph.{shape, target_of_blocks}
 use Rattle.mir_lower.specs.Growth.{Grows, IsPlaced, IsInside}
 use Rattle.source_meaning.specs.Valid.{opened_in}
@@ -16,14 +16,14 @@ use Rattle.mir.specs.declared.operand.Operand.{Operand}
 use Rattle.mir.specs.declared.operand.OperandKind.{OperandKind}
 use Rattle.mir.specs.declared.operand.Rvalue.TheVariants.{CheckedBinaryOp, UnaryOp as Unary}
 use Rattle.source_meaning.specs.Core.{Combine}
-use Rattle.mir_lower.specs.Form.{core_value, operation_of}
+use Rattle.body_forms.specs.Form.{core_value, operation_of}
 use Rattle.world.specs.declared.body.Statement.{Statement}
 use Rattle.mir_lower.specs.Refusals.{RefusesAt}
 use Rattle.std.specs.Prelude.{All, Contains, IfSome, ℕ}
 use Rattle.std.proofs.lemmas.List.Elements.{All-nil, All-more, Contains-get_or}
 use Rattle.world.specs.Nodes.{optional}
 use Rattle.mir_lower.specs.Built.{IsBuilt, IsBuiltThrough}
-use Rattle.mir_lower.proofs.Building.{built-labelled, built-loop, built-break, built-literal, built-path, built-strict, built-logic, built-if, built-assign, built-block, one-built, two-built}
+use Rattle.mir_lower.proofs.Building.{built-return, has-target, built-labelled, built-loop, built-break, built-literal, built-path, built-strict, built-logic, built-if, built-assign, built-block, one-built, two-built}
 use Rattle.mir_lower.proofs.Adjusting.{lowers-undiverted, lowers-diverted}
 use Rattle.mir_lower.proofs.Assignments.{value-part, lowers-assign}
 use Rattle.mir_lower.proofs.Blocks.{idles-read, lowers-none, lowers-more, lowers-let, lowers-expr-statement, lowers-tail, lowers-no-tail, block-inner, lowers-block}
@@ -38,6 +38,7 @@ use Rattle.mir.specs.declared.operand.Place.{Place}
 use Rattle.mir_lower.proofs.Jumping.{meant-has, break-part, lowers-break}
 use Rattle.mir_lower.proofs.Loops.{body-part, labelled-tail-part, lowers-loop, lowers-labelled}
 use Rattle.mir_lower.proofs.Ready.{ready-in, parts-ready, parts-ready-in, part-ready, ready-part, parts-entered, opened-is}
+use Rattle.mir_lower.proofs.Returning.{return-part, lowers-return}
 use Rattle.mir_lower.proofs.Sparing.{spares-trans, scoped-spares}
 use Rattle.mir_lower.proofs.Conditions.{left-part, right-part, condition-part, then-part, else-part, tail-part, lowers-if, keeps-decided, lowers-logic}
 use Rattle.mir_lower.specs.Branches.{IsForked}
@@ -147,6 +148,9 @@ lower_own-returns-in-Break-clause-lowered t c = on_ok_weaker c.lower_break.resul
 
 pub lower_own-returns-in-Continue-clause-lowered : goal.lower_own-returns-in-Continue-clause-lowered
 lower_own-returns-in-Continue-clause-lowered t c = on_ok_weaker c.lower_continue.result (λ lowered cell found. lowered cell) c.lower_continue.ensures.lowered
+
+pub lower_own-returns-in-Return-clause-lowered : goal.lower_own-returns-in-Return-clause-lowered
+lower_own-returns-in-Return-clause-lowered t c = on_ok_weaker c.lower_return.result (λ lowered cell found. lowered cell) c.lower_return.ensures.lowered
 
 -- an operator on one operand
 
@@ -999,7 +1003,9 @@ lower_break-returns-in_err-jump-clause-refused t c =
 
 pub lower_break-returns-clause-built : goal.lower_break-returns-clause-built
 lower_break-returns-clause-built t c =
-    built-break (source_of c.args.context.now) c.args.e.0 c.args.label c.args.value c.requires.form c.in_ok-lower_tail.ensures.built
+    let source = source_of c.args.context.now in
+    built-break source c.args.e.0 c.args.label c.args.value c.requires.form
+    (has-target source (shape c.args.graph.now) c.args.e.0 c.args.label (target_of_blocks c.in_ok-blocks.blocks) c.requires.ready.around c.in_ok-blocks.ensures.found) c.in_ok-lower_tail.ensures.built
 
 pub lower_break-returns-clause-lowered : goal.lower_break-returns-clause-lowered
 lower_break-returns-clause-lowered t c =
@@ -1009,3 +1015,32 @@ lower_break-returns-clause-lowered t c =
     let target = target_of_blocks c.in_ok-blocks.blocks in
     let around = meant-has (IsInside s0 c.args.e.0) c.args.label s0.targets target c.requires.ready.around.inside c.in_ok-blocks.ensures.found in
     lowers-break source s0 (shape c.lower_tail.new.graph) (shape c.jump.new.graph) c.args.e.0 c.args.label c.args.value target c.requires.form c.requires.ready c.in_ok-blocks.ensures.found c.in_ok-lower_tail.ensures.lowered c.in_ok-jump.ensures cell
+
+-- a `return`
+
+pub lower_return-lower_tail-requires : goal.lower_return-lower_tail-requires
+lower_return-lower_tail-requires t c =
+    let source = source_of c.args.context.now in
+    let s0 = shape c.args.graph.now in
+    let parts = parts-ready source s0 c.args.e.0 (λ outer. ap (λ n. opened_in c.args.e.0 n outer) c.requires.form) c.requires.ready in
+    (omega arith, (parts, (return-part source c.args.e.0 c.args.value c.requires.form, record { cell = Result; found = refl })))
+
+pub lower_return-return_from-requires-clause-sound : goal.lower_return-return_from-requires-clause-sound
+lower_return-return_from-requires-clause-sound t c = (c.in_ok-lower_tail.ensures.lowered Result refl).keeps.sound
+
+pub lower_return-return_from-requires-clause-opened : goal.lower_return-return_from-requires-clause-opened
+lower_return-return_from-requires-clause-opened t c = (c.in_ok-lower_tail.ensures.lowered Result refl).keeps.«open»
+
+pub lower_return-returns-in_err-return_from-clause-refused : goal.lower_return-returns-in_err-return_from-clause-refused
+lower_return-returns-in_err-return_from-clause-refused t c =
+    refused-exit (RefusesAt (source_of c.args.context.now) c.args.e.0) _ c.from_residual-in_err-return_from.result c.from_residual-in_err-return_from.ensures.1 (refuses-no-memory (source_of c.args.context.now) c.args.e.0)
+
+pub lower_return-returns-clause-built : goal.lower_return-returns-clause-built
+lower_return-returns-clause-built t c =
+    built-return (source_of c.args.context.now) c.args.e.0 c.args.value c.requires.form c.in_ok-lower_tail.ensures.built
+
+pub lower_return-returns-clause-lowered : goal.lower_return-returns-clause-lowered
+lower_return-returns-clause-lowered t c =
+    λ cell.
+    let source = source_of c.args.context.now in
+    lowers-return source (shape c.args.graph.now) (shape c.lower_tail.new.graph) (shape c.return_from.new.graph) c.args.e.0 c.args.value c.requires.form c.requires.ready (c.in_ok-lower_tail.ensures.lowered Result refl) c.in_ok-return_from.ensures cell

@@ -3,7 +3,7 @@
 use Rattle.std.proofs.Common.{◌+◌, ◌*◌, take}
 use Rattle.std.specs.Prelude.{All}
 use Rattle.mir_lower.specs.Built.{IsBuiltThrough}
-use Rattle.mir_lower.specs.Contexts.{source_of}
+use Rattle.body_forms.specs.Contexts.{source_of}
 use Rattle.mir_lower.specs.Graph.{shape}
 use Rattle.mir_lower.specs.Lowered.{LowersStatements}
 use Rattle.mir_lower.proofs.lower.+lower.Given as goal
@@ -49,6 +49,9 @@ decreases-lower_loop l = 10 * l.e.0 + 4
 
 abbrev pub decreases-lower_break : goal.decreases-lower_break
 decreases-lower_break l = 10 * l.e.0 + 4
+
+abbrev pub decreases-lower_return : goal.decreases-lower_return
+decreases-lower_return l = 10 * l.e.0 + 4
 
 abbrev pub decreases-lower_statements : goal.decreases-lower_statements
 decreases-lower_statements l = 10 * l.e.0 + 3

@@ -1,9 +1,9 @@
 -- A jump to the block where its target begins.
 use Rattle.std.proofs.Common.{sym, ◌∙◌, subst}
-use Rattle.mir_lower.specs.Contexts.{source_of}
+use Rattle.body_forms.specs.Contexts.{source_of}
 use Rattle.mir_lower.specs.Graph.{shape, target_of_blocks}
 use Rattle.mir_lower.specs.Refusals.{RefusesAt}
-use Rattle.mir_lower.proofs.Building.{built-continue}
+use Rattle.mir_lower.proofs.Building.{built-continue, has-target}
 use Rattle.mir_lower.proofs.Jumping.{lowers-continue}
 use Rattle.mir_lower.proofs.Refused.{refuses-no-memory, refuses-continue, refused-exit}
 use Rattle.mir_lower.proofs.lower.lower_continue.Goals as goal
@@ -19,7 +19,10 @@ returns-in_err-jump-clause-refused c =
     refused-exit (RefusesAt (source_of c.args.context.now) c.args.e.0) _ c.from_residual-in_err-jump.result c.from_residual-in_err-jump.ensures.1 (refuses-no-memory (source_of c.args.context.now) c.args.e.0)
 
 pub returns-clause-built : goal.returns-clause-built
-returns-clause-built c = built-continue (source_of c.args.context.now) c.args.e.0 c.args.label c.requires.form
+returns-clause-built c =
+    let source = source_of c.args.context.now in
+    built-continue source c.args.e.0 c.args.label c.requires.form
+    (has-target source (shape c.args.graph.now) c.args.e.0 c.args.label (target_of_blocks c.in_ok-blocks.blocks) c.requires.ready.around c.in_ok-blocks.ensures.found)
 
 pub returns-clause-lowered : goal.returns-clause-lowered
 returns-clause-lowered c =

@@ -1,0 +1,4 @@
+pub mod Causes
+pub mod Copies
+pub mod Forms
+pub mod Results

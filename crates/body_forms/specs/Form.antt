@@ -1,0 +1,64 @@
+-- The form of an expression, as far as forms are built.
+use Rattle.std.specs.Prelude.{◌≡◌, ℕ, Bool, [], ◌∷◌, Option, Some, None, pos}
+use Rattle.source_meaning.specs.Core.{CoreExpr, CoreLiteral, Truth, Number, Operation, Negate, Invert, Combine, core_of}
+use Rattle.source_meaning.specs.Core as expr
+use Rattle.source_meaning.specs.Source.{Source, node}
+use Rattle.world.specs.declared.expr.Expr.{Expr}
+use Rattle.mir.specs.declared.operand.UnOp.{UnOp}
+use Rattle.mir.specs.declared.operand.UnOp.TheVariants as one
+use Rattle.body_forms.specs.declared.form.Form.{Form}
+use Rattle.body_forms.specs.declared.form.Form.TheVariants as form
+use Rattle.body_forms.specs.declared.literal.LiteralValue.{LiteralValue}
+use Rattle.body_forms.specs.declared.literal.LiteralValue.TheVariants as literal
+use Rattle.body_forms.specs.Refusals.{IsIncomplete, LacksPart, IsUnbuiltForm}
+
+-- the literal that a value of the code is
+abbrev pub core_value : LiteralValue → CoreLiteral
+core_value (literal.Truth test) = Truth test
+core_value (literal.Signed number) = Number number
+core_value (literal.Unsigned number) = Number (pos number)
+
+-- the operation of an operator on one operand
+abbrev pub operation_of : UnOp → Operation
+operation_of one.Not = Invert
+operation_of one.Neg = Negate
+
+-- the form with a meaning that a form of the code is, where it is one
+abbrev pub core_form : Form → Option CoreExpr
+core_form (form.Literal value) = Some (expr.Literal (core_value value))
+core_form (form.Path name) = Some (expr.Path name.now)
+core_form (form.Unary op e) = Some (expr.Strict (operation_of op) (e.0 ∷ []))
+core_form (form.Binary op lhs rhs) = Some (expr.Strict (Combine op) (lhs.0 ∷ rhs.0 ∷ []))
+core_form (form.Logic op lhs rhs) = Some (expr.Logic op lhs.0 rhs.0)
+core_form (form.If condition then_branch else_branch) = Some (expr.If condition.0 then_branch.0 else_branch)
+core_form (form.Assign assigned value) = Some (expr.Assign assigned.0 value.0)
+core_form (form.Block statements tail) = Some (expr.Block statements.now tail)
+core_form (form.Labelled label statements tail) = Some (expr.Labelled label statements.now tail)
+core_form (form.Loop label body) = Some (expr.Loop label body.0)
+core_form (form.Break label value) = Some (expr.Break label value)
+core_form (form.Continue label) = Some (expr.Continue label)
+core_form (form.Return value) = Some (expr.Return value)
+core_form form.Incomplete = None
+core_form form.Unbuilt = None
+
+-- why an expression has no form with a meaning
+abbrev pub IsCause : Expr → Form → Type 0
+IsCause e form.Incomplete = IsIncomplete e
+IsCause e form.Unbuilt = IsIncomplete e → ⊥
+IsCause e _ = Unit {0}
+
+-- the form of an expression whose value isn't adjusted, by whether its path is resolved to an item
+pub record IsFormOf (names_item : Bool) (e : Expr) (f : Form) : Type 0 where
+  pub core : core_of names_item e ≡ core_form f
+  pub cause : IsCause e f
+
+-- why an expression of a source has no form with a meaning
+abbrev pub IsCauseAt : Source → ℕ → Form → Type 0
+IsCauseAt source e form.Incomplete = LacksPart source e
+IsCauseAt source e form.Unbuilt = IsUnbuiltForm source e
+IsCauseAt source e _ = Unit {0}
+
+-- the form of an expression of a source
+pub record HasForm (source : Source) (e : ℕ) (f : Form) : Type 0 where
+  pub core : node source e ≡ core_form f
+  pub cause : IsCauseAt source e f

@@ -1,0 +1,5 @@
+pub mod Contexts
+pub mod Copies
+pub mod Form
+pub mod Literals
+pub mod Refusals

@@ -1,0 +1,293 @@
+//! The form of an expression, as far as forms are built.
+
+ghost use Rattle.std.specs.Prelude.{◌≡◌, ◌<◌, false, length, Some, IfSome, IfNone};
+ghost use Rattle.std.specs.Option.{option_and_then, option_copied};
+ghost use Rattle.source_meaning.specs.Core.{are_other_steps, is_adjusted_otherwise, is_adjusted_pattern, is_by_reference, is_dereferenced_pattern, is_positive, is_literal, is_path, name_of, names_item, path_of, pattern_names_item};
+ghost use Rattle.source_meaning.specs.Core as expr;
+ghost use Rattle.source_meaning.specs.Source.{pattern, target_path, unadjusted};
+ghost use Rattle.world.specs.declared.expr.Expr.TheVariants as whole;
+ghost use Rattle.world.specs.Lookups.{expr_of};
+ghost use Rattle.body_forms.specs.Contexts.{source_of};
+ghost use Rattle.body_forms.specs.Form.{IsFormOf, HasForm, core_value};
+
+use crate::context::Context;
+use crate::inferred::{diverges, step_target};
+use crate::literal::LiteralValue;
+use mir::{BinOp, UnOp};
+use world::{
+    Adjustment, BinaryOp, BindingId, BindingMode, Expr, ExprId, LabelId, List, Literal, LogicOp,
+    Pat, PatId, Statement, Text, UnaryOp,
+};
+
+/// What lowering does with an expression. Its variants are the forms that are built, and two for the others.
+#[derive(Clone, Copy)]
+pub enum Form<'a> {
+    Literal(LiteralValue),
+    Path(&'a Text),
+    Unary(UnOp, ExprId),
+    Binary(BinOp, ExprId, ExprId),
+    Logic(LogicOp, ExprId, ExprId),
+    If(ExprId, ExprId, Option<ExprId>),
+    Assign(PatId, ExprId),
+    Block(&'a List<Statement>, Option<ExprId>),
+    Labelled(LabelId, &'a List<Statement>, Option<ExprId>),
+    Loop(Option<LabelId>, ExprId),
+    Break(Option<LabelId>, Option<ExprId>),
+    Continue(Option<LabelId>),
+    Return(Option<ExprId>),
+    /// An expression that is missing, or whose operator is.
+    Incomplete,
+    Unbuilt,
+}
+
+fn literal_form<'a>(literal: &Literal) -> Form<'a>
+    ensures { IsFormOf false (whole.Literal literal.now) result }
+{
+    match literal {
+        Literal::Bool(test) => Form::Literal(LiteralValue::Truth(*test)),
+        Literal::Int(number, _) => Form::Literal(LiteralValue::Signed(*number)),
+        Literal::Uint(number, _) => Form::Literal(LiteralValue::Unsigned(*number)),
+        _ => Form::Unbuilt,
+    }
+}
+
+fn unary_form<'a>(e: ExprId, op: UnaryOp) -> Form<'a>
+    ensures { IsFormOf false (whole.UnaryOp e op) result }
+{
+    match op {
+        UnaryOp::Neg => Form::Unary(UnOp::Neg, e),
+        UnaryOp::Not => Form::Unary(UnOp::Not, e),
+        UnaryOp::Deref => Form::Unbuilt,
+    }
+}
+
+fn binary_form<'a>(lhs: ExprId, rhs: ExprId, op: Option<BinaryOp>) -> Form<'a>
+    ensures { IsFormOf false (whole.BinaryOp lhs rhs op) result }
+{
+    match op {
+        Some(BinaryOp::ArithOp(op)) => Form::Binary(BinOp::from(op), lhs, rhs),
+        Some(BinaryOp::CmpOp(op)) => Form::Binary(BinOp::from(op), lhs, rhs),
+        Some(BinaryOp::LogicOp(op)) => Form::Logic(op, lhs, rhs),
+        Some(BinaryOp::Assignment { .. }) => Form::Unbuilt,
+        None => Form::Incomplete,
+    }
+}
+
+/// The form of a path, which is resolved to an item or not.
+fn path_form<'a>(names_item: bool, name: &'a Text) -> Form<'a>
+    ensures { IsFormOf names_item (whole.Path name.now) result }
+{
+    if names_item {
+        Form::Unbuilt
+    } else {
+        Form::Path(name)
+    }
+}
+
+/// The form of a block, which has a label or none.
+fn block_form<'a>(
+    statements: &'a List<Statement>,
+    tail: Option<ExprId>,
+    label: Option<LabelId>,
+) -> Form<'a>
+    ensures { IsFormOf false (whole.Block statements.now tail label) result }
+{
+    match label {
+        None => Form::Block(statements, tail),
+        Some(label) => Form::Labelled(label, statements, tail),
+    }
+}
+
+/// The form of an expression, as it is before its value is adjusted.
+fn form_of<'a>(names_item: bool, expr: &'a Expr) -> Form<'a>
+    ensures { IsFormOf names_item expr.now result }
+{
+    match expr {
+        Expr::Literal(literal) => literal_form(literal),
+        Expr::Path(name) => path_form(names_item, name),
+        Expr::UnaryOp { expr, op } => unary_form(*expr, *op),
+        Expr::BinaryOp { lhs, rhs, op } => binary_form(*lhs, *rhs, *op),
+        Expr::If {
+            condition,
+            then_branch,
+            else_branch,
+        } => Form::If(*condition, *then_branch, *else_branch),
+        Expr::Assignment { target, value } => Form::Assign(*target, *value),
+        Expr::Block {
+            statements,
+            tail,
+            label,
+        } => block_form(statements, *tail, *label),
+        Expr::Loop { body, label } => Form::Loop(*label, *body),
+        Expr::Break { expr, label } => Form::Break(*label, *expr),
+        Expr::Continue { label } => Form::Continue(*label),
+        Expr::Return { expr } => Form::Return(*expr),
+        Expr::Missing => Form::Incomplete,
+        _ => Form::Unbuilt,
+    }
+}
+
+/// Whether there are adjustments, and they are not `NeverToAny` alone.
+fn are_other_steps(steps: Option<&List<Adjustment>>) -> bool
+    ensures { result ≡ are_other_steps (option_copied steps.entry) }
+{
+    match steps {
+        Some(steps) => match steps.as_slice() {
+            [] => false,
+            [step] => step_target(step).is_none(),
+            _ => true,
+        },
+        None => false,
+    }
+}
+
+/// Whether an expression's value is adjusted before it is used, in another way than by `NeverToAny` alone.
+#[tactic(auto, unfolding(source_meaning::specs::Core::is_adjusted_otherwise))]
+fn is_adjusted_otherwise(context: &Context<'_>, e: ExprId) -> bool
+    ensures { result ≡ is_adjusted_otherwise context.now.infer.now e }
+{
+    are_other_steps(context.infer.expr_adjustments.get(&e))
+}
+
+/// Whether a path is resolved to an associated item or a variant.
+#[tactic(auto, unfolding(source_meaning::specs::Core::names_item))]
+fn names_item(context: &Context<'_>, e: ExprId) -> bool
+    ensures { result ≡ names_item context.now.infer.now e }
+{
+    context.infer.assoc_res.get(&e).is_some() || context.infer.variant_res.get(&e).is_some()
+}
+
+/// An expression of the body.
+fn expr_at<'a>(context: &Context<'a>, e: ExprId) -> &'a Expr
+    requires { e.0 < length context.now.body.now.exprs }
+    ensures { expr_of context.now.body.now e.0 ≡ Some result.now }
+{
+    &context.body.exprs.as_slice()[e.0 as usize]
+}
+
+/// The form of an expression of the body, as it is before its value is adjusted.
+pub fn form_at<'a>(context: &Context<'a>, e: ExprId) -> Form<'a>
+    requires { e.0 < length context.now.body.now.exprs }
+    ensures { HasForm (source_of context.now) e.0 result }
+{
+    if is_adjusted_otherwise(context, e) {
+        Form::Unbuilt
+    } else {
+        form_of(names_item(context, e), expr_at(context, e))
+    }
+}
+
+/// The literal that an expression is for those that use its value, where it is one.
+pub fn literal_at(context: &Context<'_>, e: ExprId) -> Option<LiteralValue>
+    requires { e.0 < length context.now.body.now.exprs }
+    ensures some { IfSome result (λ literal. unadjusted (source_of context.now) e.0 ≡ Some (expr.Literal (core_value literal))) }
+    ensures none { IfNone result (is_literal (unadjusted (source_of context.now) e.0) ≡ false) }
+{
+    if diverges(context, e) {
+        return None;
+    }
+    match form_at(context, e) {
+        Form::Literal(literal) => Some(literal),
+        _ => None,
+    }
+}
+
+/// The path that an expression is for those that use its value, where it is one.
+pub fn path_at<'a>(context: &Context<'a>, e: ExprId) -> Option<&'a Text>
+    requires { e.0 < length context.now.body.now.exprs }
+    ensures some { IfSome result (λ name. unadjusted (source_of context.now) e.0 ≡ Some (expr.Path name.now)) }
+    ensures none { IfNone result (is_path (unadjusted (source_of context.now) e.0) ≡ false) }
+{
+    if diverges(context, e) {
+        return None;
+    }
+    match form_at(context, e) {
+        Form::Path(name) => Some(name),
+        _ => None,
+    }
+}
+
+fn is_by_reference(mode: Option<&BindingMode>) -> bool
+    ensures { result ≡ is_by_reference (option_copied mode.entry) }
+{
+    matches!(mode, Some(BindingMode::Ref(_)))
+}
+
+fn is_positive(count: Option<&u32>) -> bool
+    ensures { result ≡ is_positive (option_copied count.entry) }
+{
+    match count {
+        Some(count) => *count > 0,
+        None => false,
+    }
+}
+
+/// Whether a pattern binds by reference, or dereferences the value first.
+#[tactic(auto, unfolding(source_meaning::specs::Core::is_adjusted_pattern))]
+fn is_adjusted_pattern(context: &Context<'_>, pat: PatId) -> bool
+    ensures { result ≡ is_adjusted_pattern context.now.infer.now pat }
+{
+    is_by_reference(context.infer.binding_modes.get(&pat))
+        || is_positive(context.infer.pat_adjustments.get(&pat))
+}
+
+/// The binding of a pattern that is a name and no more.
+fn name_of(pat: Option<&Pat>) -> Option<BindingId>
+    ensures { result ≡ option_and_then name_of (option_copied pat.entry) }
+{
+    match pat {
+        Some(Pat::Bind { id, subpat: None }) => Some(*id),
+        _ => None,
+    }
+}
+
+/// The binding that a pattern of the body binds, where it is a name that binds by value.
+#[tactic(auto, unfolding(source_meaning::specs::Source::pattern))]
+pub fn name_bound(context: &Context<'_>, pat: PatId) -> Option<BindingId>
+    ensures { result ≡ pattern (source_of context.now) pat.0 }
+{
+    if is_adjusted_pattern(context, pat) {
+        None
+    } else {
+        name_of(context.body.pats.get(pat.0 as u64))
+    }
+}
+
+/// Whether a pattern dereferences the value first.
+#[tactic(auto, unfolding(source_meaning::specs::Core::is_dereferenced_pattern))]
+fn is_dereferenced_pattern(context: &Context<'_>, pat: PatId) -> bool
+    ensures { result ≡ is_dereferenced_pattern context.now.infer.now pat }
+{
+    is_positive(context.infer.pat_adjustments.get(&pat))
+}
+
+/// Whether a pattern is a path that is resolved to an associated item or a variant.
+#[tactic(auto, unfolding(source_meaning::specs::Core::pattern_names_item))]
+fn pattern_names_item(context: &Context<'_>, pat: PatId) -> bool
+    ensures { result ≡ pattern_names_item context.now.infer.now pat }
+{
+    context.infer.pat_assoc_res.get(&pat).is_some()
+        || context.infer.pat_variant_res.get(&pat).is_some()
+}
+
+/// The text of a pattern that is a path.
+fn path_of(pat: Option<&Pat>) -> Option<&Text>
+    ensures { option_copied result ≡ option_and_then path_of (option_copied pat.entry) }
+{
+    match pat {
+        Some(Pat::Path(name)) => Some(name),
+        _ => None,
+    }
+}
+
+/// The path that the target of an assignment is, where it is one that may name a binding.
+#[tactic(auto, unfolding(source_meaning::specs::Source::target_path))]
+pub fn target_path<'a>(context: &Context<'a>, pat: PatId) -> Option<&'a Text>
+    ensures { option_copied result ≡ target_path (source_of context.now) pat.0 }
+{
+    if is_dereferenced_pattern(context, pat) || pattern_names_item(context, pat) {
+        None
+    } else {
+        path_of(context.body.pats.get(pat.0 as u64))
+    }
+}

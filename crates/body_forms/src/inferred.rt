@@ -1,0 +1,164 @@
+//! What inference found of a body: the types of its expressions and bindings, and which types are `Copy`.
+
+ghost use Rattle.std.specs.Prelude.{◌≡◌, ◌<◌, ℕ, length, Some, IfOk};
+ghost use Rattle.std.specs.Option.{option_copied};
+ghost use Rattle.source_meaning.specs.Core.{never_step, never_steps, never_target};
+ghost use Rattle.source_meaning.specs.Source.{binding_type, cell_type, diverges, node_type, own_type, Never};
+ghost use Rattle.world.specs.Checked.{IsCheckedBody};
+ghost use Rattle.world.specs.Lookups.{is_copy as is_copy_type};
+ghost use Rattle.body_forms.specs.Contexts.{source_of};
+ghost use Rattle.body_forms.specs.Copies.{HasCopyTypes};
+
+use crate::context::Context;
+use std::alloc::Global;
+use std::collections::BTreeSet;
+use world::{
+    Adjust, Adjustment, Body, ExprId, HirDatabase, InferenceResult, List, NoMemory, TryClone, Ty,
+};
+
+/// The type that a step leads to, where it is `NeverToAny`.
+pub(crate) fn step_target(step: &Adjustment) -> Option<&Ty>
+    ensures { option_copied result ≡ never_step step.now.kind step.now.target }
+{
+    match step.kind {
+        Adjust::NeverToAny => Some(&step.target),
+        _ => None,
+    }
+}
+
+/// The type that adjustments lead to, where they are `NeverToAny` alone.
+fn steps_target(steps: Option<&List<Adjustment>>) -> Option<&Ty>
+    ensures { option_copied result ≡ never_steps (option_copied steps.entry) }
+{
+    match steps {
+        Some(steps) => match steps.as_slice() {
+            [step] => step_target(step),
+            _ => None,
+        },
+        None => None,
+    }
+}
+
+/// The type that an expression's value is adjusted to, where `NeverToAny` is its only adjustment.
+#[tactic(auto, unfolding(source_meaning::specs::Core::never_target))]
+fn never_target<'a>(context: &Context<'a>, e: ExprId) -> Option<&'a Ty>
+    ensures { option_copied result ≡ never_target context.now.infer.now e }
+{
+    steps_target(context.infer.expr_adjustments.get(&e))
+}
+
+/// Whether an expression's value is adjusted by `NeverToAny`.
+pub fn diverges(context: &Context<'_>, e: ExprId) -> bool
+    ensures { result ≡ diverges (source_of context.now) e.0 }
+{
+    never_target(context, e).is_some()
+}
+
+/// The type of an expression of a checked body itself, as it is before its value is adjusted.
+#[tactic(auto, unfolding(source_meaning::specs::Source::own_type))]
+pub fn own_ty<'a>(context: &Context<'a>, e: ExprId) -> &'a Ty
+    requires checked { IsCheckedBody context.now.body.now context.now.infer.now }
+    requires within { e.0 < length context.now.body.now.exprs }
+    ensures { own_type (source_of context.now) e.0 ≡ Some result.now }
+{
+    &context.infer.expr_types.as_slice()[e.0 as usize]
+}
+
+/// The type of the value of an expression of a checked body.
+#[tactic(auto, unfolding(source_meaning::specs::Source::node_type))]
+pub fn node_ty<'a>(context: &Context<'a>, e: ExprId) -> &'a Ty
+    requires checked { IsCheckedBody context.now.body.now context.now.infer.now }
+    requires within { e.0 < length context.now.body.now.exprs }
+    ensures { node_type (source_of context.now) e.0 ≡ Some result.now }
+{
+    match never_target(context, e) {
+        Some(ty) => ty,
+        None => own_ty(context, e),
+    }
+}
+
+/// The type of an expression itself, where it has one.
+#[tactic(auto, unfolding(source_meaning::specs::Source::own_type))]
+fn own_type<'a>(context: &Context<'a>, e: ExprId) -> Option<&'a Ty>
+    ensures { option_copied result ≡ own_type (source_of context.now) e.0 }
+{
+    context.infer.expr_types.get(e.0 as u64)
+}
+
+/// The type of an expression's value, where it has one.
+#[tactic(auto, unfolding(source_meaning::specs::Source::node_type))]
+pub fn value_type<'a>(context: &Context<'a>, e: ExprId) -> Option<&'a Ty>
+    ensures { option_copied result ≡ node_type (source_of context.now) e.0 }
+{
+    match never_target(context, e) {
+        Some(ty) => Some(ty),
+        None => own_type(context, e),
+    }
+}
+
+/// The type of an expression's `!`, where it is adjusted by `NeverToAny`.
+pub fn never_type<'a>(context: &Context<'a>, e: ExprId) -> Option<&'a Ty>
+    ensures { option_copied result ≡ cell_type (source_of context.now) (Never e.0) }
+{
+    if diverges(context, e) {
+        own_type(context, e)
+    } else {
+        None
+    }
+}
+
+/// The type of the binding at a place of the body's list, where no closure owns it.
+#[tactic(auto, unfolding(source_meaning::specs::Source::binding_type))]
+pub fn binding_ty<'a>(context: &Context<'a>, place: u64) -> Option<&'a Ty>
+    ensures { option_copied result ≡ binding_type (source_of context.now) place }
+{
+    match context.body.bindings.get(place) {
+        Some(binding) => {
+            if binding.owner.is_some() {
+                None
+            } else {
+                context.infer.binding_types.get(place)
+            }
+        }
+        None => None,
+    }
+}
+
+/// The types that are listed as `Copy`, in their order.
+fn copy_types(alloc: Global, infer: &InferenceResult) -> Result<BTreeSet<Ty>, NoMemory>
+    ensures { IfOk result (HasCopyTypes infer.now) }
+{
+    let listed = infer.copy_types.as_slice();
+    let mut types = BTreeSet::new(alloc);
+    for ty in listed {
+        types.insert(ty.try_clone(alloc)?)?;
+    }
+    Ok(types)
+}
+
+impl<'a> Context<'a> {
+    /// A typed body in its world. The only refusal is want of memory for the types that are listed as `Copy`.
+    pub fn new(
+        alloc: Global,
+        db: &'a HirDatabase,
+        body: &'a Body,
+        infer: &'a InferenceResult,
+    ) -> Result<Context<'a>, NoMemory>
+        ensures { IfOk result (λ context. source_of context ≡ record { world = db.now; body = body.now; infer = infer.now }) }
+    {
+        Ok(Context {
+            alloc,
+            db,
+            body,
+            infer,
+            copy_types: copy_types(alloc, infer)?,
+        })
+    }
+}
+
+/// Whether a type is listed as `Copy`. It takes as many comparisons of types as the logarithm of their number.
+pub fn is_copy(context: &Context<'_>, ty: &Ty) -> bool
+    ensures { result ≡ is_copy_type context.now.infer.now ty.now }
+{
+    context.copy_types.contains(ty)
+}

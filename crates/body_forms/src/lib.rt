@@ -1,0 +1,15 @@
+//! What lowering reads of a typed body: the form of each expression, as far as forms are built, the types that inference
+//! found, and literals as operands. Nothing here touches a graph.
+#![tactic(auto)]
+
+mod context;
+mod form;
+mod inferred;
+mod literal;
+mod unbuilt;
+
+pub use context::Context;
+pub use form::{Form, form_at, literal_at, name_bound, path_at, target_path};
+pub use inferred::{binding_ty, diverges, is_copy, never_type, node_ty, own_ty, value_type};
+pub use literal::{LiteralValue, lower_literal};
+pub use unbuilt::form_not_built;

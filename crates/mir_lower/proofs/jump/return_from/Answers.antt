@@ -1,0 +1,16 @@
+-- All open scopes are left, the block returns, and a new one is opened.
+use Rattle.std.proofs.lemmas.Result.{on_ok_weaker}
+use Rattle.mir.specs.declared.span.MirSpan.TheVariants.{ExprId}
+use Rattle.source_meaning.specs.Source.{drops}
+use Rattle.body_forms.specs.Contexts.{source_of}
+use Rattle.mir_lower.specs.Graph.{shape}
+use Rattle.mir_lower.proofs.Returning as returning
+use Rattle.mir_lower.proofs.jump.return_from.Goals as goal
+
+pub returns : goal.returns
+returns c =
+    let source = source_of c.args.context.now in
+    let s0 = shape c.args.graph.now in
+    on_ok_weaker c.open_block.result
+    (λ same. returning.returns source s0 (shape c.leave_marked.new.graph) (shape c.set_terminator.new.self) (shape c.open_block.new.self) (ExprId c.args.e) (drops source s0.scope) c.in_ok-leave_marked.ensures c.set_terminator.ensures same)
+    c.open_block.ensures
