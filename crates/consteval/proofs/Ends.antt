@@ -21,7 +21,7 @@ use Rattle.consteval.proofs.Faults.{framed, overflowed}
 use Rattle.consteval.proofs.Nesting.{fault-on-level, has-level, value-nests, value-on-level}
 use Rattle.consteval.specs.Answers.{EndsEvaluation, EndsFrame, GivesValue, CountsBlocks, IsWithinLimits, constant_of, cost_in}
 
--- with as many blocks as it enters, a run comes to its end
+-- with as many blocks as it enters, a run reaches its end
 runs-with : (turns : ℕ) (ending : Ending) (run : ℕ → Ended) → EndsAfter turns ending run → (blocks : ℕ) → turns ≤ blocks → (run blocks).ending ≡ ending
 runs-with turns ending run ends blocks le =
     let parts : blocks ≡ turns + (blocks - turns) = omega arith in
@@ -34,7 +34,7 @@ entered-with turns ending run ends blocks le =
     let left : (run blocks).left ≡ blocks - turns = ap (λ n. (run n).left) parts ∙ ap (λ (ended : Ended). ended.left) (ends.with_more (blocks - turns)) in
     omega arith
 
--- a run under a budget comes to its end, or out of a budget that is too small
+-- a run under a budget reaches its end, or is out of blocks where the budget is too small
 runs-under : (turns : ℕ) (ending : Ending) (run : ℕ → Ended) → EndsAfter turns ending run → (blocks : ℕ) → ((blocks < turns) × (run blocks ≡ out_of_blocks)) ⊎ ((run blocks).ending ≡ ending)
 runs-under turns ending run ends blocks = ⊎_elim (λ less. inl (less, ends.with_fewer blocks less)) (λ le. inr (runs-with turns ending run ends blocks le)) (cases_lt blocks turns)
 
@@ -48,7 +48,7 @@ faulted-outcome : (levels : ℕ) (body : MirBody) (e : MirEvalError) → outcome
 unfolding outcome_of
 faulted-outcome levels body e = refl
 
--- values and faults are told apart
+-- a value is no fault
 value-is-no-fault : (konst : Const) (e : MirEvalError) → ◌≡◌ {A = Result Const MirEvalError} (Ok konst) (Err e) → ⊥
 value-is-no-fault konst e h = cc
 
@@ -59,7 +59,7 @@ same-fault e other h = cc
 abbrev EndsWell : End (List ℕ) → Type 0
 EndsWell end = (end ≢ Stuck) × JumpsNowhere end
 
--- what a source comes to at some amount of fuel: an end, or as many blocks as are asked for
+-- the meaning of a source at some amount of fuel: an end, or a lack of fuel after at least `many` blocks
 pub record ComesTo (source : Source) (many : ℕ) (end : End (List ℕ)) : Type 0 where
   pub fuel : ℕ
   pub reached : meaning_of source fuel ≡ end
@@ -86,7 +86,7 @@ module _ (source : Source) (body : MirBody) (simulates : Simulates source body) 
   returned : (bytes : List ℕ) → (Run limits.blocks).ending ≡ Returned bytes → Outcome ≡ on_a_level Levels (Ok (constant_of simulates.slot.0.ty bytes))
   returned bytes is = ap (outcome_of Levels body) is ∙ returned-outcome Levels body simulates.slot.0 bytes simulates.slot.1
 
-  -- what the source comes to, at one block more than the limit
+  -- the meaning of the source at some amount of fuel: an end, or a lack of fuel after more blocks than the limit
   abbrev Comes : End (List ℕ) → Type 0
   Comes end = ComesTo source (suc limits.blocks) end
 
@@ -171,7 +171,7 @@ module _ (source : Source) (body : MirBody) (simulates : Simulates source body) 
   endless-of-end Stuck comes ends none = absurd (none tt)
   endless-of-end (More cost) comes ends none = out-of-blocks (more-blocks cost comes ends).1
 
-  -- how the run ends by what the source comes to
+  -- the run ends as the meaning of the source at some amount of fuel does
   ends-as : (end : End (List ℕ)) (fuel : ℕ) → meaning_of source fuel ≡ end → EndsAs end Run
   ends-as end fuel reached = subst (λ e. EndsAs e Run) reached (simulates.runs fuel start began)
 

@@ -1,18 +1,19 @@
 -- What a valid body is refused for: a type without a layout or without a size, or want of memory, and that alone where its cost is defined.
 use Rattle.std.proofs.Common.{◌≡◌, ℕ, ◌<◌, ◌≤◌, ◌⊎◌, ⊎_elim, inl, inr, eqb-true, Bool, true, false, List, [], Option, Some, Err, refl, sym, ap, ◌∙◌, subst, arith, None}
-use Rattle.std.specs.Prelude.{option_and_then, option_map, not, ◌==◌, ◌||◌}
+use Rattle.std.specs.Prelude.{is_some, option_and_then, option_map, not, ◌==◌, ◌||◌}
 use Rattle.source_meaning.specs.Core.{CoreExpr, Number}
 use Rattle.source_meaning.specs.Core as expr
-use Rattle.world.specs.declared.items.ConstRow.{ConstRow}
 use Rattle.types.specs.declared.ids.DefWithBodyId.TheVariants.{ConstId, FunctionId, StaticId, VariantId}
+use Rattle.types.specs.declared.ids.BindingId.{BindingId}
 use Rattle.types.specs.declared.ids.GenericParamId.{GenericParamId}
+use Rattle.types.specs.declared.ids.PatId.{PatId}
 use Rattle.world.specs.declared.database.BodyRow.{BodyRow}
 use Rattle.world.specs.declared.database.HirDatabase.{HirDatabase}
 use Rattle.world.specs.declared.limits.Limits.{Limits}
 use Rattle.types.specs.declared.ids.DefWithBodyId.{DefWithBodyId}
 use Rattle.types.specs.declared.ty.GenericArgs.{GenericArgs}
 use Rattle.types.specs.declared.ty.Ty.{Ty}
-use Rattle.world.specs.Lookups.{const_row, layout_of}
+use Rattle.world.specs.Lookups.{body_row, layout_of}
 use Rattle.world.specs.Checked.{IsChecked}
 use Rattle.numbers.specs.Bytes.{is_width}
 use Rattle.mir.specs.declared.body.MirBody.{MirBody}
@@ -21,20 +22,21 @@ use Rattle.mir.specs.declared.errors.MirEvalError as error
 use Rattle.mir.specs.declared.errors.MirLowerError.{MirLowerError}
 use Rattle.mir.specs.declared.errors.MirLowerError.TheVariants as refusal
 use Rattle.mir.specs.Run.{begun}
-use Rattle.mir_lower.specs.Refusals.{IsNumber, RefusesNode, RefusesInferred, JumpsTo}
-use Rattle.mir_lower.proofs.Causes.{built-is-complete, built-is-no-unbuilt, built-has-local, built-is-resolved}
+use Rattle.mir_lower.specs.Refusals.{RefusesInferred}
+use Rattle.body_forms.specs.Refusals.{IsNumber, RefusesNode, JumpsTo}
+use Rattle.body_forms.proofs.Causes.{built-is-complete, built-is-no-unbuilt, built-has-local, built-is-resolved}
 use Rattle.mir_lower.specs.Simulates.{Simulates}
 use Rattle.source_meaning.proofs.Built.{plain_is_built}
 use Rattle.source_meaning.proofs.Layouts.{integer_is_width}
 use Rattle.source_meaning.specs.Source.{Source, node, root}
 use Rattle.source_meaning.specs.Valid.{Evaluates, IsInteger, HasPlainForm, IsPlainNode, HasDefinedCost, FitsAround, JumpsFit}
-use Rattle.consteval.specs.Answers.{EndsEvaluation, EndsLowering, PassesBytes, RefusesBody, RefusesRun, has_errors, has_generics, is_empty, is_erroneous, is_unbuilt, is_unbuilt_item}
+use Rattle.consteval.specs.Answers.{EndsEvaluation, EndsLowering, PassesBytes, RefusesBody, RefusesRun, has_errors, has_generics, has_params, is_empty, is_erroneous, is_unbuilt, is_unbuilt_function, is_unbuilt_item}
 use Rattle.source_meaning.specs.Around.{Opened, meant}
 use Rattle.types.specs.declared.ids.LabelId.{LabelId}
 use Rattle.types.specs.declared.ids.ExprId.{ExprId}
 use Rattle.types.specs.declared.ty.GenericArg.{GenericArg}
 use Rattle.consteval.specs.Kept.{source_of}
-use Rattle.consteval.specs.Valid.{IsValid}
+use Rattle.consteval.specs.Valid.{IsPlainItem, IsValid}
 use Rattle.consteval.proofs.Begins.{begins, begun-never, begun-refusal}
 use Rattle.consteval.proofs.Bytes.{taken-within}
 use Rattle.consteval.proofs.Faults.{NeverRunsFor, never-without-level, never-without-room, overflowed, overfull}
@@ -73,7 +75,7 @@ module _ (world : HirDatabase) (def : DefWithBodyId) (args : GenericArgs) (row :
       (λ refused. absurd (let can = begins (source_of world row) body simulates cost in let is = can.1 in cc))
       (λ is passes. inr passes)
 
--- two numbers that differ are told apart
+-- `==` is false of a number and a lesser one
 not-by : (size width : ℕ) (b : Bool) → (size == width) ≡ b → width < size → b ≡ false
 not-by size width true is less = let same = eqb-true size width is in absurd (omega arith)
 not-by size width false is less = refl
@@ -126,6 +128,7 @@ named-target source outer label (Some (expr.Assign assigned value)) jumps fits l
 named-target source outer label (Some (expr.Block statements tail)) jumps fits lacks = jumps
 named-target source outer label (Some (expr.Labelled own statements tail)) jumps fits lacks = jumps
 named-target source outer label (Some (expr.Loop own body)) jumps fits lacks = jumps
+named-target source outer label (Some (expr.Return value)) jumps fits lacks = jumps
 named-target source outer label None jumps fits lacks = jumps
 
 -- a plain form is refused for want of memory, or as a number literal whose type has no layout
@@ -157,18 +160,33 @@ valid-has-no-errors world def args row valid errors =
     ap (λ (erroneous : Bool). erroneous || not (is_empty row.infer.mismatches)) valid.inferred ∙ ap (λ (es : List ExprId). not (is_empty es)) valid.fitting in
     cc
 
--- a constant without generic parameters is of a kind that is built
-valid-item-is-built : (world : HirDatabase) (def : DefWithBodyId) (item : ConstRow) → const_row world def ≡ Some item → item.generics ≡ [] → is_unbuilt_item world def ≡ false
-valid-item-is-built world (ConstId id) item is none =
-    ap has_generics is ∙ ap (λ (generics : List GenericParamId). not (is_empty generics)) none
-valid-item-is-built world (FunctionId id) item is none = cc
-valid-item-is-built world (StaticId id) item is none = cc
-valid-item-is-built world (VariantId id) item is none = cc
+-- a constant or a function that is evaluated by a run of its own body is of a kind that is built
+valid-item-is-built : (world : HirDatabase) (def : DefWithBodyId) (ty : Ty) → IsPlainItem world def ty → is_unbuilt_item world def ≡ false
+valid-item-is-built world (ConstId id) ty item =
+    ap has_generics item.found ∙ ap (λ (generics : List GenericParamId). not (is_empty generics)) item.no_generics
+valid-item-is-built world (FunctionId id) ty item =
+    ap is_unbuilt_function item.found
+    ∙ ap (λ (generics : List GenericParamId). not (is_empty generics) || not (is_empty item.row.sig.params)) item.no_generics
+    ∙ ap (λ (params : List Ty). not (is_empty params)) item.no_params
+valid-item-is-built world (StaticId id) ty item = absurd item
+valid-item-is-built world (VariantId id) ty item = absurd item
 
-valid-is-built : (world : HirDatabase) (def : DefWithBodyId) (args : GenericArgs) (item : ConstRow) → const_row world def ≡ Some item → item.generics ≡ [] → args.0 ≡ [] → is_unbuilt world def args ≡ true → ⊥
-valid-is-built world def args item is none given unbuilt =
+-- and a valid body has no parameters
+abbrev bodys-params : HirDatabase → DefWithBodyId → Bool
+bodys-params world def = has_params (option_map (λ row. row.body) (body_row world def))
+
+valid-has-no-params : (world : HirDatabase) (def : DefWithBodyId) (args : GenericArgs) (row : BodyRow) → IsValid world def args row → bodys-params world def ≡ false
+valid-has-no-params world def args row valid =
+    ap (λ (found : Option BodyRow). has_params (option_map (λ r. r.body) found)) valid.body
+    ∙ ap (λ (params : List PatId). not (is_empty params) || is_some row.body.self_param) valid.no_params
+    ∙ ap (λ (own : Option BindingId). is_some own) valid.no_self
+
+valid-is-built : (world : HirDatabase) (def : DefWithBodyId) (args : GenericArgs) (row : BodyRow) → IsValid world def args row → is_unbuilt world def args ≡ true → ⊥
+valid-is-built world def args row valid unbuilt =
     let built : is_unbuilt world def args ≡ false =
-    ap (λ (some : List GenericArg). not (is_empty some) || is_unbuilt_item world def) given ∙ valid-item-is-built world def item is none in
+    ap (λ (some : List GenericArg). not (is_empty some) || is_unbuilt_item world def || bodys-params world def) valid.no_args
+    ∙ ap (λ (item : Bool). item || bodys-params world def) (valid-item-is-built world def valid.ty valid.item)
+    ∙ valid-has-no-params world def args row valid in
     cc
 
 -- a valid body is lowered, but for want of memory and for number literals whose types have no layout
@@ -176,7 +194,7 @@ pub lowering-refusal : (world : HirDatabase) (def : DefWithBodyId) (args : Gener
 lowering-refusal world def args row e checked valid =
     ⊎_elim inl
     (⊎_elim (λ errors. absurd (valid-has-no-errors world def args row valid errors.errors))
-    (⊎_elim (λ unbuilt. absurd (valid-is-built world def args valid.item valid.is_item valid.no_generics valid.no_args unbuilt.unbuilt))
+    (⊎_elim (λ unbuilt. absurd (valid-is-built world def args row valid unbuilt.unbuilt))
     (⊎_elim (λ none. absurd (let is = none.missing in let there = valid.body in cc)) (λ refused.
     let same : refused.row ≡ row = (let is = refused.found in let there = valid.body in cc) in
     ⊎_elim (λ drops. absurd (valid.dropless drops.1))

@@ -1,4 +1,4 @@
--- How a run begins and ends, as its machine tells it.
+-- How a run begins and ends, by the state of its machine.
 use Rattle.std.proofs.Common.{◌≡◌, ◌≢◌, ℕ, ◌-◌, ◌<◌, ◌≤◌, ◌⊎◌, ⊎_elim, inl, inr, eqb-true, Bool, true, false, cond, if◌then◌else◌, Option, Some, None, Result, Ok, Err, refl, sym, ap, ◌∙◌, subst, arith}
 use Rattle.std.specs.Prelude.{IsSome, codes, nat_le}
 use borrow.Author.Tests.{leb-true, leb-false}
@@ -102,17 +102,17 @@ start-begun world def body limits after is blocks nesting = by-width (is_own_wid
       }
   by-width false own h = absurd cc
 
--- a run that ended, as its machine tells it
+-- the machine's state at the end of a run
 finished-going : (levels : ℕ) (frame : Frame) (memory : Memory) (block left : ℕ) → finished levels (Going frame memory block left) ≡ Over (outcome_of levels frame.body (entering left frame memory block).ending) (entering left frame memory block).left
 unfolding finished
 finished-going levels frame memory block left = refl
 
-same-outcome : (told result : Result Const MirEvalError) → ◌≡◌ {A = Option (Result Const MirEvalError)} (Some told) (Some result) → told ≡ result
-same-outcome told result h = cc
+same-outcome : (answer result : Result Const MirEvalError) → ◌≡◌ {A = Option (Result Const MirEvalError)} (Some answer) (Some result) → answer ≡ result
+same-outcome answer result h = cc
 
 -- what a machine that began answers at its end
-pub run-answers : (world : HirDatabase) (def : DefWithBodyId) (body : MirBody) (limits : Limits) (turns : ℕ) (before after : Machine) (told : Result Const MirEvalError) → HasBegun world def body limits before → Became before after (finished (nesting_left before) before.state) → Some told ≡ outcome after.state → turns ≡ turns_of after → AnswersBody world def body limits turns (carried told)
-run-answers world def body limits turns before after told has became tells counts = ⊎_elim ended exhausted became where
+pub run-answers : (world : HirDatabase) (def : DefWithBodyId) (body : MirBody) (limits : Limits) (turns : ℕ) (before after : Machine) (answer : Result Const MirEvalError) → HasBegun world def body limits before → Became before after (finished (nesting_left before) before.state) → Some answer ≡ outcome after.state → turns ≡ turns_of after → AnswersBody world def body limits turns (carried answer)
+run-answers world def body limits turns before after answer has became is_outcome counts = ⊎_elim ended exhausted became where
   levels : nesting_left before ≡ limits.nesting - 1
   levels = ap (λ (n : ℕ). n - levels_held before.state) has.nesting ∙ ap (λ (s : State). limits.nesting - levels_held s) has.state
 
@@ -126,25 +126,25 @@ run-answers world def body limits turns before after told has became tells count
       let cells = begun-cells world body has.start has.began in
       ap (λ (s : Frame × Memory). s.0.body) cells.2
 
-  ended : after ≡ record before { state = finished (nesting_left before) before.state } → AnswersBody world def body limits turns (carried told)
+  ended : after ≡ record before { state = finished (nesting_left before) before.state } → AnswersBody world def body limits turns (carried answer)
   ended same =
       let state : after.state ≡ Over (outcome_of (limits.nesting - 1) has.start.0.body (run_of body has.start limits.blocks).ending) (run_of body has.start limits.blocks).left = ap (λ (m : Machine). m.state) same ∙ over in
       let limit : after.blocks ≡ limits.blocks = ap (λ (m : Machine). m.blocks) same ∙ has.blocks in
       inl (record {
         pointers = has.pointers;
-        outcome = told;
+        outcome = answer;
         ran = record {
           nests = has.nests;
           start = has.start;
           began = has.began;
           fits = has.fits;
-          ended = same-outcome told _ (tells ∙ ap outcome state) ∙ ap (λ (b : MirBody). outcome_of (limits.nesting - 1) b (run_of body has.start limits.blocks).ending) own-body;
+          ended = same-outcome answer _ (is_outcome ∙ ap outcome state) ∙ ap (λ (b : MirBody). outcome_of (limits.nesting - 1) b (run_of body has.start limits.blocks).ending) own-body;
           entered = counts ∙ ap (λ s. after.blocks - blocks_left after.blocks s) state ∙ ap (λ n. n - (run_of body has.start limits.blocks).left) limit;
         };
         is = refl;
       })
 
-  exhausted : (left : ℕ) × (left_in (finished (nesting_left before) before.state) ≤ left) × (after ≡ record before { state = Over (Err error.NoMemory) left }) → AnswersBody world def body limits turns (carried told)
+  exhausted : (left : ℕ) × (left_in (finished (nesting_left before) before.state) ≤ left) × (after ≡ record before { state = Over (Err error.NoMemory) left }) → AnswersBody world def body limits turns (carried answer)
   exhausted none =
       let state : after.state ≡ Over (Err error.NoMemory) none.0 = ap (λ (m : Machine). m.state) none.2 in
       let limit : after.blocks ≡ limits.blocks = ap (λ (m : Machine). m.blocks) none.2 ∙ has.blocks in
@@ -157,5 +157,5 @@ run-answers world def body limits turns before after told has became tells count
         began = has.began;
         fits = has.fits;
         entered = omega arith;
-        is = ap carried (same-outcome told (Err error.NoMemory) (tells ∙ ap outcome state));
+        is = ap carried (same-outcome answer (Err error.NoMemory) (is_outcome ∙ ap outcome state));
       }))

@@ -1,16 +1,18 @@
 -- What the answer to a definition says: the value or the panic that its source means, and the cause of any other.
-use Rattle.std.specs.Prelude.{◌≡◌, ◌≢◌, ℕ, ◌-◌, ◌<◌, ◌≤◌, Bool, true, false, not, List, [], ◌∷◌, ◌⊎◌, ◌||◌, Option, Some, None, Result, Ok, Err, Contains, codes, option_map, slice_get}
+use Rattle.std.specs.Prelude.{◌≡◌, ◌≢◌, ℕ, ◌-◌, ◌<◌, ◌≤◌, Bool, true, false, not, List, [], ◌∷◌, ◌⊎◌, ◌||◌, Option, Some, None, Result, Ok, Err, Contains, codes, is_some, option_map, slice_get}
+use Rattle.world.specs.declared.body.Body.{Body}
 use Rattle.world.specs.declared.database.BodyRow.{BodyRow}
 use Rattle.world.specs.declared.items.ConstRow.{ConstRow}
+use Rattle.world.specs.declared.items.FunctionRow.{FunctionRow}
 use Rattle.world.specs.declared.database.HirDatabase.{HirDatabase}
 use Rattle.types.specs.declared.ids.DefWithBodyId.{DefWithBodyId}
-use Rattle.types.specs.declared.ids.DefWithBodyId.TheVariants.{ConstId}
+use Rattle.types.specs.declared.ids.DefWithBodyId.TheVariants.{ConstId, FunctionId}
 use Rattle.types.specs.declared.ty.Const.{Const}
 use Rattle.types.specs.declared.ty.Const.TheVariants.{Value}
 use Rattle.types.specs.declared.ty.GenericArgs.{GenericArgs}
 use Rattle.types.specs.declared.ty.MemoryMap.TheVariants.{Empty}
 use Rattle.types.specs.declared.ty.Ty.{Ty}
-use Rattle.world.specs.Lookups.{body_row, layout_of}
+use Rattle.world.specs.Lookups.{body_row, function_row, layout_of}
 use Rattle.world.specs.declared.layout.Layout.{Layout}
 use Rattle.world.specs.declared.limits.Limits.{Limits}
 use Rattle.mir.specs.declared.body.MirBody.{MirBody}
@@ -54,7 +56,7 @@ pub record GivesValue (source : Source) (konst : Const) : Type 0 where
   pub gives : Gives source (Go bytes store cost)
   pub same : konst ≡ constant_of ty bytes
 
--- the source means a value, and counts exactly so many blocks for it
+-- the source means a value, and counts exactly `turns` blocks for it
 pub record CountsBlocks (source : Source) (turns : ℕ) : Type 0 where
   pub bytes : List ℕ
   pub store : Store
@@ -114,7 +116,9 @@ EndsFrame source limits (error.UndefinedBehavior text) = GivesUndefined source t
 EndsFrame source limits error.ExecutionLimitExceeded = PassesBlocks source limits.blocks
 EndsFrame source limits _ = ⊥
 
--- the outermost part of such an error
+-- The cause of a `MirEvalError` in which the evaluation of a valid definition's body ends, by the error's outermost variant.
+-- Of `LayoutError` and `TypeIsUnsized` it states that the type in the error has no layout, or one without a size, and not
+-- where that type occurs in the body.
 abbrev pub EndsLayer : Source → Limits → MirEvalError-F MirEvalError → Type 0
 EndsLayer source limits (layer.InFunction inner trail) = EndsFrame source limits inner
 EndsLayer source limits layer.StackOverflow = PassesNesting source limits.nesting
@@ -124,7 +128,7 @@ EndsLayer source limits (layer.TypeIsUnsized ty text) = IsUnsized source.world t
 EndsLayer source limits _ = ⊥
 
 -- how the evaluation of a valid definition's body can end without a value: with its frame, past the limit on nesting or that
--- on bytes, or for a local whose type has no layout or no size
+-- on bytes, or with an error that names a type without a layout or without a size
 abbrev pub EndsEvaluation : Source → Limits → MirEvalError → Type 0
 EndsEvaluation source limits e = EndsLayer source limits (out-MirEvalError e)
 
@@ -163,7 +167,8 @@ HasNoEnd source = (fuel : ℕ) → ¬ IsOver (meaning_of source fuel)
 abbrev pub past_blocks : ConstEvalError
 past_blocks = constant.MirEvalError (error.InFunction error.ExecutionLimitExceeded [])
 
--- the outermost part of a refusal of a run
+-- The cause of a `MirEvalError` for which no run of a valid definition's body begins, by the error's outermost variant. Of
+-- `LayoutError` and `TypeIsUnsized` it states that the type in the error has no layout, or one without a size.
 abbrev pub NeverRunsLayer : Source → Limits → MirEvalError-F MirEvalError → Type 0
 NeverRunsLayer source limits layer.StackOverflow = limits.nesting ≡ 0
 NeverRunsLayer source limits layer.MemoryLimitExceeded = PassesBytes source limits.bytes
@@ -172,13 +177,13 @@ NeverRunsLayer source limits (layer.TypeIsUnsized ty text) = IsUnsized source.wo
 NeverRunsLayer source limits _ = ⊥
 
 -- Every error, but for want of memory, for which no run of a valid definition begins: a number literal whose type has no
--- layout, no level of nesting, more bytes than the limit, or a local whose type has no layout or no size.
+-- layout, no level of nesting, more bytes than the limit, or a type, named by the error, without a layout or without a size.
 abbrev pub NeverRuns : Source → Limits → ConstEvalError → Type 0
 NeverRuns source limits (constant.MirLowerError e) = EndsLowering source e
 NeverRuns source limits (constant.MirEvalError e) = NeverRunsLayer source limits (out-MirEvalError e)
 NeverRuns source limits constant.NoMemory = ⊥
 
--- no run began, for such an error
+-- the answer is an error for which no run of a valid definition begins
 pub record RefusesToRun (source : Source) (limits : Limits) (answer : Result Const ConstEvalError) : Type 0 where
   pub fault : ConstEvalError
   pub is : answer ≡ Err fault
@@ -196,7 +201,7 @@ abbrev pub carried : Result Const MirEvalError → Result Const ConstEvalError
 carried (Ok konst) = Ok konst
 carried (Err e) = Err (from_eval_error e)
 
--- the body ran to the answer, over so many blocks, and the pointers of its definition's crate have 8 bytes
+-- a run of the body entered `turns` blocks and ended in the answer, and the pointers of its definition's crate have 8 bytes
 pub record RunsTo (world : HirDatabase) (def : DefWithBodyId) (body : MirBody) (limits : Limits) (turns : ℕ) (answer : Result Const ConstEvalError) : Type 0 where
   pub pointers : pointer_bytes world def ≡ Some 8
   pub outcome : Result Const MirEvalError
@@ -212,14 +217,26 @@ abbrev pub has_generics : Option ConstRow → Bool
 has_generics (Some row) = not (is_empty row.generics)
 has_generics None = false
 
--- whether a definition's kind isn't built yet: a function, a static, a variant, or a constant with generic parameters
+-- whether a function has generic or value parameters
+abbrev pub is_unbuilt_function : Option FunctionRow → Bool
+is_unbuilt_function (Some row) = not (is_empty row.generics) || not (is_empty row.sig.params)
+is_unbuilt_function None = false
+
+-- whether a definition's kind isn't built yet: a static, a variant, a constant with generic parameters, or a function with
+-- generic or value parameters
 abbrev pub is_unbuilt_item : HirDatabase → DefWithBodyId → Bool
 is_unbuilt_item world (ConstId id) = has_generics (slice_get world.consts id.0)
+is_unbuilt_item world (FunctionId id) = is_unbuilt_function (function_row world id)
 is_unbuilt_item world _ = true
 
--- whether a definition isn't built yet: it was given arguments, or it is of a kind that isn't
+-- whether a body has parameters, or a `self`
+abbrev pub has_params : Option Body → Bool
+has_params (Some body) = not (is_empty body.params) || is_some body.self_param
+has_params None = false
+
+-- whether a definition isn't built yet: it was given arguments, it is of a kind that isn't, or its body has parameters
 abbrev pub is_unbuilt : HirDatabase → DefWithBodyId → GenericArgs → Bool
-is_unbuilt world def args = not (is_empty args.0) || is_unbuilt_item world def
+is_unbuilt world def args = not (is_empty args.0) || is_unbuilt_item world def || has_params (option_map (λ row. row.body) (body_row world def))
 
 -- whether inference met an error in what it found
 abbrev pub has_errors : Option InferenceResult → Bool
@@ -271,7 +288,7 @@ RefusesRun world def body limits e =
     ⊎ ((pointer_bytes world def ≡ Some 8) × (0 < limits.nesting) × (begun world body ≡ Err e))
     ⊎ ((e ≡ error.MemoryLimitExceeded) × (pointer_bytes world def ≡ Some 8) × (0 < limits.nesting) × (start : Frame × Memory) × (begun world body ≡ Ok start) × (limits.bytes < bytes_taken start.1))
 
--- no run of a body began, for want of memory or for a cause that the answer tells
+-- no run of a body began, for want of memory or for a cause that the answer names
 pub record NeverBegins (world : HirDatabase) (def : DefWithBodyId) (body : MirBody) (limits : Limits) (turns : ℕ) (answer : Result Const ConstEvalError) : Type 0 where
   pub none : turns ≡ 0
   pub fault : MirEvalError
@@ -300,7 +317,7 @@ pub record AnswersKept (kept : Kept) (def : DefWithBodyId) (args : GenericArgs) 
   pub found : Contains kept.entries (Lowered def body)
   pub answers : AnswersBody kept.world def body limits turns answer
 
--- the definition's body could not be lowered, for want of memory or for a cause that the answer tells, and no run began
+-- the definition's body could not be lowered, for want of memory or for a cause that the answer names, and no run began
 pub record NeverLowered (world : HirDatabase) (def : DefWithBodyId) (args : GenericArgs) (turns : ℕ) (answer : Result Const ConstEvalError) : Type 0 where
   pub none : turns ≡ 0
   pub fault : MirLowerError

@@ -81,7 +81,7 @@ pub record HasBegun (world : HirDatabase) (def : DefWithBodyId) (body : MirBody)
   pub nesting : machine.nesting ≡ limits.nesting
   pub state : machine.state ≡ Going start.0 start.1 body.start_block.0 limits.blocks
 
--- A run of a kept body came to this outcome, over so many blocks. It took one level of nesting for itself, and handed out
+-- A run of a kept body entered `turns` blocks and had this outcome. It took one level of nesting for itself, and handed out
 -- its value from those that were left. Its cells took no more bytes than the limit.
 pub record Ran (world : HirDatabase) (body : MirBody) (limits : Limits) (turns : ℕ) (outcome : Result Const _) : Type 0 where
   pub nests : 0 < limits.nesting

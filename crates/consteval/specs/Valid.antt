@@ -1,28 +1,57 @@
 -- The definitions that the main theorem speaks of.
-use Rattle.std.specs.Prelude.{◌≡◌, false, [], Some}
+use Rattle.std.specs.Prelude.{◌≡◌, false, [], Some, None, slice_get}
 use Rattle.world.specs.declared.database.BodyRow.{BodyRow}
 use Rattle.world.specs.declared.items.ConstRow.{ConstRow}
+use Rattle.world.specs.declared.items.FunctionRow.{FunctionRow}
 use Rattle.world.specs.declared.database.HirDatabase.{HirDatabase}
+use Rattle.types.specs.declared.ids.ConstId.{ConstId}
 use Rattle.types.specs.declared.ids.DefWithBodyId.{DefWithBodyId}
+use Rattle.types.specs.declared.ids.DefWithBodyId.TheVariants.{ConstId as Const, FunctionId as Function}
+use Rattle.types.specs.declared.ids.FunctionId.{FunctionId}
 use Rattle.types.specs.declared.ty.GenericArgs.{GenericArgs}
-use Rattle.world.specs.Lookups.{const_row, body_row}
+use Rattle.types.specs.declared.ty.Ty.{Ty}
+use Rattle.world.specs.Lookups.{body_row, function_row}
 use Rattle.mir_eval.specs.Machine.{pointer_bytes}
 use Rattle.source_meaning.specs.Source.{node_type, root}
 use Rattle.source_meaning.specs.Valid.{IsPlain}
 use Rattle.mir_lower.specs.Refusals.{HasDrops}
 use Rattle.consteval.specs.Kept.{source_of}
 
--- A definition and its arguments are valid: it is a constant without generic parameters, has a plain body of its type
--- without typing errors, no value of which may need a drop function, no arguments, and its crate has pointers of 8 bytes.
+-- a constant of a type, without generic parameters
+pub record IsPlainConst (world : HirDatabase) (id : ConstId) (ty : Ty) : Type 0 where
+  pub row : ConstRow
+  pub found : slice_get world.consts id.0 ≡ Some row
+  pub no_generics : row.generics ≡ []
+  pub typed : row.ty ≡ ty
+
+-- a function that returns a type, without generic and value parameters, and not special (as an intrinsic is)
+pub record IsPlainFunction (world : HirDatabase) (id : FunctionId) (ty : Ty) : Type 0 where
+  pub row : FunctionRow
+  pub found : function_row world id ≡ Some row
+  pub no_generics : row.generics ≡ []
+  pub no_params : row.sig.params ≡ []
+  pub own_body : row.special ≡ None
+  pub typed : row.sig.ret ≡ ty
+
+-- a constant or a function that is evaluated by a run of its own body, and the type of its value
+abbrev pub IsPlainItem : HirDatabase → DefWithBodyId → Ty → Type 0
+IsPlainItem world (Const id) ty = IsPlainConst world id ty
+IsPlainItem world (Function id) ty = IsPlainFunction world id ty
+IsPlainItem world _ ty = ⊥
+
+-- A definition and its arguments are valid: it is a constant without generic parameters, or a function without generic and value
+-- parameters, has a plain body of its type without parameters and typing errors, no value of which may need a drop function, no
+-- arguments, and its crate has pointers of 8 bytes.
 pub record IsValid (world : HirDatabase) (def : DefWithBodyId) (args : GenericArgs) (row : BodyRow) : Type 0 where
-  pub item : ConstRow
-  pub is_item : const_row world def ≡ Some item
-  pub no_generics : item.generics ≡ []
+  pub ty : Ty
+  pub item : IsPlainItem world def ty
   pub body : body_row world def ≡ Some row
   pub no_args : args.0 ≡ []
+  pub no_params : row.body.params ≡ []
+  pub no_self : row.body.self_param ≡ None
   pub inferred : row.infer.erroneous ≡ false
   pub fitting : row.infer.mismatches ≡ []
   pub plain : IsPlain (source_of world row)
   pub dropless : ¬ HasDrops (source_of world row)
-  pub typed : node_type (source_of world row) (root (source_of world row)) ≡ Some item.ty
+  pub typed : node_type (source_of world row) (root (source_of world row)) ≡ Some ty
   pub pointers : pointer_bytes world def ≡ Some 8

@@ -3,18 +3,21 @@
 ghost use Rattle.std.specs.Prelude.{◌≡◌, ◌⊎◌, [], IsTrue, IfOk, IfErr, OnOk};
 ghost use Rattle.mir.specs.declared.errors.MirLowerError.TheVariants as refusal;
 ghost use Rattle.std.specs.Option.{option_copied};
-ghost use Rattle.consteval.specs.Answers.{RefusesBody, has_errors, has_generics, is_unbuilt, is_unbuilt_item};
+ghost use Rattle.consteval.specs.Answers.{RefusesBody, has_errors, has_generics, has_params, is_unbuilt, is_unbuilt_function, is_unbuilt_item};
 ghost use Rattle.consteval.specs.Kept.{IsLowered};
 
+use body_forms::form_not_built;
 use mir::{MirBody, MirLowerError};
-use mir_lower::{form_not_built, lower_to_mir};
+use mir_lower::lower_to_mir;
 use std::alloc::Global;
-use world::{ConstRow, DefWithBodyId, GenericArgs, HirDatabase, InferenceResult};
+use world::{
+    Body, ConstRow, DefWithBodyId, FunctionRow, GenericArgs, HirDatabase, InferenceResult,
+};
 use world_check::CheckedWorld;
 
 /// Whether there are no arguments.
 pub(crate) fn has_none(args: &GenericArgs) -> bool
-    ensures told { IsTrue result → args.now.0 ≡ [] }
+    ensures empty { IsTrue result → args.now.0 ≡ [] }
     ensures only { args.now.0 ≡ [] → IsTrue result }
 {
     args.0.as_slice().is_empty()
@@ -30,22 +33,46 @@ fn has_generics(row: Option<&ConstRow>) -> bool
     }
 }
 
-/// Whether a definition's kind isn't built yet: a function, a static, a variant, or a constant with
-/// generic parameters.
+/// Whether a function has generic or value parameters.
+fn is_unbuilt_function(row: Option<&FunctionRow>) -> bool
+    ensures { result ≡ is_unbuilt_function (option_copied row.entry) }
+{
+    match row {
+        Some(row) => {
+            !row.generics.as_slice().is_empty() || !row.sig.params.as_slice().is_empty()
+        }
+        None => false,
+    }
+}
+
+/// Whether a definition's kind isn't built yet: a static, a variant, a constant with generic parameters,
+/// or a function with generic or value parameters.
 fn is_unbuilt_item(db: &HirDatabase, def: DefWithBodyId) -> bool
     ensures { result ≡ is_unbuilt_item db.now def }
 {
     match def {
         DefWithBodyId::ConstId(id) => has_generics(db.consts.get(id.0 as u64)),
+        DefWithBodyId::FunctionId(id) => is_unbuilt_function(db.functions.get(id.0 as u64)),
         _ => true,
     }
 }
 
-/// Whether a definition isn't built yet: it was given arguments, or it is of a kind that isn't.
+/// Whether a body has parameters, or a `self`.
+fn has_params(body: Option<&Body>) -> bool
+    ensures { result ≡ has_params (option_copied body.entry) }
+{
+    match body {
+        Some(body) => !body.params.as_slice().is_empty() || body.self_param.is_some(),
+        None => false,
+    }
+}
+
+/// Whether a definition isn't built yet: it was given arguments, it is of a kind that isn't, or its body
+/// has parameters.
 fn is_unbuilt(db: &HirDatabase, def: DefWithBodyId, args: &GenericArgs) -> bool
     ensures { result ≡ is_unbuilt db.now def args.now }
 {
-    !args.0.as_slice().is_empty() || is_unbuilt_item(db, def)
+    !args.0.as_slice().is_empty() || is_unbuilt_item(db, def) || has_params(db.body(def))
 }
 
 /// Whether inference met an error in what it found of a body.
