@@ -24,12 +24,14 @@ class CompilerTooSlow(Exception):
 
 
 class Message:
-    """A message of the compiler: its code as "E0080" or "", its text, its spans, and how people read it."""
+    """A message of the compiler: its code as "E0080" or "", its text, its spans, the texts of the notes below it, and how
+    people read it."""
 
     def __init__(self, raw):
         self.code = (raw.get("code") or {}).get("code", "")
         self.text, self.level = raw["message"], raw["level"]
         self.spans = raw.get("spans", [])
+        self.notes = [note["message"] for note in raw.get("children", [])]
         self.rendered = raw.get("rendered") or ""
 
     def primary(self):

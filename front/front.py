@@ -10,6 +10,7 @@ import compiler as rustc
 from debug_text import DebugTextError
 from layouts import LayoutError
 from making import make_world, say
+from reach import definition_path
 from rust_file import File, Refused
 from type_text import TypeTextError
 
@@ -23,10 +24,10 @@ STACK, DEEPEST = 512 << 20, 20000
 def options(words):
     """The words of the command."""
     parser = argparse.ArgumentParser(
-        prog="world", description="Prints a world with goals, for mirconst, from the constants of a Rust file."
+        prog="world", description="Prints a world with goals, for mirconst, from the constants and functions of a Rust file."
     )
     parser.add_argument("file", metavar="FILE.rs")
-    parser.add_argument("--goal", metavar="NAME", action="append", help="only this constant or static; may be repeated")
+    parser.add_argument("--goal", metavar="NAME", action="append", help="only this constant, static or function; may be repeated")
     parser.add_argument("--blocks", type=int, metavar="N", help="how many blocks a run may enter")
     parser.add_argument("--nesting", type=int, metavar="N", help="how deep evaluations may nest")
     parser.add_argument("--bytes", type=int, metavar="N", help="how many bytes a run may take")
@@ -95,7 +96,7 @@ def run(chosen):
         return FAILED
     if chosen.names:
         with open(chosen.names, "w", encoding="utf-8") as out:
-            out.writelines(f"{path}\n" for _, path in goals)
+            out.writelines(f"{definition_path(goal)}\n" for goal in goals)
     if chosen.times:
         whole = os.times().elapsed - began.elapsed
         say(f"{whole:.2f} s, of them {compiler.spent:.2f} s in the compiler")

@@ -80,6 +80,8 @@ class Item:
         # Of an implementation of a trait: the type that it is for, where that is a plain one. Of what stands in it:
         # the path of what it implements.
         self.of_trait, self.self_ty, self.implements = False, None, None
+        # Of a function: whether it is a `const fn`, and whether it has value parameters.
+        self.is_const, self.has_params = False, False
 
     @property
     def parent(self):
@@ -153,7 +155,12 @@ def _plain_item(path, held, kind, name, span, vis):
         return Item(path, "static", _name(kind[1]), [], span, vis, Span(kind[2]["span"]))
     if name == "Fn":
         generics = held["generics"] if own else kind["generics"]
-        return Item(path, "fn", _name(own or kind["ident"]), _generics(path, generics), span, vis)
+        item = Item(path, "fn", _name(own or kind["ident"]), _generics(path, generics), span, vis)
+        sig = kind[0] if own else kind["sig"]
+        # A later compiler may print more behind the word.
+        item.is_const = flat(sig["header"]["constness"]).startswith("Const")
+        item.has_params = sig["decl"]["inputs"] != []
+        return item
     if name == "Trait":
         # The parts have no names in 1.95, and have them in 1.97.
         parts = kind.items if kind.items is not None else kind.fields.values()

@@ -5,7 +5,7 @@ import sys
 import layouts
 from lowered import FormMissing
 from numbering import Numbering
-from reach import Instances, Reach
+from reach import Instances, Reach, definition_path
 from rust_file import Refused
 
 
@@ -19,12 +19,12 @@ def make_world(file, names, limits):
     file.read_items()
     wanted = file.goals(names)
     if not wanted:
-        raise Refused(f"{file.path} has no constant and no static without generics")
+        raise Refused(f"{file.path} has no constant, no static and no `const fn` without parameters")
     crate = file.read_bodies()
     reach = Reach(crate)
     goals = sayable(file, reach, wanted)
     if not goals:
-        raise Refused(f"none of the {len(wanted)} constants of {file.path} can be said")
+        raise Refused(f"none of the {len(wanted)} goals of {file.path} can be said")
     numbering = Numbering(reach)
     defs = [numbering.definition(goal) for goal in goals]
     numbering.tables["layouts"] = layout_rows(file, reach, numbering, goals)
@@ -41,7 +41,7 @@ def sayable(file, reach, wanted):
             reach.needed(goal)
             goals.append(goal)
         except FormMissing as error:
-            missing.setdefault((error.place, error.what), []).append(goal[1])
+            missing.setdefault((error.place, error.what), []).append(definition_path(goal))
     for (place, what), names in missing.items():
         say(f"{where(file, reach.crate, place)}{what} can't be said; left out: {', '.join(names)}")
     return goals

@@ -20,6 +20,11 @@ def key_of(name):
     return None
 
 
+def definition_path(key):
+    """The path of a definition."""
+    return key[2] if key[0] == "fn" else key[1]
+
+
 def fn_key(krate, path, args):
     if not krate or generic_signature(path) is not None:
         return ("fn", krate, path, ())
@@ -35,7 +40,7 @@ class Reach:
 
     def body(self, key):
         """The body of a definition, or None for a function of another crate that has none."""
-        path = key[2] if key[0] == "fn" else key[1]
+        path = definition_path(key)
         if key[0] == "fn" and key[1]:
             path = self.crate.library_body(*key[1:])
             if path is None:
@@ -194,7 +199,7 @@ class Instances:
             yield from self._called(part)
 
     def _names(self, key):
-        path = key[2] if key[0] == "fn" else key[1]
+        path = definition_path(key)
         if key[0] == "fn" and key[1]:
             return ["T"] if generic_signature(path) is not None else []
         return [generic.name for generic in self.crate.generics(path)]

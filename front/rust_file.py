@@ -1,4 +1,4 @@
-"""A Rust file: its items, its constants, and its typed bodies, as the compiler tells them."""
+"""A Rust file: its items, its goals, and its typed bodies, as the compiler tells them."""
 
 import os
 import re
@@ -12,6 +12,7 @@ from crate import Crate
 from debug_text import STANDARD_INPUT
 from edits import Edits
 from items import read_items
+from reach import fn_key
 from source import Source
 
 # How often the compiler is asked for the bodies: each time at least one more constant or probe was found to fail.
@@ -107,13 +108,19 @@ class File:
         raise Refused(f"{self.path} doesn't compile")
 
     def goals(self, names):
-        """The keys of the goals: those that are named, or each constant without generics and each static."""
-        crate_items = [item for item in self.items.values() if item.sort in ("const", "static")]
-        usable = [item for item in crate_items if item.name != "_" and not self._has_generics(item)]
-        if names is None:
-            usable.sort(key=lambda item: (item.span.file != STANDARD_INPUT, item.span.file, item.span.start))
-            return [(item.sort, item.path) for item in usable]
-        return [self._named(name, usable) for name in names]
+        """The keys of the goals: those that are named, or each constant without generics, each static, and each `const fn`
+        without generics and value parameters. Any other function without these has to be named."""
+        usable = [item for item in self.items.values() if item.name != "_" and self._is_evaluated(item)]
+        if names is not None:
+            return [_key(self._named(name, usable)) for name in names]
+        usable = [item for item in usable if item.sort != "fn" or item.is_const]
+        usable.sort(key=lambda item: (item.span.file != STANDARD_INPUT, item.span.file, item.span.start))
+        return [_key(item) for item in usable]
+
+    def _is_evaluated(self, item):
+        """Whether an item has a value without any arguments."""
+        has_value = item.sort in ("const", "static") or (item.sort == "fn" and not item.has_params)
+        return has_value and not self._has_generics(item)
 
     def _has_generics(self, item):
         parent = self.items.get(item.parent)
@@ -126,9 +133,14 @@ class File:
         found = [item for item in usable if item.path == name or item.name == name]
         exact = [item for item in found if item.path == name] or found
         if len(exact) != 1:
-            reason = "no constant or static without generics" if not exact else "several constants"
+            reason = "no constant, static or function without parameters" if not exact else "several items"
             raise Refused(f"{self.path} has {reason} named {name}")
-        return exact[0].sort, exact[0].path
+        return exact[0]
+
+
+def _key(item):
+    """The key of the definition that an item is."""
+    return fn_key("", item.path, ()) if item.sort == "fn" else (item.sort, item.path)
 
 
 def _probe_of(message):

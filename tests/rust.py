@@ -6,7 +6,7 @@ usage: rust.py [PROGRAM] [--only NAME]
 
 Without PROGRAM it is the one that `rt ci` or `rt run` leaves; where there is none, nothing is tested. For each
 `tests/rust/NAME.rs` there are `NAME.json`, the world that `front/world` made of it, and `NAME.expected`, a line for
-each goal that says what the compiler does with the constant (`rust_expected.py`). An answer that a form isn't built is
+each goal that says what the compiler does with it (`rust_expected.py`). An answer that a form isn't built is
 counted apart, and is no failure.
 
 With `--remake` the worlds and the expectations are made anew, by `front/world` and rustc, and compared with the files;
@@ -78,7 +78,7 @@ def run(program, only):
         for line in wrong:
             print(f"rust: {file.stem}: {line}")
         agreed, waiting, differ = agreed + file_agreed, waiting + file_waiting, differ + len(wrong)
-    print(f"rust: {agreed} constants agree with the compiler, {waiting} wait for a form, {differ} differ")
+    print(f"rust: {agreed} goals agree with the compiler, {waiting} wait for a form, {differ} differ")
     return 1 if differ else 0
 
 

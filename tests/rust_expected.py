@@ -1,10 +1,11 @@
-"""What the compiler says of the constants of a Rust file, and whether an answer of the program agrees.
+"""What the compiler says of the constants and functions of a Rust file, and whether an answer of the program agrees.
 
-A line of `NAME.expected` has parts that tabs separate: the constant, its type, a word, and what the word is about.
+A line of `NAME.expected` has parts that tabs separate: the constant or function, its type, a word, and what the word is
+about. A function has no parameters, and is evaluated as a constant that is its call.
 
     A    u8    value    07                 the bytes, as a program that rustc compiled prints them
     B    u8    fault    eval InFunction(Panic("Overflow in Add"), [])
-                                           the constant panics in its own body: the whole fault
+                                           it panics in its own body: the whole fault
     C    u8    panic    Overflow in Add    a function or a constant that it names panics, so that the fault also tells
                                            of the way there: the panic's word
     D    u8    fails    index out of ..    it fails otherwise, for this cause in the compiler's words
@@ -45,6 +46,20 @@ WORDS = [
 ]
 NEGATED = re.compile(r"attempt to negate `(i\d+|isize)::MIN`, which would overflow$")
 PANICKED = re.compile(r"evaluation panicked: (.*)", re.DOTALL)
+
+
+# The program that prints types and bytes, up to the line of the first item.
+PRINTER = [
+    "fn __show<T>(name: &str, value: &T) {",
+    "    let start = value as *const T as *const u8;",
+    "    let bytes = unsafe { core::slice::from_raw_parts(start, core::mem::size_of::<T>()) };",
+    "    let shown: String = bytes.iter().map(|byte| format!(\"{byte:02x}\")).collect();",
+    "    let shown = if shown.is_empty() { \"-\" } else { &shown };",
+    "    println!(\"{name}\\t{}\\t{shown}\", core::any::type_name::<T>());",
+    "}",
+    "fn __show_type<T>(name: &str, _: impl FnOnce() -> T) { println!(\"{name}\\t{}\\t-\", core::any::type_name::<T>()); }",
+    "fn main() {",
+]
 
 
 class Expected:
@@ -103,7 +118,7 @@ def remake(file):
 
 
 class Asked:
-    """A Rust file, with what the compiler says of its constants."""
+    """A Rust file, with what the compiler says of its constants and functions."""
 
     def __init__(self, file):
         self.source = Source(str(file), file.read_text(encoding="utf-8"))
@@ -113,9 +128,9 @@ class Asked:
         self.failed = {}
 
     def named(self):
-        """The constants and statics that have a path from the root, in the order of the file: those inside of functions
-        and implementations have none."""
-        found = [item for item in self.items.values() if item.sort in ("const", "static") and self._in_modules(item)]
+        """The constants, the statics, and each `const fn` without generics and parameters, that have a path from the root, in
+        the order of the file: those inside of functions and implementations have none."""
+        found = [item for item in self.items.values() if _has_value(item) and self._in_modules(item)]
         return sorted(found, key=lambda item: item.span.start)
 
     def _in_modules(self, item):
@@ -127,7 +142,7 @@ class Asked:
         return True
 
     def expected(self):
-        """What is expected of each constant and static, by its path."""
+        """What is expected of each constant, static and function, by its path."""
         made = {}
         for path, (ty, shown) in self._printed().items():
             made[path] = Expected(path, ty, "value", shown)
@@ -147,13 +162,14 @@ class Asked:
         return Expected(path, ty, "panic", word)
 
     def _printed(self):
-        """The type and the bytes of each constant, as a compiled program prints them. Constants that fail get a value
-        of zero bytes first, and their failures are kept."""
+        """The type and the bytes of each, as a compiled program prints them. Constants that fail get a value of zero bytes
+        first, functions that fail aren't called, and their failures are kept."""
         while True:
             edits = Edits(self.source.text)
             for item, _, _ in self.failed.values():
-                stand_ins.wrap(edits, item, self.source)
-            for line in self._printer():
+                if item.sort != "fn":
+                    stand_ins.wrap(edits, item, self.source)
+            for line in [*PRINTER, *map(self._shows, self.named()), "}"]:
                 edits.append(line)
             with tempfile.TemporaryDirectory() as folder:
                 program = Path(folder) / "printer"
@@ -167,41 +183,66 @@ class Asked:
         words = ["--crate-type", "bin", "--edition", EDITION, "--cap-lints", "allow", "--error-format=json"]
         return self.compiler.build([*words, "-o", str(program), "-"], text)
 
-    def _printer(self):
-        """The lines of a program that prints the bytes of each constant."""
-        yield "fn __show<T>(name: &str, value: &T) {"
-        yield "    let start = value as *const T as *const u8;"
-        yield "    let bytes = unsafe { core::slice::from_raw_parts(start, core::mem::size_of::<T>()) };"
-        yield "    let shown: String = bytes.iter().map(|byte| format!(\"{byte:02x}\")).collect();"
-        yield "    let shown = if shown.is_empty() { \"-\" } else { &shown };"
-        yield "    println!(\"{name}\\t{}\\t{shown}\", core::any::type_name::<T>());"
-        yield "}"
-        yield "fn main() {"
-        for item in self.named():
-            yield f"    __show(\"{item.path}\", &crate::{item.path});"
-        yield "}"
+    def _shows(self, item):
+        """The line of the program that prints an item's type and bytes. A function is called while the program is compiled,
+        and one that fails isn't called."""
+        if item.sort != "fn":
+            return f"    __show(\"{item.path}\", &crate::{item.path});"
+        call = f"unsafe {{ crate::{item.path}() }}"
+        if item.path in self.failed:
+            return f"    __show_type(\"{item.path}\", || {call});"
+        return f"    __show(\"{item.path}\", &const {{ {call} }});"
 
     def _note_failures(self, messages, edits):
         found, others = stand_ins.failing(messages, self.items, edits)
         fresh = {path: one for path, one in found.items() if path not in self.failed}
+        for message in others:
+            item = self._called(message, edits)
+            if item is not None and message.code == "E0080":
+                fresh[item.path] = (item, message)
         for message in messages:
             self._note_dependent(message, edits)
         if not fresh:
             raise SystemExit("".join(message.rendered for message in others) or "the compiler fails without a cause")
         for path, (item, message) in fresh.items():
-            label = " ".join(span.get("label") or "" for span in message.spans)
-            self.failed[path] = (item, message.text, "inside this call" not in label)
+            self.failed[path] = (item, message.text, _is_own(item, message))
 
+    def _called(self, message, edits):
+        """The function in whose line of the program the place of a message is, or None."""
+        primary = message.primary()
+        number = 0 if primary is None else primary["line_start"] - len(edits.lines) - len(PRINTER)
+        named = self.named()
+        item = named[number - 1] if 0 < number <= len(named) else None
+        return item if item is not None and item.sort == "fn" else None
 
     def _note_dependent(self, message, edits):
-        """A constant that names a failing one has no error of its own, but a note."""
+        """What names a failing constant has no error of its own, but a note."""
         primary = message.primary()
         if message.text != "erroneous constant encountered" or primary is None:
             return
         place = edits.source_place((primary["line_start"], primary["column_start"]))
+        around = [self._called(message, edits)]
         for item in self.items.values():
             if item.sort in ("const", "static") and item.span.start <= place < item.span.end:
+                around.append(item)
+        for item in around:
+            if item is not None:
                 self.failed.setdefault(item.path, (item, "a constant that it names fails", False))
+
+
+def _has_value(item):
+    """Whether an item is evaluated without arguments."""
+    if item.sort == "fn":
+        return item.is_const and not item.has_params and not item.generics
+    return item.sort in ("const", "static")
+
+
+def _is_own(item, message):
+    """Whether an item fails in its own body. Each call on the way to the failure is in a label or a note: for a function the
+    first one is of itself."""
+    if item.sort == "fn":
+        return sum(note.startswith("inside ") for note in message.notes) == 1
+    return "inside this call" not in " ".join(span.get("label") or "" for span in message.spans)
 
 
 def _printed_line(line):

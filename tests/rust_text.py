@@ -9,7 +9,7 @@ A body is read as a tree of tuples, the first part of which says what it is:
     ("block", statements, tail or None, label or None)
     ("branch", condition, block, block of `else`, another branch, a jump or None)
     ("loop", body, label or None)
-    ("leave", value or None, label or None)     ("again", label or None)
+    ("leave", value or None, label or None)     ("again", label or None)        ("give_back", value or None)
 
 A label is its text, as `'a`. `while c { .. }` is read as the loop with an `if` that it stands for,
 `loop { if c { .. } else { break } }`, where the loop's body is the `if` itself. An operator is one of the worlds' JSON, as
@@ -133,6 +133,8 @@ class Reader:
             return ("leave", None if self.next() in ENDS else self.expr(), label)
         if token == "continue":
             return ("again", self.label())
+        if token == "return":
+            return ("give_back", None if self.next() in ENDS else self.expr())
         if token in UNARY:
             return ("unary", UNARY[token], self.operand())
         if token == "(":

@@ -4,7 +4,8 @@ Types are found as Rust finds them: a literal without a suffix has the type that
 does. A block without a tail may have any type that is asked for, as where its end isn't reached. A jump, and a loop that
 no `break` leaves, are of type `!`, and become of the type that is asked for, where one is.
 
-A jump means what it means here: one without a label the innermost loop or labelled block, where Rust refuses the block.
+A jump means what it means here: one without a label the innermost loop or labelled block, where Rust refuses the block. A
+`return` leaves the body, as it does in a function. Rust refuses it in a constant.
 """
 
 from dataclasses import dataclass
@@ -28,6 +29,7 @@ from worlds import (
     let_statement,
     loop,
     path,
+    return_with,
     sized,
     statement,
     world,
@@ -103,9 +105,10 @@ class Target:
 
 
 class Draft:
-    """A body that is made node by node, in the order in which its nodes have to stand."""
+    """A body of this type that is made node by node, in the order in which its nodes have to stand."""
 
-    def __init__(self):
+    def __init__(self, ty):
+        self.ty = ty
         self.exprs, self.pats, self.bindings = [], [], []
         self.expr_types, self.pat_types, self.binding_types = [], [], []
         self.value_res, self.pat_value_res, self.binding_modes = [], [], []
@@ -239,6 +242,12 @@ class Draft:
         target = self.target_of(label)
         return self.add_endless(continue_to(None if label is None else target.number), ty)
 
+    def give_back(self, given, ty):
+        if given is None:
+            same(self.ty, "()")
+        inside = None if given is None else self.expr(given, self.ty)
+        return self.add_endless(return_with(inside), ty)
+
     def add_endless(self, node, ty):
         """Adds an expression of type `!`, which becomes of this type where that is another one. The answer is its id."""
         if isinstance(known(ty), Unknown):
@@ -281,7 +290,7 @@ class Draft:
 
 def body_row(tree, ty, copy_types=SCALARS):
     """The row of a body that is a tree, at a type, with the types that are listed as `Copy`."""
-    draft = Draft()
+    draft = Draft(ty)
     draft.expr(tree, ty)
     return draft.row(copy_types)
 

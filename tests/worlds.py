@@ -269,6 +269,10 @@ def continue_to(label=None):
     return variant("Continue", label=label)
 
 
+def return_with(expr=None):
+    return variant("Return", expr=expr)
+
+
 def let_condition(pat, expr):
     """`let pat = expr` as a condition."""
     return {"Let": {"pat": pat, "expr": expr}}
