@@ -20,7 +20,7 @@ use Rattle.mir_lower.proofs.Placing.{places-all}
 use Rattle.mir_lower.proofs.Whole.{begun-cells}
 use Rattle.source_meaning.specs.Source.{Source, Cell, Result as Slot, Node, Binding, Never, cell_type, diverges, own_type, node_type, root}
 use Rattle.mir_lower.specs.Growth.{IsUsed}
-use Rattle.consteval.specs.Answers.{EndsEvaluation, IsUnsized}
+use Rattle.consteval.specs.Answers.{EndsEvaluation, IsCellType, LacksLayout, LacksSize}
 use Rattle.consteval.proofs.Faults.{NeverRunsFor, never-without-layout, never-without-size, without-layout, without-size}
 use Rattle.source_meaning.specs.Valid.{itself, IsPlain, AreLaidOut, HasSizedLayout, HasDefinedCost}
 
@@ -53,9 +53,9 @@ cells-there world (local ∷ locals) memory sized =
           ∙ ap (cell_before (with_cell first.0 memory).0) rest.1,
     )
 
-begun-from : (world : HirDatabase) (body : MirBody) (all : List Interval × Memory) → cells_of world body.locals first_memory ≡ Ok all → begun world body ≡ Ok (record { body = body; cells = all.0 }, all.1)
+begun-from : (world : HirDatabase) (body : MirBody) (all : List Interval × Memory) → cells_of world body.locals first_memory ≡ Ok all → begun world body ≡ Ok (record { body = body; cells = all.0; below = [] }, all.1)
 unfolding begun
-begun-from world body all is = ap (λ (r : Result (List Interval × Memory) MirEvalError). elim r [ Ok a ↦ Ok (record { body = body; cells = a.0 }, a.1) | Err e ↦ Err e ]) is
+begun-from world body all is = ap (λ (r : Result (List Interval × Memory) MirEvalError). elim r [ Ok a ↦ Ok (record { body = body; cells = a.0; below = [] }, a.1) | Err e ↦ Err e ]) is
 
 -- what the cell of a `!` holds is of the expression's own type
 never-typed : (test : Bool) (own : Option Ty) (ty : Ty) → cond test own None ≡ Some ty → own ≡ Some ty
@@ -66,7 +66,7 @@ never-typed false own ty is = absurd cc
 pub begins : (source : Source) (body : MirBody) → Simulates source body → HasDefinedCost source → (start : Frame × Memory) × (begun source.world body ≡ Ok start)
 begins source body simulates cost =
     let all = cells-there source.world body.locals first_memory sized in
-    ((record { body = body; cells = all.0.0 }, all.0.1), begun-from source.world body all.0 all.1) where
+    ((record { body = body; cells = all.0.0; below = [] }, all.0.1), begun-from source.world body all.0 all.1) where
       of-type : (local : Local) (ty : Option Ty) → ty ≡ Some local.ty → HasSizedLayout source ty → HasLayout source.world local
       of-type local ty is layout = (layout.layout, ap (option_and_then (layout_of source.world)) (sym is) ∙ layout.found, layout.sized)
 
@@ -79,20 +79,20 @@ begins source body simulates cost =
       sized : (l : ℕ) (local : Local) → slice_get body.locals l ≡ Some local → HasLayout source.world local
       sized l local there = let cell = simulates.cells l local there in by-cell local cell.0 cell.1 cell.2
 
--- what holds of the refusals for a type without a layout or without a size
-module _ (World : HirDatabase) (Fails : MirEvalError → Type 0) (lacks-layout : (ty : Ty) → layout_of World ty ≡ None → Fails (error.LayoutError (layout_error_of ty) ty)) (lacks-size : (ty : Ty) (text : List ℕ) → IsUnsized World ty → Fails (error.TypeIsUnsized ty text)) where
-  -- a refusal is for a type without a layout or without a size
+-- what holds of the refusals for a local's type without a layout or without a size
+module _ (source : Source) (body : MirBody) (Fails : MirEvalError → Type 0) (lacks-layout : (ty : Ty) → LacksLayout source ty → Fails (error.LayoutError (layout_error_of ty) ty)) (lacks-size : (ty : Ty) (text : List ℕ) → LacksSize source ty → Fails (error.TypeIsUnsized ty text)) where
+  -- a refusal is for such a type
   abbrev FailsForType : {A : Type 0} → Result A MirEvalError → Type 0
   FailsForType (Ok a) = Unit {0}
   FailsForType (Err e) = Fails e
 
-  placed-fails : (ty : Ty) (found : Option Layout) (memory : Memory) → layout_of World ty ≡ found → FailsForType (placed ty found memory)
+  placed-fails : (ty : Ty) (found : Option Layout) (memory : Memory) → IsCellType source ty → layout_of source.world ty ≡ found → FailsForType (placed ty found memory)
   unfolding placed
-  placed-fails ty None memory is = lacks-layout ty is
-  placed-fails ty (Some layout) memory is = by-size layout.sized refl where
+  placed-fails ty None memory of-cell is = lacks-layout ty (of-cell, is)
+  placed-fails ty (Some layout) memory of-cell is = by-size layout.sized refl where
     by-size : (b : Bool) → layout.sized ≡ b → FailsForType (cond b (Ok (with_cell layout memory)) (Err (error.TypeIsUnsized ty (codes "no unsized local in extending stack"))))
     by-size true sized = tt
-    by-size false sized = lacks-size ty (codes "no unsized local in extending stack") (layout, is, sized)
+    by-size false sized = lacks-size ty (codes "no unsized local in extending stack") (of-cell, layout, is, sized)
 
   before-fails : (cell : Interval) (rest : Result (List Interval × Memory) MirEvalError) → FailsForType rest → FailsForType (cell_before cell rest)
   before-fails cell (Ok all) h = tt
@@ -102,25 +102,28 @@ module _ (World : HirDatabase) (Fails : MirEvalError → Type 0) (lacks-layout :
   then-fails (Ok a) next h rest = rest a
   then-fails (Err e) next h rest = h
 
-  cells-fail : (locals : List Local) (memory : Memory) → FailsForType (cells_of World locals memory)
+  cells-fail : (locals : List Local) (memory : Memory) → ((l : ℕ) (local : Local) → slice_get locals l ≡ Some local → IsCellType source local.ty) → FailsForType (cells_of source.world locals memory)
   unfolding cells_of
-  cells-fail [] memory = tt
-  cells-fail (local ∷ locals) memory =
-      then-fails (placed local.ty (layout_of World local.ty) memory) (λ first. cell_before first.0 (cells_of World locals first.1)) (placed-fails local.ty (layout_of World local.ty) memory refl)
-      (λ first. before-fails first.0 (cells_of World locals first.1) (cells-fail locals first.1))
+  cells-fail [] memory of-cells = tt
+  cells-fail (local ∷ locals) memory of-cells =
+      then-fails (placed local.ty (layout_of source.world local.ty) memory) (λ first. cell_before first.0 (cells_of source.world locals first.1))
+      (placed-fails local.ty (layout_of source.world local.ty) memory (of-cells 0 local refl) refl)
+      (λ first. before-fails first.0 (cells_of source.world locals first.1) (cells-fail locals first.1 (λ l other there. of-cells (suc l) other there)))
 
-  begun-fails : (body : MirBody) → FailsForType (begun World body)
+  begun-fails : Simulates source body → FailsForType (begun source.world body)
   unfolding begun
-  begun-fails body = then-fails (cells_of World body.locals first_memory) _ (cells-fail body.locals first_memory) (λ all. tt)
+  begun-fails simulates =
+      then-fails (cells_of source.world body.locals first_memory) _
+      (cells-fail body.locals first_memory (λ l local there. let cell = simulates.cells l local there in (cell.0, cell.1, cell.2))) (λ all. tt)
 
-  begun-fails-for : (body : MirBody) (e : MirEvalError) → begun World body ≡ Err e → Fails e
-  begun-fails-for body e is = subst (λ (r : Result (Frame × Memory) MirEvalError). FailsForType r) is (begun-fails body)
+  begun-fails-for : (e : MirEvalError) → Simulates source body → begun source.world body ≡ Err e → Fails e
+  begun-fails-for e simulates is = subst (λ (r : Result (Frame × Memory) MirEvalError). FailsForType r) is (begun-fails simulates)
 
 -- a body can't begin for a local whose type has no layout or no size
-pub begun-refusal : (source : Source) (limits : Limits) (body : MirBody) (e : MirEvalError) → begun source.world body ≡ Err e → EndsEvaluation source limits e
-begun-refusal source limits body e is =
-    begun-fails-for source.world (EndsEvaluation source limits) (without-layout source limits) (without-size source limits) body e is
+pub begun-refusal : (source : Source) (limits : Limits) (body : MirBody) (e : MirEvalError) → Simulates source body → begun source.world body ≡ Err e → EndsEvaluation source limits e
+begun-refusal source limits body e =
+    begun-fails-for source body (EndsEvaluation source limits) (without-layout source limits) (without-size source limits) e
 
-pub begun-never : (source : Source) (limits : Limits) (body : MirBody) (e : MirEvalError) → begun source.world body ≡ Err e → NeverRunsFor source limits e
-begun-never source limits body e is =
-    begun-fails-for source.world (NeverRunsFor source limits) (never-without-layout source limits) (never-without-size source limits) body e is
+pub begun-never : (source : Source) (limits : Limits) (body : MirBody) (e : MirEvalError) → Simulates source body → begun source.world body ≡ Err e → NeverRunsFor source limits e
+begun-never source limits body e =
+    begun-fails-for source body (NeverRunsFor source limits) (never-without-layout source limits) (never-without-size source limits) e

@@ -19,7 +19,7 @@ use Rattle.mir_lower.proofs.Placing.{first-ok}
 use Rattle.mir_lower.proofs.Whole.{begun-cells}
 use Rattle.source_meaning.specs.Ends.{Cost, plus, End, Go, Jumps, Faults, Stuck, More, Fault, after}
 use Rattle.source_meaning.specs.Entering.{body_room, entering, room_of}
-use Rattle.source_meaning.specs.Meaning.{Gives, meaning_of}
+use Rattle.source_meaning.specs.Meaning.{Gives, meaning_from, meaning_of}
 use Rattle.source_meaning.specs.Source.{Source, Store}
 use Rattle.consteval.specs.Answers.{cost_in}
 
@@ -102,7 +102,7 @@ after-takes cost Stuck there = absurd (there refl)
 after-takes cost (More rest) there = plus-takes cost rest
 
 meaning-takes : (source : Source) (fuel : ℕ) → meaning_of source fuel ≢ Stuck → (entering source).bytes ≤ (cost_in (meaning_of source fuel)).bytes
-unfolding meaning_of
+unfolding meaning_from
 meaning-takes source fuel there = after-takes (entering source) _ there
 
 -- an end that a source has takes the bytes that are counted on entering it

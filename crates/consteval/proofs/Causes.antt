@@ -1,5 +1,5 @@
 -- The causes of answers, over what is kept.
-use Rattle.std.proofs.Common.{◌≡◌, ℕ, ◌⊎◌, ⊎_elim, inl, inr, [], Result, Ok, Err, refl, sym, ap, subst, arith}
+use Rattle.std.proofs.Common.{◌≡◌, ℕ, ◌⊎◌, ⊎_elim, inl, inr, false, [], Result, Ok, Err, refl, sym, ap, subst, arith}
 use Rattle.std.specs.Prelude.{Contains, IfOk}
 use Rattle.world.specs.declared.database.HirDatabase.{HirDatabase}
 use Rattle.world.specs.declared.limits.Limits.{Limits}
@@ -15,8 +15,10 @@ use Rattle.mir.specs.declared.errors.MirLowerError.{MirLowerError}
 use Rattle.mir.specs.declared.errors.MirLowerError.TheVariants as refusal
 use Rattle.mir.specs.Errors.{from_lower_error}
 use Rattle.consteval.specs.Answers.{AnswersBody, AnswersKept, HasCause, NeverLowered, RefusesBody, carried}
-use Rattle.consteval.specs.Kept.{IsValueOf, Kept, Lowered, Ran, Stays}
-use Rattle.consteval.proofs.Keeping.{contains-stays}
+use Rattle.consteval.specs.Built.{is_erroneous, is_unbuilt}
+use Rattle.consteval.specs.Kept.{IsSound, IsValueOf, Kept, Lowered, Ran, Stays}
+use Rattle.consteval.proofs.Built.{built-without-args}
+use Rattle.consteval.proofs.Keeping.{contains-stays, kept-body-lowered}
 
 -- a refusal to lower a body
 pub cause-refused : (kept : Kept) (world : HirDatabase) (def : DefWithBodyId) (args : GenericArgs) (limits : Limits) (e : MirLowerError) → kept.world ≡ world → (e ≡ refusal.NoMemory) ⊎ RefusesBody world def args e → HasCause kept def args limits 0 (Err (from_lower_error e))
@@ -24,15 +26,23 @@ cause-refused kept world def args limits e same refuses =
     inr (record { none = refl; fault = e; is = refl; refuses = subst (λ w. (e ≡ refusal.NoMemory) ⊎ RefusesBody w def args e) (sym same) refuses })
 
 -- an answer of a kept body
-pub cause-answered : (kept : Kept) (world : HirDatabase) (def : DefWithBodyId) (args : GenericArgs) (limits : Limits) (turns : ℕ) (body : MirBody) (answer : Result Const ConstEvalError) → kept.world ≡ world → args.0 ≡ [] → Contains kept.entries (Lowered def body) → AnswersBody world def body limits turns answer → HasCause kept def args limits turns answer
-cause-answered kept world def args limits turns body answer same given found answers =
-    inl (record { given = given; body = body; found = found; answers = subst (λ w. AnswersBody w def body limits turns answer) (sym same) answers })
+pub cause-answered : (kept : Kept) (world : HirDatabase) (def : DefWithBodyId) (args : GenericArgs) (limits : Limits) (turns : ℕ) (body : MirBody) (answer : Result Const ConstEvalError) → IsSound kept → kept.world ≡ world → args.0 ≡ [] → Contains kept.entries (Lowered def body) → AnswersBody world def body limits turns answer → HasCause kept def args limits turns answer
+cause-answered kept world def args limits turns body answer sound same given found answers =
+    let lowered = kept-body-lowered kept sound def body found in
+    inl (record {
+      no_errors = lowered.no_errors;
+      built = built-without-args kept.world def args given lowered.built;
+      body = body;
+      found = found;
+      answers = subst (λ w. AnswersBody w def body limits turns answer) (sym same) answers;
+    })
 
 module _ (before after : Kept) (stays : Stays before after) (def : DefWithBodyId) (args : GenericArgs) (limits : Limits) (turns : ℕ) where
   answers-stay : (answer : Result Const ConstEvalError) → AnswersKept before def args limits turns answer → AnswersKept after def args limits turns answer
   answers-stay answer answers =
       record {
-        given = answers.given;
+        no_errors = subst (λ w. is_erroneous w def ≡ false) (sym stays.world) answers.no_errors;
+        built = subst (λ w. is_unbuilt w def args ≡ false) (sym stays.world) answers.built;
         body = answers.body;
         found = contains-stays before after stays (Lowered def answers.body) answers.found;
         answers = subst (λ w. AnswersBody w def answers.body limits turns answer) (sym stays.world) answers.answers;
@@ -62,7 +72,13 @@ module _ (before after : Kept) (stays : Stays before after) (def : DefWithBodyId
   pub cause-out : (answer : Result Const ConstEvalError) → HasCause before def args limits turns answer → HasCause after def args limits turns (Err constant.NoMemory)
   cause-out answer cause =
       cause-stays (Err constant.NoMemory)
-      (⊎_elim (λ answers. inl (record { given = answers.given; body = answers.body; found = answers.found; answers = body-out answers.body answer answers.answers }))
+      (⊎_elim (λ answers. inl (record {
+        no_errors = answers.no_errors;
+        built = answers.built;
+        body = answers.body;
+        found = answers.found;
+        answers = body-out answers.body answer answers.answers;
+      }))
       (λ refused. inr (record { none = refused.none; fault = refusal.NoMemory; is = refl; refuses = inl refl })) cause)
 
 -- a value that is carried is the outcome's

@@ -12,7 +12,8 @@ use Rattle.mir.specs.declared.errors.MirEvalError as error
 use Rattle.mir.specs.Memory.{Memory}
 use Rattle.mir.specs.Run.{Frame, Ending, Returned, Faulted, Ended, out_of_blocks, bad_read, begun}
 use Rattle.mir_eval.specs.Machine.{on_a_level, outcome_of}
-use Rattle.mir_lower.specs.Simulates.{EndsAfter, EndsAs, Simulates, error_of}
+use Rattle.mir_lower.specs.Simulates.{EndsAs, Simulates}
+use Rattle.mir_lower.specs.Runs.{EndsAfter, error_of}
 use Rattle.source_meaning.specs.Ends.{Cost, End, Go, Jumps, Faults, Stuck, More, Fault, Panic, Undefined, GoesOn, IsOver, JumpsNowhere}
 use Rattle.source_meaning.specs.Meaning.{Gives, meaning_of}
 use Rattle.source_meaning.specs.Source.{Source, Store, node_type, root}

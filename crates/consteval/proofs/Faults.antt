@@ -2,7 +2,6 @@
 use Rattle.std.proofs.Common.{◌≡◌, ℕ, ◌<◌, List, Option, Some, None, refl, sym, ap, ◌∙◌, subst}
 use Rattle.std.proofs.lemmas.Option.{none-some}
 use Rattle.types.specs.declared.ty.Ty.{Ty}
-use Rattle.world.specs.Lookups.{layout_of}
 use Rattle.world.specs.declared.limits.Limits.{Limits}
 use Rattle.mir.specs.declared.errors.MirEvalError.{MirEvalError, MirEvalError-F, fold-roll-MirEvalError, map-MirEvalError, out-MirEvalError}
 use Rattle.mir.specs.declared.errors.MirEvalError.TheOpen as layer
@@ -14,7 +13,7 @@ use Rattle.mir.specs.declared.errors.MirLowerError.TheVariants as refusal
 use Rattle.mir.specs.declared.errors.TrailEntry.{TrailEntry}
 use Rattle.mir.specs.Errors.{from_eval_error, from_lower_error, layout_error_of}
 use Rattle.source_meaning.specs.Source.{Source}
-use Rattle.consteval.specs.Answers.{NeverRuns, NeverRunsLayer, EndsEvaluation, EndsFrame, EndsIn, EndsLayer, EndsLowering, GivesPanic, IsUnsized, PassesBytes, panic_layer, panic_word}
+use Rattle.consteval.specs.Answers.{NeverRuns, NeverRunsLayer, EndsEvaluation, EndsFrame, EndsIn, EndsLayer, EndsLowering, GivesPanic, LacksLayout, LacksSize, PassesBytes, panic_layer, panic_word}
 use Rattle.consteval.proofs.Nesting.{passes-nesting}
 
 -- a frame's fault, wrapped in it
@@ -22,15 +21,15 @@ pub framed : (source : Source) (limits : Limits) (inner : MirEvalError) (trail :
 framed source limits inner trail ends =
     subst (EndsLayer source limits) (sym (ap out-MirEvalError (sym (rolls-InFunction inner trail)) ∙ out-roll-MirEvalError (layer.InFunction inner trail))) ends
 
--- a type without a layout, or without a size
-pub without-layout : (source : Source) (limits : Limits) (ty : Ty) → layout_of source.world ty ≡ None → EndsEvaluation source limits (error.LayoutError (layout_error_of ty) ty)
-without-layout source limits ty none =
+-- a cell's type without a layout, or without a size
+pub without-layout : (source : Source) (limits : Limits) (ty : Ty) → LacksLayout source ty → EndsEvaluation source limits (error.LayoutError (layout_error_of ty) ty)
+without-layout source limits ty lacks =
     let e = layout_error_of ty in
-    subst (EndsLayer source limits) (sym (ap out-MirEvalError (sym (rolls-LayoutError e ty)) ∙ out-roll-MirEvalError (layer.LayoutError e ty))) (refl, none)
+    subst (EndsLayer source limits) (sym (ap out-MirEvalError (sym (rolls-LayoutError e ty)) ∙ out-roll-MirEvalError (layer.LayoutError e ty))) (refl, lacks)
 
-pub without-size : (source : Source) (limits : Limits) (ty : Ty) (text : List ℕ) → IsUnsized source.world ty → EndsEvaluation source limits (error.TypeIsUnsized ty text)
-without-size source limits ty text ends =
-    subst (EndsLayer source limits) (sym (ap out-MirEvalError (sym (rolls-TypeIsUnsized ty text)) ∙ out-roll-MirEvalError (layer.TypeIsUnsized ty text))) ends
+pub without-size : (source : Source) (limits : Limits) (ty : Ty) (text : List ℕ) → LacksSize source ty → EndsEvaluation source limits (error.TypeIsUnsized ty text)
+without-size source limits ty text lacks =
+    subst (EndsLayer source limits) (sym (ap out-MirEvalError (sym (rolls-TypeIsUnsized ty text)) ∙ out-roll-MirEvalError (layer.TypeIsUnsized ty text))) lacks
 
 -- a limit on nesting that every run passes
 pub overflowed : (source : Source) (limits : Limits) → limits.nesting < 2 → EndsEvaluation source limits error.StackOverflow
@@ -47,14 +46,14 @@ module _ (source : Source) (limits : Limits) where
   abbrev pub NeverRunsFor : MirEvalError → Type 0
   NeverRunsFor e = NeverRunsLayer source limits (out-MirEvalError e)
 
-  pub never-without-layout : (ty : Ty) → layout_of source.world ty ≡ None → NeverRunsFor (error.LayoutError (layout_error_of ty) ty)
-  never-without-layout ty none =
+  pub never-without-layout : (ty : Ty) → LacksLayout source ty → NeverRunsFor (error.LayoutError (layout_error_of ty) ty)
+  never-without-layout ty lacks =
       let e = layout_error_of ty in
-      subst (NeverRunsLayer source limits) (sym (ap out-MirEvalError (sym (rolls-LayoutError e ty)) ∙ out-roll-MirEvalError (layer.LayoutError e ty))) (refl, none)
+      subst (NeverRunsLayer source limits) (sym (ap out-MirEvalError (sym (rolls-LayoutError e ty)) ∙ out-roll-MirEvalError (layer.LayoutError e ty))) (refl, lacks)
 
-  pub never-without-size : (ty : Ty) (text : List ℕ) → IsUnsized source.world ty → NeverRunsFor (error.TypeIsUnsized ty text)
-  never-without-size ty text ends =
-      subst (NeverRunsLayer source limits) (sym (ap out-MirEvalError (sym (rolls-TypeIsUnsized ty text)) ∙ out-roll-MirEvalError (layer.TypeIsUnsized ty text))) ends
+  pub never-without-size : (ty : Ty) (text : List ℕ) → LacksSize source ty → NeverRunsFor (error.TypeIsUnsized ty text)
+  never-without-size ty text lacks =
+      subst (NeverRunsLayer source limits) (sym (ap out-MirEvalError (sym (rolls-TypeIsUnsized ty text)) ∙ out-roll-MirEvalError (layer.TypeIsUnsized ty text))) lacks
 
   pub never-without-level : limits.nesting ≡ 0 → NeverRunsFor error.StackOverflow
   never-without-level none =

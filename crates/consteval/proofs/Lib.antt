@@ -1,4 +1,5 @@
 pub mod Begins
+pub mod Built
 pub mod Bytes
 pub mod Causes
 pub mod Elements

@@ -6,7 +6,7 @@ use Rattle.mir.specs.declared.errors.MirEvalError as error
 use Rattle.mir_eval.specs.Machine.{on_a_level}
 use Rattle.source_meaning.specs.Ends.{Cost, no_cost, plus, End, Go, Jumps, Faults, Stuck, More, Fault, after, then_do}
 use Rattle.source_meaning.specs.Entering.{entering}
-use Rattle.source_meaning.specs.Meaning.{Gives, level_at, meaning_of}
+use Rattle.source_meaning.specs.Meaning.{Gives, level_at, meaning_from, meaning_of}
 use Rattle.source_meaning.specs.Source.{Source, Store}
 use Rattle.consteval.specs.Answers.{PassesNesting, cost_in}
 
@@ -29,7 +29,7 @@ entering-nests source = omega arith
 
 -- whatever fuel there is, a meaning nests by two levels
 meaning-nests : (source : Source) (fuel : ℕ) → meaning_of source fuel ≢ Stuck → 2 ≤ (cost_in (meaning_of source fuel)).nesting
-unfolding meaning_of
+unfolding meaning_from
 meaning-nests source fuel there = after-nests (entering source) _ (entering-nests source) there
 
 -- an end that a source has nests by two levels
@@ -43,7 +43,7 @@ fault-nests source fault cost gives =
 
 -- without fuel an evaluation is no further than where it was entered
 no-fuel : (source : Source) → meaning_of source 0 ≡ More (plus (entering source) no_cost)
-unfolding meaning_of level_at then_do after
+unfolding meaning_from level_at then_do after
 no-fuel source = refl
 
 -- a limit that is less than two levels is passed

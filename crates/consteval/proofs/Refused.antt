@@ -30,14 +30,15 @@ use Rattle.source_meaning.proofs.Built.{plain_is_built}
 use Rattle.source_meaning.proofs.Layouts.{integer_is_width}
 use Rattle.source_meaning.specs.Source.{Source, node, root}
 use Rattle.source_meaning.specs.Valid.{Evaluates, IsInteger, HasPlainForm, IsPlainNode, HasDefinedCost, FitsAround, JumpsFit}
-use Rattle.consteval.specs.Answers.{EndsEvaluation, EndsLowering, PassesBytes, RefusesBody, RefusesRun, has_errors, has_generics, has_params, is_empty, is_erroneous, is_unbuilt, is_unbuilt_function, is_unbuilt_item}
+use Rattle.consteval.specs.Answers.{EndsEvaluation, EndsLowering, PassesBytes, RefusesBody, RefusesRun}
+use Rattle.consteval.specs.Built.{has_errors, has_generics, has_params, is_empty, is_erroneous, is_unbuilt, is_unbuilt_function, is_unbuilt_item}
 use Rattle.source_meaning.specs.Around.{Opened, meant}
 use Rattle.types.specs.declared.ids.LabelId.{LabelId}
 use Rattle.types.specs.declared.ids.ExprId.{ExprId}
-use Rattle.types.specs.declared.ty.GenericArg.{GenericArg}
 use Rattle.consteval.specs.Kept.{source_of}
 use Rattle.consteval.specs.Valid.{IsPlainItem, IsValid}
 use Rattle.consteval.proofs.Begins.{begins, begun-never, begun-refusal}
+use Rattle.consteval.proofs.Built.{built-without-args}
 use Rattle.consteval.proofs.Bytes.{taken-within}
 use Rattle.consteval.proofs.Faults.{NeverRunsFor, never-without-level, never-without-room, overflowed, overfull}
 
@@ -58,14 +59,14 @@ module _ (world : HirDatabase) (def : DefWithBodyId) (args : GenericArgs) (row :
   pub run-refusal : RefusesRun world def body limits e → EndsEvaluation (source_of world row) limits e
   run-refusal refuses =
       refusal-cases refuses (λ is none. subst (EndsEvaluation (source_of world row) limits) (sym is) (overflowed (source_of world row) limits (omega arith)))
-      (begun-refusal (source_of world row) limits body e)
+      (begun-refusal (source_of world row) limits body e simulates)
       (λ is passes. subst (EndsEvaluation (source_of world row) limits) (sym is) (overfull (source_of world row) limits passes))
 
   -- so none begins
   pub run-never : RefusesRun world def body limits e → NeverRunsFor (source_of world row) limits e
   run-never refuses =
       refusal-cases refuses (λ is none. subst (NeverRunsFor (source_of world row) limits) (sym is) (never-without-level (source_of world row) limits none))
-      (begun-never (source_of world row) limits body e)
+      (begun-never (source_of world row) limits body e simulates)
       (λ is passes. subst (NeverRunsFor (source_of world row) limits) (sym is) (never-without-room (source_of world row) limits passes))
 
   -- a valid body with a defined cost can begin where there is a level of nesting for its run and room for its cells
@@ -171,11 +172,12 @@ valid-item-is-built world (FunctionId id) ty item =
 valid-item-is-built world (StaticId id) ty item = absurd item
 valid-item-is-built world (VariantId id) ty item = absurd item
 
--- and a valid body has no parameters
-abbrev bodys-params : HirDatabase → DefWithBodyId → Bool
-bodys-params world def = has_params (option_map (λ row. row.body) (body_row world def))
+-- whether a definition's body has parameters
+abbrev has_body_params : HirDatabase → DefWithBodyId → Bool
+has_body_params world def = has_params (option_map (λ row. row.body) (body_row world def))
 
-valid-has-no-params : (world : HirDatabase) (def : DefWithBodyId) (args : GenericArgs) (row : BodyRow) → IsValid world def args row → bodys-params world def ≡ false
+-- a valid body has no parameters
+valid-has-no-params : (world : HirDatabase) (def : DefWithBodyId) (args : GenericArgs) (row : BodyRow) → IsValid world def args row → has_body_params world def ≡ false
 valid-has-no-params world def args row valid =
     ap (λ (found : Option BodyRow). has_params (option_map (λ r. r.body) found)) valid.body
     ∙ ap (λ (params : List PatId). not (is_empty params) || is_some row.body.self_param) valid.no_params
@@ -183,10 +185,8 @@ valid-has-no-params world def args row valid =
 
 valid-is-built : (world : HirDatabase) (def : DefWithBodyId) (args : GenericArgs) (row : BodyRow) → IsValid world def args row → is_unbuilt world def args ≡ true → ⊥
 valid-is-built world def args row valid unbuilt =
-    let built : is_unbuilt world def args ≡ false =
-    ap (λ (some : List GenericArg). not (is_empty some) || is_unbuilt_item world def || bodys-params world def) valid.no_args
-    ∙ ap (λ (item : Bool). item || bodys-params world def) (valid-item-is-built world def valid.ty valid.item)
-    ∙ valid-has-no-params world def args row valid in
+    let built = built-without-args world def args valid.no_args
+    (ap (λ (item : Bool). item || has_body_params world def) (valid-item-is-built world def valid.ty valid.item) ∙ valid-has-no-params world def args row valid) in
     cc
 
 -- a valid body is lowered, but for want of memory and for number literals whose types have no layout

@@ -7,11 +7,14 @@ use Rattle.world.specs.declared.database.HirDatabase.{HirDatabase}
 use Rattle.types.specs.declared.ids.DefWithBodyId.{DefWithBodyId}
 use Rattle.types.specs.declared.ids.ExprId.{ExprId}
 use Rattle.types.specs.declared.ty.GenericArgs.{GenericArgs}
+use Rattle.mir.specs.declared.body.MirBody.{MirBody}
 use Rattle.mir.specs.declared.errors.MirLowerError.{MirLowerError}
 use Rattle.mir.specs.declared.errors.MirLowerError.TheVariants as refusal
 use Rattle.mir_lower.specs.Refusals.{Refuses, RefusesInferred}
-use Rattle.consteval.specs.Answers.{RefusesBody, is_empty, is_erroneous, is_unbuilt, has_errors}
-use Rattle.consteval.specs.Kept.{source_of}
+use Rattle.mir_lower.specs.Simulates.{Simulates}
+use Rattle.consteval.specs.Answers.{RefusesBody}
+use Rattle.consteval.specs.Built.{is_empty, is_erroneous, is_unbuilt, is_unbuilt_definition, has_errors}
+use Rattle.consteval.specs.Kept.{IsLowered, source_of}
 use Rattle.world.specs.declared.infer.InferenceResult.{InferenceResult}
 use Rattle.world.specs.Lookups.{body_row}
 use Rattle.world.specs.Checked.{IsChecked, IsCheckedBody}
@@ -33,6 +36,17 @@ row-of None body infer b i = absurd cc
 module _ (world : HirDatabase) (def : DefWithBodyId) (body : Body) (infer : InferenceResult) (row : RowOf (body_row world def) body infer) where
   pub row-checked : IsChecked world → IsCheckedBody body infer
   row-checked checked = subst (λ (r : BodyRow). IsCheckedBody r.body r.infer) row.is (checked-body world def row.row checked row.there)
+
+  -- a graph that simulates the body is lowered from it, where the definition is built and has no typing error
+  pub row-lowered : (lowered : MirBody) → is_erroneous world def ≡ false → is_unbuilt_definition world def ≡ false → Simulates (record { world = world; body = body; infer = infer }) lowered → IsLowered world def lowered
+  row-lowered lowered no_errors built simulates =
+      record {
+        no_errors = no_errors;
+        built = built;
+        row = row.row;
+        found = row.there;
+        simulates = subst (λ (r : BodyRow). Simulates (source_of world r) lowered) (sym row.is) simulates;
+      }
 
 -- where inference met no error there is no typing error
 no-typing-errors : (erroneous : Bool) (mismatches : List ExprId) → (erroneous || not (is_empty mismatches)) ≡ false → IsTrue erroneous ⊎ (mismatches ≢ []) → ⊥

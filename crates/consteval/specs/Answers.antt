@@ -1,18 +1,14 @@
 -- What the answer to a definition says: the value or the panic that its source means, and the cause of any other.
-use Rattle.std.specs.Prelude.{◌≡◌, ◌≢◌, ℕ, ◌-◌, ◌<◌, ◌≤◌, Bool, true, false, not, List, [], ◌∷◌, ◌⊎◌, ◌||◌, Option, Some, None, Result, Ok, Err, Contains, codes, is_some, option_map, slice_get}
-use Rattle.world.specs.declared.body.Body.{Body}
+use Rattle.std.specs.Prelude.{◌≡◌, ◌≢◌, ℕ, ◌-◌, ◌<◌, ◌≤◌, true, false, List, [], ◌⊎◌, Option, Some, None, Result, Ok, Err, Contains, codes}
 use Rattle.world.specs.declared.database.BodyRow.{BodyRow}
-use Rattle.world.specs.declared.items.ConstRow.{ConstRow}
-use Rattle.world.specs.declared.items.FunctionRow.{FunctionRow}
 use Rattle.world.specs.declared.database.HirDatabase.{HirDatabase}
 use Rattle.types.specs.declared.ids.DefWithBodyId.{DefWithBodyId}
-use Rattle.types.specs.declared.ids.DefWithBodyId.TheVariants.{ConstId, FunctionId}
 use Rattle.types.specs.declared.ty.Const.{Const}
 use Rattle.types.specs.declared.ty.Const.TheVariants.{Value}
 use Rattle.types.specs.declared.ty.GenericArgs.{GenericArgs}
 use Rattle.types.specs.declared.ty.MemoryMap.TheVariants.{Empty}
 use Rattle.types.specs.declared.ty.Ty.{Ty}
-use Rattle.world.specs.Lookups.{body_row, function_row, layout_of}
+use Rattle.world.specs.Lookups.{body_row, layout_of}
 use Rattle.world.specs.declared.layout.Layout.{Layout}
 use Rattle.world.specs.declared.limits.Limits.{Limits}
 use Rattle.mir.specs.declared.body.MirBody.{MirBody}
@@ -29,13 +25,14 @@ use Rattle.mir.specs.Run.{Frame, begun}
 use Rattle.mir_eval.specs.Evaluators.{crate_or_first}
 use Rattle.mir_eval.specs.Machine.{pointer_bytes}
 use Rattle.mir_eval.specs.Room.{bytes_taken}
+use Rattle.mir_lower.specs.Growth.{IsUsed}
 use Rattle.mir_lower.specs.Refusals.{RefusesAt, RefusesInferred}
-use Rattle.world.specs.declared.infer.InferenceResult.{InferenceResult}
 use Rattle.source_meaning.specs.Ends.{Cost, no_cost, End, Go, Jumps, Faults, Stuck, More, Panic, Undefined, IsOver}
 use Rattle.source_meaning.specs.Entering.{entering}
 use Rattle.source_meaning.specs.Meaning.{Gives, meaning_of}
-use Rattle.source_meaning.specs.Source.{Source, Store, node_type, root}
+use Rattle.source_meaning.specs.Source.{Source, Cell, Store, cell_type, node_type, root}
 use Rattle.source_meaning.specs.Valid.{HasDefinedCost}
+use Rattle.consteval.specs.Built.{is_erroneous, is_unbuilt}
 use Rattle.consteval.specs.Kept.{Kept, Lowered, Ran, run_of, source_of}
 
 -- a constant of a type, with these bytes and no memory behind them
@@ -104,9 +101,18 @@ PassesNesting source nesting = (fuel : ℕ) × (nesting < (cost_in (meaning_of s
 abbrev pub PassesBytes : Source → ℕ → Type 0
 PassesBytes source bytes = bytes < (entering source).bytes
 
--- a type has a layout without a size
-abbrev pub IsUnsized : HirDatabase → Ty → Type 0
-IsUnsized world ty = (layout : Layout) × (layout_of world ty ≡ Some layout) × (layout.sized ≡ false)
+-- the type of a cell that the evaluation of a source may use: of the result, of a binding that no closure owns, or of an expression that is
+-- evaluated, before or after its adjustment
+abbrev pub IsCellType : Source → Ty → Type 0
+IsCellType source ty = (cell : Cell) × IsUsed source cell × (cell_type source cell ≡ Some ty)
+
+-- such a type without a layout
+abbrev pub LacksLayout : Source → Ty → Type 0
+LacksLayout source ty = IsCellType source ty × (layout_of source.world ty ≡ None)
+
+-- or with a layout without a size
+abbrev pub LacksSize : Source → Ty → Type 0
+LacksSize source ty = IsCellType source ty × (layout : Layout) × (layout_of source.world ty ≡ Some layout) × (layout.sized ≡ false)
 
 -- how a frame of a valid definition can end: in a panic or in undefined behavior that its source means, or past the limit
 -- on blocks
@@ -117,14 +123,13 @@ EndsFrame source limits error.ExecutionLimitExceeded = PassesBlocks source limit
 EndsFrame source limits _ = ⊥
 
 -- The cause of a `MirEvalError` in which the evaluation of a valid definition's body ends, by the error's outermost variant.
--- Of `LayoutError` and `TypeIsUnsized` it states that the type in the error has no layout, or one without a size, and not
--- where that type occurs in the body.
+-- Of `LayoutError` and `TypeIsUnsized` it states that the type in the error is that of a cell, and has no layout, or one without a size.
 abbrev pub EndsLayer : Source → Limits → MirEvalError-F MirEvalError → Type 0
 EndsLayer source limits (layer.InFunction inner trail) = EndsFrame source limits inner
 EndsLayer source limits layer.StackOverflow = PassesNesting source limits.nesting
 EndsLayer source limits layer.MemoryLimitExceeded = PassesBytes source limits.bytes
-EndsLayer source limits (layer.LayoutError e ty) = (e ≡ layout_error_of ty) × (layout_of source.world ty ≡ None)
-EndsLayer source limits (layer.TypeIsUnsized ty text) = IsUnsized source.world ty
+EndsLayer source limits (layer.LayoutError e ty) = (e ≡ layout_error_of ty) × LacksLayout source ty
+EndsLayer source limits (layer.TypeIsUnsized ty text) = LacksSize source ty
 EndsLayer source limits _ = ⊥
 
 -- how the evaluation of a valid definition's body can end without a value: with its frame, past the limit on nesting or that
@@ -168,12 +173,12 @@ abbrev pub past_blocks : ConstEvalError
 past_blocks = constant.MirEvalError (error.InFunction error.ExecutionLimitExceeded [])
 
 -- The cause of a `MirEvalError` for which no run of a valid definition's body begins, by the error's outermost variant. Of
--- `LayoutError` and `TypeIsUnsized` it states that the type in the error has no layout, or one without a size.
+-- `LayoutError` and `TypeIsUnsized` it states that the type in the error is that of a cell, and has no layout, or one without a size.
 abbrev pub NeverRunsLayer : Source → Limits → MirEvalError-F MirEvalError → Type 0
 NeverRunsLayer source limits layer.StackOverflow = limits.nesting ≡ 0
 NeverRunsLayer source limits layer.MemoryLimitExceeded = PassesBytes source limits.bytes
-NeverRunsLayer source limits (layer.LayoutError e ty) = (e ≡ layout_error_of ty) × (layout_of source.world ty ≡ None)
-NeverRunsLayer source limits (layer.TypeIsUnsized ty text) = IsUnsized source.world ty
+NeverRunsLayer source limits (layer.LayoutError e ty) = (e ≡ layout_error_of ty) × LacksLayout source ty
+NeverRunsLayer source limits (layer.TypeIsUnsized ty text) = LacksSize source ty
 NeverRunsLayer source limits _ = ⊥
 
 -- Every error, but for want of memory, for which no run of a valid definition begins: a number literal whose type has no
@@ -207,45 +212,6 @@ pub record RunsTo (world : HirDatabase) (def : DefWithBodyId) (body : MirBody) (
   pub outcome : Result Const MirEvalError
   pub ran : Ran world body limits turns outcome
   pub is : answer ≡ carried outcome
-
-abbrev pub is_empty : {X : Type 0} → List X → Bool
-is_empty [] = true
-is_empty (x ∷ xs) = false
-
--- whether a constant has generic parameters
-abbrev pub has_generics : Option ConstRow → Bool
-has_generics (Some row) = not (is_empty row.generics)
-has_generics None = false
-
--- whether a function has generic or value parameters
-abbrev pub is_unbuilt_function : Option FunctionRow → Bool
-is_unbuilt_function (Some row) = not (is_empty row.generics) || not (is_empty row.sig.params)
-is_unbuilt_function None = false
-
--- whether a definition's kind isn't built yet: a static, a variant, a constant with generic parameters, or a function with
--- generic or value parameters
-abbrev pub is_unbuilt_item : HirDatabase → DefWithBodyId → Bool
-is_unbuilt_item world (ConstId id) = has_generics (slice_get world.consts id.0)
-is_unbuilt_item world (FunctionId id) = is_unbuilt_function (function_row world id)
-is_unbuilt_item world _ = true
-
--- whether a body has parameters, or a `self`
-abbrev pub has_params : Option Body → Bool
-has_params (Some body) = not (is_empty body.params) || is_some body.self_param
-has_params None = false
-
--- whether a definition isn't built yet: it was given arguments, it is of a kind that isn't, or its body has parameters
-abbrev pub is_unbuilt : HirDatabase → DefWithBodyId → GenericArgs → Bool
-is_unbuilt world def args = not (is_empty args.0) || is_unbuilt_item world def || has_params (option_map (λ row. row.body) (body_row world def))
-
--- whether inference met an error in what it found
-abbrev pub has_errors : Option InferenceResult → Bool
-has_errors None = false
-has_errors (Some infer) = infer.erroneous || not (is_empty infer.mismatches)
-
--- whether inference met an error in the definition's body
-abbrev pub is_erroneous : HirDatabase → DefWithBodyId → Bool
-is_erroneous world def = has_errors (option_map (λ row. row.infer) (body_row world def))
 
 -- the definition's body has a typing error
 pub record RefusesErrors (world : HirDatabase) (def : DefWithBodyId) (e : MirLowerError) : Type 0 where
@@ -310,9 +276,11 @@ abbrev pub AnswersBody : HirDatabase → DefWithBodyId → MirBody → Limits �
 AnswersBody world def body limits turns answer =
     RunsTo world def body limits turns answer ⊎ NeverBegins world def body limits turns answer ⊎ RunsOut world def body limits turns answer
 
--- the answer is that of the definition's kept body, which is given no arguments
+-- The answer is that of the definition's kept body: the definition is built and is given no arguments, and inference met no
+-- error in its body.
 pub record AnswersKept (kept : Kept) (def : DefWithBodyId) (args : GenericArgs) (limits : Limits) (turns : ℕ) (answer : Result Const ConstEvalError) : Type 0 where
-  pub given : args.0 ≡ []
+  pub no_errors : is_erroneous kept.world def ≡ false
+  pub built : is_unbuilt kept.world def args ≡ false
   pub body : MirBody
   pub found : Contains kept.entries (Lowered def body)
   pub answers : AnswersBody kept.world def body limits turns answer
@@ -324,7 +292,10 @@ pub record NeverLowered (world : HirDatabase) (def : DefWithBodyId) (args : Gene
   pub is : answer ≡ Err (from_lower_error fault)
   pub refuses : (fault ≡ refusal.NoMemory) ⊎ RefusesBody world def args fault
 
--- every answer is that of the kept body, without arguments, or the refusal to lower one
+-- Every answer is that of the kept body of a definition that is built, is given no arguments and has no typing error, or it is
+-- the refusal to lower a body. So each of the two refusals of a definition comes exactly where its cause stands, want of memory
+-- aside: `HasErrors` where its body has a typing error, and else `NotSupported("form not built")` where it isn't built or is given
+-- arguments.
 abbrev pub HasCause : Kept → DefWithBodyId → GenericArgs → Limits → ℕ → Result Const ConstEvalError → Type 0
 HasCause kept def args limits turns answer =
     AnswersKept kept def args limits turns answer ⊎ NeverLowered kept.world def args turns answer

@@ -1,5 +1,5 @@
 -- What is kept of finished evaluations, as its callers see it.
-use Rattle.std.specs.Prelude.{◌≡◌, ℕ, ◌-◌, ◌<◌, ◌≤◌, List, [], ◌∷◌, ◌++◌, take, Some, Result, Ok, Contains, map, slice_get}
+use Rattle.std.specs.Prelude.{◌≡◌, ℕ, ◌-◌, ◌<◌, ◌≤◌, false, List, [], ◌∷◌, ◌++◌, take, Some, Result, Ok, Contains, map, slice_get}
 use Rattle.world.specs.declared.database.HirDatabase.{HirDatabase}
 use Rattle.world.specs.declared.database.BodyRow.{BodyRow}
 use Rattle.world.specs.declared.limits.Limits.{Limits}
@@ -13,6 +13,7 @@ use Rattle.mir_eval.specs.Machine.{Machine, Going, outcome_of, pointer_bytes}
 use Rattle.mir_eval.specs.Room.{bytes_taken}
 use Rattle.mir_lower.specs.Simulates.{Simulates}
 use Rattle.source_meaning.specs.Source.{Source}
+use Rattle.consteval.specs.Built.{is_erroneous, is_unbuilt_definition}
 use Rattle.consteval.specs.declared.kept.Held.{Held}
 use Rattle.consteval.specs.declared.kept.Held.TheVariants as held
 use Rattle.consteval.specs.declared.kept.Key.{Key}
@@ -59,8 +60,11 @@ pub record Stays (before after : Kept) : Type 0 where
 abbrev pub source_of : HirDatabase → BodyRow → Source
 source_of world row = record { world = world; body = row.body; infer = row.infer }
 
--- a body that is kept for a definition was lowered from its row, which it simulates
+-- A body that is kept for a definition was lowered from its row, which it simulates. The definition is built, and inference met
+-- no error in its body.
 pub record IsLowered (world : HirDatabase) (def : DefWithBodyId) (body : MirBody) : Type 0 where
+  pub no_errors : is_erroneous world def ≡ false
+  pub built : is_unbuilt_definition world def ≡ false
   pub row : BodyRow
   pub found : body_row world def ≡ Some row
   pub simulates : Simulates (source_of world row) body

@@ -1,3 +1,4 @@
 pub mod Answers
+pub mod Built
 pub mod Kept
 pub mod Valid

@@ -11,7 +11,7 @@ use mir_eval::Limits;
 use std::alloc::Global;
 use std::marker::Model;
 use std::rc::Rc;
-use world::{Const, DefWithBodyId, GenericArgs, NoMemory, Table, TryClone};
+use world::{Const, DefWithBodyId, GenericArgs, List, NoMemory, Table, TryClone};
 use world_check::CheckedWorld;
 
 /// Evaluations over one checked world. They keep each lowered body and each value, in the order of
@@ -71,6 +71,7 @@ impl<'w> Evaluations<'w> {
     ghost use Rattle.world.specs.Checked.{IsChecked};
     ghost use Rattle.consteval.specs.declared.kept.Key.TheVariants as key;
     ghost use Rattle.consteval.specs.Kept.{Lowered, Value, IsKept, IsLowered, IsSound, IsValueOf, RestsOn, Stays, entry_of, key_of, source_of, with_entry};
+    ghost use Rattle.consteval.specs.Built.{no_args};
     ghost use Rattle.consteval.specs.Valid.{IsValid};
     ghost use Rattle.consteval.specs.Answers.{GivesValue, CountsBlocks, GivesPanic, AnswersWithin, AnswersEndless, HasNoEnd, EndsIn, HasCause, RefusesBody, panic_word};
 
@@ -179,6 +180,31 @@ impl<'w> Evaluations<'w> {
             };
         }
         self.new_body(def, args)
+    }
+
+    /// The lowered body of a definition that is given no arguments: the kept one, or a new one, which is then kept. The
+    /// refusals, in this order: `HasErrors` where inference met an error in the definition's body, `NotSupported` where the
+    /// definition isn't built yet, `IncompleteExpr` where it has no body, and those of its expressions. `NoMemory` may come in place
+    /// of any of them. The limits are those on the runs that lowering needs, and so far it needs none.
+    pub fn mir_body_query(
+        &mut self,
+        def: DefWithBodyId,
+        limits: &Limits,
+    ) -> Result<Rc<MirBody>, MirLowerError>
+        requires { IsWithin limits.now }
+        ensures lowered { IfOk result (λ body. IsLowered self.old.world def body.value) }
+        ensures kept { IfOk result (λ body. Contains self.new.entries (Lowered def body.value)) }
+        ensures refused { IfErr result (λ e. (e ≡ refusal.NoMemory) ⊎ RefusesBody self.old.world def no_args e) }
+        ensures complete { (row : _) → IsValid self.old.world def no_args row → HasDefinedCost (source_of self.old.world row) → IfErr result (λ e. e ≡ refusal.NoMemory) }
+        ensures stays { Stays self.old self.new }
+        ensures sound { IsSound self.new }
+    {
+        let world = self.world;
+        let db = world.db();
+        let _ = limits;
+        let _ = db;
+        let args = GenericArgs(List::new(self.alloc));
+        self.body_of(def, &args)
     }
 
     /// The answer of a run of the definition's body, before its value is kept.

@@ -3,7 +3,8 @@
 ghost use Rattle.std.specs.Prelude.{◌≡◌, ◌⊎◌, [], IsTrue, IfOk, IfErr, OnOk};
 ghost use Rattle.mir.specs.declared.errors.MirLowerError.TheVariants as refusal;
 ghost use Rattle.std.specs.Option.{option_copied};
-ghost use Rattle.consteval.specs.Answers.{RefusesBody, has_errors, has_generics, has_params, is_unbuilt, is_unbuilt_function, is_unbuilt_item};
+ghost use Rattle.consteval.specs.Answers.{RefusesBody};
+ghost use Rattle.consteval.specs.Built.{has_errors, has_generics, has_params, is_unbuilt, is_unbuilt_definition, is_unbuilt_function, is_unbuilt_item};
 ghost use Rattle.consteval.specs.Kept.{IsLowered};
 
 use body_forms::form_not_built;
@@ -67,12 +68,19 @@ fn has_params(body: Option<&Body>) -> bool
     }
 }
 
-/// Whether a definition isn't built yet: it was given arguments, it is of a kind that isn't, or its body
-/// has parameters.
+/// Whether a definition isn't built yet, whatever arguments it is given: it is of a kind that isn't, or
+/// its body has parameters.
+fn is_unbuilt_definition(db: &HirDatabase, def: DefWithBodyId) -> bool
+    ensures { result ≡ is_unbuilt_definition db.now def }
+{
+    is_unbuilt_item(db, def) || has_params(db.body(def))
+}
+
+/// Whether a definition isn't built yet: it was given arguments, or it isn't whatever it is given.
 fn is_unbuilt(db: &HirDatabase, def: DefWithBodyId, args: &GenericArgs) -> bool
     ensures { result ≡ is_unbuilt db.now def args.now }
 {
-    !args.0.as_slice().is_empty() || is_unbuilt_item(db, def) || has_params(db.body(def))
+    !args.0.as_slice().is_empty() || is_unbuilt_definition(db, def)
 }
 
 /// Whether inference met an error in what it found of a body.
@@ -86,9 +94,9 @@ fn has_errors(infer: Option<&InferenceResult>) -> bool
 }
 
 /// The lowered body of a definition. The refusals, in this order: `HasErrors` where inference met an
-/// error in its body, `NotSupported` where there are arguments or the definition's kind isn't built
-/// yet, `IncompleteExpr` where there is no body, and those of its expressions. `NoMemory` may come in
-/// place of any of them.
+/// error in its body, `NotSupported` where there are arguments, the definition's kind isn't built yet or
+/// its body has parameters, `IncompleteExpr` where there is no body, and those of its expressions.
+/// `NoMemory` may come in place of any of them.
 pub(crate) fn lower(
     alloc: Global,
     world: &CheckedWorld,

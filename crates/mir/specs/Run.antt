@@ -1,4 +1,4 @@
--- What a run of a body means: blocks entered one after another over one memory, under a budget of blocks.
+-- What a run of a body means: blocks entered one after another, over one memory and a stack of frames, under a budget of blocks.
 use Rattle.std.specs.Prelude.{ℕ, zero, suc, List, [], ◌∷◌, length, drop, Option, Some, None, Result, Ok, Err, slice_get, option_map, option_and_then, codes, if◌then◌else◌, nat_le}
 use Rattle.world.specs.declared.database.HirDatabase.{HirDatabase}
 use Rattle.types.specs.declared.ty.ComplexMemoryMap.{ComplexMemoryMap}
@@ -34,10 +34,19 @@ use Rattle.mir.specs.declared.statement.StatementKind.{StatementKind}
 use Rattle.mir.specs.declared.statement.StatementKind.TheVariants.{Assign, FakeRead, StorageLive, StorageDead}
 use Rattle.mir.specs.Memory.{Interval, Memory, first_memory, bytes_at, with_bytes, cells_of}
 
--- a body that runs, and where its locals lie
+-- A suspended caller: its body, where its locals lie, and the target block of its call; none for a call without a target, whose
+-- callee must not return.
+pub record Waiting : Type 0 where
+  pub body : MirBody
+  pub cells : List Interval
+  pub next : Option ℕ
+
+-- A body that runs, and where its locals lie, one interval for each. Local 0 of a called body is the caller's destination itself, where the
+-- call has a target. `below`: the suspended callers, the nearest first.
 pub record Frame : Type 0 where
   pub body : MirBody
   pub cells : List Interval
+  pub below : List Waiting
 
 -- a constant's variant
 abbrev ConstLayer : Type 0
@@ -128,33 +137,49 @@ pub data Ending : Type 0 where
   Returned : List ℕ → Ending
   Faulted : MirEvalError → Ending
 
--- where a block leads: to an end, or to a block
+-- where a block leads: to an end, or to a block of a frame
 pub data Next : Type 0 where
   Stops : Ending → Next
-  GoesTo : Memory → ℕ → Next
+  GoesTo : Frame → Memory → ℕ → Next
 
 -- the end of a run that returns
 abbrev pub returned : Option (List ℕ) → Ending
 returned (Some bytes) = Returned bytes
 returned None = Faulted bad_read
 
+-- where a caller goes on whose callee returned, over the callers below it
+unfoldable pub resumed : Memory → Waiting → List Waiting → Next
+resumed memory caller below =
+    elim caller.next [
+      | Some block ↦ GoesTo (record { body = caller.body; cells = caller.cells; below = below }) memory block
+      | None ↦ Stops (Faulted (error.UndefinedBehavior (codes "Diverging function returned")))
+    ]
+
+-- where a body leads that returns: to where its caller goes on, or, where it was called by none, to the end of the run
+unfoldable pub after_return : Frame → Memory → Next
+after_return frame memory =
+    elim frame.below [
+      | [] ↦ Stops (returned (option_and_then (bytes_at memory) (slice_get frame.cells 0)))
+      | caller ∷ below ↦ resumed memory caller below
+    ]
+
 -- where a switch leads: to the target of the unsigned number that the operand's bytes are, of which there are at most 16
-unfoldable pub switched : Memory → SwitchTargets → Option (List ℕ) → Next
-switched memory targets (Some bytes) =
+unfoldable pub switched : Frame → Memory → SwitchTargets → Option (List ℕ) → Next
+switched frame memory targets (Some bytes) =
     if nat_le (length bytes) 16
-    then GoesTo memory (target_of targets (value_of bytes)).0
+    then GoesTo frame memory (target_of targets (value_of bytes)).0
     else Stops (Faulted (error.NotSupported (codes "comparison of this type")))
-switched memory targets None = Stops (Faulted bad_read)
+switched frame memory targets None = Stops (Faulted bad_read)
 
 -- what a terminator does
 unfoldable pub terminated : Frame → Memory → Option Terminator → Next
 terminated frame memory None = Stops (Faulted (error.NotSupported (codes "block without terminator")))
 terminated frame memory (Some terminator) =
     elim terminator.kind [
-      | Goto target ↦ GoesTo memory target.0
-      | SwitchInt discr targets ↦ switched memory targets (operand_bytes frame memory discr.kind)
-      | Return ↦ Stops (returned (option_and_then (bytes_at memory) (slice_get frame.cells 0)))
-      | Drop place target unwind ↦ GoesTo memory target.0
+      | Goto target ↦ GoesTo frame memory target.0
+      | SwitchInt discr targets ↦ switched frame memory targets (operand_bytes frame memory discr.kind)
+      | Return ↦ after_return frame memory
+      | Drop place target unwind ↦ GoesTo frame memory target.0
     ]
 
 -- where a block leads from one of its statements on
@@ -181,22 +206,22 @@ entering zero frame memory block = out_of_blocks
 entering (suc budget) frame memory block =
     elim (next_from frame memory (slice_get frame.body.basic_blocks block) 0) [
       | Stops ending ↦ record { ending = ending; left = budget }
-      | GoesTo after target ↦ entering budget frame after target
+      | GoesTo next after target ↦ entering budget next after target
     ]
 
 -- the run that goes on where a block led
-unfoldable pub going_on : ℕ → Frame → Next → Ended
-going_on budget frame (Stops ending) = record { ending = ending; left = budget }
-going_on budget frame (GoesTo memory block) = entering budget frame memory block
+unfoldable pub going_on : ℕ → Next → Ended
+going_on budget (Stops ending) = record { ending = ending; left = budget }
+going_on budget (GoesTo frame memory block) = entering budget frame memory block
 
 -- the run that goes on in a block that it entered before, from one of its statements on
 unfoldable pub running : ℕ → Frame → Memory → ℕ → ℕ → Ended
-running budget frame memory block index = going_on budget frame (next_from frame memory (slice_get frame.body.basic_blocks block) index)
+running budget frame memory block index = going_on budget (next_from frame memory (slice_get frame.body.basic_blocks block) index)
 
--- a body's frame and memory before its first block, or why it can't begin
+-- a body's frame and memory before its first block, where none called it, or why it can't begin
 unfoldable pub begun : HirDatabase → MirBody → Result (Frame × Memory) MirEvalError
 begun world body =
     elim (cells_of world body.locals first_memory) [
-      | Ok placed ↦ Ok (record { body = body; cells = placed.0 }, placed.1)
+      | Ok placed ↦ Ok (record { body = body; cells = placed.0; below = [] }, placed.1)
       | Err e ↦ Err e
     ]

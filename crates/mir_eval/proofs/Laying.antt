@@ -151,16 +151,16 @@ laid-last world all cells most end last i le is laid =
     subst (Laid world all [] cells most) is (subst (λ ls. Laid world all ls cells most end) (drop_all i all le) laid)
 
 -- what can begin within a limit, by its cells
-pub begun_within : (world : HirDatabase) (body : MirBody) (bytes : ℕ) → within_bytes {A = Frame} bytes (begun world body) ≡ (elim (within_bytes {A = List Interval} bytes (cells_of world body.locals first_memory)) [ Ok all ↦ Ok (record { body = body; cells = all.0 }, all.1) | Err e ↦ Err e ])
+pub begun_within : (world : HirDatabase) (body : MirBody) (bytes : ℕ) → within_bytes {A = Frame} bytes (begun world body) ≡ (elim (within_bytes {A = List Interval} bytes (cells_of world body.locals first_memory)) [ Ok all ↦ Ok (record { body = body; cells = all.0; below = [] }, all.1) | Err e ↦ Err e ])
 unfolding begun
 begun_within world body bytes = by (cells_of world body.locals first_memory) where
   kept : Bool → List Interval × Memory → Cells
   kept test all = cond test (Ok all) (Err error.MemoryLimitExceeded)
 
-  of-test : (all : List Interval × Memory) (test : Bool) → ◌≡◌ {A = Result (Frame × Memory) MirEvalError} (cond test (Ok (record { body = body; cells = all.0 }, all.1)) (Err error.MemoryLimitExceeded)) (elim (kept test all) [ Ok all ↦ Ok (record { body = body; cells = all.0 }, all.1) | Err e ↦ Err e ])
+  of-test : (all : List Interval × Memory) (test : Bool) → ◌≡◌ {A = Result (Frame × Memory) MirEvalError} (cond test (Ok (record { body = body; cells = all.0; below = [] }, all.1)) (Err error.MemoryLimitExceeded)) (elim (kept test all) [ Ok all ↦ Ok (record { body = body; cells = all.0; below = [] }, all.1) | Err e ↦ Err e ])
   of-test all true = refl
   of-test all false = refl
 
-  by : (r : Cells) → within_bytes {A = Frame} bytes (elim r [ Ok all ↦ Ok (record { body = body; cells = all.0 }, all.1) | Err e ↦ Err e ]) ≡ (elim (within_bytes {A = List Interval} bytes r) [ Ok all ↦ Ok (record { body = body; cells = all.0 }, all.1) | Err e ↦ Err e ])
+  by : (r : Cells) → within_bytes {A = Frame} bytes (elim r [ Ok all ↦ Ok (record { body = body; cells = all.0; below = [] }, all.1) | Err e ↦ Err e ]) ≡ (elim (within_bytes {A = List Interval} bytes r) [ Ok all ↦ Ok (record { body = body; cells = all.0; below = [] }, all.1) | Err e ↦ Err e ])
   by (Ok all) = of-test all (nat_le (bytes_taken all.1) bytes)
   by (Err e) = refl

@@ -60,7 +60,7 @@ stepped levels (Going frame memory block zero) = Over (outcome_of levels frame.b
 stepped levels (Going frame memory block (suc left)) =
     elim (next_from frame memory (slice_get frame.body.basic_blocks block) 0) [
       | Stops ending ↦ Over (outcome_of levels frame.body ending) left
-      | GoesTo after target ↦ Going frame after target left
+      | GoesTo next after target ↦ Going next after target left
     ]
 stepped levels Fresh = Fresh
 stepped levels (Over result left) = Over result left

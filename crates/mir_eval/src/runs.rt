@@ -96,7 +96,7 @@ impl Run {
 
     /// Runs one block, and is over where that ends the run. `levels` levels of nesting are left for its
     /// value.
-    #[tactic(auto, unfolding(crate::specs::Machine::stepped))]
+    #[tactic(auto, unfolding(crate::specs::Machine::stepped, mir::specs::Run::after_return))]
     pub(crate) fn step(&mut self, alloc: Global, levels: u32) -> Option<Phase>
         ensures on { IfNone result (going self.new ≡ stepped levels (going self.old)) }
         ensures over { IfSome result (λ phase. Reached phase (stepped levels (going self.old))) }

@@ -324,7 +324,7 @@ fn branch(
     discr: &OperandKind,
     targets: &SwitchTargets,
 ) -> Result<Exit, Fault>
-    ensures { next_of frame.entry.cells.now stack.now result ≡ switched (memory stack.now) targets.now (operand_bytes (frame_of frame.entry) (memory stack.now) discr.now) }
+    ensures { next_of (frame_of frame.entry) stack.now result ≡ switched (frame_of frame.entry) (memory stack.now) targets.now (operand_bytes (frame_of frame.entry) (memory stack.now) discr.now) }
 {
     match operand(frame, stack, discr) {
         Some(bytes) => {
@@ -345,7 +345,7 @@ fn terminate(
     stack: &[u8],
     terminator: &Option<Terminator>,
 ) -> Result<Exit, Fault>
-    ensures { next_of frame.entry.cells.now stack.now result ≡ terminated (frame_of frame.entry) (memory stack.now) terminator.now }
+    ensures { next_of (frame_of frame.entry) stack.now result ≡ terminated (frame_of frame.entry) (memory stack.now) terminator.now }
 {
     match terminator {
         Some(terminator) => match &terminator.kind {
@@ -367,7 +367,7 @@ pub(crate) fn enter(
     stack: &mut [u8],
     block: BasicBlockId,
 ) -> Result<Exit, Fault>
-    ensures { next_of frame.entry.cells.now stack.new result ≡ next_from (frame_of frame.entry) (memory stack.old) (slice_get frame.entry.body.now.basic_blocks block.0) 0 }
+    ensures { next_of (frame_of frame.entry) stack.new result ≡ next_from (frame_of frame.entry) (memory stack.old) (slice_get frame.entry.body.now.basic_blocks block.0) 0 }
 {
     match frame.body.basic_blocks.get(block.0 as u64) {
         Some(block) => match execute_all(frame, stack, block.statements.as_slice()) {
@@ -379,7 +379,7 @@ pub(crate) fn enter(
 }
 
 /// Runs blocks to the end of the run, at most `left` of them.
-#[tactic(auto, unfolding(mir::specs::Run::entering, mir::specs::Run::going_on), using(crate::proofs::Blocks::enter_one))]
+#[tactic(auto, unfolding(mir::specs::Run::entering, mir::specs::Run::going_on, mir::specs::Run::after_return), using(crate::proofs::Blocks::enter_one))]
 pub(crate) fn enter_all(
     frame: StackFrame<'_>,
     stack: &mut [u8],

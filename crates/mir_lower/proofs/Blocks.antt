@@ -28,16 +28,17 @@ use Rattle.source_meaning.specs.Valid.{itself, HasPlainForm, IsPlainNode, IsPlai
 use Rattle.source_meaning.proofs.Costs.{then-then, then-same, then-go}
 use Rattle.source_meaning.proofs.Marks.{let_marks, expression_marks, tail_marks, no_tail_marks, inner_marks, block_marks}
 use Rattle.source_meaning.proofs.Parts.{block_parts, sized_part_is_part}
-use Rattle.mir_lower.specs.Does.{Point, here, IsFrameOf, Comes, Reaches, Performs, Nothing, LeadsTo, DoesStatements}
+use Rattle.mir_lower.specs.Does.{here, IsFrameOf, Reaches, Performs, Nothing, LeadsTo, DoesStatements}
 use Rattle.mir_lower.specs.Graph.{Shape, with_statement, with_scope, local_of}
 use Rattle.mir_lower.specs.Growth.{Grows, IsSound, IsOpen, IsReady}
 use Rattle.mir_lower.specs.Leaving.{Idles}
 use Rattle.mir_lower.specs.Lowered.{IsPlainWithin, Keeps, LaysOut, IsGiven, Binds, LowersInto, LowersPlace, LowersStatements, LowersTail, LowersOwn}
+use Rattle.mir_lower.specs.Runs.{Point, Comes}
 use Rattle.mir_lower.proofs.Growing.{grows-refl, grows-trans, with_statement-grows, with_scope-grows}
 use Rattle.mir_lower.proofs.Laid.{layouts-before, plain-part, one-of}
 use Rattle.mir_lower.proofs.Leaving.{here-scope}
 use Rattle.mir_lower.proofs.Operations.{assignment, name-computes}
-use Rattle.mir_lower.proofs.Reaching.{comes-refl, comes-from, reaches-then}
+use Rattle.mir_lower.proofs.Reaching.{keeps-refl, comes-refl, comes-from, reaches-then}
 use Rattle.mir_lower.proofs.Running.{comes-statement}
 use Rattle.mir_lower.proofs.Sound.{with_statement-sound, with_statement-open, with_statement-scope}
 use Rattle.mir_lower.proofs.Sparing.{spares-refl, spares-trans, with_statement-spares, scoped-spares}
@@ -61,7 +62,7 @@ idles-read source s new place span sound opened same =
       sound = with_statement-sound source st s opened sound;
       «open» = with_statement-open st s opened;
       scope = with_statement-scope st s opened;
-      comes = λ whole frame grows is memory. comes-statement st s whole frame memory opened grows is memory (read-does-nothing frame memory place);
+      comes = λ whole frame grows is memory. comes-statement st s whole frame memory opened grows is memory (read-does-nothing frame memory place) (keeps-refl frame memory);
     })
 
 -- a name is bound to the value of a cell

@@ -6,10 +6,11 @@ use Rattle.mir.specs.Run.{Frame, operand_bytes}
 use Rattle.numbers.specs.Bytes.{value_of}
 use Rattle.source_meaning.specs.Source.{Source, Cell}
 use Rattle.mir_lower.specs.Branches.{IsReserved, IsForked, HasGoneOn}
-use Rattle.mir_lower.specs.Does.{Point, here, IsFrameOf, Comes}
+use Rattle.mir_lower.specs.Does.{here, IsFrameOf}
 use Rattle.mir_lower.specs.Graph.{Shape, no_statements}
 use Rattle.mir_lower.specs.Growth.{Grows, Spares}
 use Rattle.mir_lower.specs.Lowered.{Keeps}
+use Rattle.mir_lower.specs.Runs.{Point, Comes}
 use Rattle.mir_lower.proofs.Growing.{grows-trans}
 use Rattle.mir_lower.proofs.Lists.{slice_get_below}
 use Rattle.mir_lower.proofs.Sparing.{spares-trans, spares-entered}

@@ -13,10 +13,11 @@ use Rattle.source_meaning.specs.Source.{Source, unadjusted, own_type, node_type,
 use Rattle.source_meaning.specs.Steps.{Operand}
 use Rattle.source_meaning.specs.Valid.{IsLaidOut, NeedsLayout, sized_part, IsLaidOutNode}
 use Rattle.source_meaning.proofs.Parts.{sized_operand}
-use Rattle.mir_lower.specs.Does.{here, IsFrameOf, Comes, Landings, Reaches, Nothing}
+use Rattle.mir_lower.specs.Does.{here, IsFrameOf, Landings, Reaches, Nothing}
 use Rattle.mir_lower.specs.Graph.{Shape}
 use Rattle.mir_lower.specs.Growth.{Grows}
 use Rattle.mir_lower.specs.Lowered.{IsPlainWithin, HasLayouts, LowersInto, LowersOperand}
+use Rattle.mir_lower.specs.Runs.{Comes}
 use Rattle.mir_lower.proofs.Branches.{IsBranched, comes-first, comes-second, first-joins, second-joins}
 use Rattle.mir_lower.proofs.Laid.{layouts-before, one-of}
 use Rattle.mir_lower.proofs.Reaching.{reaches-after, reaches-then}

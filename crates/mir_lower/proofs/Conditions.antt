@@ -23,10 +23,11 @@ use Rattle.source_meaning.specs.Valid.{itself, own, inside, sized_part, sized_pa
 use Rattle.source_meaning.proofs.Depth.{logic_operand_is_part, if_part_is_part, tail_is_part}
 use Rattle.source_meaning.proofs.Marks.{logic_marks, if_marks}
 use Rattle.source_meaning.proofs.Parts.{sized_part_is_part}
-use Rattle.mir_lower.specs.Does.{Stands, here, IsFrameOf, Holds, Comes, Landings, Reaches, Nothing, Fits}
+use Rattle.mir_lower.specs.Does.{Stands, here, IsFrameOf, Holds, Landings, Reaches, Nothing, Fits}
 use Rattle.mir_lower.specs.Graph.{Shape, with_statement, local_of}
 use Rattle.mir_lower.specs.Growth.{Grows, IsSound, IsOpen, IsReady}
 use Rattle.mir_lower.specs.Lowered.{IsPlainWithin, Keeps, HasLayouts, LaysOut, LowersInto, LowersOperand, LowersTail, LowersOwn}
+use Rattle.mir_lower.specs.Runs.{Comes}
 use Rattle.mir_lower.proofs.Branches.{IsBranched, grows5, grows3, grows1, branched-keeps}
 use Rattle.mir_lower.proofs.Branching.{reaches-branched, lays-tested, lays-into}
 use Rattle.mir_lower.proofs.Growing.{grows-trans}

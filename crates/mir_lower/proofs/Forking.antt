@@ -14,15 +14,16 @@ use Rattle.mir.specs.Switches.{first_target, target_of, pairs_of, otherwise_of}
 use Rattle.numbers.specs.Bytes.{value_of}
 use Rattle.source_meaning.specs.Source.{Source}
 use Rattle.mir_lower.specs.Branches.{IsReserved, IsForked, HasGoneOn}
-use Rattle.mir_lower.specs.Does.{Point, here, Comes, start_of}
+use Rattle.mir_lower.specs.Does.{here}
 use Rattle.mir_lower.specs.Graph.{Shape, with_terminator, with_reserved, with_entered}
 use Rattle.mir_lower.specs.Growth.{Spares, IsSound, IsOpen}
+use Rattle.mir_lower.specs.Runs.{Point, Comes, start_of}
 use Rattle.mir_lower.proofs.Branches.{reserved-spared}
 use Rattle.mir_lower.proofs.Growing.{grows-trans}
 use Rattle.mir_lower.proofs.Reserving.{Reserves, reserves, LeadsOn, leads-on}
 use Rattle.mir_lower.proofs.Sparing.{spares-trans, spares-entered}
 
-pub goto-leads : (frame : Frame) (memory : Memory) (to : BasicBlockId) (span : MirSpan) → terminated frame memory (Some (record { span = span; kind = Goto to })) ≡ GoesTo memory to.0
+pub goto-leads : (frame : Frame) (memory : Memory) (to : BasicBlockId) (span : MirSpan) → terminated frame memory (Some (record { span = span; kind = Goto to })) ≡ GoesTo frame memory to.0
 unfolding terminated
 goto-leads frame memory to span = refl
 
@@ -49,11 +50,11 @@ chosen : {A : Type 0} (one other : A) (test : Bool) → test ≡ true → (if te
 chosen one other test is = ap (λ t. if t then one else other) is
 
 -- a switch goes by the number that its operand's bytes are
-switch-leads : (frame : Frame) (memory : Memory) (discr : Operand) (targets : SwitchTargets) (span : MirSpan) (bytes : List ℕ) → operand_bytes frame memory discr.kind ≡ Some bytes → length bytes ≤ 16 → terminated frame memory (Some (record { span = span; kind = SwitchInt discr targets })) ≡ GoesTo memory (target_of targets (value_of bytes)).0
+switch-leads : (frame : Frame) (memory : Memory) (discr : Operand) (targets : SwitchTargets) (span : MirSpan) (bytes : List ℕ) → operand_bytes frame memory discr.kind ≡ Some bytes → length bytes ≤ 16 → terminated frame memory (Some (record { span = span; kind = SwitchInt discr targets })) ≡ GoesTo frame memory (target_of targets (value_of bytes)).0
 unfolding terminated switched
 switch-leads frame memory discr targets span bytes found short =
     let fits : nat_le (length bytes) 16 ≡ true = grind (arith, nat_tests) in
-    ap (switched memory targets) found ∙ chosen _ _ (nat_le (length bytes) 16) fits
+    ap (switched frame memory targets) found ∙ chosen _ _ (nat_le (length bytes) 16) fits
 
 unequal : (m n : ℕ) → m ≢ n → (m == n) ≡ false
 unequal m n differ = grind (arith, nat_tests)
@@ -107,10 +108,10 @@ forks source s0 s1 s2 s3 new discr targets span number taken other join sound op
       other_new = omega arith;
       join_new = omega arith;
       taken = λ whole frame grows is memory bytes found short equal.
-          let to : GoesTo memory (target_of targets (value_of bytes)).0 ≡ GoesTo memory taken = ap (λ n. GoesTo memory (target_of targets n).0) equal ∙ ap (GoesTo memory) parts.same in
+          let to : GoesTo frame memory (target_of targets (value_of bytes)).0 ≡ GoesTo frame memory taken = ap (λ n. GoesTo frame memory (target_of targets n).0) equal ∙ ap (GoesTo frame memory) parts.same in
           let comes = leads.comes whole frame grows is memory taken (switch-leads frame memory discr targets span bytes found short ∙ to) in
           subst (λ (p : Point). Comes frame 1 p memory (here new) memory) begins (subst (λ (p : Point). Comes frame 1 (here s3) memory p memory) (sym leads.begins) comes);
       left = λ whole frame grows is memory bytes found short differ.
-          let comes = leads.comes whole frame grows is memory other (switch-leads frame memory discr targets span bytes found short ∙ ap (GoesTo memory) (parts.differ (value_of bytes) differ)) in
+          let comes = leads.comes whole frame grows is memory other (switch-leads frame memory discr targets span bytes found short ∙ ap (GoesTo frame memory) (parts.differ (value_of bytes) differ)) in
           subst (λ (p : Point). Comes frame 1 p memory (start_of other) memory) begins comes;
     }

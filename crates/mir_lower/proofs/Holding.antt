@@ -10,9 +10,10 @@ use Rattle.mir.specs.declared.statement.StatementKind.TheVariants.{Assign}
 use Rattle.mir.specs.Memory.{Interval, Memory, bytes_at, with_bytes}
 use Rattle.mir.specs.Run.{Frame, after_statement, copied, rvalue_bytes, bad_write}
 use Rattle.source_meaning.specs.Source.{Source, Cell, Result as Slot, Node, Binding, Never, Store, same_cell, with_cell_bytes}
-use Rattle.mir_lower.specs.Does.{local_bytes, IsFrameOf, Holds}
+use Rattle.mir_lower.specs.Does.{IsFrameOf, Holds}
 use Rattle.mir_lower.specs.Graph.{Shape, local_of}
 use Rattle.mir_lower.specs.Growth.{IsSound}
+use Rattle.mir_lower.specs.Runs.{local_bytes, KeepsOthers}
 use Rattle.mir_lower.proofs.Stack.{length-bytes_at, can_write, read-written, read-apart}
 
 -- one cell or two, and where it is one, `same_cell` says so
@@ -66,9 +67,9 @@ others-stay s frame is memory later l k cell bytes old differ found written size
     ∙ read-apart memory later cell other.0 bytes written size (is.apart l k cell other.0 differ found other.1)
     ∙ other.2
 
--- as many bytes as a cell holds can be assigned to its local, and memory then holds the store with them
+-- as many bytes as a cell holds can be assigned to its local; memory then holds the store with them, and else is as it was
 pub assigns : (source : Source) (s : Shape) (frame : Frame) → IsSound source s → IsFrameOf s frame → (store : Store) (memory : Memory) → Holds s frame store memory → (c : Cell) (place : Place) (rvalue : Rvalue) (bytes : List ℕ) → local_of s c ≡ Some place.local.0 → rvalue_bytes frame memory rvalue ≡ Ok bytes → length bytes ≡ length (store c) →
-    (later : Memory) × (after_statement frame memory (Assign place rvalue) ≡ Ok later) × Holds s frame (with_cell_bytes store c bytes) later
+    (later : Memory) × (after_statement frame memory (Assign place rvalue) ≡ Ok later) × Holds s frame (with_cell_bytes store c bytes) later × KeepsOthers frame memory later
 unfolding after_statement copied
 assigns source s frame sound is store memory holds c place rvalue bytes local computed long =
     let at = interval-of frame memory place.local.0 (store c) (holds.shows c place.local.0 local) in
@@ -89,4 +90,5 @@ assigns source s frame sound is store memory holds c place rvalue bytes local co
             ∙ ap (λ b. Some (cond b bytes (store d))) (sym two.1))
             (cells c d);
       },
+      λ interval old apart found. read-apart memory can.0 at.0 interval bytes can.1 size (apart place.local.0 at.0 at.1) ∙ found,
     )

@@ -10,12 +10,14 @@ use Rattle.mir.specs.Memory.{Memory}
 use Rattle.mir.specs.Run.{Frame, after_statement}
 use Rattle.source_meaning.specs.Core.{is_path}
 use Rattle.source_meaning.specs.Source.{Source, Cell, Node, Never, unadjusted, diverges, own_type, node_type, binding_type}
-use Rattle.mir_lower.specs.Does.{Point, here, Comes}
+use Rattle.mir_lower.specs.Does.{here}
 use Rattle.mir_lower.specs.Graph.{Shape, binding_local, with_statement, with_temp, with_never, with_mark, temp_of, never_of, local_of}
 use Rattle.mir_lower.specs.Growth.{count_at, Grows, Spares, IsSound, IsOpen, IsReady, IsReadyPart}
 use Rattle.mir_lower.specs.Lowered.{IsGiven}
+use Rattle.mir_lower.specs.Runs.{Point, Comes}
 use Rattle.mir_lower.proofs.Growing.{grows-trans, with_statement-grows, with_scope-grows, with_temp-grows, temp_of-with_temp_same, with_never-grows, never_of-with_never_same}
 use Rattle.mir_lower.proofs.Leaving.{here-scope}
+use Rattle.mir_lower.proofs.Reaching.{keeps-refl}
 use Rattle.mir_lower.proofs.Running.{comes-statement}
 use Rattle.mir_lower.proofs.Sound.{with_statement-sound, with_statement-open, with_statement-scope, with_temp-sound, with_temp-open, with_temp-scope, with_never-sound, with_never-open, with_never-scope, with_scope-sound, with_scope-open}
 use Rattle.mir_lower.proofs.Sparing.{spares-trans, with_statement-spares, with_temp-spares, with_never-spares, with_scope-spares}
@@ -124,7 +126,7 @@ given-marked source s0 s1 s2 c local span marked same =
       found = local_of-grows s1 (with_statement live s1) grown c local.0 marked.found;
       comes = λ whole frame grows is memory.
           subst (λ (p : Point). Comes frame 0 p memory (here (with_statement live s1)) memory) marked.same_here
-          (comes-statement live s1 whole frame memory marked.«open» grows is memory (live-does-nothing frame memory local));
+          (comes-statement live s1 whole frame memory marked.«open» grows is memory (live-does-nothing frame memory local) (keeps-refl frame memory));
     })
 
 -- where a binding has no local, the body has no such binding, or a closure owns it

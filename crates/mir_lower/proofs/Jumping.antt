@@ -16,11 +16,12 @@ use Rattle.source_meaning.specs.Steps.{tail_steps, parts_of}
 use Rattle.source_meaning.specs.Valid.{itself_in, own, inside, sized_part, sized_parts, FitsAround, HasPlainTarget, IsLaidOut, IsLaidOutNode, NeedsLayout}
 use Rattle.source_meaning.proofs.Marks.{break_marks, continue_marks, no_tail_marks}
 use Rattle.source_meaning.proofs.Parts.{sized_part_is_part}
-use Rattle.mir_lower.specs.Does.{Entry, here, IsFrameOf, Holds, Comes, Before, Landings, Lands, Reaches, Nothing, Fronts, FrontAll, Stands}
+use Rattle.mir_lower.specs.Does.{here, IsFrameOf, Holds, AtPoint, Landings, Lands, Reaches, Nothing, Fronts, FrontAll, Stands}
 use Rattle.mir_lower.specs.Graph.{Shape, OpenTarget, local_of, meant_target}
 use Rattle.mir_lower.specs.Growth.{Grows, IsInside, IsSound, IsReady}
 use Rattle.mir_lower.specs.Jumps.{HasJumped}
 use Rattle.mir_lower.specs.Lowered.{IsPlainWithin, LaysOut, LowersOwn, LowersTail, HasLayouts}
+use Rattle.mir_lower.specs.Runs.{Entry, Comes}
 use Rattle.mir_lower.proofs.Growing.{grows-trans}
 use Rattle.mir_lower.proofs.Laid.{layouts-before, plain-part, alone, one-of}
 use Rattle.mir_lower.proofs.Reaching.{reaches-then}
@@ -93,7 +94,7 @@ module _ (source : Source) (s0 s1 s2 : Shape) (e : ℕ) (label : Option LabelId)
       let same-cell : front.path.cell ≡ cell = sound.allotted.own front.path.cell cell target.local fronts.local (local_of-grows s0 whole grown0 cell target.local around-it.placed.found) in
       let to : Path = record { cell = cell } in
       let same-path : to ≡ front.path = ap (λ (c : Cell). record { cell = c }) (sym same-cell) in
-      let landing : lands (Break front.opened.node) ≡ Before target.end_block = ap (λ (o : Opened). lands (Break o.node)) fronts.opened ∙ fronts.breaks in
+      let landing : lands (Break front.opened.node) ≡ AtPoint (Entry target.end_block) = ap (λ (o : Opened). lands (Break o.node)) fronts.opened ∙ fronts.breaks in
       let counted : leaving source around value front ≡ drops source (drop target.kept s1.scope) =
       ap (λ (marks : List Cell). drops source (drop front.kept (marks ++ marked_by_tail source value))) stands.marks
       ∙ ap (λ (n : ℕ). drops source (drop n (s0.scope ++ marked_by_tail source value))) fronts.kept
@@ -141,7 +142,7 @@ module _ (source : Source) (s0 s1 : Shape) (e : ℕ) (label : Option LabelId) (t
       let found = fronts-meant whole lands label s0.targets around.targets target stands.targets meant-is in
       let front = found.0 in
       let fronts = found.2 in
-      let landing : lands (Continue front.opened.node) ≡ Before target.begin_block = ap (λ (o : Opened). lands (Continue o.node)) fronts.opened ∙ fronts.continues in
+      let landing : lands (Continue front.opened.node) ≡ AtPoint (Entry target.begin_block) = ap (λ (o : Opened). lands (Continue o.node)) fronts.opened ∙ fronts.continues in
       let counted : leaving source around None front ≡ drops source (drop target.kept s0.scope) =
       ap (λ (marks : List Cell). drops source (drop front.kept (marks ++ marked_by_tail source None))) stands.marks
       ∙ ap (λ (n : ℕ). drops source (drop n (s0.scope ++ marked_by_tail source None))) fronts.kept

@@ -13,17 +13,18 @@ use Rattle.source_meaning.specs.Around.{is_meant}
 use Rattle.source_meaning.specs.Source.{Source}
 use Rattle.mir_lower.specs.declared.graph.LoopBlocks.{LoopBlocks}
 use Rattle.mir_lower.specs.Branches.{IsReserved, HasGoneOn}
-use Rattle.mir_lower.specs.Does.{Point, Entry, here, Comes}
+use Rattle.mir_lower.specs.Does.{here}
 use Rattle.mir_lower.specs.Graph.{Shape, OpenTarget, target_of_blocks, targets_of, meant_target, with_targets, with_reserved, with_terminator, with_block, temp_of, never_of}
 use Rattle.mir_lower.specs.Growth.{statement_at, terminator_at, count_at, Grows, Spares, IsSound, IsOpen}
 use Rattle.mir_lower.specs.Jumps.{IsEntered, HasJumped}
 use Rattle.mir_lower.specs.Leaving.{Idles}
+use Rattle.mir_lower.specs.Runs.{Point, Entry, Comes}
 use Rattle.mir_lower.proofs.Branches.{reserved-spared, reserved-gone}
 use Rattle.mir_lower.proofs.Forking.{goto-leads}
 use Rattle.mir_lower.proofs.Growing.{grows-trans, with_terminator-grows, with_block-grows}
 use Rattle.mir_lower.proofs.Leaving.{heads-ended}
 use Rattle.mir_lower.proofs.Lists.{take-next}
-use Rattle.mir_lower.proofs.Reaching.{comes-trans}
+use Rattle.mir_lower.proofs.Reaching.{comes-on}
 use Rattle.mir_lower.proofs.Reserving.{Reserves, reserves}
 use Rattle.mir_lower.proofs.Sound.{sound_by, with_terminator-sound, with_terminator-scope, with_block-sound, with_block-open, with_block-scope}
 use Rattle.mir_lower.proofs.Sparing.{spares-trans, spares-entered, with_terminator-spares, with_block-spares}
@@ -52,12 +53,6 @@ spares-targeted a b spares = record { others = spares.others; moves = spares.mov
 
 pub spares-retargeted : (a b : Shape) (targets : List OpenTarget) → Spares a b → Spares (with_targets targets a) (with_targets targets b)
 spares-retargeted a b targets spares = record { others = spares.others; moves = spares.moves; many = spares.many; targets = refl }
-
--- one point after another, where the second is reached over no block
-pub comes-on : (frame : Frame) (turns : ℕ) (from at to : Point) (memory middle later : Memory) → Comes frame turns from memory at middle → Comes frame 0 at middle to later → Comes frame turns from memory to later
-comes-on frame turns from at to memory middle later comes next =
-    let plain : turns + 0 ≡ turns = omega arith in
-    subst (λ (n : ℕ). Comes frame n from memory to later) plain (comes-trans frame turns 0 from at memory middle comes to later next)
 
 -- the block where a loop begins is reserved up to its end
 pub begin-reserved : (source : Source) (s0 r1 r2 : Shape) (begin end : ℕ) → IsSound source s0 → IsOpen s0 → begin ≡ length s0.blocks → r1 ≡ with_reserved s0 → end ≡ length r1.blocks → r2 ≡ with_reserved r1 → IsReserved r2 begin

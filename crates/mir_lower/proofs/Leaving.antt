@@ -12,16 +12,16 @@ use Rattle.mir.specs.declared.span.MirSpan.{MirSpan}
 use Rattle.mir.specs.declared.statement.Statement.{Statement}
 use Rattle.mir.specs.declared.statement.StatementKind.TheVariants.{StorageDead}
 use Rattle.mir.specs.Memory.{Memory}
-use Rattle.mir.specs.Run.{Frame, Next, Stops, GoesTo, Faulted, Returned, returned, after_statement, after_statements, terminated, next_from, going_on, running, entering, out_of_blocks}
+use Rattle.mir.specs.Run.{Frame, Next, Stops, GoesTo, Faulted, after_statement, after_statements, terminated, next_from, going_on, running, entering, out_of_blocks}
 use Rattle.source_meaning.specs.Source.{Source, Cell}
-use Rattle.mir_lower.specs.Does.{Point, Within, Entry, start_of, here, run_from, local_bytes, IsFrameOf, Comes}
+use Rattle.mir_lower.specs.Does.{here, IsFrameOf}
 use Rattle.mir_lower.specs.Graph.{Shape, no_statements, ended, with_statement, with_terminator, with_block, with_scope}
 use Rattle.mir_lower.specs.Growth.{count_at, Grows, IsSound, IsOpen}
 use Rattle.mir_lower.specs.Leaving.{Idles}
-use Rattle.mir_lower.specs.Simulates.{EndsAfter}
+use Rattle.mir_lower.specs.Runs.{Point, Within, Entry, Exit, start_of, run_from, Comes}
 use Rattle.mir_lower.proofs.Growing.{current_of, grows-refl, grows-trans, with_statement-grows, with_terminator-is, with_terminator-grows, with_block-grows, with_scope-grows}
 use Rattle.mir_lower.proofs.Lists.{slice_get-last, slice_get-set_same}
-use Rattle.mir_lower.proofs.Reaching.{none-entered, comes-refl, comes-trans, comes-from}
+use Rattle.mir_lower.proofs.Reaching.{none-entered, keeps-refl, comes-refl, comes-trans, comes-from}
 use Rattle.mir_lower.proofs.Running.{here-is, comes-statement}
 use Rattle.mir_lower.proofs.Sound.{with_statement-sound, with_statement-open, with_statement-scope, with_terminator-sound, with_terminator-scope, with_block-sound, with_block-open, with_block-scope, with_scope-sound, with_scope-open}
 use Rattle.mir_lower.proofs.Sparing.{spares-refl, spares-trans, with_statement-spares, with_terminator-spares, with_block-spares, with_scope-spares}
@@ -34,9 +34,9 @@ drop_all (x ∷ xs) = drop_all xs
 pub entering-suc : (budget : ℕ) (frame : Frame) (memory : Memory) (block : ℕ) → entering (suc budget) frame memory block ≡ running budget frame memory block 0
 unfolding entering running going_on
 entering-suc budget frame memory block = by_next (next_from frame memory (slice_get frame.body.basic_blocks block) 0) where
-  by_next : (next : Next) → elim next [ Stops ending ↦ record { ending = ending; left = budget } | GoesTo after target ↦ entering budget frame after target ] ≡ going_on budget frame next
+  by_next : (next : Next) → elim next [ Stops ending ↦ record { ending = ending; left = budget } | GoesTo other after target ↦ entering budget other after target ] ≡ going_on budget next
   by_next (Stops ending) = refl
-  by_next (GoesTo after target) = refl
+  by_next (GoesTo other after target) = refl
 
 -- behind its last statement a block does what its terminator says
 next-at-end : (frame : Frame) (memory : Memory) (block : BasicBlock) → next_from frame memory (Some block) (length block.statements) ≡ terminated frame memory block.terminator
@@ -53,13 +53,13 @@ module _ (t : Terminator) (s whole : Shape) (frame : Frame) (opened : IsOpen s) 
       ∙ grows.ended s.current (ended t b.0) t
       (ap (λ (n : Shape). slice_get n.blocks s.current) (with_terminator-is t s b.0 b.1) ∙ slice_get-set_same s.blocks s.current (ended t b.0) opened.there) refl
 
-  pub run-terminator : (memory : Memory) (budget : ℕ) → run_from frame memory (here s) budget ≡ going_on budget frame (terminated frame memory (Some t))
+  pub run-terminator : (memory : Memory) (budget : ℕ) → run_from frame memory (here s) budget ≡ going_on budget (terminated frame memory (Some t))
   unfolding running
   run-terminator memory budget =
       let b = current_of s opened in
       ap (λ (p : Point). run_from frame memory p budget) (here-is s b.0 b.1)
-      ∙ ap (λ o. going_on budget frame (next_from frame memory o (length b.0.statements))) (ended-there (b.0, b.1))
-      ∙ ap (going_on budget frame) (next-at-end frame memory (ended t b.0))
+      ∙ ap (λ o. going_on budget (next_from frame memory o (length b.0.statements))) (ended-there (b.0, b.1))
+      ∙ ap (going_on budget) (next-at-end frame memory (ended t b.0))
 
 here-with_block : (s : Shape) → here (with_block s) ≡ Within (length s.blocks) 0
 unfolding with_block count_at
@@ -70,7 +70,7 @@ unfolding entering
 entering-none frame memory block = refl
 
 -- where the terminator leads to a block, the run is about to enter it
-pub heads-ended : (t : Terminator) (s whole : Shape) (frame : Frame) → IsOpen s → Grows (with_terminator t s) whole → IsFrameOf whole frame → (memory : Memory) (target : ℕ) → terminated frame memory (Some t) ≡ GoesTo memory target → Comes frame 0 (here s) memory (Entry target) memory
+pub heads-ended : (t : Terminator) (s whole : Shape) (frame : Frame) → IsOpen s → Grows (with_terminator t s) whole → IsFrameOf whole frame → (memory : Memory) (target : ℕ) → terminated frame memory (Some t) ≡ GoesTo frame memory target → Comes frame 0 (here s) memory (Entry target) memory
 unfolding going_on
 heads-ended t s whole frame opened grows is memory target goes =
     record {
@@ -78,8 +78,9 @@ heads-ended t s whole frame opened grows is memory target goes =
           let plain : 0 + more ≡ more = omega arith in
           ap (run_from frame memory (here s)) plain
           ∙ run-terminator t s whole frame opened grows is memory more
-          ∙ ap (going_on more frame) goes;
+          ∙ ap (going_on more) goes;
       with_fewer = none-entered (run_from frame memory (here s));
+      others = keeps-refl frame memory;
     }
 
 -- and enters it
@@ -92,15 +93,16 @@ enters-block frame memory block =
       with_fewer = λ fewer less.
           let none : fewer ≡ 0 = omega arith in
           ap (run_from frame memory (Entry block)) none ∙ entering-none frame memory block;
+      others = keeps-refl frame memory;
     }
 
 -- where the terminator leads to a block, the run reaches its start
-pub comes-ended : (t : Terminator) (s whole : Shape) (frame : Frame) → IsOpen s → Grows (with_terminator t s) whole → IsFrameOf whole frame → (memory : Memory) (target : ℕ) → terminated frame memory (Some t) ≡ GoesTo memory target → Comes frame 1 (here s) memory (start_of target) memory
+pub comes-ended : (t : Terminator) (s whole : Shape) (frame : Frame) → IsOpen s → Grows (with_terminator t s) whole → IsFrameOf whole frame → (memory : Memory) (target : ℕ) → terminated frame memory (Some t) ≡ GoesTo frame memory target → Comes frame 1 (here s) memory (start_of target) memory
 comes-ended t s whole frame opened grows is memory target goes =
     comes-from frame 1 (here s) (Entry target) (start_of target) memory memory memory (heads-ended t s whole frame opened grows is memory target goes) (enters-block frame memory target)
 
 -- a drop goes on at its target
-drop-leads : (frame : Frame) (memory : Memory) (place : Place) (target : BasicBlockId) (unwind : Option BasicBlockId) (span : MirSpan) → terminated frame memory (Some (record { span = span; kind = Drop place target unwind })) ≡ GoesTo memory target.0
+drop-leads : (frame : Frame) (memory : Memory) (place : Place) (target : BasicBlockId) (unwind : Option BasicBlockId) (span : MirSpan) → terminated frame memory (Some (record { span = span; kind = Drop place target unwind })) ≡ GoesTo frame memory target.0
 unfolding terminated
 drop-leads frame memory place target unwind span = refl
 
@@ -140,7 +142,7 @@ idles-dead source s new local span sound opened same =
       sound = with_statement-sound source dead s opened sound;
       «open» = with_statement-open dead s opened;
       scope = with_statement-scope dead s opened;
-      comes = λ whole frame grows is memory. comes-statement dead s whole frame memory opened grows is memory (dead-does-nothing frame memory local);
+      comes = λ whole frame grows is memory. comes-statement dead s whole frame memory opened grows is memory (dead-does-nothing frame memory local) (keeps-refl frame memory);
     })
 
 pub idles-refl : (source : Source) (s : Shape) → IsSound source s → IsOpen s → Idles source s s 0
@@ -159,17 +161,17 @@ idles-trans source a b c first second one two =
           comes-trans frame first second (here a) (here b) memory memory (one.comes whole frame (grows-trans b c whole two.grows grows) is memory) (here c) memory (two.comes whole frame grows is memory);
     }
 
--- a run that reaches the end of a block that returns ends with the return slot's bytes
-pub ends-return : (s whole : Shape) (frame : Frame) (span : MirSpan) (memory : Memory) (bytes : List ℕ) → IsOpen s → Grows (with_terminator (record { span = span; kind = Return }) s) whole → IsFrameOf whole frame → local_bytes frame memory 0 ≡ Some bytes → EndsAfter 0 (Returned bytes) (run_from frame memory (here s))
-unfolding going_on terminated local_bytes
-ends-return s whole frame span memory bytes opened grows is slot =
+-- a run that reaches the end of a block that returns comes to where the body returns
+pub comes-return : (s whole : Shape) (frame : Frame) (span : MirSpan) (memory : Memory) → IsOpen s → Grows (with_terminator (record { span = span; kind = Return }) s) whole → IsFrameOf whole frame → Comes frame 0 (here s) memory Exit memory
+unfolding terminated
+comes-return s whole frame span memory opened grows is =
     record {
       with_more = λ more.
           let plain : 0 + more ≡ more = omega arith in
           ap (run_from frame memory (here s)) plain
-          ∙ run-terminator (record { span = span; kind = Return }) s whole frame opened grows is memory more
-          ∙ ap (λ o. record { ending = returned o; left = more }) slot;
-      with_fewer = λ fewer less. absurd (omega arith);
+          ∙ run-terminator (record { span = span; kind = Return }) s whole frame opened grows is memory more;
+      with_fewer = none-entered (run_from frame memory (here s));
+      others = keeps-refl frame memory;
     }
 
 -- the scope itself counts for nothing

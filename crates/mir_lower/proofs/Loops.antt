@@ -16,19 +16,20 @@ use Rattle.source_meaning.specs.Valid.{own, inside as needed_inside, sized_parts
 use Rattle.source_meaning.proofs.Marks.{loop_marks, labelled_marks}
 use Rattle.source_meaning.proofs.Parts.{sized_part_is_part, block_parts}
 use Rattle.mir_lower.specs.Branches.{HasGoneOn}
-use Rattle.mir_lower.specs.Does.{Point, Entry, here, start_of, IsFrameOf, Holds, Comes, Before, Landings, Lands, Reaches, Nothing, LeadsTo, FrontAll, Stands}
+use Rattle.mir_lower.specs.Does.{here, IsFrameOf, Holds, AtPoint, Landings, Lands, Reaches, Nothing, LeadsTo, FrontAll, Stands}
 use Rattle.mir_lower.specs.Graph.{Shape, OpenTarget, local_of, with_scope, with_targets}
 use Rattle.mir_lower.specs.Growth.{Grows, Spares, IsInside, IsSound, IsReady}
 use Rattle.mir_lower.specs.Jumps.{IsEntered}
 use Rattle.mir_lower.specs.Leaving.{Idles}
 use Rattle.mir_lower.specs.Lowered.{IsPlainWithin, LaysOut, LowersOwn, LowersPlace, LowersStatements, LowersTail}
+use Rattle.mir_lower.specs.Runs.{Point, Entry, start_of, Comes}
 use Rattle.mir_lower.proofs.Blocks.{scope-idles, does-block, lays-block}
 use Rattle.mir_lower.proofs.Growing.{grows-trans, with_scope-grows}
-use Rattle.mir_lower.proofs.Jumps.{with_targets-grows, here-targets, spares-retargeted, comes-on}
+use Rattle.mir_lower.proofs.Jumps.{with_targets-grows, here-targets, spares-retargeted}
 use Rattle.mir_lower.proofs.Branches.{spares-gone}
 use Rattle.mir_lower.proofs.Laid.{layouts-before, plain-part, one-of}
 use Rattle.mir_lower.proofs.Leaving.{enters-block}
-use Rattle.mir_lower.proofs.Reaching.{none-entered, comes-trans, reaches-after, reaches-then}
+use Rattle.mir_lower.proofs.Reaching.{none-entered, comes-on, comes-trans, reaches-after, reaches-then}
 use Rattle.mir_lower.proofs.Sparing.{spares-trans, scoped-spares}
 use Rattle.mir_lower.proofs.Steps.{local_of-grows, reaches-from, does-form}
 use Rattle.source_meaning.specs.Steps.{parts_of, statement_parts}
@@ -47,8 +48,8 @@ labelled-tail-part source e label statements (Some one) form =
 
 -- where jumps land inside a loop or a labelled block: those to it before its own blocks, and others where they land outside
 abbrev pub lands_inside : (e begin end : ℕ) → Landings → Landings
-lands_inside e begin end lands (Break target) = if target == e then Before end else lands (Break target)
-lands_inside e begin end lands (Continue target) = if target == e then Before begin else lands (Continue target)
+lands_inside e begin end lands (Break target) = if target == e then AtPoint (Entry end) else lands (Break target)
+lands_inside e begin end lands (Continue target) = if target == e then AtPoint (Entry begin) else lands (Continue target)
 lands_inside e begin end lands Return = lands Return
 
 module _ (whole : Shape) (frame : Frame) (lands : Landings) (e begin end : ℕ) (from at to : Point) (memory : Memory) where
@@ -60,11 +61,11 @@ module _ (whole : Shape) (frame : Frame) (lands : Landings) (e begin end : ℕ) 
   reaches-caught again ended again-does ended-does leaves (Go done store cost) does =
       reaches-after whole lands frame from at to memory does.0 (Nothing whole frame) cost does.1 (ended store) (ended-does store does.0 does.2)
   reaches-caught again ended again-does ended-does leaves (Jumps (Break target) store cost) does = by-test (target == e) does where
-    by-test : (test : Bool) → Lands whole frame from memory store cost.turns (if test then Before end else lands (Break target)) → Reaches whole lands frame from to memory (Nothing whole frame) (if test then Go tt store (plus cost (turns_alone 1)) else Jumps (Break target) store cost)
+    by-test : (test : Bool) → Lands whole frame from memory store cost.turns (if test then AtPoint (Entry end) else lands (Break target)) → Reaches whole lands frame from to memory (Nothing whole frame) (if test then Go tt store (plus cost (turns_alone 1)) else Jumps (Break target) store cost)
     by-test true lands-there = (lands-there.0, comes-trans frame cost.turns 1 from (Entry end) memory lands-there.0 lands-there.1 to lands-there.0 (leaves lands-there.0), lands-there.2, tt)
     by-test false lands-there = lands-there
   reaches-caught again ended again-does ended-does leaves (Jumps (Continue target) store cost) does = by-test (target == e) does where
-    by-test : (test : Bool) → Lands whole frame from memory store cost.turns (if test then Before begin else lands (Continue target)) → Reaches whole lands frame from to memory (Nothing whole frame) (if test then after cost (again store) else Jumps (Continue target) store cost)
+    by-test : (test : Bool) → Lands whole frame from memory store cost.turns (if test then AtPoint (Entry begin) else lands (Continue target)) → Reaches whole lands frame from to memory (Nothing whole frame) (if test then after cost (again store) else Jumps (Continue target) store cost)
     by-test true lands-there = reaches-after whole lands frame from (Entry begin) to memory lands-there.0 (Nothing whole frame) cost lands-there.1 (again store) (again-does store lands-there.0 lands-there.2)
     by-test false lands-there = lands-there
   reaches-caught again ended again-does ended-does leaves (Jumps Return store cost) does = does
@@ -99,8 +100,8 @@ fronts-outer old whole lands e begin end (target ∷ outer) (front ∷ others) i
         opened = first.opened;
         local = first.local;
         kept = first.kept;
-        breaks = ap (λ (test : Bool). if test then Before end else lands (Break target.opened.node)) other ∙ first.breaks;
-        continues = ap (λ (test : Bool). if test then Before begin else lands (Continue target.opened.node)) other ∙ first.continues;
+        breaks = ap (λ (test : Bool). if test then AtPoint (Entry end) else lands (Break target.opened.node)) other ∙ first.breaks;
+        continues = ap (λ (test : Bool). if test then AtPoint (Entry begin) else lands (Continue target.opened.node)) other ∙ first.continues;
       },
       fronts-outer old whole lands e begin end outer others (All-tail (IsInside old e) target outer insides) all.1,
     )
@@ -120,8 +121,8 @@ stands-inside source s0 s1 whole lands around e label target c ready entered ope
           opened = sym opened;
           local = local;
           kept = ap length stands.marks ∙ sym entered.kept;
-          breaks = ap (λ (test : Bool). if test then Before target.end_block else lands (Break target.opened.node)) own-test;
-          continues = ap (λ (test : Bool). if test then Before target.begin_block else lands (Continue target.opened.node)) own-test;
+          breaks = ap (λ (test : Bool). if test then AtPoint (Entry target.end_block) else lands (Break target.opened.node)) own-test;
+          continues = ap (λ (test : Bool). if test then AtPoint (Entry target.begin_block) else lands (Continue target.opened.node)) own-test;
         },
         fronts-outer s0 whole lands e target.begin_block target.end_block s0.targets around.targets ready.around.inside stands.targets,
       );

@@ -15,11 +15,12 @@ use Rattle.source_meaning.specs.Events.{marked, marked_as_operand}
 use Rattle.source_meaning.specs.Meaning.{constant_cost, level_at, literal_operand, named_place, operand_of, place_of}
 use Rattle.source_meaning.specs.Source.{Source, unadjusted, Cell, Node, Binding, Path, Store, Literally, At}
 use Rattle.source_meaning.proofs.Marks.{literal_operand_marks, operand_marks, place_marks, path_marks}
-use Rattle.mir_lower.specs.Does.{Stands, here, run_from, local_bytes, IsFrameOf, Holds, Comes, Landings, Reaches, Nothing, LeadsTo, Fits, Does, DoesPlace}
+use Rattle.mir_lower.specs.Does.{Stands, here, IsFrameOf, Holds, Landings, Reaches, Nothing, LeadsTo, Fits, Does, DoesPlace}
 use Rattle.mir_lower.specs.Graph.{Shape, local_of}
 use Rattle.mir_lower.specs.Growth.{Grows, IsSound, IsOpen}
 use Rattle.body_forms.specs.Literals.{IsLiteral}
 use Rattle.mir_lower.specs.Lowered.{IsGiven, IsNamed, LowersInto, LowersPlace, LowersOperand, Keeps}
+use Rattle.mir_lower.specs.Runs.{run_from, local_bytes, Comes}
 use Rattle.mir_lower.proofs.Growing.{grows-refl, grows-trans}
 use Rattle.mir_lower.proofs.Laid.{lays-literal, lays-name, lays-temp}
 use Rattle.mir_lower.proofs.Reaching.{none-entered, comes-refl, reaches-then}

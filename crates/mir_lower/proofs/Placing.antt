@@ -11,7 +11,7 @@ use Rattle.mir.specs.declared.body.Local.{Local}
 use Rattle.mir.specs.declared.errors.MirEvalError.{MirEvalError}
 use Rattle.mir.specs.declared.errors.MirEvalError as error
 use Rattle.mir.specs.Memory.{Interval, Memory, bytes_at, aligned, with_cell, placed, cell_before, cells_of}
-use Rattle.mir_lower.specs.Does.{AreApart}
+use Rattle.mir_lower.specs.Runs.{AreApart}
 
 -- an alignment doesn't go back
 aligned-above : (address align : ℕ) → 0 < align → address ≤ aligned address align

@@ -2,22 +2,27 @@
 use Rattle.std.proofs.Common.{◌≡◌, ℕ, ◌+◌, ◌-◌, ⊎_elim, ap, ◌∙◌, subst, arith}
 use Rattle.std.proofs.lemmas.Bool.{cases_lt}
 use Rattle.mir.specs.Memory.{Memory}
-use Rattle.mir.specs.Run.{Frame, Ending, Faulted, Returned, Ended}
+use Rattle.mir.specs.Run.{Frame, Ending, Faulted, Ended}
 use Rattle.source_meaning.specs.Ends.{Cost, End, Go, Jumps, Faults, Stuck, More, plus, after, then_do}
-use Rattle.source_meaning.specs.Source.{Result, Store}
-use Rattle.mir_lower.specs.Does.{Point, Entry, run_from, Holds, Comes, Landing, Nowhere, Before, Out, Landings, Lands, Reaches}
+use Rattle.source_meaning.specs.Source.{Store}
+use Rattle.mir_lower.specs.Does.{Holds, Landing, Nowhere, AtPoint, Landings, Lands, Reaches}
 use Rattle.mir_lower.specs.Graph.{Shape}
-use Rattle.mir_lower.specs.Simulates.{Enters, EndsAfter, error_of}
+use Rattle.mir_lower.specs.Runs.{Point, run_from, Comes, Enters, EndsAfter, error_of, KeepsOthers}
 
 -- each run enters no block at least
 pub none-entered : (run : ℕ → Ended) → Enters 0 run
 none-entered run fewer less = absurd (omega arith)
+
+-- memory that stays as it is
+pub keeps-refl : (frame : Frame) (memory : Memory) → KeepsOthers frame memory memory
+keeps-refl frame memory interval bytes apart found = found
 
 pub comes-refl : (frame : Frame) (at : Point) (memory : Memory) → Comes frame 0 at memory at memory
 comes-refl frame at memory =
     record {
       with_more = λ more. let plain : 0 + more ≡ more = omega arith in ap (run_from frame memory at) plain;
       with_fewer = none-entered (run_from frame memory at);
+      others = keeps-refl frame memory;
     }
 
 module _ (frame : Frame) (first second : ℕ) (from at : Point) (memory middle : Memory) (comes : Comes frame first from memory at middle) where
@@ -37,6 +42,7 @@ module _ (frame : Frame) (first second : ℕ) (from at : Point) (memory middle :
             let parts : first + second + more ≡ first + (second + more) = omega arith in
             ap (run_from frame memory from) parts ∙ comes.with_more (second + more) ∙ next.with_more more;
         with_fewer = enters-both next.with_fewer;
+        others = λ interval bytes apart found. next.others interval bytes apart (comes.others interval bytes apart found);
       }
 
   pub ends-after : (ending : Ending) → EndsAfter second ending (run_from frame middle at) → EndsAfter (first + second) ending (run_from frame memory from)
@@ -54,12 +60,17 @@ comes-from frame turns from at to memory middle later comes next =
     let plain : 0 + turns ≡ turns = omega arith in
     subst (λ (n : ℕ). Comes frame n from memory to later) plain (comes-trans frame 0 turns from at memory middle comes to later next)
 
+-- one point after another, where the second is reached over no block
+pub comes-on : (frame : Frame) (turns : ℕ) (from at to : Point) (memory middle later : Memory) → Comes frame turns from memory at middle → Comes frame 0 at middle to later → Comes frame turns from memory to later
+comes-on frame turns from at to memory middle later comes next =
+    let plain : turns + 0 ≡ turns = omega arith in
+    subst (λ (n : ℕ). Comes frame n from memory to later) plain (comes-trans frame turns 0 from at memory middle comes to later next)
+
 -- where a jump lands from a point on, after the run came to that point
 lands-after : (whole : Shape) (frame : Frame) (first second : ℕ) (from at : Point) (memory middle : Memory) (store : Store) (landing : Landing) → Comes frame first from memory at middle → Lands whole frame at middle store second landing → Lands whole frame from memory store (first + second) landing
 lands-after whole frame first second from at memory middle store Nowhere comes does = tt
-lands-after whole frame first second from at memory middle store (Before block) comes does =
-    (does.0, comes-trans frame first second from at memory middle comes (Entry block) does.0 does.1, does.2)
-lands-after whole frame first second from at memory middle store Out comes does = ends-after frame first second from at memory middle comes (Returned (store Result)) does
+lands-after whole frame first second from at memory middle store (AtPoint point) comes does =
+    (does.0, comes-trans frame first second from at memory middle comes point does.0 does.1, does.2)
 
 -- what an end does from a point on, after the run came to that point
 pub reaches-after : {A : Type 0} (whole : Shape) (lands : Landings) (frame : Frame) (from at to : Point) (memory middle : Memory) (claim : A → Type 0) (cost : Cost) → Comes frame cost.turns from memory at middle → (end : End A) → Reaches whole lands frame at to middle claim end → Reaches whole lands frame from to memory claim (after cost end)

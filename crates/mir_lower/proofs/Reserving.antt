@@ -8,9 +8,10 @@ use Rattle.mir.specs.Memory.{Memory}
 use Rattle.mir.specs.Run.{Frame, GoesTo, terminated}
 use Rattle.source_meaning.specs.Source.{Source}
 use Rattle.mir_lower.specs.Branches.{IsReserved}
-use Rattle.mir_lower.specs.Does.{Entry, here, IsFrameOf, Comes, start_of}
+use Rattle.mir_lower.specs.Does.{here, IsFrameOf}
 use Rattle.mir_lower.specs.Graph.{Shape, no_statements, ended, with_terminator, with_reserved, with_entered, temp_of, never_of}
 use Rattle.mir_lower.specs.Growth.{terminator_at, Grows, Spares, IsSound, IsOpen}
+use Rattle.mir_lower.specs.Runs.{Entry, Comes, start_of}
 use Rattle.mir_lower.proofs.Growing.{same_blocks, append_grows, current_of, grows_by, grows-trans, with_terminator-is, with_terminator-grows}
 use Rattle.mir_lower.proofs.Leaving.{heads-ended, comes-ended}
 use Rattle.mir_lower.proofs.Lists.{slice_get-front, slice_get-last, slice_get-set_other, slice_get_in, slice_get_below}
@@ -108,8 +109,8 @@ pub record LeadsOn (source : Source) (old new : Shape) (t : Terminator) (next : 
   pub current : new.current ≡ next
   pub begins : here new ≡ start_of next
   -- the run is about to enter the block that the terminator leads to, and then enters it
-  pub heads : (whole : Shape) (frame : Frame) → Grows new whole → IsFrameOf whole frame → (memory : Memory) (target : ℕ) → terminated frame memory (Some t) ≡ GoesTo memory target → Comes frame 0 (here old) memory (Entry target) memory
-  pub comes : (whole : Shape) (frame : Frame) → Grows new whole → IsFrameOf whole frame → (memory : Memory) (target : ℕ) → terminated frame memory (Some t) ≡ GoesTo memory target → Comes frame 1 (here old) memory (start_of target) memory
+  pub heads : (whole : Shape) (frame : Frame) → Grows new whole → IsFrameOf whole frame → (memory : Memory) (target : ℕ) → terminated frame memory (Some t) ≡ GoesTo frame memory target → Comes frame 0 (here old) memory (Entry target) memory
+  pub comes : (whole : Shape) (frame : Frame) → Grows new whole → IsFrameOf whole frame → (memory : Memory) (target : ℕ) → terminated frame memory (Some t) ≡ GoesTo frame memory target → Comes frame 1 (here old) memory (start_of target) memory
 
 with_terminator-others : (t : Terminator) (s : Shape) → IsOpen s → (at : ℕ) → at ≢ s.current → slice_get (with_terminator t s).blocks at ≡ slice_get s.blocks at
 with_terminator-others t s opened at apart =

@@ -1,4 +1,4 @@
--- `return`: its value goes to the result, all open scopes are left, and the run ends.
+-- `return`: its value goes to the result, all open scopes are left, and the body returns.
 use Rattle.std.proofs.Common.{◌≡◌, ℕ, ◌+◌, List, ◌++◌, Contains, Option, Some, None, refl, sym, ap, ◌∙◌, subst, arith}
 use Rattle.std.specs.Prelude.{flat_map, IfSome}
 use Rattle.types.specs.declared.ids.ExprId.{ExprId}
@@ -6,7 +6,7 @@ use Rattle.mir.specs.declared.body.Terminator.{Terminator}
 use Rattle.mir.specs.declared.body.TerminatorKind.TheVariants as kind
 use Rattle.mir.specs.declared.span.MirSpan.{MirSpan}
 use Rattle.mir.specs.Memory.{Memory}
-use Rattle.mir.specs.Run.{Frame, Returned}
+use Rattle.mir.specs.Run.{Frame}
 use Rattle.source_meaning.specs.Around.{Around}
 use Rattle.source_meaning.specs.Core as expr
 use Rattle.source_meaning.specs.Core.{CoreExpr}
@@ -18,17 +18,17 @@ use Rattle.source_meaning.specs.Steps.{tail_steps, parts_of}
 use Rattle.source_meaning.specs.Valid.{itself, own, inside, sized_part, sized_parts, HasPlainForm, HasPlainReturn, IsLaidOut, IsLaidOutNode, NeedsLayout}
 use Rattle.source_meaning.proofs.Marks.{return_marks}
 use Rattle.source_meaning.proofs.Parts.{sized_part_is_part}
-use Rattle.mir_lower.specs.Does.{here, run_from, IsFrameOf, Holds, Comes, Landings, Lands, Reaches, Nothing, Stands}
+use Rattle.mir_lower.specs.Does.{here, IsFrameOf, Holds, Landings, Lands, Reaches, Nothing, Stands}
 use Rattle.mir_lower.specs.Graph.{Shape, with_terminator, with_block}
 use Rattle.mir_lower.specs.Growth.{Grows, IsSound, IsOpen, IsReady}
 use Rattle.mir_lower.specs.Jumps.{HasReturned}
 use Rattle.mir_lower.specs.Leaving.{Idles}
 use Rattle.mir_lower.specs.Lowered.{IsPlainWithin, LaysOut, LowersOwn, LowersTail, HasLayouts}
-use Rattle.mir_lower.specs.Simulates.{EndsAfter}
+use Rattle.mir_lower.specs.Runs.{Exit, Comes}
 use Rattle.mir_lower.proofs.Growing.{grows-trans, with_terminator-grows, with_block-grows}
 use Rattle.mir_lower.proofs.Laid.{layouts-before, plain-part, one-of}
-use Rattle.mir_lower.proofs.Leaving.{ends-return}
-use Rattle.mir_lower.proofs.Reaching.{ends-after, reaches-then}
+use Rattle.mir_lower.proofs.Leaving.{comes-return}
+use Rattle.mir_lower.proofs.Reaching.{comes-on, reaches-then}
 use Rattle.mir_lower.proofs.Sound.{slot-there, with_terminator-sound, with_terminator-scope, with_block-sound, with_block-open, with_block-scope}
 use Rattle.mir_lower.proofs.Sparing.{spares-trans, with_terminator-spares, with_block-spares}
 use Rattle.mir_lower.proofs.Steps.{does-form}
@@ -47,12 +47,10 @@ returns source s0 s1 s2 new span turns idles same2 same3 =
       sound = with_block-sound source done (with_terminator-sound source t s1 opened idles.sound);
       «open» = with_block-open done;
       scope = with_block-scope done ∙ with_terminator-scope t s1 opened ∙ idles.scope;
-      ends = λ whole frame grows is memory bytes shows.
+      leaves = λ whole frame grows is memory.
           let grown : Grows done whole = grows-trans done (with_block done) whole (with_block-grows done) grows in
           let comes : Comes frame turns (here s0) memory (here s1) memory = idles.comes whole frame (grows-trans s1 done whole (with_terminator-grows t s1 opened) grown) is memory in
-          let plain : turns + 0 ≡ turns = omega arith in
-          subst (λ (n : ℕ). EndsAfter n (Returned bytes) (run_from frame memory (here s0))) plain
-          (ends-after frame turns 0 (here s0) (here s1) memory memory comes (Returned bytes) (ends-return s1 whole frame span memory bytes opened grown is shows));
+          comes-on frame turns (here s0) (here s1) Exit memory memory memory comes (comes-return s1 whole frame span memory opened grown is);
     })
 
 -- the value of a `return` is a part of it
@@ -73,7 +71,7 @@ module _ (source : Source) (s0 s1 s2 : Shape) (e : ℕ) (value : Option ExprId) 
       (tail.does.reaches whole frame grown1 sound is lands around stands fuel store memory holds))
       (λ done store1 memory1 claims.
       subst (Lands whole frame (here s1) memory1 store1 leaving) (sym stands.returns)
-      (subst (λ (n : ℕ). EndsAfter n (Returned (store1 Result)) (run_from frame memory1 (here s1))) (sym counted) (returned.ends whole frame grows is memory1 (store1 Result) (claims.0.shows Result 0 refl))))
+      (memory1, subst (λ (n : ℕ). Comes frame n (here s1) memory1 Exit memory1) (sym counted) (returned.leaves whole frame grows is memory1), claims.0))
 
   -- the value has the type of the result, which has a local
   lays-value : (child : ℕ) (given : Option ExprId) → value ≡ given → Contains (flat_map (sized_part source) (tail_steps given)) child → IsPlainWithin source e → IsPlainWithin source child → HasLayouts source s2 → (f : ℕ) → NeedsLayout source child f → IsLaidOutNode source f

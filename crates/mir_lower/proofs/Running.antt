@@ -7,10 +7,10 @@ use Rattle.mir.specs.declared.errors.MirEvalError.{MirEvalError}
 use Rattle.mir.specs.declared.statement.Statement.{Statement}
 use Rattle.mir.specs.Memory.{Memory}
 use Rattle.mir.specs.Run.{Frame, Faulted, Stops, after_statement, after_statements, terminated, next_from, going_on, running}
-use Rattle.mir_lower.specs.Does.{Point, Within, here, run_from, IsFrameOf, Comes}
+use Rattle.mir_lower.specs.Does.{here, IsFrameOf}
 use Rattle.mir_lower.specs.Graph.{Shape, more_of, with_statement}
 use Rattle.mir_lower.specs.Growth.{statement_at, count_at, Grows, IsOpen}
-use Rattle.mir_lower.specs.Simulates.{EndsAfter}
+use Rattle.mir_lower.specs.Runs.{KeepsOthers, Point, Within, run_from, Comes, EndsAfter}
 use Rattle.mir_lower.proofs.Growing.{current_of, with_statement-is}
 use Rattle.mir_lower.proofs.Lists.{slice_get-last, slice_get-set_same, drop-at}
 
@@ -50,9 +50,9 @@ unfolding running
 run-statement s frame memory later b i statement same there ok budget =
     let at = statement-block s b i statement there in
     let found : slice_get frame.body.basic_blocks b ≡ Some at.0 = ap (λ (blocks : List BasicBlock). slice_get blocks b) same ∙ at.1 in
-    ap (λ o. going_on budget frame (next_from frame memory o i)) found
-    ∙ ap (going_on budget frame) (next-statement frame memory later at.0 i statement at.2 ok)
-    ∙ ap (λ o. going_on budget frame (next_from frame later o (suc i))) (sym found)
+    ap (λ o. going_on budget (next_from frame memory o i)) found
+    ∙ ap (going_on budget) (next-statement frame memory later at.0 i statement at.2 ok)
+    ∙ ap (λ o. going_on budget (next_from frame later o (suc i))) (sym found)
 
 -- and ends at one that does
 pub run-fault : (s : Shape) (frame : Frame) (memory : Memory) (b i : ℕ) (statement : Statement) (e : MirEvalError) → frame.body.basic_blocks ≡ s.blocks → statement_at s b i ≡ Some statement → after_statement frame memory statement.kind ≡ Err e → (budget : ℕ) → running budget frame memory b i ≡ record { ending = Faulted e; left = budget }
@@ -60,8 +60,8 @@ unfolding running going_on
 run-fault s frame memory b i statement e same there err budget =
     let at = statement-block s b i statement there in
     let found : slice_get frame.body.basic_blocks b ≡ Some at.0 = ap (λ (blocks : List BasicBlock). slice_get blocks b) same ∙ at.1 in
-    ap (λ o. going_on budget frame (next_from frame memory o i)) found
-    ∙ ap (going_on budget frame) (next-fault frame memory at.0 i statement e at.2 err)
+    ap (λ o. going_on budget (next_from frame memory o i)) found
+    ∙ ap (going_on budget) (next-fault frame memory at.0 i statement e at.2 err)
 
 -- where the open block ends
 pub here-is : (s : Shape) (block : BasicBlock) → slice_get s.blocks s.current ≡ Some block → here s ≡ Within s.current (length block.statements)
@@ -86,9 +86,9 @@ module _ (statement : Statement) (s whole : Shape) (frame : Frame) (memory : Mem
   there : (b : (block : BasicBlock) × (slice_get s.blocks s.current ≡ Some block)) → statement_at whole s.current (length b.0.statements) ≡ Some statement
   there b = grows.statements s.current (length b.0.statements) statement (statement-added statement s b.0 b.1 opened.there)
 
-  -- the run from the open block's end goes on behind the statement that was added
-  pub comes-statement : (later : Memory) → after_statement frame memory statement.kind ≡ Ok later → Comes frame 0 (here s) memory (here (with_statement statement s)) later
-  comes-statement later ok =
+  -- the run from the open block's end goes on behind the statement that was added, where that changes nothing but the frame's cells
+  pub comes-statement : (later : Memory) → after_statement frame memory statement.kind ≡ Ok later → KeepsOthers frame memory later → Comes frame 0 (here s) memory (here (with_statement statement s)) later
+  comes-statement later ok others =
       let b = current_of s opened in
       record {
         with_more = λ more.
@@ -98,6 +98,7 @@ module _ (statement : Statement) (s whole : Shape) (frame : Frame) (memory : Mem
             ∙ run-statement whole frame memory later s.current (length b.0.statements) statement is.blocks (there (b.0, b.1)) ok more
             ∙ ap (λ (p : Point). run_from frame later p more) (sym (here-with_statement statement s b.0 b.1 opened.there));
         with_fewer = λ fewer less. absurd (omega arith);
+        others = others;
       }
 
   -- or ends in its fault

@@ -17,9 +17,10 @@ use Rattle.source_meaning.specs.Ends.{no_cost, End, Go, Stuck}
 use Rattle.source_meaning.specs.Meaning.{level_at, put, put_answer, into_of}
 use Rattle.source_meaning.specs.Source.{Source, node, Cell, Result as Slot, Node, Binding, Never, Path, Store, with_cell_bytes}
 use Rattle.source_meaning.proofs.Costs.{after-none}
-use Rattle.mir_lower.specs.Does.{Stands, Point, here, run_from, IsFrameOf, Holds, Comes, Landings, Reaches, Performs, Nothing, DoesOwn}
+use Rattle.mir_lower.specs.Does.{Stands, here, IsFrameOf, Holds, Landings, Reaches, Performs, Nothing, DoesOwn}
 use Rattle.mir_lower.specs.Graph.{Shape, with_statement, local_of}
 use Rattle.mir_lower.specs.Growth.{Grows, IsSound, IsOpen, IsPlaced}
+use Rattle.mir_lower.specs.Runs.{Point, run_from, Comes}
 use Rattle.mir_lower.proofs.Holding.{assigns, interval-of}
 use Rattle.mir_lower.proofs.Reaching.{none-entered, reaches-after}
 use Rattle.mir_lower.proofs.Running.{comes-statement, ends-statement}
@@ -54,7 +55,7 @@ module _ (source : Source) (s whole : Shape) (frame : Frame) (place : Place) (rv
       (λ fits.
       let done = assigns source whole frame sound is store memory holds c place rvalue bytes local computes fits.0 in
       subst (Reaches whole lands frame (here s) (here (with_statement added s)) memory (Nothing whole frame)) (sym fits.1)
-      (done.0, comes-statement added s whole frame memory opened grows is done.0 done.1, done.2, tt))
+      (done.0, comes-statement added s whole frame memory opened grows is done.0 done.1 done.3, done.2, tt))
       (λ stuck. subst (Reaches whole lands frame (here s) (here (with_statement added s)) memory (Nothing whole frame)) (sym stuck) tt)
       (put-cases store (record { cell = c }) bytes)
 

@@ -10,41 +10,61 @@ use Rattle.mir.specs.declared.body.MirBody.{MirBody}
 use Rattle.mir.specs.declared.body.TerminatorKind.TheVariants as kind
 use Rattle.mir.specs.declared.span.MirSpan.{MirSpan}
 use Rattle.mir.specs.Memory.{Interval, Memory, first_memory, bytes_at, cells_of}
-use Rattle.mir.specs.Run.{Frame, Ending, Returned, Faulted, entering, begun}
+use Rattle.mir.specs.Run.{Frame, Waiting, Returned, Faulted, Stops, returned, resumed, after_return, going_on, entering, begun}
 use Rattle.source_meaning.specs.Around.{at_root}
 use Rattle.source_meaning.specs.Ends.{Cost, turns_alone, plus, End, Go, Jumps, Break, Continue, Return, Faults, Stuck, More, after}
 use Rattle.source_meaning.specs.Entering.{body_room, room_of, entering as entering_cost}
 use Rattle.source_meaning.specs.Events.{marked}
-use Rattle.source_meaning.specs.Meaning.{level_at, meaning_of, returned}
+use Rattle.source_meaning.specs.Meaning.{level_at, meaning_from, meaning_of, returned as returned_of}
 use Rattle.source_meaning.specs.Source.{Source, node_type, root, Cell, Result as Slot, Path, cell_type, cell_layout, drops, Store, zeroed, own_type}
 use Rattle.source_meaning.specs.Valid.{IsPlain, IsLaidOut, AreLaidOut}
-use Rattle.mir_lower.specs.Does.{FrontAll, Point, Within, here, start_of, run_from, local_bytes, IsFrameOf, Holds, Comes, Nowhere, Out, Landings, Reaches, Nothing, Stands}
-use Rattle.mir_lower.specs.Graph.{OpenTarget, Shape, no_statements, local_of_type, with_terminator, with_scope}
+use Rattle.mir_lower.specs.Does.{FrontAll, here, IsFrameOf, Holds, Nowhere, AtPoint, Landings, Reaches, Nothing, Stands}
+use Rattle.mir_lower.specs.Graph.{OpenTarget, Shape, no_statements, local_of, local_of_type, with_terminator, with_scope}
 use Rattle.mir_lower.specs.Growth.{Grows, IsSound, count_at}
 use Rattle.mir_lower.specs.Leaving.{Idles}
 use Rattle.mir_lower.specs.Lowered.{HasLayouts, LowersInto}
-use Rattle.mir_lower.specs.Simulates.{Enters, EndsAfter, EndsAs, Simulates, error_of}
+use Rattle.mir_lower.specs.Simulates.{EndsAs, RunsAs, Simulates}
+use Rattle.mir_lower.specs.Runs.{Point, Within, Entry, Exit, start_of, run_from, local_bytes, AreApart, EndsAfter, error_of, Comes}
 use Rattle.mir_lower.proofs.Growing.{grows-refl, grows-trans, with_terminator-grows, with_scope-grows}
-use Rattle.mir_lower.proofs.Leaving.{entering-suc, entering-none, ends-return, here-scope}
+use Rattle.mir_lower.proofs.Leaving.{enters-block, comes-return, here-scope}
 use Rattle.mir_lower.proofs.Lists.{front-of}
 use Rattle.mir_lower.proofs.Placing.{AreAligned, Placing, places-all, first-ok}
-use Rattle.mir_lower.proofs.Reaching.{enters-both, ends-after}
+use Rattle.mir_lower.proofs.Reaching.{comes-on, comes-trans, enters-both, ends-after}
 use Rattle.mir_lower.proofs.Room.{fits-room}
 use Rattle.mir_lower.proofs.Sound.{with_terminator-sound, slot-there, binding-there, stored-is-used}
 use Rattle.std.proofs.lemmas.List.Elements.{All-nil}
 
--- an end that a cost stands before
-ends-as-after : (frame : Frame) (from at : Point) (memory middle : Memory) (cost : Cost) → Comes frame cost.turns from memory at middle → (end : End (List ℕ)) → EndsAs end (run_from frame middle at) → EndsAs (after cost end) (run_from frame memory from)
+-- a meaning that a cost stands before, and a run that comes to where it begins over as many blocks
+runs-after : (allotted : Cell → Option ℕ) (frame : Frame) (from at : Point) (memory middle : Memory) (cost : Cost) → Comes frame cost.turns from memory at middle → (end : End (List ℕ)) → RunsAs allotted frame at middle end → RunsAs allotted frame from memory (after cost end)
 unfolding after plus
-ends-as-after frame from at memory middle cost comes (Go bytes store then) ends = ends-after frame cost.turns then.turns from at memory middle comes (Returned bytes) ends
-ends-as-after frame from at memory middle cost comes (Jumps to store then) ends = tt
-ends-as-after frame from at memory middle cost comes (Faults fault then) ends = ends-after frame cost.turns then.turns from at memory middle comes (Faulted (error_of fault)) ends
-ends-as-after frame from at memory middle cost comes Stuck ends = tt
-ends-as-after frame from at memory middle cost comes (More then) ends = enters-both frame cost.turns then.turns from at memory middle comes ends
+runs-after allotted frame from at memory middle cost comes (Go bytes store then) does = (does.0, comes-trans frame cost.turns then.turns from at memory middle comes Exit does.0 does.1, does.2, does.3)
+runs-after allotted frame from at memory middle cost comes (Jumps to store then) does = tt
+runs-after allotted frame from at memory middle cost comes (Faults fault then) does = ends-after frame cost.turns then.turns from at memory middle comes (Faulted (error_of fault)) does
+runs-after allotted frame from at memory middle cost comes Stuck does = tt
+runs-after allotted frame from at memory middle cost comes (More then) does = enters-both frame cost.turns then.turns from at memory middle comes does
 
--- where the run is after each jump out of a root: a `return` ends it, and of the others nothing is said
+-- where no body waits, a run that comes to where the body returns ends with the bytes of the return slot
+return-ends : (frame : Frame) (memory : Memory) (bytes : List ℕ) (more : ℕ) → frame.below ≡ [] → local_bytes frame memory 0 ≡ Some bytes → run_from frame memory Exit more ≡ record { ending = Returned bytes; left = more }
+unfolding going_on after_return local_bytes
+return-ends frame memory bytes more alone slot =
+    ap (λ (below : List Waiting). going_on more (elim below [ [] ↦ Stops (returned (option_and_then (bytes_at memory) (slice_get frame.cells 0))) | caller ∷ others ↦ resumed memory caller others ])) alone
+    ∙ ap (λ o. record { ending = returned o; left = more }) slot
+
+-- so there a run ends as the meaning does
+ends-as-run : (allotted : Cell → Option ℕ) (frame : Frame) (from : Point) (memory : Memory) → frame.below ≡ [] → (end : End (List ℕ)) → RunsAs allotted frame from memory end → EndsAs end (run_from frame memory from)
+ends-as-run allotted frame from memory alone (Go bytes store cost) does =
+    record {
+      with_more = λ more. does.1.with_more more ∙ return-ends frame does.0 bytes more alone does.3;
+      with_fewer = does.1.with_fewer;
+    }
+ends-as-run allotted frame from memory alone (Jumps to store cost) does = tt
+ends-as-run allotted frame from memory alone (Faults fault cost) does = does
+ends-as-run allotted frame from memory alone Stuck does = tt
+ends-as-run allotted frame from memory alone (More cost) does = does
+
+-- where the run is after each jump out of a root: after a `return`, where the body returns; and of the others nothing is said
 abbrev lands-out : Landings
-lands-out Return = Out
+lands-out Return = AtPoint Exit
 lands-out (Break node) = Nowhere
 lands-out (Continue node) = Nowhere
 
@@ -53,44 +73,28 @@ abbrev pub leaving : Source → ℕ
 leaving source = drops source (marked source (root source))
 
 -- what a body makes of the end of its root, where the run goes on to leave the body's scope and returns
-ends-as-returned : (source : Source) (whole : Shape) (frame : Frame) (from at : Point) (memory : Memory) (end : End (Unit {0})) → Reaches whole lands-out frame from at memory (Nothing whole frame) end →
-    ((store : Store) (middle : Memory) → Holds whole frame store middle → EndsAfter (leaving source) (Returned (store Slot)) (run_from frame middle at)) → EndsAs (returned source end) (run_from frame memory from)
-ends-as-returned source whole frame from at memory (Go done store cost) does rest = ends-as-after frame from at memory does.0 cost does.1 (Go (store Slot) store (turns_alone (leaving source))) (rest store does.0 does.2)
-ends-as-returned source whole frame from at memory (Jumps Return store cost) does rest = does
-ends-as-returned source whole frame from at memory (Jumps (Break node) store cost) does rest = tt
-ends-as-returned source whole frame from at memory (Jumps (Continue node) store cost) does rest = tt
-ends-as-returned source whole frame from at memory (Faults fault cost) does rest = does
-ends-as-returned source whole frame from at memory Stuck does rest = tt
-ends-as-returned source whole frame from at memory (More cost) does rest = does
+runs-returned : (source : Source) (whole : Shape) (frame : Frame) (from at : Point) (memory : Memory) (end : End (Unit {0})) → Reaches whole lands-out frame from at memory (Nothing whole frame) end →
+    ((middle : Memory) → Comes frame (leaving source) at middle Exit middle) → RunsAs (local_of whole) frame from memory (returned_of source end)
+runs-returned source whole frame from at memory (Go done store cost) does rest =
+    runs-after (local_of whole) frame from at memory does.0 cost does.1 (Go (store Slot) store (turns_alone (leaving source))) (does.0, rest does.0, does.2, does.2.shows Slot 0 refl)
+runs-returned source whole frame from at memory (Jumps Return store cost) does rest = (does.0, does.1, does.2, does.2.shows Slot 0 refl)
+runs-returned source whole frame from at memory (Jumps (Break node) store cost) does rest = tt
+runs-returned source whole frame from at memory (Jumps (Continue node) store cost) does rest = tt
+runs-returned source whole frame from at memory (Faults fault cost) does rest = does
+runs-returned source whole frame from at memory Stuck does rest = tt
+runs-returned source whole frame from at memory (More cost) does rest = does
 
-module _ (frame : Frame) (memory : Memory) (block turns : ℕ) where
-  entered-first : Enters turns (run_from frame memory (start_of block)) → Enters (1 + turns) (λ budget. entering budget frame memory block)
-  entered-first rest zero less = entering-none frame memory block
-  entered-first rest (suc fewer) less = entering-suc fewer frame memory block ∙ rest fewer (omega arith)
-
-  entered : (ending : Ending) → EndsAfter turns ending (run_from frame memory (start_of block)) → EndsAfter (1 + turns) ending (λ budget. entering budget frame memory block)
-  entered ending ends =
-      record {
-        with_more = λ more.
-            let one : 1 + turns + more ≡ suc (turns + more) = omega arith in
-            ap (λ budget. entering budget frame memory block) one ∙ entering-suc (turns + more) frame memory block ∙ ends.with_more more;
-        with_fewer = entered-first ends.with_fewer;
-      }
-
-ends-as-entered : (source : Source) (frame : Frame) (memory : Memory) (block : ℕ) (end : End (List ℕ)) → EndsAs end (run_from frame memory (start_of block)) → EndsAs (after (entering_cost source) end) (λ budget. entering budget frame memory block)
-unfolding after plus entering_cost
-ends-as-entered source frame memory block (Go bytes store cost) ends = entered frame memory block cost.turns (Returned bytes) ends
-ends-as-entered source frame memory block (Jumps to store cost) ends = tt
-ends-as-entered source frame memory block (Faults fault cost) ends = entered frame memory block cost.turns (Faulted (error_of fault)) ends
-ends-as-entered source frame memory block Stuck ends = tt
-ends-as-entered source frame memory block (More cost) ends = entered-first frame memory block cost.turns ends
+-- entering a body costs a block
+runs-entered : (source : Source) (allotted : Cell → Option ℕ) (frame : Frame) (memory : Memory) (block : ℕ) (end : End (List ℕ)) → RunsAs allotted frame (start_of block) memory end → RunsAs allotted frame (Entry block) memory (after (entering_cost source) end)
+unfolding entering_cost
+runs-entered source allotted frame memory block end does = runs-after allotted frame (Entry block) (start_of block) memory memory (entering_cost source) (enters-block frame memory block) end does
 
 -- the frame in which a body begins
-pub begun-cells : (world : HirDatabase) (body : MirBody) (start : Frame × Memory) → begun world body ≡ Ok start → (all : List Interval × Memory) × (cells_of world body.locals first_memory ≡ Ok all) × ◌≡◌ {A = Frame × Memory} start (record { body = body; cells = all.0 }, all.1)
+pub begun-cells : (world : HirDatabase) (body : MirBody) (start : Frame × Memory) → begun world body ≡ Ok start → (all : List Interval × Memory) × (cells_of world body.locals first_memory ≡ Ok all) × ◌≡◌ {A = Frame × Memory} start (record { body = body; cells = all.0; below = [] }, all.1)
 unfolding begun
 begun-cells world body start h =
-    let first = first-ok (cells_of world body.locals first_memory) (λ all. Ok (record { body = body; cells = all.0 }, all.1)) start h in
-    (first.0, first.1, (let same : ◌≡◌ {A = Frame × Memory} (record { body = body; cells = first.0.0 }, first.0.1) start = cc in sym same))
+    let first = first-ok (cells_of world body.locals first_memory) (λ all. Ok (record { body = body; cells = all.0; below = [] }, all.1)) start h in
+    (first.0, first.1, (let same : ◌≡◌ {A = Frame × Memory} (record { body = body; cells = first.0.0; below = [] }, first.0.1) start = cc in sym same))
 
 -- each cell's local is zero at first
 starts-zeroed : (source : Source) (s : Shape) (frame : Frame) (memory : Memory) → IsSound source s → Placing source.world s.locals first_memory frame.cells memory → Holds s frame (zeroed source) memory
@@ -125,28 +129,25 @@ module _ (source : Source) (s0 s1 s2 : Shape) (span : MirSpan) (begins : here s0
   whole-sound = with_terminator-sound source (record { span = span; kind = kind.Return }) s2 idles.«open» idles.sound
 
   -- from the root's end on: the scope is left, and the body returns
-  returns-after : (frame : Frame) → IsFrameOf Whole frame → (store : Store) (memory : Memory) → Holds Whole frame store memory → EndsAfter (leaving source) (Returned (store Slot)) (run_from frame memory (here s1))
-  returns-after frame is store memory holds =
+  returns-after : (frame : Frame) → IsFrameOf Whole frame → (memory : Memory) → Comes frame (leaving source) (here s1) memory Exit memory
+  returns-after frame is memory =
       let comes : Comes frame (leaving source) (here s1) memory (here s2) memory =
       subst (λ (p : Point). Comes frame (leaving source) p memory (here s2) memory) (here-scope s1 s0.scope)
       (idles.comes Whole frame (with_terminator-grows (record { span = span; kind = kind.Return }) s2 idles.«open») is memory) in
-      let returned = ends-return s2 Whole frame span memory (store Slot) idles.«open» (grows-refl Whole) is (holds.shows Slot 0 refl) in
-      let plain : leaving source + 0 ≡ leaving source = omega arith in
-      subst (λ (n : ℕ). EndsAfter n (Returned (store Slot)) (run_from frame memory (here s1))) plain
-      (ends-after frame (leaving source) 0 (here s1) (here s2) memory memory comes (Returned (store Slot)) returned)
+      comes-on frame (leaving source) (here s1) (here s2) Exit memory memory memory comes (comes-return s2 Whole frame span memory idles.«open» (grows-refl Whole) is)
 
   -- the run of a body from its frame on
-  runs-whole : (frame : Frame) (memory : Memory) → IsFrameOf Whole frame → Holds Whole frame (zeroed source) memory → (fuel : ℕ) → EndsAs (meaning_of source fuel) (λ budget. entering budget frame memory 0)
-  unfolding meaning_of
-  runs-whole frame memory is holds fuel =
+  runs-whole : (frame : Frame) (store : Store) (memory : Memory) → IsFrameOf Whole frame → Holds Whole frame store memory → (fuel : ℕ) → RunsAs (local_of Whole) frame (Entry 0) memory (meaning_from source store fuel)
+  unfolding meaning_from
+  runs-whole frame store memory is holds fuel =
       let slot : Path = record { cell = Slot } in
-      let evaluates : End (Unit {0}) = (level_at source fuel (at_root slot)).into (root source) slot (zeroed source) in
+      let evaluates : End (Unit {0}) = (level_at source fuel (at_root slot)).into (root source) slot store in
       let stands : Stands Whole s0 lands-out (at_root slot) =
       record { marks = sym nothing; result = refl; returns = refl; targets = subst (λ (targets : List OpenTarget). FrontAll Whole lands-out targets []) (sym outermost) tt } in
-      ends-as-entered source frame memory 0 (returned source evaluates)
-      (subst (λ (p : Point). EndsAs (returned source evaluates) (run_from frame memory p)) begins
-      (ends-as-returned source Whole frame (here s0) (here s1) memory evaluates
-      (into.does.reaches Whole frame first-grows whole-sound is lands-out (at_root slot) stands fuel (zeroed source) memory holds)
+      runs-entered source (local_of Whole) frame memory 0 (returned_of source evaluates)
+      (subst (λ (p : Point). RunsAs (local_of Whole) frame p memory (returned_of source evaluates)) begins
+      (runs-returned source Whole frame (here s0) (here s1) memory evaluates
+      (into.does.reaches Whole frame first-grows whole-sound is lands-out (at_root slot) stands fuel store memory holds)
       (returns-after frame is)))
 
   -- what is evaluated has types with layouts, where the locals have
@@ -165,24 +166,39 @@ module _ (source : Source) (s0 s1 s2 : Shape) (span : MirSpan) (begins : here s0
   pub whole-simulates : (body : MirBody) → AreAligned source.world → root source < length source.body.exprs → body.basic_blocks ≡ Whole.blocks → body.locals ≡ Whole.locals → body.start_block.0 ≡ 0 → Simulates source body
   whole-simulates body aligned within blocks locals start =
       let first = slot-there source Whole whole-sound in
+      let frame-of : (frame : Frame) → frame.body ≡ body → AreApart frame.cells → IsFrameOf Whole frame = λ frame same apart. record {
+        blocks = ap (λ (b : MirBody). b.basic_blocks) same ∙ blocks;
+        locals = ap (λ (b : MirBody). b.locals) same ∙ locals;
+        apart = apart;
+      } in
+      let does-from : (fuel : ℕ) (store : Store) (frame : Frame) (memory : Memory) → frame.body ≡ body → AreApart frame.cells → Holds Whole frame store memory → RunsAs (local_of Whole) frame (Entry body.start_block.0) memory (meaning_from source store fuel) =
+      λ fuel store frame memory same apart holds.
+      subst (λ (n : ℕ). RunsAs (local_of Whole) frame (Entry n) memory (meaning_from source store fuel)) (sym start) (runs-whole frame store memory (frame-of frame same apart) holds fuel) in
       record {
+        allotted = local_of Whole;
+        result = refl;
+        bound = whole-sound.bound;
+        own = whole-sound.allotted.own;
+        typed = λ c l found.
+            let at = whole-sound.allotted.typed c l found in
+            (at.0, ap (λ (ls : List Local). slice_get ls l) locals ∙ at.1, at.2);
+        does = does-from;
         slot = (first.0, ap (λ (l : List Local). slice_get l 0) locals ∙ first.1, first.2);
         cells = λ l local h.
             let at = whole-sound.allotted.cells l local (ap (λ (ls : List Local). slice_get ls l) (sym locals) ∙ h) in
-            (at.0, stored-is-used source at.0 at.1, at.3);
+            (at.0, stored-is-used source at.0 at.1, at.3, at.2);
         room =
             subst (λ (ls : List Local). sum (map (λ local. room_of (layout_of source.world local.ty)) ls) ≤ body_room source) (sym locals)
             (fits-room source Whole within whole-sound);
         laid_out = lays-out body.locals locals;
         runs = λ fuel begin h.
             let all = begun-cells source.world body begin h in
-            let frame : Frame = record { body = body; cells = all.0.0 } in
+            let frame : Frame = record { body = body; cells = all.0.0; below = [] } in
             let placing = places-all source.world aligned body.locals first_memory all.0 all.1 in
             let placing' : Placing source.world Whole.locals first_memory all.0.0 all.0.1 = subst (λ (l : List Local). Placing source.world l first_memory all.0.0 all.0.1) locals placing in
-            let is : IsFrameOf Whole frame = record { blocks = blocks; locals = locals; apart = placing.apart } in
             subst (λ (b : Frame × Memory). EndsAs (meaning_of source fuel) (λ budget. entering budget b.0 b.1 body.start_block.0)) (sym all.2)
-            (subst (λ (n : ℕ). EndsAs (meaning_of source fuel) (λ budget. entering budget frame all.0.1 n)) (sym start)
-            (runs-whole frame all.0.1 is (starts-zeroed source Whole frame all.0.1 whole-sound placing') fuel));
+            (ends-as-run (local_of Whole) frame (Entry body.start_block.0) all.0.1 refl (meaning_of source fuel)
+            (does-from fuel (zeroed source) frame all.0.1 refl placing.apart (starts-zeroed source Whole frame all.0.1 whole-sound placing')));
       }
 
   -- the locals that there were at first come first

@@ -6,9 +6,10 @@ use Rattle.mir.specs.Memory.{Memory}
 use Rattle.mir.specs.Run.{Frame, operand_bytes}
 use Rattle.numbers.specs.Bytes.{value_of}
 use Rattle.source_meaning.specs.Source.{Source}
-use Rattle.mir_lower.specs.Does.{Entry, here, start_of, IsFrameOf, Comes}
+use Rattle.mir_lower.specs.Does.{here, IsFrameOf}
 use Rattle.mir_lower.specs.Graph.{Shape, no_statements}
 use Rattle.mir_lower.specs.Growth.{Grows, Spares, IsSound, IsOpen}
+use Rattle.mir_lower.specs.Runs.{Entry, start_of, Comes}
 
 -- a block is there, is empty, and isn't the current one
 pub record IsReserved (s : Shape) (block : ℕ) : Type 0 where

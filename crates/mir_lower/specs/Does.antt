@@ -1,8 +1,8 @@
 -- What the code of a graph does: from a point of it to another, or to the end of the run.
-use Rattle.std.specs.Prelude.{◌≡◌, ◌≢◌, ℕ, ◌+◌, ◌≤◌, List, ◌∷◌, [], Option, Some, slice_get, option_and_then, unwrap_or, ◌⊎◌}
+use Rattle.std.specs.Prelude.{◌≡◌, ℕ, List, ◌∷◌, [], Option, Some, unwrap_or}
 use Rattle.mir.specs.declared.operand.OperandKind.{OperandKind}
-use Rattle.mir.specs.Memory.{Interval, Memory, bytes_at}
-use Rattle.mir.specs.Run.{Frame, Faulted, Returned, Ended, running, entering, operand_bytes as mir_bytes, operand_type as mir_type}
+use Rattle.mir.specs.Memory.{Memory}
+use Rattle.mir.specs.Run.{Frame, Faulted, operand_bytes as mir_bytes, operand_type as mir_type}
 use Rattle.source_meaning.specs.Around.{Around, Target}
 use Rattle.source_meaning.specs.Ends.{End, Go, Jumps, Faults, Stuck, More, Jump, Break, Continue, Return}
 use Rattle.source_meaning.specs.Meaning.{level_at, operands_of, statements_of, tail_into, bind}
@@ -11,34 +11,11 @@ use Rattle.world.specs.declared.body.Statement.{Statement}
 use Rattle.types.specs.declared.ids.ExprId.{ExprId}
 use Rattle.mir_lower.specs.Graph.{Shape, OpenTarget, local_of}
 use Rattle.mir_lower.specs.Growth.{Grows, IsSound, count_at}
-use Rattle.mir_lower.specs.Simulates.{Enters, EndsAfter, error_of}
-
--- a point of a run: in a block that it entered, before a statement or before the terminator; or before it enters a block
-pub data Point : Type 0 where
-  Within : (block index : ℕ) → Point
-  Entry : (block : ℕ) → Point
+use Rattle.mir_lower.specs.Runs.{Point, Within, Entry, Exit, run_from, Enters, EndsAfter, error_of, AreApart, Comes, Represents}
 
 -- the point behind the last statement of the current block
 abbrev pub here : Shape → Point
 here s = Within s.current (unwrap_or (count_at s s.current) 0)
-
--- the point before the first statement of a block
-abbrev pub start_of : ℕ → Point
-start_of block = Within block 0
-
--- the run from a point on
-abbrev pub run_from : Frame → Memory → Point → ℕ → Ended
-run_from frame memory (Within block index) budget = running budget frame memory block index
-run_from frame memory (Entry block) budget = entering budget frame memory block
-
--- the bytes of a local
-unfoldable pub local_bytes : Frame → Memory → ℕ → Option (List ℕ)
-local_bytes frame memory local = option_and_then (bytes_at memory) (slice_get frame.cells local)
-
--- no two cells of a frame share a byte
-abbrev pub AreApart : List Interval → Type 0
-AreApart cells = (i j : ℕ) (a b : Interval) → i ≢ j → slice_get cells i ≡ Some a → slice_get cells j ≡ Some b →
-    (a.address + a.size ≤ b.address) ⊎ (b.address + b.size ≤ a.address)
 
 -- a frame of a graph that is whole: its body's blocks and locals are the graph's
 pub record IsFrameOf (s : Shape) (frame : Frame) : Type 0 where
@@ -47,30 +24,22 @@ pub record IsFrameOf (s : Shape) (frame : Frame) : Type 0 where
   pub apart : AreApart frame.cells
 
 -- each cell's local holds the bytes that the store has there
-pub record Holds (s : Shape) (frame : Frame) (store : Store) (memory : Memory) : Type 0 where
-  pub shows : (cell : Cell) (local : ℕ) → local_of s cell ≡ Some local → local_bytes frame memory local ≡ Some (store cell)
+abbrev pub Holds : Shape → Frame → Store → Memory → Type 0
+Holds s frame store memory = Represents (local_of s) frame store memory
 
--- the run goes from one point to another, and enters `turns` blocks on the way
-pub record Comes (frame : Frame) (turns : ℕ) (from : Point) (memory : Memory) (to : Point) (later : Memory) : Type 0 where
-  pub with_more : (more : ℕ) → run_from frame memory from (turns + more) ≡ run_from frame later to more
-  pub with_fewer : Enters turns (run_from frame memory from)
-
--- where the run is when the source has jumped: about to enter a block, or at its end with the result; or nothing is said of it
+-- where the run is when the source has jumped: at a point, or `Nowhere`, where no claim is made for the jump
 pub data Landing : Type 0 where
   Nowhere : Landing
-  Before : (block : ℕ) → Landing
-  Out : Landing
+  AtPoint : (point : Point) → Landing
 
 -- where the run is after each jump of the source
 abbrev pub Landings : Type 0
 Landings = Jump → Landing
 
--- The run reaches where a jump lands, after exactly `turns` blocks, with a memory that holds the store; or it ends after
--- exactly `turns` blocks, with the bytes that the store has for the result.
+-- the run reaches where a jump lands, after exactly `turns` blocks, with a memory that holds the store
 abbrev pub Lands : Shape → Frame → Point → Memory → Store → ℕ → Landing → Type 0
 Lands whole frame from memory store turns Nowhere = Unit {0}
-Lands whole frame from memory store turns (Before block) = (later : Memory) × Comes frame turns from memory (Entry block) later × Holds whole frame store later
-Lands whole frame from memory store turns Out = EndsAfter turns (Returned (store Result)) (run_from frame memory from)
+Lands whole frame from memory store turns (AtPoint point) = (later : Memory) × Comes frame turns from memory point later × Holds whole frame store later
 
 -- From a point the run does what an end says, over exactly as many blocks as that counts: it reaches another point with a
 -- memory that holds the store, and the claim on the value holds; or it reaches where a jump lands; or it ends. Where the fuel
@@ -89,8 +58,8 @@ pub record Fronts (whole : Shape) (lands : Landings) (target : OpenTarget) (fron
   pub opened : front.opened ≡ target.opened
   pub local : local_of whole front.path.cell ≡ Some target.local
   pub kept : front.kept ≡ target.kept
-  pub breaks : lands (Break target.opened.node) ≡ Before target.end_block
-  pub continues : lands (Continue target.opened.node) ≡ Before target.begin_block
+  pub breaks : lands (Break target.opened.node) ≡ AtPoint (Entry target.end_block)
+  pub continues : lands (Continue target.opened.node) ≡ AtPoint (Entry target.begin_block)
 
 -- those of the meaning are those of the graph, one each
 abbrev pub FrontAll : Shape → Landings → List OpenTarget → List Target → Type 0
@@ -99,14 +68,14 @@ FrontAll whole lands (target ∷ outer) (front ∷ others) = Fronts whole lands 
 FrontAll whole lands _ _ = ⊥
 
 -- what stands around the code in the meaning is what stands around it in the graph; the body's value goes to the result, and a
--- `return` ends the run
+-- `return` comes to where the body returns
 pub record Stands (whole old : Shape) (lands : Landings) (around : Around) : Type 0 where
   pub marks : around.marks ≡ old.scope
   pub result : around.result ≡ record { cell = Result }
-  pub returns : lands Return ≡ Out
+  pub returns : lands Return ≡ AtPoint Exit
   pub targets : FrontAll whole lands old.targets around.targets
 
--- What code does: in each graph that the new one grows to, where jumps land in the blocks of the loops and labelled blocks
+-- What code does: in each finished graph that extends the new one, where jumps land in the blocks of the loops and labelled blocks
 -- that the old graph has open, where the cells in use are those that it has, and from each memory that holds the store, the
 -- code between the two graphs' points does what an end says, at each amount of fuel, and what is claimed of its value holds.
 pub record Performs (source : Source) (old new : Shape) {A : Type 0} (claim : Shape → Frame → A → Type 0) (meaning : Around → ℕ → Store → End A) : Type 0 where

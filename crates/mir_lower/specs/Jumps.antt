@@ -3,14 +3,14 @@ use Rattle.std.specs.Prelude.{◌≡◌, ℕ, ◌≤◌, List, ◌∷◌, length
 use Rattle.mir.specs.declared.errors.MirLowerError.{MirLowerError}
 use Rattle.mir.specs.declared.errors.MirLowerError.TheVariants as refusal
 use Rattle.mir.specs.Memory.{Memory}
-use Rattle.mir.specs.Run.{Frame, Returned}
+use Rattle.mir.specs.Run.{Frame}
 use Rattle.source_meaning.specs.Source.{Source}
 use Rattle.types.specs.declared.ids.LabelId.{LabelId}
 use Rattle.mir_lower.specs.Branches.{IsReserved}
-use Rattle.mir_lower.specs.Does.{Entry, here, start_of, run_from, local_bytes, IsFrameOf, Comes}
+use Rattle.mir_lower.specs.Does.{here, IsFrameOf}
+use Rattle.mir_lower.specs.Runs.{Entry, Exit, start_of, Comes}
 use Rattle.mir_lower.specs.Graph.{Shape, OpenTarget, with_targets}
 use Rattle.mir_lower.specs.Growth.{Grows, Spares, IsSound, IsOpen}
-use Rattle.mir_lower.specs.Simulates.{EndsAfter}
 
 -- A loop or a labelled block was entered: the current block leads to the one where it begins, which is the current one now, and
 -- the block behind it is reserved.
@@ -37,16 +37,15 @@ pub record HasJumped (source : Source) (old new : Shape) (to turns : ℕ) : Type
   pub scope : new.scope ≡ old.scope
   pub heads : (whole : Shape) (frame : Frame) → Grows new whole → IsFrameOf whole frame → (memory : Memory) → Comes frame turns (here old) memory (Entry to) memory
 
--- A return was added: from where it stands the run leaves all open scopes, over a number of blocks, and ends with the bytes of the
--- return slot. The code behind it stands in a new block.
+-- A return was added: from where it stands the run leaves all open scopes, over a number of blocks, and comes to where the body
+-- returns. The code behind it stands in a new block.
 pub record HasReturned (source : Source) (old new : Shape) (turns : ℕ) : Type 0 where
   pub grows : Grows old new
   pub spares : Spares old new
   pub sound : IsSound source new
   pub «open» : IsOpen new
   pub scope : new.scope ≡ old.scope
-  pub ends : (whole : Shape) (frame : Frame) → Grows new whole → IsFrameOf whole frame → (memory : Memory) (bytes : List ℕ) →
-      local_bytes frame memory 0 ≡ Some bytes → EndsAfter turns (Returned bytes) (run_from frame memory (here old))
+  pub leaves : (whole : Shape) (frame : Frame) → Grows new whole → IsFrameOf whole frame → (memory : Memory) → Comes frame turns (here old) memory Exit memory
 
 -- the refusal of a jump without a target: `UnresolvedLabel` if it has a label, else the given one
 abbrev pub without_target : Option LabelId → MirLowerError → MirLowerError

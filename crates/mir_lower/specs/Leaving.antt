@@ -3,9 +3,10 @@ use Rattle.std.specs.Prelude.{◌≡◌, ℕ, Bool, cond}
 use Rattle.mir.specs.Memory.{Memory}
 use Rattle.mir.specs.Run.{Frame}
 use Rattle.source_meaning.specs.Source.{Source}
-use Rattle.mir_lower.specs.Does.{here, IsFrameOf, Comes}
+use Rattle.mir_lower.specs.Does.{here, IsFrameOf}
 use Rattle.mir_lower.specs.Graph.{Shape}
 use Rattle.mir_lower.specs.Growth.{Grows, Spares, IsSound, IsOpen}
+use Rattle.mir_lower.specs.Runs.{Comes}
 
 -- one, where a test says so
 abbrev pub one_if : Bool → ℕ

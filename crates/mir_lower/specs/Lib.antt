@@ -6,6 +6,7 @@ pub mod Leaving
 pub mod Lowered
 pub mod Order
 pub mod Refusals
+pub mod Runs
 pub mod Simulates
 pub mod Branches
 pub mod Built

@@ -17,7 +17,8 @@ use Rattle.mir_lower.specs.Graph.{Shape, binding_local, local_of}
 use Rattle.mir_lower.specs.Growth.{Grows, Spares, IsSound, IsOpen}
 use Rattle.mir.specs.Memory.{Memory}
 use Rattle.mir.specs.Run.{Frame}
-use Rattle.mir_lower.specs.Does.{here, Comes, IsFrameOf, Does, DoesOwn, DoesOperand, DoesOperands, DoesPlace, DoesStatements, DoesTail, DoesBind, DoesAssign}
+use Rattle.mir_lower.specs.Does.{here, IsFrameOf, Does, DoesOwn, DoesOperand, DoesOperands, DoesPlace, DoesStatements, DoesTail, DoesBind, DoesAssign}
+use Rattle.mir_lower.specs.Runs.{Comes}
 
 -- the graph is as sound as before, has what it had, and these cells more came into use in the innermost open scope
 pub record Keeps (source : Source) (old new : Shape) (marked : List Cell) : Type 0 where

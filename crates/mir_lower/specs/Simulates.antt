@@ -1,33 +1,18 @@
 -- A graph does what a typed body means.
-use Rattle.std.specs.Prelude.{◌≡◌, ℕ, ◌+◌, ◌<◌, ◌≤◌, List, map, sum, Some, Ok, slice_get}
+use Rattle.std.specs.Prelude.{◌≡◌, ℕ, ◌≤◌, List, map, sum, Option, Some, Ok, slice_get}
+use Rattle.types.specs.declared.ty.Ty.{Ty}
 use Rattle.mir.specs.declared.body.Local.{Local}
 use Rattle.mir.specs.declared.body.MirBody.{MirBody}
-use Rattle.mir.specs.declared.errors.MirEvalError.{MirEvalError}
-use Rattle.mir.specs.declared.errors.MirEvalError as error
 use Rattle.mir.specs.Memory.{Memory}
-use Rattle.mir.specs.Run.{Frame, Ending, Returned, Faulted, Ended, out_of_blocks, entering, begun}
-use Rattle.source_meaning.specs.Ends.{End, Go, Jumps, Faults, Stuck, More, Fault, Panic, Undefined}
+use Rattle.mir.specs.Run.{Frame, Returned, Faulted, Ended, entering, begun}
+use Rattle.source_meaning.specs.Ends.{End, Go, Jumps, Faults, Stuck, More}
 use Rattle.source_meaning.specs.Entering.{body_room, room_of}
-use Rattle.source_meaning.specs.Meaning.{meaning_of}
-use Rattle.source_meaning.specs.Source.{Source, Cell, cell_type, node_type, root}
+use Rattle.source_meaning.specs.Meaning.{meaning_from, meaning_of}
+use Rattle.source_meaning.specs.Source.{Source, Cell, Result, Binding, Store, binding_type, cell_type, node_type, root}
 use Rattle.source_meaning.specs.Valid.{IsPlain, IsLaidOut, AreLaidOut}
 use Rattle.world.specs.Lookups.{layout_of}
 use Rattle.mir_lower.specs.Growth.{IsUsed}
-
--- a run enters at least `turns` blocks: under a budget of fewer it runs out of them
-abbrev pub Enters : ℕ → (ℕ → Ended) → Type 0
-Enters turns run = (fewer : ℕ) → fewer < turns → run fewer ≡ out_of_blocks
-
--- A run under every budget: it ends in `ending`, after exactly `turns` blocks. With just as many blocks or more it ends so
--- and leaves the rest, and with fewer it runs out of them.
-pub record EndsAfter (turns : ℕ) (ending : Ending) (run : ℕ → Ended) : Type 0 where
-  pub with_more : (more : ℕ) → run (turns + more) ≡ record { ending = ending; left = more }
-  pub with_fewer : Enters turns run
-
--- the error in which a run ends where the meaning ends in a fault
-abbrev pub error_of : Fault → MirEvalError
-error_of (Panic word) = error.Panic word
-error_of (Undefined text) = error.UndefinedBehavior text
+use Rattle.mir_lower.specs.Runs.{Point, Entry, Exit, run_from, Enters, EndsAfter, error_of, local_bytes, AreApart, Comes, Represents}
 
 -- A run ends as the meaning does, after exactly as many blocks as that counts. Where the fuel of the meaning ran out, the run
 -- enters as many blocks as were counted up to there. Of a meaning that ends in a jump nothing is said: that of a plain body
@@ -39,13 +24,35 @@ EndsAs (Faults fault cost) run = EndsAfter cost.turns (Faulted (error_of fault))
 EndsAs Stuck run = Unit {0}
 EndsAs (More cost) run = Enters cost.turns run
 
--- For every amount of fuel a run of the graph, where it can begin, ends as the source's meaning does. The return
--- slot has the type of the body's root, and each local that of a cell that is used. All locals together take no more
--- bytes than the source counts for its cells. Where the source is plain and each local's type has a layout, so have the
--- types of all that is evaluated.
+-- From a point on, the run of a body does what its meaning says, over exactly as many blocks as that counts: it comes to where the
+-- body returns, with a memory that represents the store, and with the value's bytes in the return slot; or it ends in a fault. Where the
+-- fuel of the meaning ran out, the run enters as many blocks as were counted up to there. Of a meaning that is stuck or ends in a jump
+-- nothing is said: that of a plain body of a checked world, from a store with as many bytes in each cell as its type has, is neither.
+abbrev pub RunsAs : (Cell → Option ℕ) → Frame → Point → Memory → End (List ℕ) → Type 0
+RunsAs allotted frame from memory (Go bytes store cost) =
+    (later : Memory) × Comes frame cost.turns from memory Exit later × Represents allotted frame store later × (local_bytes frame later 0 ≡ Some bytes)
+RunsAs allotted frame from memory (Jumps to store cost) = Unit {0}
+RunsAs allotted frame from memory (Faults fault cost) = EndsAfter cost.turns (Faulted (error_of fault)) (run_from frame memory from)
+RunsAs allotted frame from memory Stuck = Unit {0}
+RunsAs allotted frame from memory (More cost) = Enters cost.turns (run_from frame memory from)
+
+-- A MIR body does what a typed body means. A cell is where the source keeps a value: the result, a variable, a temporary of an expression;
+-- a store gives each cell's bytes. `allotted` says which local stands for a cell, if any does: the return slot for the result, one for each
+-- binding that no closure owns, no local for two cells, and for each cell one of its type; each local stands for a cell that is used.
+-- `does`: entered at its start block, in a frame whose locals share no byte and hold the store's bytes, whatever callers are suspended below
+-- it, the body runs as its meaning from that store says. `runs`: so it does alone, from zeroed locals, where that can begin. All locals
+-- together take no more bytes than the source counts for its cells (`room`). Where the source is plain and each local's type has a
+-- layout, so have the types of all that is evaluated (`laid_out`).
 pub record Simulates (source : Source) (body : MirBody) : Type 0 where
+  pub allotted : Cell → Option ℕ
+  pub result : allotted Result ≡ Some 0
+  pub bound : (b : ℕ) (ty : Ty) → binding_type source b ≡ Some ty → (l : ℕ) × (allotted (Binding b) ≡ Some l)
+  pub own : (c d : Cell) (l : ℕ) → allotted c ≡ Some l → allotted d ≡ Some l → c ≡ d
+  pub typed : (c : Cell) (l : ℕ) → allotted c ≡ Some l → (local : Local) × (slice_get body.locals l ≡ Some local) × (cell_type source c ≡ Some local.ty)
+  pub does : (fuel : ℕ) (store : Store) (frame : Frame) (memory : Memory) → frame.body ≡ body → AreApart frame.cells → Represents allotted frame store memory →
+      RunsAs allotted frame (Entry body.start_block.0) memory (meaning_from source store fuel)
   pub slot : (local : Local) × (slice_get body.locals 0 ≡ Some local) × (node_type source (root source) ≡ Some local.ty)
-  pub cells : (l : ℕ) (local : Local) → slice_get body.locals l ≡ Some local → (cell : Cell) × IsUsed source cell × (cell_type source cell ≡ Some local.ty)
+  pub cells : (l : ℕ) (local : Local) → slice_get body.locals l ≡ Some local → (cell : Cell) × IsUsed source cell × (cell_type source cell ≡ Some local.ty) × (allotted cell ≡ Some l)
   pub room : sum (map (λ local. room_of (layout_of source.world local.ty)) body.locals) ≤ body_room source
   pub laid_out : IsPlain source → ((l : ℕ) (local : Local) → slice_get body.locals l ≡ Some local → IsLaidOut source (Some local.ty)) → AreLaidOut source
   pub runs : (fuel : ℕ) (start : Frame × Memory) → begun source.world body ≡ Ok start →

@@ -23,7 +23,7 @@ unread before after ReadFault silent is = record { cause = is; nothing_written =
 unread before after WriteFault silent is = absurd is
 unread before after NoMemory silent is = record { nothing_written = silent }
 
--- the input was read, and is no checked HIR database with goals that fit it
+-- the input was read, and is no checked world with goals that fit it
 pub refused : (before after : Streams) (bytes : List ℕ) (status : Status) → after.written ≡ before.written →
     IsReadToEnd before.left after.left bytes → IsOfInput bytes status → Stops before after status
 refused before after bytes Values silent read is = absurd is

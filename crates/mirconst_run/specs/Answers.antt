@@ -64,7 +64,7 @@ AreAnswers before (goal ∷ goals) [] after = ⊥
 AreAnswers before (goal ∷ goals) (answer ∷ answers) after =
     (between : Kept) × IsGoalAnswer before between goal answer × AreAnswers between goals answers after
 
--- a HIR database of which no lowered body and no value is kept yet
+-- a world of which no lowered body and no value is kept yet
 abbrev pub nothing_kept : HirDatabase → Kept
 nothing_kept world = record { world = world; entries = [] }
 

@@ -4,7 +4,7 @@ use Rattle.consteval.specs.declared.evaluated.Evaluated.{Evaluated}
 use Rattle.report_text.specs.Goals.{goal_text}
 use Rattle.world.specs.declared.database.HirDatabase.{HirDatabase}
 
--- the lines for the outcomes of evaluations, with the names that a HIR database gives to items; the first outcome is that of goal `number`
+-- the lines for the outcomes of evaluations, with the names that a world gives to items; the first outcome is that of goal `number`
 abbrev pub report_from : HirDatabase → ℕ → List Evaluated → List ℕ
 report_from world number [] = []
 report_from world number (outcome ∷ outcomes) =

@@ -16,8 +16,8 @@ use Rattle.mirconst_run.specs.Report.{report_text}
 use Rattle.mirconst_input.specs.Streams.{Streams}
 use Rattle.mirconst_input.specs.Words.{is_command}
 
--- The bytes of the input are the JSON of this HIR database and of goals, which are definitions to be evaluated as constants; these
--- are the outcomes of the evaluations, in the order of the goals.
+-- The bytes of the input are the JSON of this world and of goals, which are definitions to be evaluated as constants; these are
+-- the outcomes of the evaluations, in the order of the goals.
 pub record AreOutcomes (bytes : List ℕ) (world : HirDatabase) (outcomes : List Evaluated) : Type 0 where
   pub goals : List Goal
   pub input : StandsFor bytes world goals
@@ -70,14 +70,14 @@ pub record StopsAtJson (before after : Streams) : Type 0 where
   pub no_json : IsNoJson bytes
   pub nothing_written : after.written ≡ before.written
 
--- a run ended since its input is JSON, but no HIR database with goals that fit it; the path is that of the first part that is wrong
+-- a run ended since its input is JSON, but no world with goals that fit it; the path is that of the first part that is wrong
 pub record StopsAtWorld (path : List ℕ) (before after : Streams) : Type 0 where
   pub bytes : List ℕ
   pub read : IsReadToEnd before.left after.left bytes
   pub misfit : HasMisfit bytes path ⊎ HasMisfitGoal bytes path
   pub nothing_written : after.written ≡ before.written
 
--- a run ended since the HIR database of its input fails the check of its conditions
+-- a run ended since the world of its input fails the check of its conditions
 pub record StopsAtCheck (invalid : InvalidWorld) (before after : Streams) : Type 0 where
   pub bytes : List ℕ
   pub read : IsReadToEnd before.left after.left bytes

@@ -63,7 +63,7 @@ fn answer_all(
     Ok(outcomes)
 }
 
-/// Evaluates goals in a HIR database in order, with no lowered body and no value kept before the first.
+/// Evaluates goals in a world in order, with no lowered body and no value kept before the first.
 #[tactic(auto, using(crate::proofs::Answering::from_nothing))]
 pub(crate) fn answers(
     alloc: Global,

@@ -1,6 +1,5 @@
-//! A run of the program: it reads a HIR database and goals, which are definitions to be evaluated as
-//! constants, checks them, evaluates the goals and writes the report. This crate has all public calls of the
-//! library.
+//! A run of the program: it reads a world and goals, which are definitions to be evaluated as constants,
+//! checks them, evaluates the goals and writes the report. This crate has all public calls of the library.
 #![tactic(auto)]
 
 mod answers;

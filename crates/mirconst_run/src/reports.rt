@@ -43,8 +43,7 @@ fn report_of(alloc: Global, db: &HirDatabase, outcomes: &[Evaluated]) -> Result<
     Ok(Bytes::from_vec(out))
 }
 
-/// The report on the outcomes of evaluating goals, in their order, with the names that the HIR database gives to
-/// items.
+/// The report on the outcomes of evaluating goals, in their order, with the names that the world gives to items.
 pub fn report(
     alloc: Global,
     db: &HirDatabase,

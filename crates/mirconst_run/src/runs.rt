@@ -49,8 +49,8 @@ fn answer_input<S: Source, K: Sink>(alloc: Global, src: &mut S, out: &mut K) -> 
     Ok(answered.all)
 }
 
-/// Runs the program: reads a HIR database and goals, which are definitions to be evaluated as constants, evaluates
-/// the goals in order, and writes the report. The arguments `words` of the program have to be none, or `eval`.
+/// Runs the program: reads a world and goals, which are definitions to be evaluated as constants, evaluates the
+/// goals in order, and writes the report. The arguments `words` of the program have to be none, or `eval`.
 #[tactic(auto, using(crate::proofs::Stopping::stop_means, mirconst_input::proofs::Moving::takes_none))]
 pub fn run<S: Source, K: Sink>(
     alloc: Global,

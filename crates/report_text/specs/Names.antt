@@ -1,4 +1,4 @@
--- The names that a HIR database gives to items and parameters; `{error}` for an id that is out of range.
+-- The names that a world gives to items and parameters; `{error}` for an id that is out of range.
 use Rattle.std.specs.Prelude.{ℕ, List, Option, Some, None, codes, slice_get}
 use Rattle.std.specs.Option.{option_map}
 use Rattle.types.specs.declared.ids.AdtId.{AdtId}

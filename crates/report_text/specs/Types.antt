@@ -1,4 +1,4 @@
--- The texts of types, generic arguments and constants, with the names that a HIR database gives to items and parameters.
+-- The texts of types, generic arguments and constants, with the names that a world gives to items and parameters.
 use Rattle.std.specs.Prelude.{ℕ, List, [], ◌∷◌, ◌++◌, codes, map, Option, Some, None}
 use Rattle.numbers.specs.declared.operator.Kind.{Kind}
 use Rattle.numbers.specs.declared.operator.Kind.TheVariants.{Signed, Unsigned, Boolean}

@@ -1,4 +1,4 @@
-//! The names that the HIR database gives to items and parameters.
+//! The names that the world gives to items and parameters.
 
 ghost use Rattle.std.specs.Prelude.{◌≡◌, slice_get};
 ghost use Rattle.std.specs.Option.{option_map};

@@ -11,7 +11,7 @@ use Rattle.source_meaning.specs.Core as expr
 use Rattle.source_meaning.specs.Core.{CoreExpr, Operation}
 use Rattle.source_meaning.specs.Ends.{Cost, turns_alone, End, Go, Jumps, Break, Continue, Return, Faults, Stuck, More, IsOver, after, then_do}
 use Rattle.source_meaning.specs.Events.{marked, marked_as_operand, marked_by_statement}
-use Rattle.source_meaning.specs.Meaning.{Levels, no_fuel, place_of, operand_of, operands_of, strict_into, is_byte, deciding_byte, decided_into, branched, logic_into, tail_into, branch_into, if_into, assign_into, statement_of, statements_of, block_into, caught, again_into, labelled_into, turn_of, loop_into, break_to, return_into, into_of, level_above, level_at, returned, meaning_of}
+use Rattle.source_meaning.specs.Meaning.{Levels, no_fuel, place_of, operand_of, operands_of, strict_into, is_byte, deciding_byte, decided_into, branched, logic_into, tail_into, branch_into, if_into, assign_into, statement_of, statements_of, block_into, caught, again_into, labelled_into, turn_of, loop_into, break_to, return_into, into_of, level_above, level_at, returned, meaning_from}
 use Rattle.source_meaning.specs.Source.{Source, Store, Path, Result, Node, Operand, operand_bytes, node, unadjusted, never_marks, own_path, target, root}
 
 -- what is over after a cost is over
@@ -205,8 +205,8 @@ more_agrees source zero more le = no_fuel_agrees (level_at source more)
 more_agrees source (suc fuel) zero le = absurd (omega arith)
 more_agrees source (suc fuel) (suc more) le = above_agrees source (level_at source fuel) (level_at source more) (more_agrees source fuel more (omega arith))
 
-pub more_fuel : (source : Source) (fuel more : ℕ) → fuel ≤ more → IsOver (meaning_of source fuel) → meaning_of source more ≡ meaning_of source fuel
-unfolding meaning_of
-more_fuel source fuel more le over =
+pub more_fuel : (source : Source) (store : Store) (fuel more : ℕ) → fuel ≤ more → IsOver (meaning_from source store fuel) → meaning_from source store more ≡ meaning_from source store fuel
+unfolding meaning_from
+more_fuel source store fuel more le over =
     let first = at_root (record { cell = Result }) in
     after_agrees _ _ _ (returned_agrees source ((level_at source fuel first).into (root source) _ _) ((level_at source more first).into (root source) _ _) ((more_agrees source fuel more le).into first (root source) _ _)) over

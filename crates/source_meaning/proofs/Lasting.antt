@@ -18,8 +18,8 @@ use Rattle.source_meaning.specs.Core as expr
 use Rattle.source_meaning.specs.Core.{CoreExpr, Operation}
 use Rattle.source_meaning.specs.Ends.{Cost, plus, turns_alone, End, Go, Jumps, Break, Continue, Return, Faults, Stuck, More, GoesOn, after, then_do}
 use Rattle.source_meaning.specs.Events.{marked, marked_as_operand, marked_by_statement}
-use Rattle.source_meaning.specs.Meaning.{Levels, constant_cost, put, put_literal, put_answer, literal_operand, literal_bytes, named_place, named_into, bind, place_of, operand_of, operands_of, is_byte, deciding_byte, reading_cost, decided_into, branched, logic_into, tail_into, branch_into, if_into, statement_of, statements_of, block_into, caught, again_into, turn_of, break_to, continue_to, return_into, into_of, level_at, returned, meaning_of}
-use Rattle.source_meaning.specs.Source.{Source, Store, Path, Result, Node, Binding, zeroed, Operand, Literally, operand_bytes, node, unadjusted, never_marks, own_path, own_type, named_by, pattern, target, root}
+use Rattle.source_meaning.specs.Meaning.{Levels, constant_cost, put, put_literal, put_answer, literal_operand, literal_bytes, named_place, named_into, bind, place_of, operand_of, operands_of, is_byte, deciding_byte, reading_cost, decided_into, branched, logic_into, tail_into, branch_into, if_into, statement_of, statements_of, block_into, caught, again_into, turn_of, break_to, continue_to, return_into, into_of, level_at, returned, meaning_from}
+use Rattle.source_meaning.specs.Source.{Source, Store, Path, Result, Node, Binding, Operand, Literally, operand_bytes, node, unadjusted, never_marks, own_path, own_type, named_by, pattern, target, root}
 use Rattle.source_meaning.specs.Steps.{parts_of, statement_parts}
 use Rattle.source_meaning.proofs.Core.{part_is_below}
 use Rattle.source_meaning.proofs.Parts.{first_is_contained, rest_is_contained, strict_parts, if_parts, block_parts, tail_part}
@@ -324,11 +324,11 @@ abbrev first_around : Around
 first_around = at_root (record { cell = Result })
 
 -- a body lasts where its root does
-body_lasts : (source : Source) (limit : ℕ) (fuel : ℕ) → Lasts limit ((level_at source fuel first_around).into (root source) (record { cell = Result }) (zeroed source)) → Lasts limit (meaning_of source fuel)
-unfolding meaning_of
-body_lasts source limit fuel lasts = lasts_after limit _ _ (returned_lasts source limit _ lasts)
+body_lasts : (source : Source) (store : Store) (limit : ℕ) (fuel : ℕ) → Lasts limit ((level_at source fuel first_around).into (root source) (record { cell = Result }) store) → Lasts limit (meaning_from source store fuel)
+unfolding meaning_from
+body_lasts source store limit fuel lasts = lasts_after limit _ _ (returned_lasts source limit _ lasts)
 
-pub bodies_go_on : (source : Source) (many : ℕ) → IsCheckedBody source.body source.infer → (fuel : ℕ) × GoesOn many (meaning_of source fuel)
-bodies_go_on source many checked =
+pub bodies_go_on : (source : Source) (store : Store) (many : ℕ) → IsCheckedBody source.body source.infer → (fuel : ℕ) × GoesOn many (meaning_from source store fuel)
+bodies_go_on source store many checked =
     let fuel = fuel_for many (suc (root source)) in
-    (fuel, with_limit many _ (body_lasts source many fuel (into_from_own many source fuel (root source) first_around _ _ (own_goes_on source checked many (suc (root source)) (root source) fuel (omega arith) (omega arith) _ _ _))))
+    (fuel, with_limit many _ (body_lasts source store many fuel (into_from_own many source fuel (root source) first_around _ _ (own_goes_on source checked many (suc (root source)) (root source) fuel (omega arith) (omega arith) _ _ _))))

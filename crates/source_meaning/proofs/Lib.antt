@@ -10,6 +10,5 @@ pub mod Marks
 pub mod Never
 mod Operators
 pub mod Parts
-pub mod Returning
 pub mod Sizes
 pub mod Values

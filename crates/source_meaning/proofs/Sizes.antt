@@ -21,8 +21,8 @@ use Rattle.source_meaning.specs.Core.{CoreExpr, CoreLiteral, Truth, Number, Oper
 use Rattle.source_meaning.specs.Ends.{Cost, no_cost, turns_alone, plus, End, Go, Jumps, Jump, Break, Continue, Return, Faults, Stuck, More, JumpsNowhere, after, then_do}
 use Rattle.source_meaning.specs.Entering.{entering}
 use Rattle.source_meaning.specs.Events.{marked, marked_as_operand, marked_by_statement}
-use Rattle.source_meaning.specs.Meaning.{Level, Levels, value_of, answered, truth_byte, literal_bytes, constant_cost, put, put_literal, put_answer, literal_operand, named_place, named_into, bind, operands_of, strict_into, is_byte, deciding_byte, reading_cost, decided_into, branched, logic_into, tail_into, branch_into, if_into, assign_into, statement_of, statements_of, block_into, caught, again_into, labelled_into, turn_of, loop_into, break_to, break_into, continue_to, continue_into, return_into, no_fuel, place_of, operand_of, into_of, level_above, level_at, returned, meaning_of}
-use Rattle.source_meaning.specs.Source.{Source, Store, Path, Cell, Result, Node, Binding, Never, Operand, Literally, At, operand_bytes, same_cell, zeroed, with_cell_bytes, node, unadjusted, never_marks, own_path, own_type, node_type, own_layout, pattern, target, root, cell_type, cell_size}
+use Rattle.source_meaning.specs.Meaning.{Level, Levels, value_of, answered, truth_byte, literal_bytes, constant_cost, put, put_literal, put_answer, literal_operand, named_place, named_into, bind, operands_of, strict_into, is_byte, deciding_byte, reading_cost, decided_into, branched, logic_into, tail_into, branch_into, if_into, assign_into, statement_of, statements_of, block_into, caught, again_into, labelled_into, turn_of, loop_into, break_to, break_into, continue_to, continue_into, return_into, no_fuel, place_of, operand_of, into_of, level_above, level_at, returned, meaning_from}
+use Rattle.source_meaning.specs.Source.{Source, Store, IsSized, Path, Cell, Result, Node, Binding, Never, Operand, Literally, At, operand_bytes, same_cell, zeroed, with_cell_bytes, node, unadjusted, never_marks, own_path, own_type, node_type, own_layout, pattern, target, root, cell_type, cell_size}
 use Rattle.source_meaning.specs.Steps.{parts_of, statement_parts, tail_steps}
 use Rattle.source_meaning.specs.Steps as step
 use Rattle.source_meaning.specs.Valid.{Evaluates, itself, part, IsScalar, IsBool, IsPlainLiteral, HaveTypes, IsPlainLet, IsPlainStatement, IsPlainTail, IsPlainAssign, HasPlainForm, IsPlainNode, EvaluatesIn, itself_in, part_in, opened_in, HasPlainTarget, HasOpenTarget, FitsAround, JumpsFit, IsPlain, IsLaidOut, IsLaidOutNode, sized_parts, NeedsLayout, own, inside, AreLaidOut}
@@ -36,10 +36,6 @@ use Rattle.source_meaning.proofs.Values.{size_at, IsValueOf, AreValues, typed_fi
 -- how many bytes the values of an expression itself have
 abbrev pub size_of : Source → ℕ → ℕ
 size_of source e = size_at source (own_type source e)
-
--- each cell holds as many bytes as its type has
-pub record IsSized (source : Source) (store : Store) : Type 0 where
-  pub holds_all : (cell : Cell) → length (store cell) ≡ cell_size source cell
 
 pub zeroed_is_sized : (source : Source) → IsSized source (zeroed source)
 zeroed_is_sized source = record { holds_all = λ cell. length-replicate (cell_size source cell) 0 }
@@ -621,16 +617,16 @@ returned_is_settled source (Faults fault cost) sound = tt
 returned_is_settled source Stuck sound = sound
 returned_is_settled source (More cost) sound = tt
 
-meaning_is_settled : (source : Source) (fuel : ℕ) → IsChecked source.world → IsPlain source → AreLaidOut source → IsSettled (meaning_of source fuel)
-unfolding meaning_of
-meaning_is_settled source fuel checked plain laid_out =
+meaning_is_settled : (source : Source) (store : Store) (fuel : ℕ) → IsChecked source.world → IsPlain source → AreLaidOut source → IsSized source store → IsSettled (meaning_from source store fuel)
+unfolding meaning_from
+meaning_is_settled source store fuel checked plain laid_out sized =
     let first = at_root (record { cell = Result }) in
     let root_is_fine : IsFine source [] (root source) = record { jumps = plain.jumps; plain = plain.nodes; laid_out = laid_out.nodes } in
     let level = level_is_sound source checked fuel [] first (root_stands source checked) in
-    after_is_settled (entering source) _ (returned_is_settled source ((level_at source fuel first).into (root source) _ _) (level.into (root source) _ _ root_is_fine (zeroed_is_sized source) refl))
+    after_is_settled (entering source) _ (returned_is_settled source ((level_at source fuel first).into (root source) _ _) (level.into (root source) _ _ root_is_fine sized refl))
 
-pub plain_is_never_stuck : (source : Source) (fuel : ℕ) → IsChecked source.world → IsCheckedBody source.body source.infer → IsPlain source → AreLaidOut source → meaning_of source fuel ≢ Stuck
-plain_is_never_stuck source fuel checked body plain laid_out stuck = subst IsSettled stuck (meaning_is_settled source fuel checked plain laid_out)
+pub plain_is_never_stuck : (source : Source) (store : Store) (fuel : ℕ) → IsChecked source.world → IsCheckedBody source.body source.infer → IsPlain source → AreLaidOut source → IsSized source store → meaning_from source store fuel ≢ Stuck
+plain_is_never_stuck source store fuel checked body plain laid_out sized stuck = subst IsSettled stuck (meaning_is_settled source store fuel checked plain laid_out sized)
 
 settled_jumps_nowhere : (end : End (List ℕ)) → IsSettled end → JumpsNowhere end
 settled_jumps_nowhere (Go value store cost) settled = tt
@@ -639,5 +635,5 @@ settled_jumps_nowhere (Faults fault cost) settled = tt
 settled_jumps_nowhere Stuck settled = tt
 settled_jumps_nowhere (More cost) settled = tt
 
-pub plain_jumps_nowhere : (source : Source) (fuel : ℕ) → IsChecked source.world → IsCheckedBody source.body source.infer → IsPlain source → AreLaidOut source → JumpsNowhere (meaning_of source fuel)
-plain_jumps_nowhere source fuel checked body plain laid_out = settled_jumps_nowhere (meaning_of source fuel) (meaning_is_settled source fuel checked plain laid_out)
+pub plain_jumps_nowhere : (source : Source) (store : Store) (fuel : ℕ) → IsChecked source.world → IsCheckedBody source.body source.infer → IsPlain source → AreLaidOut source → IsSized source store → JumpsNowhere (meaning_from source store fuel)
+plain_jumps_nowhere source store fuel checked body plain laid_out sized = settled_jumps_nowhere (meaning_from source store fuel) (meaning_is_settled source store fuel checked plain laid_out sized)

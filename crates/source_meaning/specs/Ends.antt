@@ -4,7 +4,7 @@ use Rattle.source_meaning.specs.Source.{Store}
 
 -- what an evaluation takes of the limits on a run
 pub record Cost : Type 0 where
-  -- how many blocks are entered, at most
+  -- how many blocks are entered
   pub turns : ℕ
   -- how many bytes are taken
   pub bytes : ℕ

@@ -5,30 +5,32 @@ use Rattle.source_meaning.specs.Built.{IsBuiltForm}
 use Rattle.source_meaning.specs.Ends.{Cost, plus, no_cost, Stuck, IsOver, GoesOn, JumpsNowhere}
 use Rattle.source_meaning.specs.Entering.{is_cost_defined}
 use Rattle.source_meaning.specs.Events.{Event, Scopes, scopes_after, events, marked}
-use Rattle.source_meaning.specs.Meaning.{meaning_of}
-use Rattle.source_meaning.specs.Source.{Source, Cell, node}
+use Rattle.source_meaning.specs.Meaning.{meaning_from}
+use Rattle.source_meaning.specs.Source.{Source, Cell, Store, IsSized, node}
 use Rattle.source_meaning.specs.Valid.{IsPlain, IsPlainNode, AreLaidOut, HasDefinedCost}
 
--- more fuel changes nothing
+-- from whatever store a body begins, more fuel changes nothing
 abbrev pub MoreFuelChangesNothing : Type 0
-MoreFuelChangesNothing = (source : Source) (fuel more : ℕ) → fuel ≤ more → IsOver (meaning_of source fuel) → meaning_of source more ≡ meaning_of source fuel
+MoreFuelChangesNothing = (source : Source) (store : Store) (fuel more : ℕ) → fuel ≤ more → IsOver (meaning_from source store fuel) →
+    meaning_from source store more ≡ meaning_from source store fuel
 
--- a plain body of a checked world, whose types have layouts, is never stuck
+-- a plain body of a checked world, whose types have layouts, is never stuck, where it begins with as many bytes in each cell as
+-- the cell's type has
 abbrev pub PlainIsNeverStuck : Type 0
 PlainIsNeverStuck =
-    (source : Source) (fuel : ℕ) → IsChecked source.world → IsCheckedBody source.body source.infer → IsPlain source → AreLaidOut source →
-    meaning_of source fuel ≢ Stuck
+    (source : Source) (store : Store) (fuel : ℕ) → IsChecked source.world → IsCheckedBody source.body source.infer → IsPlain source → AreLaidOut source →
+    IsSized source store → meaning_from source store fuel ≢ Stuck
 
 -- and never ends in a jump
 abbrev pub PlainJumpsNowhere : Type 0
 PlainJumpsNowhere =
-    (source : Source) (fuel : ℕ) → IsChecked source.world → IsCheckedBody source.body source.infer → IsPlain source → AreLaidOut source →
-    JumpsNowhere (meaning_of source fuel)
+    (source : Source) (store : Store) (fuel : ℕ) → IsChecked source.world → IsCheckedBody source.body source.infer → IsPlain source → AreLaidOut source →
+    IsSized source store → JumpsNowhere (meaning_from source store fuel)
 
--- For each number `many`, a checked body ends with some fuel, or it enters at least `many` blocks. So under a limit on blocks
--- it ends or meets the limit.
+-- From whatever store a checked body begins, and for each number `many`, some amount of fuel gives an end, or has counted at least `many`
+-- blocks. So under a limit on blocks it ends or meets the limit.
 abbrev pub BodiesGoOn : Type 0
-BodiesGoOn = (source : Source) (many : ℕ) → IsCheckedBody source.body source.infer → (fuel : ℕ) × GoesOn many (meaning_of source fuel)
+BodiesGoOn = (source : Source) (store : Store) (many : ℕ) → IsCheckedBody source.body source.infer → (fuel : ℕ) × GoesOn many (meaning_from source store fuel)
 
 -- a plain expression has a form that is built
 abbrev pub PlainIsBuilt : Type 0

@@ -313,10 +313,15 @@ returned source (Faults fault cost) = Faults fault cost
 returned source Stuck = Stuck
 returned source (More cost) = More cost
 
--- a body's bytes: from zeroed cells on, its root is evaluated into the result's cell, which is also the return path
-unfoldable pub meaning_of : Source → ℕ → End (List ℕ)
-meaning_of source fuel =
-    after (entering source) (returned source ((level_at source fuel (at_root (record { cell = Result }))).into (root source) (record { cell = Result }) (zeroed source)))
+-- What a body means from a store on: its root is evaluated into the result's cell, which is also the return path, and the bytes of that
+-- cell are the value. No cell is zeroed: the result's keeps its old bytes where nothing is written to it.
+unfoldable pub meaning_from : Source → Store → ℕ → End (List ℕ)
+meaning_from source store fuel =
+    after (entering source) (returned source ((level_at source fuel (at_root (record { cell = Result }))).into (root source) (record { cell = Result }) store))
+
+-- what a body means: from zeroed cells on
+abbrev pub meaning_of : Source → ℕ → End (List ℕ)
+meaning_of source fuel = meaning_from source (zeroed source) fuel
 
 -- the end that a source has with enough fuel
 pub record Gives (source : Source) (end : End (List ℕ)) : Type 0 where

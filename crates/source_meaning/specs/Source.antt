@@ -1,5 +1,5 @@
 -- A typed body in its world, its nodes, and the cells that hold their values.
-use Rattle.std.specs.Prelude.{◌==◌, ◌||◌, ℕ, Bool, true, false, cond, List, [], ◌∷◌, length, filter, not, replicate, Option, Some, None, is_some, slice_get, unwrap_or, option_map, option_and_then, if◌then◌else◌}
+use Rattle.std.specs.Prelude.{◌≡◌, ◌==◌, ◌||◌, ℕ, Bool, true, false, cond, List, [], ◌∷◌, length, filter, not, replicate, Option, Some, None, is_some, slice_get, unwrap_or, option_map, option_and_then, if◌then◌else◌}
 use Rattle.std.specs.BTreeMap.{is_at}
 use Rattle.std.specs.Map.{lookup}
 use Rattle.types.specs.contracts.ids.ExprIdOrd.TheImpl as ExprIdOrd
@@ -154,6 +154,10 @@ Store = Cell → List ℕ
 -- each cell has the size of its type, and is zero
 abbrev pub zeroed : Source → Store
 zeroed source = λ cell. replicate (cell_size source cell) 0
+
+-- each cell holds as many bytes as its type has
+pub record IsSized (source : Source) (store : Store) : Type 0 where
+  pub holds_all : (cell : Cell) → length (store cell) ≡ cell_size source cell
 
 -- the store with other bytes in one cell
 abbrev pub with_cell_bytes : Store → Cell → List ℕ → Store

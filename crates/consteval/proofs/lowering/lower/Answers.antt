@@ -1,14 +1,14 @@
 -- The row of a body is checked, and its graph is kept as that row's.
-use Rattle.std.proofs.Common.{◌≡◌, ◌⊎◌, false, Some, ap, sym, subst, ◌∙◌}
+use Rattle.std.proofs.Common.{◌≡◌, ◌⊎◌, false, ap, sym, subst, ◌∙◌}
 use Rattle.std.proofs.lemmas.Result.{IfErr-weaker, IfOk-weaker}
 use Rattle.mir.specs.declared.errors.MirLowerError.TheVariants as refusal
-use Rattle.mir_lower.specs.Simulates.{Simulates}
 use Rattle.world.specs.Lookups.{body_row}
-use Rattle.world.specs.declared.database.BodyRow.{BodyRow}
 use Rattle.world.specs.declared.database.HirDatabase.{HirDatabase}
-use Rattle.consteval.specs.Answers.{RefusesBody, has_errors, is_erroneous, is_unbuilt}
-use Rattle.consteval.specs.Kept.{source_of}
-use Rattle.consteval.proofs.Rows.{lowering-refuses, row-of, row-checked}
+use Rattle.consteval.specs.Answers.{RefusesBody}
+use Rattle.consteval.specs.Built.{has_errors, is_erroneous, is_unbuilt}
+use Rattle.consteval.specs.Kept.{IsLowered}
+use Rattle.consteval.proofs.Built.{built-by-itself}
+use Rattle.consteval.proofs.Rows.{lowering-refuses, row-of, row-checked, row-lowered}
 use Rattle.consteval.proofs.lowering.lower.Goals as goal
 
 pub lower_to_mir-requires-clause-checked : goal.lower_to_mir-requires-clause-checked
@@ -21,13 +21,11 @@ pub returns-clause-lowered : goal.returns-clause-lowered
 returns-clause-lowered c =
     let db = c.db-db.result.now in
     let found = row-of (body_row db c.args.def) c.in-Some.body.now c.in-Some-infer.infer.now c.in-Some.ensures c.in-Some-infer.ensures in
+    let erroneous : is_erroneous db c.args.def ≡ false = sym (ap has_errors c.infer.ensures) ∙ sym c.has_errors.ensures ∙ c.if-has_errors.false in
+    let built : is_unbuilt db c.args.def c.args.args.now ≡ false = sym c.is_unbuilt.ensures ∙ c.if-is_unbuilt.false in
     IfOk-weaker c.lower_to_mir.result _ _
-    (λ lowered simulates. record {
-      row = found.row;
-      found = subst (λ (world : HirDatabase). body_row world c.args.def ≡ Some found.row) c.db-db.ensures.same found.there;
-      simulates = subst (λ (world : HirDatabase). Simulates (source_of world found.row) lowered) c.db-db.ensures.same
-          (subst (λ (row : BodyRow). Simulates (source_of db row) lowered) (sym found.is) simulates);
-    })
+    (λ lowered simulates. subst (λ (world : HirDatabase). IsLowered world c.args.def lowered) c.db-db.ensures.same
+    (row-lowered db c.args.def c.in-Some.body.now c.in-Some-infer.infer.now found lowered erroneous (built-by-itself db c.args.def c.args.args.now built) simulates))
     c.lower_to_mir.ensures.simulates
 
 pub returns-clause-refused : goal.returns-clause-refused

@@ -15,5 +15,5 @@ returns-in-Err-clause-cause c =
 pub returns-clause-cause : goal.returns-clause-cause
 returns-clause-cause c =
     let same : c.body_of.new.self.world ≡ c.db-db.result.now = search rules in
-    cause-answered c.body_of.new.self c.db-db.result.now c.args.def c.args.args.now c.args.limits.now c.run_body.result.turns c.in-Ok.body.value c.run_body.result.result same
-    c.in-Ok.ensures.given c.in-Ok.ensures.found c.run_body.ensures.answered
+    cause-answered c.body_of.new.self c.db-db.result.now c.args.def c.args.args.now c.args.limits.now c.run_body.result.turns c.in-Ok.body.value c.run_body.result.result
+    c.body_of.ensures.sound same c.in-Ok.ensures.given c.in-Ok.ensures.found c.run_body.ensures.answered

@@ -1,0 +1,71 @@
+-- Runs of a frame: from a point of its body to another, or to the end of the run.
+use Rattle.std.specs.Prelude.{◌≡◌, ◌≢◌, ◌⊎◌, ℕ, ◌+◌, ◌<◌, ◌≤◌, List, Option, Some, slice_get, option_and_then}
+use Rattle.mir.specs.declared.errors.MirEvalError.{MirEvalError}
+use Rattle.mir.specs.declared.errors.MirEvalError as error
+use Rattle.mir.specs.Memory.{Interval, Memory, bytes_at}
+use Rattle.mir.specs.Run.{Frame, Ending, Ended, out_of_blocks, after_return, entering, going_on, running}
+use Rattle.source_meaning.specs.Ends.{Fault, Panic, Undefined}
+use Rattle.source_meaning.specs.Source.{Cell, Store}
+
+-- A point of a run: in a block that it entered, before a statement or before the terminator; before it enters a block; or at a `Return`
+-- terminator, before control goes back to the caller or the run ends.
+pub data Point : Type 0 where
+  Within : (block index : ℕ) → Point
+  Entry : (block : ℕ) → Point
+  Exit : Point
+
+-- the point before the first statement of a block
+abbrev pub start_of : ℕ → Point
+start_of block = Within block 0
+
+-- the run from a point on
+abbrev pub run_from : Frame → Memory → Point → ℕ → Ended
+run_from frame memory (Within block index) budget = running budget frame memory block index
+run_from frame memory (Entry block) budget = entering budget frame memory block
+run_from frame memory Exit budget = going_on budget (after_return frame memory)
+
+-- a run enters at least `turns` blocks: under a budget of fewer it runs out of them
+abbrev pub Enters : ℕ → (ℕ → Ended) → Type 0
+Enters turns run = (fewer : ℕ) → fewer < turns → run fewer ≡ out_of_blocks
+
+-- A run under every budget: it ends in `ending`, after exactly `turns` blocks. With just as many blocks or more it ends so
+-- and leaves the rest, and with fewer it runs out of them.
+pub record EndsAfter (turns : ℕ) (ending : Ending) (run : ℕ → Ended) : Type 0 where
+  pub with_more : (more : ℕ) → run (turns + more) ≡ record { ending = ending; left = more }
+  pub with_fewer : Enters turns run
+
+-- the error in which a run ends where the meaning ends in a fault
+abbrev pub error_of : Fault → MirEvalError
+error_of (Panic word) = error.Panic word
+error_of (Undefined text) = error.UndefinedBehavior text
+
+-- the bytes of a local
+unfoldable pub local_bytes : Frame → Memory → ℕ → Option (List ℕ)
+local_bytes frame memory local = option_and_then (bytes_at memory) (slice_get frame.cells local)
+
+-- two intervals share no byte
+abbrev pub IsApart : Interval → Interval → Type 0
+IsApart a b = (a.address + a.size ≤ b.address) ⊎ (b.address + b.size ≤ a.address)
+
+-- no two cells of a frame share a byte
+abbrev pub AreApart : List Interval → Type 0
+AreApart cells = (i j : ℕ) (a b : Interval) → i ≢ j → slice_get cells i ≡ Some a → slice_get cells j ≡ Some b → IsApart a b
+
+-- an interval shares no byte with any cell of a frame
+abbrev pub LiesApart : Frame → Interval → Type 0
+LiesApart frame interval = (i : ℕ) (cell : Interval) → slice_get frame.cells i ≡ Some cell → IsApart cell interval
+
+-- Each interval of the old memory that shares no byte with a local of the frame has the same bytes later. Nothing is said of bytes behind
+-- the old end of the stack.
+abbrev pub KeepsOthers : Frame → Memory → Memory → Type 0
+KeepsOthers frame memory later = (interval : Interval) (bytes : List ℕ) → LiesApart frame interval → bytes_at memory interval ≡ Some bytes → bytes_at later interval ≡ Some bytes
+
+-- The run goes from one point to another, and enters `turns` blocks on the way. Of what was there before it changes only the frame's cells.
+pub record Comes (frame : Frame) (turns : ℕ) (from : Point) (memory : Memory) (to : Point) (later : Memory) : Type 0 where
+  pub with_more : (more : ℕ) → run_from frame memory from (turns + more) ≡ run_from frame later to more
+  pub with_fewer : Enters turns (run_from frame memory from)
+  pub others : KeepsOthers frame memory later
+
+-- The memory represents a store: where a cell of the source has a local, the local's bytes are those that the store has for the cell.
+pub record Represents (allotted : Cell → Option ℕ) (frame : Frame) (store : Store) (memory : Memory) : Type 0 where
+  pub shows : (cell : Cell) (local : ℕ) → allotted cell ≡ Some local → local_bytes frame memory local ≡ Some (store cell)
