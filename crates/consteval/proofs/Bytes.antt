@@ -18,9 +18,9 @@ use Rattle.mir_lower.specs.Simulates.{Simulates}
 use Rattle.mir_lower.proofs.Placing.{first-ok}
 use Rattle.mir_lower.proofs.Whole.{begun-cells}
 use Rattle.source_meaning.specs.Ends.{Cost, plus, End, Go, Jumps, Faults, Stuck, More, Fault, after}
-use Rattle.source_meaning.specs.Entering.{body_room, entering, room_of}
+use Rattle.source_meaning.specs.Entering.{body_room, entering, room_of, run_cost}
 use Rattle.source_meaning.specs.Meaning.{Gives, meaning_from, meaning_of}
-use Rattle.source_meaning.specs.Source.{Source, Store}
+use Rattle.source_meaning.specs.Source.{Source, Store, zeroed}
 use Rattle.consteval.specs.Answers.{cost_in}
 
 -- an alignment skips fewer bytes than it has
@@ -101,9 +101,30 @@ after-takes cost (Faults fault rest) there = plus-takes cost rest
 after-takes cost Stuck there = absurd (there refl)
 after-takes cost (More rest) there = plus-takes cost rest
 
+-- and at least those of what stands behind it
+plus-takes-rest : (first second : Cost) → second.bytes ≤ (plus first second).bytes
+unfolding plus
+plus-takes-rest first second = omega arith
+
+after-takes-rest : (cost : Cost) (end : End (List ℕ)) → (cost_in end).bytes ≤ (cost_in (after cost end)).bytes
+unfolding after
+after-takes-rest cost (Go bytes store rest) = plus-takes-rest cost rest
+after-takes-rest cost (Jumps to store rest) = plus-takes-rest cost rest
+after-takes-rest cost (Faults fault rest) = plus-takes-rest cost rest
+after-takes-rest cost Stuck = omega arith
+after-takes-rest cost (More rest) = plus-takes-rest cost rest
+
+stuck-after : (cost : Cost) (end : End (List ℕ)) → after cost end ≢ Stuck → end ≢ Stuck
+unfolding after
+stuck-after cost end there stuck = there (ap (after cost) stuck)
+
 meaning-takes : (source : Source) (fuel : ℕ) → meaning_of source fuel ≢ Stuck → (entering source).bytes ≤ (cost_in (meaning_of source fuel)).bytes
 unfolding meaning_from
-meaning-takes source fuel there = after-takes (entering source) _ there
+meaning-takes source fuel there =
+    let inner : End (List ℕ) = meaning_from source (zeroed source) fuel in
+    let entered : (entering source).bytes ≤ (cost_in inner).bytes = after-takes (entering source) _ (stuck-after run_cost inner there) in
+    let whole : (cost_in inner).bytes ≤ (cost_in (after run_cost inner)).bytes = after-takes-rest run_cost inner in
+    omega arith
 
 -- an end that a source has takes the bytes that are counted on entering it
 pub value-takes : (source : Source) (bytes : List ℕ) (store : Store) (cost : Cost) → Gives source (Go bytes store cost) → (entering source).bytes ≤ cost.bytes

@@ -15,8 +15,8 @@ use Rattle.mir.specs.declared.errors.MirLowerError.{MirLowerError}
 use Rattle.mir.specs.declared.errors.MirLowerError.TheVariants as refusal
 use Rattle.mir.specs.Errors.{from_lower_error}
 use Rattle.consteval.specs.Answers.{AnswersBody, AnswersKept, HasCause, NeverLowered, RefusesBody, carried}
-use Rattle.consteval.specs.Built.{is_erroneous, is_unbuilt}
-use Rattle.consteval.specs.Kept.{IsSound, IsValueOf, Kept, Lowered, Ran, Stays}
+use Rattle.consteval.specs.Built.{is_unbuilt}
+use Rattle.consteval.specs.Kept.{IsLowered, IsSound, IsValueOf, Kept, Lowered, Ran, Stays}
 use Rattle.consteval.proofs.Built.{built-without-args}
 use Rattle.consteval.proofs.Keeping.{contains-stays, kept-body-lowered}
 
@@ -30,10 +30,10 @@ pub cause-answered : (kept : Kept) (world : HirDatabase) (def : DefWithBodyId) (
 cause-answered kept world def args limits turns body answer sound same given found answers =
     let lowered = kept-body-lowered kept sound def body found in
     inl (record {
-      no_errors = lowered.no_errors;
       built = built-without-args kept.world def args given lowered.built;
       body = body;
       found = found;
+      lowered = lowered;
       answers = subst (λ w. AnswersBody w def body limits turns answer) (sym same) answers;
     })
 
@@ -41,10 +41,10 @@ module _ (before after : Kept) (stays : Stays before after) (def : DefWithBodyId
   answers-stay : (answer : Result Const ConstEvalError) → AnswersKept before def args limits turns answer → AnswersKept after def args limits turns answer
   answers-stay answer answers =
       record {
-        no_errors = subst (λ w. is_erroneous w def ≡ false) (sym stays.world) answers.no_errors;
         built = subst (λ w. is_unbuilt w def args ≡ false) (sym stays.world) answers.built;
         body = answers.body;
         found = contains-stays before after stays (Lowered def answers.body) answers.found;
+        lowered = subst (λ w. IsLowered w def answers.body) (sym stays.world) answers.lowered;
         answers = subst (λ w. AnswersBody w def answers.body limits turns answer) (sym stays.world) answers.answers;
       }
 
@@ -73,10 +73,10 @@ module _ (before after : Kept) (stays : Stays before after) (def : DefWithBodyId
   cause-out answer cause =
       cause-stays (Err constant.NoMemory)
       (⊎_elim (λ answers. inl (record {
-        no_errors = answers.no_errors;
         built = answers.built;
         body = answers.body;
         found = answers.found;
+        lowered = answers.lowered;
         answers = body-out answers.body answer answers.answers;
       }))
       (λ refused. inr (record { none = refused.none; fault = refusal.NoMemory; is = refl; refuses = inl refl })) cause)

@@ -17,11 +17,10 @@ use Rattle.mir.specs.declared.errors.MirLowerError.{MirLowerError}
 use Rattle.mir.specs.declared.errors.MirLowerError.TheVariants as refusal
 use Rattle.mir.specs.Errors.{from_lower_error, from_eval_error}
 use Rattle.mir_lower.specs.Simulates.{Simulates}
-use Rattle.source_meaning.proofs.Lasting.{bodies_go_on}
-use Rattle.source_meaning.proofs.Sizes.{plain_is_never_stuck, plain_jumps_nowhere, zeroed_is_sized}
+use Rattle.source_meaning.proofs.Runs.{run_goes_on, run_is_never_stuck, run_jumps_nowhere}
 use Rattle.source_meaning.specs.Ends.{Panic, Stuck, JumpsNowhere}
 use Rattle.source_meaning.specs.Meaning.{meaning_of}
-use Rattle.source_meaning.specs.Source.{Source, zeroed}
+use Rattle.source_meaning.specs.Source.{Source}
 use Rattle.source_meaning.specs.Valid.{AreLaidOut, HasDefinedCost}
 use Rattle.consteval.specs.Answers.{GivesValue, CountsBlocks, GivesPanic, AnswersWithin, AnswersEndless, HasNoEnd, OrNoMemory, PassesBytes, past_blocks, EndsIn, HasCause, AnswersBody, RunsTo, RefusesBody, carried, panic_word}
 use Rattle.consteval.specs.Kept.{Kept, Lowered, IsSound, IsLowered, Ran, source_of}
@@ -54,13 +53,13 @@ module _ (world : HirDatabase) (checked : IsChecked world) (def : DefWithBodyId)
   -- the source ends, or counts more blocks than a limit
   comes : (limits : Limits) → (fuel : ℕ) × ComesTo Of (suc limits.blocks) (meaning_of Of fuel)
   comes limits =
-      let reached = bodies_go_on Of (zeroed Of) (suc limits.blocks) (checked-body world def row checked valid.body) in
+      let reached = run_goes_on Of (suc limits.blocks) (checked-body world def row checked valid.body) in
       (reached.0, record { fuel = reached.0; reached = refl; goes_on = reached.1 })
 
   ends-well : AreLaidOut Of → (fuel : ℕ) → (meaning_of Of fuel ≢ Stuck) × JumpsNowhere (meaning_of Of fuel)
   ends-well laid fuel =
       let body = checked-body world def row checked valid.body in
-      (plain_is_never_stuck Of (zeroed Of) fuel checked body valid.plain laid (zeroed_is_sized Of), plain_jumps_nowhere Of (zeroed Of) fuel checked body valid.plain laid (zeroed_is_sized Of))
+      (run_is_never_stuck Of fuel checked body valid.plain laid, run_jumps_nowhere Of fuel checked body valid.plain laid)
 
   module _ (limits : Limits) (turns : ℕ) (answer : Result Const ConstEvalError) where
     run-value : (body : MirBody) → IsLowered world def body → RunsTo world def body limits turns answer → (konst : Const) → answer ≡ Ok konst → GivesValue Of konst

@@ -5,9 +5,9 @@ use Rattle.mir.specs.declared.errors.MirEvalError.{MirEvalError}
 use Rattle.mir.specs.declared.errors.MirEvalError as error
 use Rattle.mir_eval.specs.Machine.{on_a_level}
 use Rattle.source_meaning.specs.Ends.{Cost, no_cost, plus, End, Go, Jumps, Faults, Stuck, More, Fault, after, then_do}
-use Rattle.source_meaning.specs.Entering.{entering}
+use Rattle.source_meaning.specs.Entering.{entering, run_cost}
 use Rattle.source_meaning.specs.Meaning.{Gives, level_at, meaning_from, meaning_of}
-use Rattle.source_meaning.specs.Source.{Source, Store}
+use Rattle.source_meaning.specs.Source.{Source, Store, zeroed}
 use Rattle.consteval.specs.Answers.{PassesNesting, cost_in}
 
 -- a cost takes at least the nesting of what stands before it
@@ -23,14 +23,13 @@ after-nests cost (Faults fault rest) deep there = let more = plus-nests cost res
 after-nests cost Stuck deep there = absurd (there refl)
 after-nests cost (More rest) deep there = let more = plus-nests cost rest in omega arith
 
-entering-nests : (source : Source) → 2 ≤ (entering source).nesting
-unfolding entering
-entering-nests source = omega arith
+run-nests : 2 ≤ run_cost.nesting
+unfolding run_cost
+run-nests = omega arith
 
 -- whatever fuel there is, a meaning nests by two levels
 meaning-nests : (source : Source) (fuel : ℕ) → meaning_of source fuel ≢ Stuck → 2 ≤ (cost_in (meaning_of source fuel)).nesting
-unfolding meaning_from
-meaning-nests source fuel there = after-nests (entering source) _ (entering-nests source) there
+meaning-nests source fuel there = after-nests run_cost (meaning_from source (zeroed source) fuel) run-nests there
 
 -- an end that a source has nests by two levels
 pub value-nests : (source : Source) (bytes : List ℕ) (store : Store) (cost : Cost) → Gives source (Go bytes store cost) → 2 ≤ cost.nesting
@@ -42,15 +41,15 @@ fault-nests source fault cost gives =
     subst (λ (end : End (List ℕ)). end ≢ Stuck → 2 ≤ (cost_in end).nesting) gives.reached (meaning-nests source gives.fuel) (λ stuck. cc)
 
 -- without fuel an evaluation is no further than where it was entered
-no-fuel : (source : Source) → meaning_of source 0 ≡ More (plus (entering source) no_cost)
+no-fuel : (source : Source) → meaning_of source 0 ≡ More (plus run_cost (plus (entering source) no_cost))
 unfolding meaning_from level_at then_do after
 no-fuel source = refl
 
 -- a limit that is less than two levels is passed
 pub passes-nesting : (source : Source) (nesting : ℕ) → nesting < 2 → PassesNesting source nesting
 passes-nesting source nesting less =
-    let entered = entering-nests source in
-    let nests = plus-nests (entering source) no_cost in
+    let alone = run-nests in
+    let nests = plus-nests run_cost (plus (entering source) no_cost) in
     (0, subst (λ (end : End (List ℕ)). nesting < (cost_in end).nesting) (sym (no-fuel source)) (omega arith))
 
 -- where there is a level of nesting, what takes one is as it is

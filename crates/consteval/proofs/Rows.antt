@@ -1,6 +1,6 @@
 -- The rows of a definition's body, as look-ups give them.
-use Rattle.std.proofs.Common.{◌≡◌, Bool, true, false, List, [], ◌∷◌, ◌⊎◌, ⊎_elim, inr, Option, Some, None, refl, sym, ap, ◌∙◌, subst}
-use Rattle.std.specs.Prelude.{◌≢◌, ◌||◌, IsTrue, not, option_map}
+use Rattle.std.proofs.Common.{◌≡◌, Bool, true, false, List, [], ◌∷◌, ◌⊎◌, ⊎_elim, inr, Option, Some, None, Result, Ok, Err, refl, sym, ap, ◌∙◌, subst}
+use Rattle.std.specs.Prelude.{◌≢◌, ◌||◌, IsTrue, IfOk, OnOk, not, option_map}
 use Rattle.world.specs.declared.body.Body.{Body}
 use Rattle.world.specs.declared.database.BodyRow.{BodyRow}
 use Rattle.world.specs.declared.database.HirDatabase.{HirDatabase}
@@ -10,8 +10,11 @@ use Rattle.types.specs.declared.ty.GenericArgs.{GenericArgs}
 use Rattle.mir.specs.declared.body.MirBody.{MirBody}
 use Rattle.mir.specs.declared.errors.MirLowerError.{MirLowerError}
 use Rattle.mir.specs.declared.errors.MirLowerError.TheVariants as refusal
-use Rattle.mir_lower.specs.Refusals.{Refuses, RefusesInferred}
+use Rattle.mir_lower.specs.Built.{IsBuilt}
+use Rattle.mir_lower.specs.Order.{AreInOrder}
+use Rattle.mir_lower.specs.Refusals.{Refuses, RefusesInferred, needs_drops}
 use Rattle.mir_lower.specs.Simulates.{Simulates}
+use Rattle.source_meaning.specs.Source.{Source, root}
 use Rattle.consteval.specs.Answers.{RefusesBody}
 use Rattle.consteval.specs.Built.{is_empty, is_erroneous, is_unbuilt, is_unbuilt_definition, has_errors}
 use Rattle.consteval.specs.Kept.{IsLowered, source_of}
@@ -37,16 +40,26 @@ module _ (world : HirDatabase) (def : DefWithBodyId) (body : Body) (infer : Infe
   pub row-checked : IsChecked world → IsCheckedBody body infer
   row-checked checked = subst (λ (r : BodyRow). IsCheckedBody r.body r.infer) row.is (checked-body world def row.row checked row.there)
 
-  -- a graph that simulates the body is lowered from it, where the definition is built and has no typing error
-  pub row-lowered : (lowered : MirBody) → is_erroneous world def ≡ false → is_unbuilt_definition world def ≡ false → Simulates (record { world = world; body = body; infer = infer }) lowered → IsLowered world def lowered
-  row-lowered lowered no_errors built simulates =
+  abbrev Of : Source
+  Of = record { world = world; body = body; infer = infer }
+
+  -- what lowering makes of the body is lowered from its row, where the definition is built and has no typing error
+  pub row-lowers : (result : Result MirBody MirLowerError) → is_erroneous world def ≡ false → is_unbuilt_definition world def ≡ false →
+      IfOk result (Simulates Of) → IfOk result (λ lowered. AreInOrder Of lowered.locals) → IfOk result (λ lowered. lowered.owner ≡ def) → IfOk result (λ lowered. needs_drops Of lowered.locals ≡ false) → OnOk result (IsBuilt Of body.body_expr.0) →
+      IfOk result (IsLowered world def)
+  row-lowers (Ok lowered) no_errors built simulates order owner dropless forms =
       record {
         no_errors = no_errors;
         built = built;
         row = row.row;
         found = row.there;
+        forms = subst (λ (r : BodyRow). IsBuilt (source_of world r) (root (source_of world r))) (sym row.is) forms;
+        dropless = subst (λ (r : BodyRow). needs_drops (source_of world r) lowered.locals ≡ false) (sym row.is) dropless;
+        order = subst (λ (r : BodyRow). AreInOrder (source_of world r) lowered.locals) (sym row.is) order;
+        owner = owner;
         simulates = subst (λ (r : BodyRow). Simulates (source_of world r) lowered) (sym row.is) simulates;
       }
+  row-lowers (Err e) no_errors built simulates order owner dropless forms = tt
 
 -- where inference met no error there is no typing error
 no-typing-errors : (erroneous : Bool) (mismatches : List ExprId) → (erroneous || not (is_empty mismatches)) ≡ false → IsTrue erroneous ⊎ (mismatches ≢ []) → ⊥

@@ -33,7 +33,7 @@ use Rattle.source_meaning.specs.Meaning.{Gives, meaning_of}
 use Rattle.source_meaning.specs.Source.{Source, Cell, Store, cell_type, node_type, root}
 use Rattle.source_meaning.specs.Valid.{HasDefinedCost}
 use Rattle.consteval.specs.Built.{is_erroneous, is_unbuilt}
-use Rattle.consteval.specs.Kept.{Kept, Lowered, Ran, run_of, source_of}
+use Rattle.consteval.specs.Kept.{IsLowered, Kept, Lowered, Ran, run_of, source_of}
 
 -- a constant of a type, with these bytes and no memory behind them
 abbrev pub constant_of : Ty → List ℕ → Const
@@ -276,13 +276,13 @@ abbrev pub AnswersBody : HirDatabase → DefWithBodyId → MirBody → Limits �
 AnswersBody world def body limits turns answer =
     RunsTo world def body limits turns answer ⊎ NeverBegins world def body limits turns answer ⊎ RunsOut world def body limits turns answer
 
--- The answer is that of the definition's kept body: the definition is built and is given no arguments, and inference met no
--- error in its body.
+-- The answer is that of the definition's kept body: the definition is built and is given no arguments, and the body is what lowering makes
+-- of its row.
 pub record AnswersKept (kept : Kept) (def : DefWithBodyId) (args : GenericArgs) (limits : Limits) (turns : ℕ) (answer : Result Const ConstEvalError) : Type 0 where
-  pub no_errors : is_erroneous kept.world def ≡ false
   pub built : is_unbuilt kept.world def args ≡ false
   pub body : MirBody
   pub found : Contains kept.entries (Lowered def body)
+  pub lowered : IsLowered kept.world def body
   pub answers : AnswersBody kept.world def body limits turns answer
 
 -- the definition's body could not be lowered, for want of memory or for a cause that the answer names, and no run began
@@ -292,10 +292,9 @@ pub record NeverLowered (world : HirDatabase) (def : DefWithBodyId) (args : Gene
   pub is : answer ≡ Err (from_lower_error fault)
   pub refuses : (fault ≡ refusal.NoMemory) ⊎ RefusesBody world def args fault
 
--- Every answer is that of the kept body of a definition that is built, is given no arguments and has no typing error, or it is
--- the refusal to lower a body. So each of the two refusals of a definition comes exactly where its cause stands, want of memory
--- aside: `HasErrors` where its body has a typing error, and else `NotSupported("form not built")` where it isn't built or is given
--- arguments.
+-- Every answer is that of the kept body of a definition that is built and is given no arguments, or it is the refusal to lower a body. So, want
+-- of memory aside, a definition is refused that isn't built or is given arguments, and so is one whose body has a typing error, an
+-- expression that is evaluated and has no form that is built, or, in a world with a drop function, a local whose type isn't `Copy`.
 abbrev pub HasCause : Kept → DefWithBodyId → GenericArgs → Limits → ℕ → Result Const ConstEvalError → Type 0
 HasCause kept def args limits turns answer =
     AnswersKept kept def args limits turns answer ⊎ NeverLowered kept.world def args turns answer

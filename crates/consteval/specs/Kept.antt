@@ -11,8 +11,11 @@ use Rattle.mir.specs.Memory.{Memory}
 use Rattle.mir.specs.Run.{Frame, Ended, begun, entering}
 use Rattle.mir_eval.specs.Machine.{Machine, Going, outcome_of, pointer_bytes}
 use Rattle.mir_eval.specs.Room.{bytes_taken}
+use Rattle.mir_lower.specs.Built.{IsBuilt}
+use Rattle.mir_lower.specs.Order.{AreInOrder}
+use Rattle.mir_lower.specs.Refusals.{needs_drops}
 use Rattle.mir_lower.specs.Simulates.{Simulates}
-use Rattle.source_meaning.specs.Source.{Source}
+use Rattle.source_meaning.specs.Source.{Source, root}
 use Rattle.consteval.specs.Built.{is_erroneous, is_unbuilt_definition}
 use Rattle.consteval.specs.declared.kept.Held.{Held}
 use Rattle.consteval.specs.declared.kept.Held.TheVariants as held
@@ -60,13 +63,18 @@ pub record Stays (before after : Kept) : Type 0 where
 abbrev pub source_of : HirDatabase → BodyRow → Source
 source_of world row = record { world = world; body = row.body; infer = row.infer }
 
--- A body that is kept for a definition was lowered from its row, which it simulates. The definition is built, and inference met
--- no error in its body.
+-- A body that is kept for a definition is what lowering makes of its row: the definition is built, inference met no error in its body, each
+-- expression that is evaluated has a form that is built, none of the graph's locals needs a drop function, the locals stand in the order of
+-- lowering, and the graph simulates the row.
 pub record IsLowered (world : HirDatabase) (def : DefWithBodyId) (body : MirBody) : Type 0 where
   pub no_errors : is_erroneous world def ≡ false
   pub built : is_unbuilt_definition world def ≡ false
   pub row : BodyRow
   pub found : body_row world def ≡ Some row
+  pub forms : IsBuilt (source_of world row) (root (source_of world row))
+  pub dropless : needs_drops (source_of world row) body.locals ≡ false
+  pub order : AreInOrder (source_of world row) body.locals
+  pub owner : body.owner ≡ def
   pub simulates : Simulates (source_of world row) body
 
 -- the end of a body's run under a budget of blocks

@@ -10,10 +10,10 @@ use Rattle.mir.specs.declared.body.MirBody.{MirBody}
 use Rattle.mir.specs.declared.body.TerminatorKind.TheVariants as kind
 use Rattle.mir.specs.declared.span.MirSpan.{MirSpan}
 use Rattle.mir.specs.Memory.{Interval, Memory, first_memory, bytes_at, cells_of}
-use Rattle.mir.specs.Run.{Frame, Waiting, Returned, Faulted, Stops, returned, resumed, after_return, going_on, entering, begun}
+use Rattle.mir.specs.Run.{Frame, Waiting, Ended, Returned, Faulted, Stops, returned, resumed, after_return, going_on, entering, begun}
 use Rattle.source_meaning.specs.Around.{at_root}
 use Rattle.source_meaning.specs.Ends.{Cost, turns_alone, plus, End, Go, Jumps, Break, Continue, Return, Faults, Stuck, More, after}
-use Rattle.source_meaning.specs.Entering.{body_room, room_of, entering as entering_cost}
+use Rattle.source_meaning.specs.Entering.{body_room, room_of, run_cost, entering as entering_cost}
 use Rattle.source_meaning.specs.Events.{marked}
 use Rattle.source_meaning.specs.Meaning.{level_at, meaning_from, meaning_of, returned as returned_of}
 use Rattle.source_meaning.specs.Source.{Source, node_type, root, Cell, Result as Slot, Path, cell_type, cell_layout, drops, Store, zeroed, own_type}
@@ -24,7 +24,7 @@ use Rattle.mir_lower.specs.Growth.{Grows, IsSound, count_at}
 use Rattle.mir_lower.specs.Leaving.{Idles}
 use Rattle.mir_lower.specs.Lowered.{HasLayouts, LowersInto}
 use Rattle.mir_lower.specs.Simulates.{EndsAs, RunsAs, Simulates}
-use Rattle.mir_lower.specs.Runs.{Point, Within, Entry, Exit, start_of, run_from, local_bytes, AreApart, EndsAfter, error_of, Comes}
+use Rattle.mir_lower.specs.Runs.{Point, Within, Entry, Exit, start_of, run_from, local_bytes, AreApart, Enters, EndsAfter, error_of, Comes}
 use Rattle.mir_lower.proofs.Growing.{grows-refl, grows-trans, with_terminator-grows, with_scope-grows}
 use Rattle.mir_lower.proofs.Leaving.{enters-block, comes-return, here-scope}
 use Rattle.mir_lower.proofs.Lists.{front-of}
@@ -67,6 +67,26 @@ abbrev lands-out : Landings
 lands-out Return = AtPoint Exit
 lands-out (Break node) = Nowhere
 lands-out (Continue node) = Nowhere
+
+-- a cost without blocks before a meaning changes nothing of a run
+ends-as-costed : (cost : Cost) (end : End (List ℕ)) (run : ℕ → Ended) → cost.turns ≡ 0 → EndsAs end run → EndsAs (after cost end) run
+unfolding after plus
+ends-as-costed cost (Go bytes store rest) run free ends =
+    let plain : rest.turns ≡ cost.turns + rest.turns = omega arith in
+    subst (λ (n : ℕ). EndsAfter n (Returned bytes) run) plain ends
+ends-as-costed cost (Jumps to store rest) run free ends = tt
+ends-as-costed cost (Faults fault rest) run free ends =
+    let plain : rest.turns ≡ cost.turns + rest.turns = omega arith in
+    subst (λ (n : ℕ). EndsAfter n (Faulted (error_of fault)) run) plain ends
+ends-as-costed cost Stuck run free ends = tt
+ends-as-costed cost (More rest) run free ends =
+    let plain : rest.turns ≡ cost.turns + rest.turns = omega arith in
+    subst (λ (n : ℕ). Enters n run) plain ends
+
+-- and so does that of a run by itself
+ends-as-run-alone : (end : End (List ℕ)) (run : ℕ → Ended) → EndsAs end run → EndsAs (after run_cost end) run
+unfolding run_cost
+ends-as-run-alone end run = ends-as-costed run_cost end run refl
 
 -- what leaving the body costs
 abbrev pub leaving : Source → ℕ
@@ -197,8 +217,9 @@ module _ (source : Source) (s0 s1 s2 : Shape) (span : MirSpan) (begins : here s0
             let placing = places-all source.world aligned body.locals first_memory all.0 all.1 in
             let placing' : Placing source.world Whole.locals first_memory all.0.0 all.0.1 = subst (λ (l : List Local). Placing source.world l first_memory all.0.0 all.0.1) locals placing in
             subst (λ (b : Frame × Memory). EndsAs (meaning_of source fuel) (λ budget. entering budget b.0 b.1 body.start_block.0)) (sym all.2)
-            (ends-as-run (local_of Whole) frame (Entry body.start_block.0) all.0.1 refl (meaning_of source fuel)
-            (does-from fuel (zeroed source) frame all.0.1 refl placing.apart (starts-zeroed source Whole frame all.0.1 whole-sound placing')));
+            (ends-as-run-alone (meaning_from source (zeroed source) fuel) (λ budget. entering budget frame all.0.1 body.start_block.0)
+            (ends-as-run (local_of Whole) frame (Entry body.start_block.0) all.0.1 refl (meaning_from source (zeroed source) fuel)
+            (does-from fuel (zeroed source) frame all.0.1 refl placing.apart (starts-zeroed source Whole frame all.0.1 whole-sound placing'))));
       }
 
   -- the locals that there were at first come first

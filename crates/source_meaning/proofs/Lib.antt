@@ -10,5 +10,6 @@ pub mod Marks
 pub mod Never
 mod Operators
 pub mod Parts
+pub mod Runs
 pub mod Sizes
 pub mod Values

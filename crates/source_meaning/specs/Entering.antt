@@ -71,7 +71,10 @@ is_cost_defined source =
 abbrev pub levels : ℕ
 levels = 1
 
--- The cost of entering a body: a block, and the bytes of its cells. A run is one level of nesting, and on top of it stand
--- the levels of its value.
+-- The cost of entering a body: a block, the bytes of its cells, and the level of nesting that it runs on.
 unfoldable pub entering : Source → Cost
-entering source = record { turns = 1; bytes = body_room source; nesting = suc levels; defined = is_cost_defined source }
+entering source = record { turns = 1; bytes = body_room source; nesting = 1; defined = is_cost_defined source }
+
+-- What a run of a body by itself costs beside the body: on its level of nesting stand those of its value.
+unfoldable pub run_cost : Cost
+run_cost = record { turns = 0; bytes = 0; nesting = suc levels; defined = true }

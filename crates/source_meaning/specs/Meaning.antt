@@ -17,7 +17,7 @@ use Rattle.numbers.specs.Operators.{Answer, Computes, Panics, Undefined, compute
 use Rattle.source_meaning.specs.Core as expr
 use Rattle.source_meaning.specs.Core.{CoreExpr, CoreLiteral, Truth, Number, Operation, Negate, Invert, Combine}
 use Rattle.source_meaning.specs.Ends.{Cost, no_cost, turns_alone, bytes_alone, plus, End, Go, Jumps, Break, Continue, Return, Faults, Panic, Stuck, More, after, then_do, IsOver}
-use Rattle.source_meaning.specs.Entering.{room_of, entering}
+use Rattle.source_meaning.specs.Entering.{room_of, entering, run_cost}
 use Rattle.source_meaning.specs.Around.{Around, Target, at_root, marking, inside, target_of}
 use Rattle.source_meaning.specs.Events.{marked, marked_as_place, marked_as_operand, marked_by_statement, marked_by_tail, marked_in_block}
 use Rattle.source_meaning.specs.Source.{Source, node, unadjusted, own_type, own_layout, named_by, pattern, target, root, Result, Node, Binding, Path, never_marks, own_path, Store, zeroed, with_cell_bytes, Operand, Literally, At, operand_bytes, operand_type, drops}
@@ -319,9 +319,9 @@ unfoldable pub meaning_from : Source → Store → ℕ → End (List ℕ)
 meaning_from source store fuel =
     after (entering source) (returned source ((level_at source fuel (at_root (record { cell = Result }))).into (root source) (record { cell = Result }) store))
 
--- what a body means: from zeroed cells on
+-- what a body means that runs by itself: from zeroed cells on
 abbrev pub meaning_of : Source → ℕ → End (List ℕ)
-meaning_of source fuel = meaning_from source (zeroed source) fuel
+meaning_of source fuel = after run_cost (meaning_from source (zeroed source) fuel)
 
 -- the end that a source has with enough fuel
 pub record Gives (source : Source) (end : End (List ℕ)) : Type 0 where

@@ -8,7 +8,7 @@ use Rattle.consteval.specs.Answers.{RefusesBody}
 use Rattle.consteval.specs.Built.{has_errors, is_erroneous, is_unbuilt}
 use Rattle.consteval.specs.Kept.{IsLowered}
 use Rattle.consteval.proofs.Built.{built-by-itself}
-use Rattle.consteval.proofs.Rows.{lowering-refuses, row-of, row-checked, row-lowered}
+use Rattle.consteval.proofs.Rows.{lowering-refuses, row-of, row-checked, row-lowers}
 use Rattle.consteval.proofs.lowering.lower.Goals as goal
 
 pub lower_to_mir-requires-clause-checked : goal.lower_to_mir-requires-clause-checked
@@ -23,10 +23,10 @@ returns-clause-lowered c =
     let found = row-of (body_row db c.args.def) c.in-Some.body.now c.in-Some-infer.infer.now c.in-Some.ensures c.in-Some-infer.ensures in
     let erroneous : is_erroneous db c.args.def ≡ false = sym (ap has_errors c.infer.ensures) ∙ sym c.has_errors.ensures ∙ c.if-has_errors.false in
     let built : is_unbuilt db c.args.def c.args.args.now ≡ false = sym c.is_unbuilt.ensures ∙ c.if-is_unbuilt.false in
+    let lowers = c.lower_to_mir.ensures in
     IfOk-weaker c.lower_to_mir.result _ _
-    (λ lowered simulates. subst (λ (world : HirDatabase). IsLowered world c.args.def lowered) c.db-db.ensures.same
-    (row-lowered db c.args.def c.in-Some.body.now c.in-Some-infer.infer.now found lowered erroneous (built-by-itself db c.args.def c.args.args.now built) simulates))
-    c.lower_to_mir.ensures.simulates
+    (λ lowered is. subst (λ (world : HirDatabase). IsLowered world c.args.def lowered) c.db-db.ensures.same is)
+    (row-lowers db c.args.def c.in-Some.body.now c.in-Some-infer.infer.now found c.lower_to_mir.result erroneous (built-by-itself db c.args.def c.args.args.now built) lowers.simulates lowers.order lowers.owner lowers.dropless lowers.built)
 
 pub returns-clause-refused : goal.returns-clause-refused
 returns-clause-refused c =
