@@ -50,6 +50,11 @@ SOURCES = {
         "u128 = { let mut i = 0u64; let mut s = 1u128; while i < TURNS "
         "{ s = (s * 25 + 7) % 1_000_000_000_000_000_000_000_000_007; i = i + 1; } s };",
     ),
+    "signed": (
+        "signed numbers of 4 bytes, and a byte",
+        "i32 = { let mut i = 0i32; let mut s = 0i32; let mut b = 0u8; while i < TURNS "
+        "{ s = (s * 3 - i) % 1000; b = (b ^ 5) & 31; i = i + 1; } if b > 9 { s } else { 0 - s } };",
+    ),
     "exits": (
         "a loop in each turn, which is left early",
         "u64 = { let mut i = 0u64; let mut s = 0u64; while i < TURNS { let found = 'search: { let mut d = 2; "

@@ -3,4 +3,3 @@ pub mod CellLists
 pub mod Laying
 pub mod Operated
 pub mod Padded
-pub mod UnsignedWords

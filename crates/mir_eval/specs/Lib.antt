@@ -1,7 +1,6 @@
 pub mod Evaluators
 pub mod Frames
 pub mod Machine
-pub mod Made
 pub mod Phases
 pub mod Room
 pub mod Start

@@ -45,6 +45,7 @@ pub(crate) fn read(stack: &[u8], cell: Cell) -> Option<&[u8]>
 }
 
 /// Writes bytes from the start of a cell on, where they lie inside the stack.
+#[inline(always)]
 #[tactic(auto, unfolding(mir::specs::Memory::with_bytes, mir::specs::Run::copied))]
 pub(crate) fn write(stack: &mut [u8], to: Cell, bytes: &[u8]) -> Result<(), Fault>
     ensures { left_with stack.new result ≡ copied (memory stack.old) (Some (interval_of to)) (Ok bytes.now) }

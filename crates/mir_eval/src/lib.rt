@@ -7,7 +7,6 @@ mod evaluator;
 mod faults;
 mod frames;
 mod moves;
-mod operators;
 mod outcomes;
 mod output;
 mod places;

@@ -4,19 +4,19 @@ ghost use Rattle.std.specs.Prelude.{◌≡◌, ◌≤◌, IsTrue, IfOk, IfSome, 
 ghost use Rattle.numbers.specs.Operators.{kind_of};
 ghost use Rattle.mir.specs.Run.{constant_bytes, copied, read, answered, operated, computed_of, operated_on, rvalue_bytes, operand_bytes, operand_type, after_statement, after_statements, switched, terminated, next_from, entering};
 ghost use Rattle.numbers.specs.Computed.{answer_of, count_of};
+ghost use Rattle.mir_ops.specs.Made.{made_bytes};
 ghost use Rattle.mir_eval.specs.Frames.{frame_of};
-ghost use Rattle.mir_eval.specs.Made.{made_bytes};
 ghost use Rattle.mir_eval.specs.Steps.{interval_of, operated_bytes, memory, left_with, next_of, ended_of};
 
 use crate::cells::{Cell, cell_of, copy, read, write};
 use crate::faults::Fault;
 use crate::frames::StackFrame;
-use crate::operators::{Made, byte_of, made_of, wide_word_bytes, word_bytes};
 use crate::words::unsigned;
 use mir::{
     BasicBlock, BasicBlockId, BinOp, MirBody, OperandKind, Place, Rvalue, Statement, StatementKind,
     SwitchTargets, Terminator, TerminatorKind, UnOp,
 };
+use mir_ops::{Made, byte_of, bytes1, bytes2, bytes4, bytes8, bytes16, made_of};
 use numbers::{Computed, Kind, compute, invert, negate};
 use world::{Const, Ty};
 
@@ -59,17 +59,33 @@ fn operand<'r>(frame: StackFrame<'_>, stack: &'r [u8], kind: &'r OperandKind) ->
     }
 }
 
+/// What the bytes of a type are, where they are a number or a truth value. This is `Kind::of` once more, so that it is
+/// compiled into the loop over statements.
+#[inline(always)]
+#[tactic(auto, unfolding(numbers::specs::Operators::kind_of))]
+fn kind_of(ty: &Ty) -> Option<Kind>
+    ensures { result ≡ kind_of ty.now }
+{
+    match ty {
+        Ty::Bool => Some(Kind::Boolean),
+        Ty::Int(_) => Some(Kind::Signed),
+        Ty::Uint(_) => Some(Kind::Unsigned),
+        _ => None,
+    }
+}
+
 /// What the bytes of an operand are.
+#[inline(always)]
 #[tactic(auto, unfolding(mir::specs::Run::operand_type))]
 fn operand_kind(body: &MirBody, kind: &OperandKind) -> Option<Kind>
     ensures { result ≡ option_and_then kind_of (operand_type body.now kind.now) }
 {
     match kind {
         OperandKind::Copy(place) => match body.locals.get(place.local.0 as u64) {
-            Some(local) => Kind::of(&local.ty),
+            Some(local) => kind_of(&local.ty),
             None => None,
         },
-        OperandKind::Constant { ty, .. } => Kind::of(ty),
+        OperandKind::Constant { ty, .. } => kind_of(ty),
     }
 }
 
@@ -178,41 +194,16 @@ fn assign_word(stack: &mut [u8], to: Cell, made: Made) -> Result<(), Fault>
     ensures { left_with stack.new result ≡ copied (memory stack.old) (Some (interval_of to)) (Ok (made_bytes made)) }
 {
     match made {
-        Made::Word(word) => write(stack, to, &word_bytes(word)),
-        Made::WideWord(word) => write(stack, to, &wide_word_bytes(word)),
+        Made::Word1(word) => write(stack, to, &bytes1(word)),
+        Made::Word2(word) => write(stack, to, &bytes2(word)),
+        Made::Word4(word) => write(stack, to, &bytes4(word)),
+        Made::Word8(word) => write(stack, to, &bytes8(word)),
+        Made::WideWord(word) => write(stack, to, &bytes16(word)),
         Made::Truth(truth) => write(stack, to, &byte_of(truth)),
     }
 }
 
-/// Whether values of a type are unsigned numbers.
-#[inline(always)]
-#[tactic(auto, unfolding(numbers::specs::Operators::kind_of))]
-fn is_uint(ty: &Ty) -> bool
-    ensures { IsTrue result → kind_of ty.now ≡ Some Kind.Unsigned }
-{
-    match ty {
-        Ty::Uint(_) => true,
-        _ => false,
-    }
-}
-
-/// Whether an operand is an unsigned number.
-#[inline(always)]
-#[tactic(auto, unfolding(mir::specs::Run::operand_type))]
-fn is_unsigned(body: &MirBody, kind: &OperandKind) -> bool
-    ensures { IsTrue result → option_and_then kind_of (operand_type body.now kind.now) ≡ Some Kind.Unsigned }
-{
-    match kind {
-        OperandKind::Copy(place) => match body.locals.get(place.local.0 as u64) {
-            Some(local) => is_uint(&local.ty),
-            None => false,
-        },
-        OperandKind::Constant { ty, .. } => is_uint(ty),
-    }
-}
-
-/// What an operator makes of two operands that are unsigned numbers of 8 or of 16 bytes. There is none at other operands,
-/// for a shift, and where the operator panics.
+/// What an operator makes of two operands of one kind, without the table. There is none where `made_of` has none.
 fn operate_on_words(
     frame: StackFrame<'_>,
     stack: &[u8],
@@ -222,10 +213,12 @@ fn operate_on_words(
 ) -> Option<Made>
     ensures { IfSome result (λ made. operated op (operand_type frame.entry.body.now left.now) (operand_type frame.entry.body.now right.now) (operand_bytes (frame_of frame.entry) (memory stack.now) left.now) (operand_bytes (frame_of frame.entry) (memory stack.now) right.now) ≡ Ok (made_bytes made)) }
 {
-    if is_unsigned(frame.body, left) && is_unsigned(frame.body, right) {
+    let left_kind = operand_kind(frame.body, left)?;
+    let right_kind = operand_kind(frame.body, right)?;
+    if left_kind == right_kind {
         let left_bytes = operand(frame, stack, left)?;
         let right_bytes = operand(frame, stack, right)?;
-        made_of(op, left_bytes, right_bytes)
+        made_of(op, left_kind, left_bytes, right_bytes)
     } else {
         None
     }

@@ -1,0 +1,4 @@
+pub mod Computed
+pub mod Digits
+pub mod SignedWords
+pub mod UnsignedWords
