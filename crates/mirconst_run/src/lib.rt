@@ -1,5 +1,5 @@
 //! A run of the program: it reads a world and goals, which are definitions to be evaluated as constants,
-//! checks them, evaluates the goals and writes the report. This crate has all public calls of the library.
+//! checks them, evaluates the goals and writes the report. This crate has the calls of the whole program.
 #![tactic(auto)]
 
 mod answers;
