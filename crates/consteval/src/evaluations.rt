@@ -199,9 +199,10 @@ impl<'w> Evaluations<'w> {
         ensures stays { Stays self.old self.new }
         ensures sound { IsSound self.new }
     {
+        let _ = limits;
+        // The clause `complete` needs that the world is checked, and `db` ensures it.
         let world = self.world;
         let db = world.db();
-        let _ = limits;
         let _ = db;
         let args = GenericArgs(List::new(self.alloc));
         self.body_of(def, &args)

@@ -148,7 +148,7 @@ fn on_booleans(op: Operator, left: &[u8], right: &[u8]) -> Option<Made>
     }
 }
 
-/// The same as `on_unsigned`, in the words of the whole table.
+/// What an operator makes of two unsigned numbers of one size of at most 8 bytes, as the table of all operators and kinds has it.
 #[inline(always)]
 fn sized_unsigned(op: Operator, size: Size, left: &[u8], right: &[u8]) -> Option<Made>
     requires left { length left.now ≡ bytes_in size }
@@ -158,7 +158,8 @@ fn sized_unsigned(op: Operator, size: Size, left: &[u8], right: &[u8]) -> Option
     on_unsigned(op, size, left, right)
 }
 
-/// The same for numbers of any one size of at most 8 bytes. It isn't compiled into the loop over statements.
+/// The same for two unsigned numbers whose size isn't known where this is called. It stays out of the loop over statements, which
+/// has code of its own for the frequent sizes.
 #[inline(never)]
 fn small_unsigned(op: Operator, left: &[u8], right: &[u8]) -> Option<Made>
     requires { length right.now ≡ length left.now }
@@ -168,7 +169,7 @@ fn small_unsigned(op: Operator, left: &[u8], right: &[u8]) -> Option<Made>
 }
 
 /// What an operator makes of two unsigned numbers of one size. There is none for a shift, where the operator panics, and for bytes that
-/// are no numbers. The sizes that are frequent are told apart first, so that the code for each knows its size.
+/// are no numbers. Frequent sizes come first, and the compiled code for each knows its size.
 #[inline(always)]
 fn two_unsigned(op: Operator, left: &[u8], right: &[u8]) -> Option<Made>
     requires { length right.now ≡ length left.now }
@@ -181,7 +182,7 @@ fn two_unsigned(op: Operator, left: &[u8], right: &[u8]) -> Option<Made>
     }
 }
 
-/// The same as `on_signed`, in the words of the whole table.
+/// What an operator makes of two signed numbers of one size of at most 8 bytes, as the table of all operators and kinds has it.
 #[inline(always)]
 fn sized_signed(op: Operator, size: Size, left: &[u8], right: &[u8]) -> Option<Made>
     requires left { length left.now ≡ bytes_in size }
@@ -191,7 +192,8 @@ fn sized_signed(op: Operator, size: Size, left: &[u8], right: &[u8]) -> Option<M
     on_signed(op, size, left, right)
 }
 
-/// The same for numbers of any one size of at most 8 bytes. It isn't compiled into the loop over statements.
+/// The same for two signed numbers whose size isn't known where this is called. It stays out of the loop over statements, which
+/// has code of its own for the frequent sizes.
 #[inline(never)]
 fn small_signed(op: Operator, left: &[u8], right: &[u8]) -> Option<Made>
     requires { length right.now ≡ length left.now }
@@ -201,7 +203,7 @@ fn small_signed(op: Operator, left: &[u8], right: &[u8]) -> Option<Made>
 }
 
 /// What an operator makes of two signed numbers of one size. There is none for a shift, where the operator panics, and for bytes that
-/// are no numbers. The sizes that are frequent are told apart first, so that the code for each knows its size.
+/// are no numbers. Frequent sizes come first, and the compiled code for each knows its size.
 #[inline(always)]
 fn two_signed(op: Operator, left: &[u8], right: &[u8]) -> Option<Made>
     requires { length right.now ≡ length left.now }
