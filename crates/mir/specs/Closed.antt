@@ -4,7 +4,7 @@ use Rattle.std.specs.List.{All}
 use Rattle.mir.specs.declared.body.BasicBlock.{BasicBlock}
 use Rattle.mir.specs.declared.body.MirBody.{MirBody}
 use Rattle.mir.specs.declared.body.TerminatorKind.{TerminatorKind}
-use Rattle.mir.specs.declared.body.TerminatorKind.TheVariants.{Goto, SwitchInt, Return, Drop}
+use Rattle.mir.specs.declared.body.TerminatorKind.TheVariants.{Goto, SwitchInt, Return, Drop, Call}
 use Rattle.mir.specs.declared.ids.BasicBlockId.{BasicBlockId}
 use Rattle.mir.specs.declared.ids.LocalId.{LocalId}
 use Rattle.mir.specs.declared.operand.OperandKind.{OperandKind}
@@ -47,14 +47,18 @@ IsClosedTerminator body (Goto target) = HasBlock body target
 IsClosedTerminator body (SwitchInt discr targets) = IsClosedOperand body discr.kind × All (HasBlock body) (all_targets_of targets)
 IsClosedTerminator body Return = Unit {0}
 IsClosedTerminator body (Drop place target unwind) = HasLocal body place.local × HasBlock body target × IfSome unwind (HasBlock body)
+IsClosedTerminator body (Call func args destination target cleanup from_hir_call) =
+    IsClosedOperand body func.kind × All (λ operand. IsClosedOperand body operand.kind) args × HasLocal body destination.local
+    × IfSome target (HasBlock body) × IfSome cleanup (HasBlock body)
 
 -- each statement of a block, and its terminator if it has one, is closed
 pub record IsClosedBlock (body : MirBody) (block : BasicBlock) : Type 0 where
   pub statements : All (λ statement. IsClosedStatement body statement.kind) block.statements
   pub terminator : IfSome block.terminator (λ terminator. IsClosedTerminator body terminator.kind)
 
--- the body has a return slot, and each block and local that it names
+-- the body has a return slot, and each block and local that it names, those of its parameters among them
 pub record IsClosed (body : MirBody) : Type 0 where
   pub return_slot : HasLocal body (record { 0 = 0 })
   pub start_block : HasBlock body body.start_block
   pub basic_blocks : All (IsClosedBlock body) body.basic_blocks
+  pub param_locals : All (HasLocal body) body.param_locals

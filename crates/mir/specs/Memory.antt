@@ -65,3 +65,12 @@ cells_of world (local ∷ locals) memory =
       | Ok first ↦ cell_before first.0 (cells_of world locals first.1)
       | Err e ↦ Err e
     ]
+
+-- how many bytes cells take, with what lies between them: those of the stack, but for the one at its start
+abbrev pub bytes_taken : Memory → ℕ
+bytes_taken memory = length memory.stack - 1
+
+-- what was placed, where its memory takes no more bytes than a limit
+abbrev pub within_bytes : {A : Type 0} → ℕ → Result (A × Memory) MirEvalError → Result (A × Memory) MirEvalError
+within_bytes bytes (Ok placed) = if nat_le (bytes_taken placed.1) bytes then Ok placed else Err error.MemoryLimitExceeded
+within_bytes bytes (Err e) = Err e

@@ -1,5 +1,10 @@
--- What a run of a body means: blocks entered one after another, over one memory and a stack of frames, under a budget of blocks.
-use Rattle.std.specs.Prelude.{ℕ, zero, suc, List, [], ◌∷◌, length, drop, Option, Some, None, Result, Ok, Err, slice_get, option_map, option_and_then, codes, if◌then◌else◌, nat_le}
+-- What a run of a body means: blocks entered one after another, over one memory and a stack of frames, under a budget of blocks. A
+-- call enters the body of its callee where the run was told that body; where it wasn't, the run asks for it.
+use Rattle.std.specs.Prelude.{ℕ, zero, suc, List, [], ◌∷◌, length, drop, filter, map, not, Option, Some, None, is_some, Result, Ok, Err, slice_get, option_map, option_and_then, codes, if◌then◌else◌, nat_le}
+use Rattle.either.specs.declared.Either.TheVariants.{Left}
+use Rattle.types.specs.declared.ids.CallableDefId.TheVariants.{FunctionId as CalledFunction}
+use Rattle.types.specs.declared.ids.DefWithBodyId.TheVariants.{FunctionId as FunctionBody}
+use Rattle.types.specs.declared.ids.FunctionId.{FunctionId}
 use Rattle.world.specs.declared.database.HirDatabase.{HirDatabase}
 use Rattle.types.specs.declared.ty.ComplexMemoryMap.{ComplexMemoryMap}
 use Rattle.types.specs.declared.ty.Const.{Const, Const-F, out-Const}
@@ -10,19 +15,33 @@ use Rattle.types.specs.declared.ty.MemoryMap.{MemoryMap}
 use Rattle.types.specs.declared.ty.TraitRef.{TraitRef}
 use Rattle.types.specs.declared.ty.UnevaluatedConst.{UnevaluatedConst}
 use Rattle.types.specs.declared.ty.ValueConst.{ValueConst}
-use Rattle.types.specs.declared.ty.Ty.{Ty}
+use Rattle.types.specs.declared.ty.Ty.{Ty, Ty-F, out-Ty}
 use Rattle.numbers.specs.Bytes.{value_of}
 use Rattle.numbers.specs.declared.operator.Operator.{Operator}
 use Rattle.numbers.specs.declared.operator.Kind.{Kind}
 use Rattle.numbers.specs.Operators.{Answer, Computes, Panics, Undefined, computed, negated, inverted, kind_of}
+use Rattle.mir.specs.Answers.{answer_to}
+use Rattle.mir.specs.declared.answers.Answer.{Answer as Told}
+use Rattle.mir.specs.declared.answers.Answer.TheVariants as told
+use Rattle.mir.specs.declared.answers.Query.{Query}
+use Rattle.mir.specs.declared.answers.Query.TheVariants as query
 use Rattle.mir.specs.declared.body.BasicBlock.{BasicBlock}
+use Rattle.mir.specs.declared.body.Local.{Local}
 use Rattle.mir.specs.declared.body.MirBody.{MirBody}
 use Rattle.mir.specs.declared.body.Terminator.{Terminator}
-use Rattle.mir.specs.declared.body.TerminatorKind.TheVariants.{Goto, SwitchInt, Return, Drop}
+use Rattle.mir.specs.declared.body.TerminatorKind.TheVariants.{Goto, SwitchInt, Return, Drop, Call}
 use Rattle.mir.specs.declared.switch.SwitchTargets.{SwitchTargets}
 use Rattle.mir.specs.Switches.{target_of}
+use Rattle.mir.specs.declared.errors.ConstEvalError.{ConstEvalError}
+use Rattle.mir.specs.declared.errors.ConstEvalError.TheVariants as constant
 use Rattle.mir.specs.declared.errors.MirEvalError.{MirEvalError}
 use Rattle.mir.specs.declared.errors.MirEvalError as error
+use Rattle.mir.specs.declared.errors.TrailEntry.{TrailEntry}
+use Rattle.mir.specs.declared.ids.BasicBlockId.{BasicBlockId}
+use Rattle.mir.specs.declared.ids.LocalId.{LocalId}
+use Rattle.mir.specs.declared.operand.Operand.{Operand}
+use Rattle.mir.specs.declared.operand.Place.{Place}
+use Rattle.mir.specs.declared.span.MirSpan.{MirSpan}
 use Rattle.mir.specs.declared.operand.UnOp.{UnOp}
 use Rattle.mir.specs.declared.operand.UnOp.TheVariants as one
 use Rattle.mir.specs.declared.operand.OperandKind.{OperandKind}
@@ -32,21 +51,45 @@ use Rattle.mir.specs.declared.operand.Rvalue.TheVariants.{Use, CheckedBinaryOp, 
 use Rattle.mir.specs.declared.statement.Statement.{Statement}
 use Rattle.mir.specs.declared.statement.StatementKind.{StatementKind}
 use Rattle.mir.specs.declared.statement.StatementKind.TheVariants.{Assign, FakeRead, StorageLive, StorageDead}
-use Rattle.mir.specs.Memory.{Interval, Memory, first_memory, bytes_at, with_bytes, cells_of}
+use Rattle.mir.specs.Memory.{Interval, Memory, first_memory, bytes_at, with_bytes, cell_before, cells_of, within_bytes}
 
--- A suspended caller: its body, where its locals lie, and the target block of its call; none for a call without a target, whose
--- callee must not return.
+-- What a run goes by: its world, how deep calls may nest, how many bytes cells may take, and the answers that it was told, at most one
+-- to each query.
+pub record Program : Type 0 where
+  pub world : HirDatabase
+  pub nesting : ℕ
+  pub bytes : ℕ
+  pub answers : List (Query × Told)
+
+-- A suspended caller: its body, where its locals lie, the target block of its call, and the call as a trail names it. A call without a
+-- target is one whose callee must not return.
 pub record Waiting : Type 0 where
   pub body : MirBody
   pub cells : List Interval
   pub next : Option ℕ
+  pub call : TrailEntry
 
--- A body that runs, and where its locals lie, one interval for each. Local 0 of a called body is the caller's destination itself, where the
--- call has a target. `below`: the suspended callers, the nearest first.
+-- A body that runs, what its run goes by, and where its locals lie, one interval for each. Local 0 of a called body is the caller's
+-- destination itself, where the call has a target. `below`: the suspended callers, the nearest first.
 pub record Frame : Type 0 where
+  pub program : Program
   pub body : MirBody
   pub cells : List Interval
   pub below : List Waiting
+
+-- the open calls, the innermost first, as the trail of a fault of this frame names them
+abbrev pub trail_of : Frame → List TrailEntry
+trail_of frame = map (λ caller. caller.call) frame.below
+
+-- How many levels of nesting a run holds over these callers: one for itself, and one for each open call without a target, whose callee
+-- is a run of its own in rust-analyzer's machine.
+abbrev pub levels_over : List Waiting → ℕ
+levels_over below = suc (length (filter (λ caller. not (is_some caller.next)) below))
+
+-- the body in which a run began, where one runs over these callers
+unfoldable pub first_body : MirBody → List Waiting → MirBody
+first_body body [] = body
+first_body body (caller ∷ below) = first_body caller.body below
 
 -- a constant's variant
 abbrev ConstLayer : Type 0
@@ -132,27 +175,49 @@ after_statements frame [] memory = Ok memory
 after_statements frame (statement ∷ statements) memory =
     elim (after_statement frame memory statement.kind) [ Ok after ↦ after_statements frame statements after | Err e ↦ Err e ]
 
--- how a run ends: with the bytes of the return slot, or in a fault
+-- A call, by its terminator: the operand whose type names the callee, the arguments, where the result goes, the block that the caller
+-- goes on in, if the callee may return, and what the call was lowered from.
+pub record Calling : Type 0 where
+  pub func : Operand
+  pub args : List Operand
+  pub destination : Place
+  pub target : Option ℕ
+  pub span : MirSpan
+
+abbrev pub calling : Operand → List Operand → Place → Option BasicBlockId → MirSpan → Calling
+calling func args destination target span =
+    record { func = func; args = args; destination = destination; target = option_map (λ block. block.0) target; span = span }
+
+-- How a run ends: with the bytes of the return slot; in a fault that passed through the calls of a trail, of which the first may be one
+-- whose callee's body couldn't be got, and want of memory is handed out without its trail; or at a call, with a query that it wasn't told
+-- an answer to.
 pub data Ending : Type 0 where
   Returned : List ℕ → Ending
-  Faulted : MirEvalError → Ending
+  Faulted : MirEvalError → List TrailEntry → Ending
+  Asked : Query → Frame → Memory → Calling → Ending
 
--- where a block leads: to an end, or to a block of a frame
+-- where a block leads: to an end, to a block of a frame, or to a query, which the call that ends the block has to know the answer to
 pub data Next : Type 0 where
   Stops : Ending → Next
   GoesTo : Frame → Memory → ℕ → Next
+  Asks : Query → Frame → Memory → Calling → Next
+
+-- a fault that ends a frame
+abbrev pub faults : Frame → MirEvalError → Next
+faults frame e = Stops (Faulted e (trail_of frame))
 
 -- the end of a run that returns
 abbrev pub returned : Option (List ℕ) → Ending
 returned (Some bytes) = Returned bytes
-returned None = Faulted bad_read
+returned None = Faulted bad_read []
 
 -- where a caller goes on whose callee returned, over the callers below it
-unfoldable pub resumed : Memory → Waiting → List Waiting → Next
-resumed memory caller below =
+unfoldable pub resumed : Program → Memory → Waiting → List Waiting → Next
+resumed program memory caller below =
+    let frame : Frame = record { program = program; body = caller.body; cells = caller.cells; below = below } in
     elim caller.next [
-      | Some block ↦ GoesTo (record { body = caller.body; cells = caller.cells; below = below }) memory block
-      | None ↦ Stops (Faulted (error.UndefinedBehavior (codes "Diverging function returned")))
+      | Some block ↦ GoesTo frame memory block
+      | None ↦ faults frame (error.UndefinedBehavior (codes "Diverging function returned"))
     ]
 
 -- where a body leads that returns: to where its caller goes on, or, where it was called by none, to the end of the run
@@ -160,7 +225,96 @@ unfoldable pub after_return : Frame → Memory → Next
 after_return frame memory =
     elim frame.below [
       | [] ↦ Stops (returned (option_and_then (bytes_at memory) (slice_get frame.cells 0)))
-      | caller ∷ below ↦ resumed memory caller below
+      | caller ∷ below ↦ resumed frame.program memory caller below
+    ]
+
+-- a type's variant
+abbrev TyLayer : Type 0
+TyLayer = Ty-F Const GenericArg MemoryMap Ty ComplexMemoryMap GenericArgs TraitRef UnevaluatedConst ValueConst
+
+abbrev pub function_of : TyLayer → Option (FunctionId × GenericArgs)
+function_of (layer.FnDef (CalledFunction id) args) = Some (id, args)
+function_of _ = None
+
+-- the function that a type names, with its generic arguments
+abbrev pub function_in : Ty → Option (FunctionId × GenericArgs)
+function_in ty = function_of (out-Ty ty)
+
+-- the query for the body of a function
+abbrev pub body_query : FunctionId × GenericArgs → Query
+body_query callee = query.Body (FunctionBody callee.0) callee.1
+
+-- The cells of a body that is called: a new cell for each local, but for the return slot where the result goes to a cell that is there.
+abbrev pub called_cells : HirDatabase → List Local → Option Interval → Memory → Result (List Interval × Memory) MirEvalError
+called_cells world (slot ∷ locals) (Some destination) memory = cell_before destination (cells_of world locals memory)
+called_cells world locals _ memory = cells_of world locals memory
+
+-- the memory after each argument's bytes were copied to the local of its parameter, in order
+unfoldable pub filled : Frame → List Interval → List LocalId → List Operand → Memory → Result Memory MirEvalError
+filled caller cells [] [] memory = Ok memory
+filled caller cells (param ∷ params) (arg ∷ args) memory =
+    elim (copied memory (slice_get cells param.0) (read (operand_bytes caller memory arg.kind))) [
+      | Ok after ↦ filled caller cells params args after
+      | Err e ↦ Err e
+    ]
+filled caller cells [] (arg ∷ args) memory = Err (error.InternalError (codes "too many arguments"))
+filled caller cells (param ∷ params) [] memory = Err (error.InternalError (codes "too few arguments"))
+
+-- how a trail names a call of a function
+abbrev pub entry_of : Frame → Calling → FunctionId → TrailEntry
+entry_of frame call id = record { callee = Left id; span = call.span; caller = frame.body.owner }
+
+-- a caller that waits for its callee
+abbrev pub waiting : Frame → Calling → FunctionId → Waiting
+waiting frame call id = record { body = frame.body; cells = frame.cells; next = call.target; call = entry_of frame call id }
+
+-- A function's body is entered: its cells are placed, the return slot being `destination` where there is one, and the arguments are read
+-- and copied to them. A fault on the way is one of the caller, whose callee has no frame yet.
+unfoldable pub entered : Frame → Memory → Calling → FunctionId → MirBody → (destination : Option Interval) → Next
+entered frame memory call id body destination =
+    elim (within_bytes frame.program.bytes (called_cells frame.program.world body.locals destination memory)) [
+      | Err e ↦ faults frame e
+      | Ok placed ↦ elim (filled frame placed.0 body.param_locals call.args placed.1) [
+        | Err e ↦ faults frame e
+        | Ok after ↦
+            let callee : Frame = record { program = frame.program; body = body; cells = placed.0; below = waiting frame call id ∷ frame.below } in
+            GoesTo callee after body.start_block.0
+      ]
+    ]
+
+-- A function is called whose body is told. A call with a target has its result written to the destination's cell; one without a target
+-- takes a level of nesting.
+unfoldable pub called : Frame → Memory → Calling → FunctionId → MirBody → Next
+called frame memory call id body =
+    elim call.target [
+      | Some block ↦ elim (slice_get frame.cells call.destination.local.0) [
+        | Some cell ↦ entered frame memory call id body (Some cell)
+        | None ↦ faults frame bad_write
+      ]
+      | None ↦
+          if nat_le (suc (levels_over frame.below)) frame.program.nesting
+          then entered frame memory call id body None
+          else faults frame error.StackOverflow
+    ]
+
+-- the error of a call whose callee's body can't be got
+abbrev pub callee_error : FunctionId → ConstEvalError → MirEvalError
+callee_error id (constant.MirLowerError refusal) = error.MirLowerError id refusal
+callee_error id (constant.MirEvalError e) = e
+callee_error id constant.NoMemory = error.NoMemory
+
+-- where a call of a function leads, by the answer to the query for its body
+unfoldable pub called_by : Frame → Memory → Calling → FunctionId × GenericArgs → Option Told → Next
+called_by frame memory call callee (Some (told.Body body)) = called frame memory call callee.0 body.value
+called_by frame memory call callee (Some (told.Failed e)) = Stops (Faulted (callee_error callee.0 e) (entry_of frame call callee.0 ∷ trail_of frame))
+called_by frame memory call callee _ = Asks (body_query callee) frame memory call
+
+-- where a call leads; calls of other things than functions aren't built
+unfoldable pub calls : Frame → Memory → Calling → Next
+calls frame memory call =
+    elim (option_and_then function_in (operand_type frame.body call.func.kind)) [
+      | Some callee ↦ called_by frame memory call callee (answer_to frame.program.answers (body_query callee))
+      | None ↦ faults frame (error.NotSupported (codes "form not built"))
     ]
 
 -- where a switch leads: to the target of the unsigned number that the operand's bytes are, of which there are at most 16
@@ -168,27 +322,28 @@ unfoldable pub switched : Frame → Memory → SwitchTargets → Option (List �
 switched frame memory targets (Some bytes) =
     if nat_le (length bytes) 16
     then GoesTo frame memory (target_of targets (value_of bytes)).0
-    else Stops (Faulted (error.NotSupported (codes "comparison of this type")))
-switched frame memory targets None = Stops (Faulted bad_read)
+    else faults frame (error.NotSupported (codes "comparison of this type"))
+switched frame memory targets None = faults frame bad_read
 
 -- what a terminator does
 unfoldable pub terminated : Frame → Memory → Option Terminator → Next
-terminated frame memory None = Stops (Faulted (error.NotSupported (codes "block without terminator")))
+terminated frame memory None = faults frame (error.NotSupported (codes "block without terminator"))
 terminated frame memory (Some terminator) =
     elim terminator.kind [
       | Goto target ↦ GoesTo frame memory target.0
       | SwitchInt discr targets ↦ switched frame memory targets (operand_bytes frame memory discr.kind)
       | Return ↦ after_return frame memory
       | Drop place target unwind ↦ GoesTo frame memory target.0
+      | Call func args destination target cleanup from_hir_call ↦ calls frame memory (calling func args destination target terminator.span)
     ]
 
 -- where a block leads from one of its statements on
 unfoldable pub next_from : Frame → Memory → Option BasicBlock → ℕ → Next
-next_from frame memory None index = Stops (Faulted (error.NotSupported (codes "block without terminator")))
+next_from frame memory None index = faults frame (error.NotSupported (codes "block without terminator"))
 next_from frame memory (Some block) index =
     elim (after_statements frame (drop index block.statements) memory) [
       | Ok after ↦ terminated frame after block.terminator
-      | Err e ↦ Stops (Faulted e)
+      | Err e ↦ faults frame e
     ]
 
 -- how a run ended, and how many blocks of its budget are left
@@ -196,32 +351,34 @@ pub record Ended : Type 0 where
   pub ending : Ending
   pub left : ℕ
 
--- the end of a run that may enter no more blocks
-abbrev pub out_of_blocks : Ended
-out_of_blocks = record { ending = Faulted error.ExecutionLimitExceeded; left = 0 }
+-- the end of a run that may enter no more blocks, in a frame over the calls of a trail
+abbrev pub out_of_blocks : List TrailEntry → Ended
+out_of_blocks trail = record { ending = Faulted error.ExecutionLimitExceeded trail; left = 0 }
 
 -- the run from the entry of a block on, within a limit on the blocks that it enters: each block entered takes one
 unfoldable pub entering : ℕ → Frame → Memory → ℕ → Ended
-entering zero frame memory block = out_of_blocks
+entering zero frame memory block = out_of_blocks (trail_of frame)
 entering (suc budget) frame memory block =
     elim (next_from frame memory (slice_get frame.body.basic_blocks block) 0) [
       | Stops ending ↦ record { ending = ending; left = budget }
       | GoesTo next after target ↦ entering budget next after target
+      | Asks q caller after call ↦ record { ending = Asked q caller after call; left = budget }
     ]
 
 -- the run that goes on where a block led
 unfoldable pub going_on : ℕ → Next → Ended
 going_on budget (Stops ending) = record { ending = ending; left = budget }
 going_on budget (GoesTo frame memory block) = entering budget frame memory block
+going_on budget (Asks q frame memory call) = record { ending = Asked q frame memory call; left = budget }
 
 -- the run that goes on in a block that it entered before, from one of its statements on
 unfoldable pub running : ℕ → Frame → Memory → ℕ → ℕ → Ended
 running budget frame memory block index = going_on budget (next_from frame memory (slice_get frame.body.basic_blocks block) index)
 
 -- a body's frame and memory before its first block, where none called it, or why it can't begin
-unfoldable pub begun : HirDatabase → MirBody → Result (Frame × Memory) MirEvalError
-begun world body =
-    elim (cells_of world body.locals first_memory) [
-      | Ok placed ↦ Ok (record { body = body; cells = placed.0; below = [] }, placed.1)
+unfoldable pub begun : Program → MirBody → Result (Frame × Memory) MirEvalError
+begun program body =
+    elim (cells_of program.world body.locals first_memory) [
+      | Ok placed ↦ Ok (record { program = program; body = body; cells = placed.0; below = [] }, placed.1)
       | Err e ↦ Err e
     ]

@@ -15,7 +15,7 @@ use world::{
 };
 
 /// What a run of a body may want to know before it can go on. It stops with the query; its caller
-/// finds the answer and puts it among the `Answers`; then the run goes on.
+/// finds the answer and tells it; then the run goes on. So far a run asks for the bodies of functions alone.
 #[derive(PartialEq, Eq, PartialOrd, Ord)]
 pub enum Query {
     /// The value of a constant, given generic arguments.

@@ -1,6 +1,6 @@
 //! Bodies as graphs of basic blocks.
 
-use crate::{BasicBlockId, MirSpan, Operand, Place, Statement, SwitchTargets};
+use crate::{BasicBlockId, LocalId, MirSpan, Operand, Place, Statement, SwitchTargets};
 use world::{DefWithBodyId, List, Ty};
 
 /// A local variable of a body.
@@ -44,13 +44,24 @@ pub enum TerminatorKind {
         discr: Operand,
         targets: SwitchTargets,
     },
-    /// The run ends, and the bytes of local 0 are its value.
+    /// The body returns: its caller goes on. Where none called it, the run ends, and the bytes of local 0 are its value.
     Return,
     /// The value at the place is dropped, and the run goes on at `target`.
     Drop {
         place: Place,
         target: BasicBlockId,
         unwind: Option<BasicBlockId>,
+    },
+    /// The function that the type of `func` names is called with the arguments, as rustc's documentation of
+    /// `TerminatorKind::Call` says. Its result goes to the destination, and the run goes on at `target`. A call
+    /// without a target is one whose callee must not return.
+    Call {
+        func: Operand,
+        args: List<Operand>,
+        destination: Place,
+        target: Option<BasicBlockId>,
+        cleanup: Option<BasicBlockId>,
+        from_hir_call: bool,
     },
 }
 
@@ -80,6 +91,8 @@ pub struct MirBody {
     pub locals: List<Local>,
     pub start_block: BasicBlockId,
     pub owner: DefWithBodyId,
+    /// The locals that a call's arguments go to, in the order of the arguments.
+    pub param_locals: List<LocalId>,
 }
 
 impl Drop for MirBody {
@@ -89,6 +102,7 @@ impl Drop for MirBody {
             locals: _locals,
             start_block: _start_block,
             owner: _owner,
+            param_locals: _param_locals,
         } = self;
     }
 }

@@ -12,14 +12,15 @@ use crate::{
 impl MirBody {
     /// Whether the body has a local 0, which is the return place as the chapter on MIR of the rustc
     /// dev guide says, and each block and each local that something in it names: its start block,
-    /// the targets of each terminator, the block in which unwinding from a drop goes on, and the
-    /// local of each place and of each storage statement.
+    /// the targets of each terminator, the block in which unwinding from a drop or a call goes on, the
+    /// local of each place and of each storage statement, and the locals of its parameters.
     pub fn is_closed(&self) -> bool
         ensures { IsTrue result ↔ IsClosed self.now }
     {
         self.has_local(LocalId(0))
             && self.has_block(self.start_block)
             && self.are_blocks_closed(self.basic_blocks.as_slice())
+            && self.has_locals(self.param_locals.as_slice())
     }
 
     /// Whether the local is one of the body's.
@@ -29,11 +30,33 @@ impl MirBody {
         (local.0 as u64) < self.locals.len()
     }
 
+    /// Whether each of the locals is one of the body's.
+    fn has_locals(&self, locals: &[LocalId]) -> bool
+        ensures { IsTrue result ↔ All (HasLocal self.now) locals.now }
+    {
+        for local in locals {
+            if !self.has_local(*local) {
+                return false;
+            }
+        }
+        true
+    }
+
     /// Whether the block is one of the body's.
     fn has_block(&self, block: BasicBlockId) -> bool
         ensures { IsTrue result ↔ HasBlock self.now block }
     {
         (block.0 as u64) < self.basic_blocks.len()
+    }
+
+    /// Whether there is no block, or it is one of the body's.
+    fn has_block_if_any(&self, block: Option<BasicBlockId>) -> bool
+        ensures { IsTrue result ↔ IfSome block (HasBlock self.now) }
+    {
+        match block {
+            Some(block) => self.has_block(block),
+            None => true,
+        }
     }
 
     /// Whether each of the blocks is one of the body's.
@@ -56,6 +79,18 @@ impl MirBody {
             OperandKind::Copy(place) => self.has_local(place.local),
             OperandKind::Constant { .. } => true,
         }
+    }
+
+    /// Whether the body has each local that one of the operands reads.
+    fn are_operands_closed(&self, operands: &[Operand]) -> bool
+        ensures { IsTrue result ↔ All (λ operand. IsClosedOperand self.now operand.kind) operands.now }
+    {
+        for operand in operands {
+            if !self.is_operand_closed(operand) {
+                return false;
+            }
+        }
+        true
     }
 
     /// Whether the body has each local that is read to compute the value.
@@ -110,15 +145,26 @@ impl MirBody {
             TerminatorKind::Drop {
                 place,
                 target,
-                unwind: Some(unwind),
+                unwind,
             } => {
-                self.has_local(place.local) && self.has_block(*target) && self.has_block(*unwind)
+                self.has_local(place.local)
+                    && self.has_block(*target)
+                    && self.has_block_if_any(*unwind)
             }
-            TerminatorKind::Drop {
-                place,
+            TerminatorKind::Call {
+                func,
+                args,
+                destination,
                 target,
-                unwind: None,
-            } => self.has_local(place.local) && self.has_block(*target),
+                cleanup,
+                ..
+            } => {
+                self.is_operand_closed(func)
+                    && self.are_operands_closed(args.as_slice())
+                    && self.has_local(destination.local)
+                    && self.has_block_if_any(*target)
+                    && self.has_block_if_any(*cleanup)
+            }
         }
     }
 

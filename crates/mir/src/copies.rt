@@ -2,8 +2,8 @@
 ghost use Rattle.std.specs.Prelude.{◌≡◌, IfOk};
 
 use crate::{
-    BasicBlock, ConstEvalError, LayoutError, Local, MirBody, MirEvalError, MirLowerError, Operand,
-    OperandKind, Rvalue, Statement, StatementKind, Terminator, TerminatorKind, TrailEntry,
+    BasicBlock, ConstEvalError, LayoutError, Local, LocalId, MirBody, MirEvalError, MirLowerError,
+    Operand, OperandKind, Rvalue, Statement, StatementKind, Terminator, TerminatorKind, TrailEntry,
 };
 use std::alloc::Global;
 use world::{Box, NoMemory, TryClone};
@@ -57,6 +57,10 @@ fn copy_eval_error(alloc: Global, error: &MirEvalError) -> Result<MirEvalError, 
             Ok(MirEvalError::UndefinedBehavior(text.try_clone(alloc)?))
         }
         MirEvalError::Panic(text) => Ok(MirEvalError::Panic(text.try_clone(alloc)?)),
+        MirEvalError::MirLowerError(function, error) => Ok(MirEvalError::MirLowerError(
+            *function,
+            error.try_clone(alloc)?,
+        )),
         MirEvalError::TypeIsUnsized(ty, text) => {
             let ty = ty.try_clone(alloc)?;
             Ok(MirEvalError::TypeIsUnsized(ty, text.try_clone(alloc)?))
@@ -70,6 +74,9 @@ fn copy_eval_error(alloc: Global, error: &MirEvalError) -> Result<MirEvalError, 
         MirEvalError::ExecutionLimitExceeded => Ok(MirEvalError::ExecutionLimitExceeded),
         MirEvalError::StackOverflow => Ok(MirEvalError::StackOverflow),
         MirEvalError::MemoryLimitExceeded => Ok(MirEvalError::MemoryLimitExceeded),
+        MirEvalError::InternalError(text) => {
+            Ok(MirEvalError::InternalError(text.try_clone(alloc)?))
+        }
         MirEvalError::NoMemory => Ok(MirEvalError::NoMemory),
     }
 }
@@ -173,6 +180,25 @@ impl TryClone for TerminatorKind {
                 target: *target,
                 unwind: *unwind,
             }),
+            TerminatorKind::Call {
+                func,
+                args,
+                destination,
+                target,
+                cleanup,
+                from_hir_call,
+            } => {
+                let func = func.try_clone(alloc)?;
+                let args = args.try_clone(alloc)?;
+                Ok(TerminatorKind::Call {
+                    func,
+                    args,
+                    destination: *destination,
+                    target: *target,
+                    cleanup: *cleanup,
+                    from_hir_call: *from_hir_call,
+                })
+            }
         }
     }
 }
@@ -199,6 +225,12 @@ impl TryClone for BasicBlock {
     }
 }
 
+impl TryClone for LocalId {
+    fn try_clone(&self, _alloc: Global) -> Result<LocalId, NoMemory> {
+        Ok(*self)
+    }
+}
+
 impl TryClone for Local {
     fn try_clone(&self, alloc: Global) -> Result<Local, NoMemory> {
         let ty = self.ty.try_clone(alloc)?;
@@ -210,11 +242,13 @@ impl TryClone for MirBody {
     fn try_clone(&self, alloc: Global) -> Result<MirBody, NoMemory> {
         let basic_blocks = self.basic_blocks.try_clone(alloc)?;
         let locals = self.locals.try_clone(alloc)?;
+        let param_locals = self.param_locals.try_clone(alloc)?;
         Ok(MirBody {
             basic_blocks,
             locals,
             start_block: self.start_block,
             owner: self.owner,
+            param_locals,
         })
     }
 }

@@ -4,8 +4,9 @@ ghost use Rattle.std.specs.Prelude.{◌≡◌};
 ghost use Rattle.mir.specs.Errors.{layout_error_of};
 
 use crate::MirSpan;
+use either::Either;
 use mentions::holds_param;
-use world::{Box, Crate, DefWithBodyId, List, NoMemory, Text, Ty};
+use world::{Box, Crate, DefWithBodyId, FunctionId, InternedClosureId, List, NoMemory, Text, Ty};
 
 /// Why a type has no layout.
 #[derive(Clone, Copy, PartialEq, Eq, Debug)]
@@ -66,9 +67,10 @@ impl From<LayoutError> for MirLowerError {
     }
 }
 
-/// A frame that a fault passed through.
+/// A call that a fault passed through: what was called, where, and by which body.
 #[derive(Clone, Copy, PartialEq, Eq, Debug)]
 pub struct TrailEntry {
+    pub callee: Either<FunctionId, InternedClosureId>,
     pub span: MirSpan,
     pub caller: DefWithBodyId,
 }
@@ -80,12 +82,18 @@ pub enum MirEvalError {
     TargetDataLayoutNotAvailable(Crate),
     UndefinedBehavior(Text),
     Panic(Text),
+    /// The body of a function that was called could not be lowered.
+    MirLowerError(FunctionId, MirLowerError),
     TypeIsUnsized(Ty, Text),
     NotSupported(Text),
+    /// A fault that ended a frame, and the calls that were open then, the innermost first. Before them, if the fault is that a
+    /// callee's body could not be got, stands that call.
     InFunction(Box<MirEvalError>, List<TrailEntry>),
     ExecutionLimitExceeded,
     StackOverflow,
     MemoryLimitExceeded,
+    /// A call has more or fewer arguments than its callee has parameters, or a run begins with a body that has parameters.
+    InternalError(Text),
     NoMemory,
 }
 

@@ -1,0 +1,10 @@
+pub mod Answered
+pub mod Asking
+pub mod Blocks
+pub mod Enters
+pub mod Extending
+pub mod Frames
+pub mod Kept
+pub mod Resumes
+pub mod Retold
+pub mod Runs
