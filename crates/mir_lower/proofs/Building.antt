@@ -1,5 +1,5 @@
 -- What is lowered is built: an expression by its own form and by its parts.
-use Rattle.std.proofs.Common.{◌≡◌, ℕ, Bool, true, false, List, [], ◌∷◌, map, Option, Some, None, sym, ap, ◌∙◌, subst}
+use Rattle.std.proofs.Common.{◌≡◌, ℕ, Bool, true, false, List, [], ◌∷◌, map, Option, Some, sym, ap, ◌∙◌, subst}
 use Rattle.std.specs.Prelude.{All, flat_map, if◌then◌else◌, option_map}
 use Rattle.std.proofs.lemmas.List.Elements.{All-nil, All-cons, All-append, All-contains, All-weaker, All-head, All-tail}
 use Rattle.mir.specs.declared.ids.LocalId.{LocalId}

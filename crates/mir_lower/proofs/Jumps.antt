@@ -1,5 +1,5 @@
 -- Entering and leaving loops and labelled blocks, and jumping to them: what the graph keeps, and which points its runs reach.
-use Rattle.std.proofs.Common.{◌≡◌, ℕ, suc, ◌+◌, List, [], ◌∷◌, ◌++◌, map, length, take, Option, Some, refl, sym, ap, ◌∙◌, subst, arith}
+use Rattle.std.proofs.Common.{◌≡◌, ℕ, suc, List, [], ◌∷◌, ◌++◌, map, length, take, Option, Some, refl, sym, ap, ◌∙◌, subst, arith}
 use Rattle.std.specs.Prelude.{reverse, slice_get, if◌then◌else◌}
 use Rattle.std.proofs.lemmas.List.{map-append, reverse-append}
 use Rattle.types.specs.declared.ids.LabelId.{LabelId}
@@ -7,8 +7,6 @@ use Rattle.mir.specs.declared.body.Terminator.{Terminator}
 use Rattle.mir.specs.declared.body.TerminatorKind.TheVariants.{Goto}
 use Rattle.mir.specs.declared.ids.BasicBlockId.{BasicBlockId}
 use Rattle.mir.specs.declared.span.MirSpan.{MirSpan}
-use Rattle.mir.specs.Memory.{Memory}
-use Rattle.mir.specs.Run.{Frame}
 use Rattle.source_meaning.specs.Around.{is_meant}
 use Rattle.source_meaning.specs.Source.{Source}
 use Rattle.mir_lower.specs.declared.graph.LoopBlocks.{LoopBlocks}

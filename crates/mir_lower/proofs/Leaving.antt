@@ -12,7 +12,7 @@ use Rattle.mir.specs.declared.span.MirSpan.{MirSpan}
 use Rattle.mir.specs.declared.statement.Statement.{Statement}
 use Rattle.mir.specs.declared.statement.StatementKind.TheVariants.{StorageDead}
 use Rattle.mir.specs.Memory.{Memory}
-use Rattle.mir.specs.Run.{Frame, Next, Stops, GoesTo, Faulted, after_statement, after_statements, terminated, next_from, going_on, running, entering, out_of_blocks}
+use Rattle.mir.specs.Run.{Frame, Next, Stops, GoesTo, Asks, Asked, trail_of, faults, after_statement, after_statements, terminated, next_from, going_on, running, entering, out_of_blocks}
 use Rattle.source_meaning.specs.Source.{Source, Cell}
 use Rattle.mir_lower.specs.Does.{here, IsFrameOf}
 use Rattle.mir_lower.specs.Graph.{Shape, no_statements, ended, with_statement, with_terminator, with_block, with_scope}
@@ -34,15 +34,16 @@ drop_all (x ∷ xs) = drop_all xs
 pub entering-suc : (budget : ℕ) (frame : Frame) (memory : Memory) (block : ℕ) → entering (suc budget) frame memory block ≡ running budget frame memory block 0
 unfolding entering running going_on
 entering-suc budget frame memory block = by_next (next_from frame memory (slice_get frame.body.basic_blocks block) 0) where
-  by_next : (next : Next) → elim next [ Stops ending ↦ record { ending = ending; left = budget } | GoesTo other after target ↦ entering budget other after target ] ≡ going_on budget next
+  by_next : (next : Next) → elim next [ Stops ending ↦ record { ending = ending; left = budget } | GoesTo other after target ↦ entering budget other after target | Asks q caller after call ↦ record { ending = Asked q caller after call; left = budget } ] ≡ going_on budget next
   by_next (Stops ending) = refl
   by_next (GoesTo other after target) = refl
+  by_next (Asks q caller after call) = refl
 
 -- behind its last statement a block does what its terminator says
 next-at-end : (frame : Frame) (memory : Memory) (block : BasicBlock) → next_from frame memory (Some block) (length block.statements) ≡ terminated frame memory block.terminator
 unfolding next_from after_statements
 next-at-end frame memory block =
-    ap (λ (statements : List Statement). elim (after_statements frame statements memory) [ Ok after ↦ terminated frame after block.terminator | Err e ↦ Stops (Faulted e) ]) (drop_all block.statements)
+    ap (λ (statements : List Statement). elim (after_statements frame statements memory) [ Ok after ↦ terminated frame after block.terminator | Err e ↦ faults frame e ]) (drop_all block.statements)
 
 -- In a graph whose current block was just ended, and in each that it grew to, the run behind the block's last
 -- statement does what the terminator says.
@@ -65,7 +66,7 @@ here-with_block : (s : Shape) → here (with_block s) ≡ Within (length s.block
 unfolding with_block count_at
 here-with_block s = ap (λ (o : Option BasicBlock). Within (length s.blocks) (unwrap_or (option_map (λ (b : BasicBlock). length b.statements) o) 0)) (slice_get-last s.blocks no_statements)
 
-pub entering-none : (frame : Frame) (memory : Memory) (block : ℕ) → entering 0 frame memory block ≡ out_of_blocks
+pub entering-none : (frame : Frame) (memory : Memory) (block : ℕ) → entering 0 frame memory block ≡ out_of_blocks (trail_of frame)
 unfolding entering
 entering-none frame memory block = refl
 
@@ -92,7 +93,7 @@ enters-block frame memory block =
           ap (run_from frame memory (Entry block)) one ∙ entering-suc more frame memory block;
       with_fewer = λ fewer less.
           let none : fewer ≡ 0 = omega arith in
-          ap (run_from frame memory (Entry block)) none ∙ entering-none frame memory block;
+          (trail_of frame, ap (run_from frame memory (Entry block)) none ∙ entering-none frame memory block);
       others = keeps-refl frame memory;
     }
 

@@ -2,12 +2,12 @@
 use Rattle.std.proofs.Common.{◌≡◌, ℕ, ◌+◌, ◌-◌, ⊎_elim, ap, ◌∙◌, subst, arith}
 use Rattle.std.proofs.lemmas.Bool.{cases_lt}
 use Rattle.mir.specs.Memory.{Memory}
-use Rattle.mir.specs.Run.{Frame, Ending, Faulted, Ended}
+use Rattle.mir.specs.Run.{Frame, Ending, Ended}
 use Rattle.source_meaning.specs.Ends.{Cost, End, Go, Jumps, Faults, Stuck, More, plus, after, then_do}
 use Rattle.source_meaning.specs.Source.{Store}
 use Rattle.mir_lower.specs.Does.{Holds, Landing, Nowhere, AtPoint, Landings, Lands, Reaches}
 use Rattle.mir_lower.specs.Graph.{Shape}
-use Rattle.mir_lower.specs.Runs.{Point, run_from, Comes, Enters, EndsAfter, error_of, KeepsOthers}
+use Rattle.mir_lower.specs.Runs.{Point, run_from, Comes, Enters, IsFault, EndsAfter, error_of, KeepsOthers}
 
 -- each run enters no block at least
 pub none-entered : (run : ℕ → Ended) → Enters 0 run
@@ -32,7 +32,8 @@ module _ (frame : Frame) (first second : ℕ) (from at : Point) (memory middle :
       ⊎_elim (λ few. comes.with_fewer fewer few)
       (λ many.
       let parts : fewer ≡ first + (fewer - first) = omega arith in
-      ap (run_from frame memory from) parts ∙ comes.with_more (fewer - first) ∙ rest (fewer - first) (omega arith))
+      let out = rest (fewer - first) (omega arith) in
+      (out.0, ap (run_from frame memory from) parts ∙ comes.with_more (fewer - first) ∙ out.1))
       (cases_lt fewer first)
 
   pub comes-trans : (to : Point) (later : Memory) → Comes frame second at middle to later → Comes frame (first + second) from memory to later
@@ -45,12 +46,13 @@ module _ (frame : Frame) (first second : ℕ) (from at : Point) (memory middle :
         others = λ interval bytes apart found. next.others interval bytes apart (comes.others interval bytes apart found);
       }
 
-  pub ends-after : (ending : Ending) → EndsAfter second ending (run_from frame middle at) → EndsAfter (first + second) ending (run_from frame memory from)
-  ends-after ending next =
+  pub ends-after : (ends : Ending → Type 0) → EndsAfter second ends (run_from frame middle at) → EndsAfter (first + second) ends (run_from frame memory from)
+  ends-after ends next =
       record {
         with_more = λ more.
             let parts : first + second + more ≡ first + (second + more) = omega arith in
-            ap (run_from frame memory from) parts ∙ comes.with_more (second + more) ∙ next.with_more more;
+            let end = next.with_more more in
+            (end.0, end.1, ap (run_from frame memory from) parts ∙ comes.with_more (second + more) ∙ end.2);
         with_fewer = enters-both next.with_fewer;
       }
 
@@ -80,7 +82,7 @@ reaches-after whole lands frame from at to memory middle claim cost comes (Go va
 reaches-after whole lands frame from at to memory middle claim cost comes (Jumps jump store then) does =
     lands-after whole frame cost.turns then.turns from at memory middle store (lands jump) comes does
 reaches-after whole lands frame from at to memory middle claim cost comes (Faults fault then) does =
-    ends-after frame cost.turns then.turns from at memory middle comes (Faulted (error_of fault)) does
+    ends-after frame cost.turns then.turns from at memory middle comes (IsFault (error_of fault)) does
 reaches-after whole lands frame from at to memory middle claim cost comes Stuck does = tt
 reaches-after whole lands frame from at to memory middle claim cost comes (More then) does = enters-both frame cost.turns then.turns from at memory middle comes does
 

@@ -1,5 +1,5 @@
 -- `return`: its value goes to the result, all open scopes are left, and the body returns.
-use Rattle.std.proofs.Common.{◌≡◌, ℕ, ◌+◌, List, ◌++◌, Contains, Option, Some, None, refl, sym, ap, ◌∙◌, subst, arith}
+use Rattle.std.proofs.Common.{◌≡◌, ℕ, List, ◌++◌, Contains, Option, Some, None, refl, sym, ap, ◌∙◌, subst, arith}
 use Rattle.std.specs.Prelude.{flat_map, IfSome}
 use Rattle.types.specs.declared.ids.ExprId.{ExprId}
 use Rattle.mir.specs.declared.body.Terminator.{Terminator}

@@ -1,16 +1,16 @@
 -- One statement of the open block, run.
-use Rattle.std.proofs.Common.{◌≡◌, ℕ, suc, ◌+◌, ◌<◌, List, [], ◌∷◌, ◌++◌, length, Option, Some, Ok, Err, sym, ap, ◌∙◌, arith, length-append, drop}
+use Rattle.std.proofs.Common.{◌≡◌, ℕ, suc, ◌+◌, ◌<◌, List, [], ◌∷◌, ◌++◌, length, Option, Some, Ok, Err, refl, sym, ap, ◌∙◌, arith, length-append, drop}
 use Rattle.std.specs.Prelude.{slice_get, slice_set, option_map, option_and_then, unwrap_or}
 use Rattle.std.proofs.lemmas.Option.{option_and_then_some}
 use Rattle.mir.specs.declared.body.BasicBlock.{BasicBlock}
 use Rattle.mir.specs.declared.errors.MirEvalError.{MirEvalError}
 use Rattle.mir.specs.declared.statement.Statement.{Statement}
 use Rattle.mir.specs.Memory.{Memory}
-use Rattle.mir.specs.Run.{Frame, Faulted, Stops, after_statement, after_statements, terminated, next_from, going_on, running}
+use Rattle.mir.specs.Run.{Frame, Faulted, trail_of, faults, after_statement, after_statements, terminated, next_from, going_on, running}
 use Rattle.mir_lower.specs.Does.{here, IsFrameOf}
 use Rattle.mir_lower.specs.Graph.{Shape, more_of, with_statement}
 use Rattle.mir_lower.specs.Growth.{statement_at, count_at, Grows, IsOpen}
-use Rattle.mir_lower.specs.Runs.{KeepsOthers, Point, Within, run_from, Comes, EndsAfter}
+use Rattle.mir_lower.specs.Runs.{KeepsOthers, Point, Within, run_from, Comes, IsFault, EndsAfter}
 use Rattle.mir_lower.proofs.Growing.{current_of, with_statement-is}
 use Rattle.mir_lower.proofs.Lists.{slice_get-last, slice_get-set_same, drop-at}
 
@@ -28,14 +28,14 @@ after-fault frame memory statement rest e err =
 next-statement : (frame : Frame) (memory later : Memory) (block : BasicBlock) (i : ℕ) (statement : Statement) → slice_get block.statements i ≡ Some statement → after_statement frame memory statement.kind ≡ Ok later → next_from frame memory (Some block) i ≡ next_from frame later (Some block) (suc i)
 unfolding next_from
 next-statement frame memory later block i statement found ok =
-    ap (λ r. elim r [ Ok after ↦ terminated frame after block.terminator | Err e ↦ Stops (Faulted e) ])
+    ap (λ r. elim r [ Ok after ↦ terminated frame after block.terminator | Err e ↦ faults frame e ])
     (ap (λ (statements : List Statement). after_statements frame statements memory) (drop-at block.statements i statement found)
     ∙ after-first frame memory later statement (drop (suc i) block.statements) ok)
 
-next-fault : (frame : Frame) (memory : Memory) (block : BasicBlock) (i : ℕ) (statement : Statement) (e : MirEvalError) → slice_get block.statements i ≡ Some statement → after_statement frame memory statement.kind ≡ Err e → next_from frame memory (Some block) i ≡ Stops (Faulted e)
+next-fault : (frame : Frame) (memory : Memory) (block : BasicBlock) (i : ℕ) (statement : Statement) (e : MirEvalError) → slice_get block.statements i ≡ Some statement → after_statement frame memory statement.kind ≡ Err e → next_from frame memory (Some block) i ≡ faults frame e
 unfolding next_from
 next-fault frame memory block i statement e found err =
-    ap (λ r. elim r [ Ok after ↦ terminated frame after block.terminator | Err e ↦ Stops (Faulted e) ])
+    ap (λ r. elim r [ Ok after ↦ terminated frame after block.terminator | Err e ↦ faults frame e ])
     (ap (λ (statements : List Statement). after_statements frame statements memory) (drop-at block.statements i statement found)
     ∙ after-fault frame memory statement (drop (suc i) block.statements) e err)
 
@@ -55,7 +55,7 @@ run-statement s frame memory later b i statement same there ok budget =
     ∙ ap (λ o. going_on budget (next_from frame later o (suc i))) (sym found)
 
 -- and ends at one that does
-pub run-fault : (s : Shape) (frame : Frame) (memory : Memory) (b i : ℕ) (statement : Statement) (e : MirEvalError) → frame.body.basic_blocks ≡ s.blocks → statement_at s b i ≡ Some statement → after_statement frame memory statement.kind ≡ Err e → (budget : ℕ) → running budget frame memory b i ≡ record { ending = Faulted e; left = budget }
+pub run-fault : (s : Shape) (frame : Frame) (memory : Memory) (b i : ℕ) (statement : Statement) (e : MirEvalError) → frame.body.basic_blocks ≡ s.blocks → statement_at s b i ≡ Some statement → after_statement frame memory statement.kind ≡ Err e → (budget : ℕ) → running budget frame memory b i ≡ record { ending = Faulted e (trail_of frame); left = budget }
 unfolding running going_on
 run-fault s frame memory b i statement e same there err budget =
     let at = statement-block s b i statement there in
@@ -102,14 +102,17 @@ module _ (statement : Statement) (s whole : Shape) (frame : Frame) (memory : Mem
       }
 
   -- or ends in its fault
-  pub ends-statement : (e : MirEvalError) → after_statement frame memory statement.kind ≡ Err e → EndsAfter 0 (Faulted e) (run_from frame memory (here s))
+  pub ends-statement : (e : MirEvalError) → after_statement frame memory statement.kind ≡ Err e → EndsAfter 0 (IsFault e) (run_from frame memory (here s))
   ends-statement e err =
       let b = current_of s opened in
       record {
         with_more = λ more.
-            let plain : 0 + more ≡ more = omega arith in
-            ap (run_from frame memory (here s)) plain
-            ∙ ap (λ (p : Point). run_from frame memory p more) (here-is s b.0 b.1)
-            ∙ run-fault whole frame memory s.current (length b.0.statements) statement e is.blocks (there (b.0, b.1)) err more;
+            let plain : 0 + more ≡ more = omega arith in (
+              Faulted e (trail_of frame),
+              (trail_of frame, refl),
+              ap (run_from frame memory (here s)) plain
+                  ∙ ap (λ (p : Point). run_from frame memory p more) (here-is s b.0 b.1)
+                  ∙ run-fault whole frame memory s.current (length b.0.statements) statement e is.blocks (there (b.0, b.1)) err more,
+            );
         with_fewer = λ fewer less. absurd (omega arith);
       }

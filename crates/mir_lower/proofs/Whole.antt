@@ -1,5 +1,5 @@
 -- A whole body: its root, leaving it, and returning.
-use Rattle.std.proofs.Common.{[], ◌∷◌, ◌++◌, ◌≡◌, ℕ, zero, suc, ◌+◌, ◌<◌, ◌≤◌, List, length, Option, Some, Ok, refl, sym, ap, ◌∙◌, subst, arith}
+use Rattle.std.proofs.Common.{[], ◌∷◌, ◌++◌, ◌≡◌, ℕ, ◌+◌, ◌<◌, ◌≤◌, List, length, Option, Some, Ok, refl, sym, ap, ◌∙◌, subst, arith}
 use Rattle.std.specs.Prelude.{slice_get, map, sum, replicate, option_map, option_and_then, unwrap_or}
 use Rattle.world.specs.declared.database.HirDatabase.{HirDatabase}
 use Rattle.world.specs.declared.layout.Layout.{Layout}
@@ -10,7 +10,7 @@ use Rattle.mir.specs.declared.body.MirBody.{MirBody}
 use Rattle.mir.specs.declared.body.TerminatorKind.TheVariants as kind
 use Rattle.mir.specs.declared.span.MirSpan.{MirSpan}
 use Rattle.mir.specs.Memory.{Interval, Memory, first_memory, bytes_at, cells_of}
-use Rattle.mir.specs.Run.{Frame, Waiting, Ended, Returned, Faulted, Stops, returned, resumed, after_return, going_on, entering, begun}
+use Rattle.mir.specs.Run.{Program, Frame, Waiting, Ended, Returned, Stops, returned, resumed, after_return, going_on, entering, begun}
 use Rattle.source_meaning.specs.Around.{at_root}
 use Rattle.source_meaning.specs.Ends.{Cost, turns_alone, plus, End, Go, Jumps, Break, Continue, Return, Faults, Stuck, More, after}
 use Rattle.source_meaning.specs.Entering.{body_room, room_of, run_cost, entering as entering_cost}
@@ -24,7 +24,7 @@ use Rattle.mir_lower.specs.Growth.{Grows, IsSound, count_at}
 use Rattle.mir_lower.specs.Leaving.{Idles}
 use Rattle.mir_lower.specs.Lowered.{HasLayouts, LowersInto}
 use Rattle.mir_lower.specs.Simulates.{EndsAs, RunsAs, Simulates}
-use Rattle.mir_lower.specs.Runs.{Point, Within, Entry, Exit, start_of, run_from, local_bytes, AreApart, Enters, EndsAfter, error_of, Comes}
+use Rattle.mir_lower.specs.Runs.{Point, Within, Entry, Exit, start_of, run_from, local_bytes, AreApart, Enters, IsReturned, IsFault, EndsAfter, error_of, Comes}
 use Rattle.mir_lower.proofs.Growing.{grows-refl, grows-trans, with_terminator-grows, with_scope-grows}
 use Rattle.mir_lower.proofs.Leaving.{enters-block, comes-return, here-scope}
 use Rattle.mir_lower.proofs.Lists.{front-of}
@@ -39,7 +39,7 @@ runs-after : (allotted : Cell → Option ℕ) (frame : Frame) (from at : Point) 
 unfolding after plus
 runs-after allotted frame from at memory middle cost comes (Go bytes store then) does = (does.0, comes-trans frame cost.turns then.turns from at memory middle comes Exit does.0 does.1, does.2, does.3)
 runs-after allotted frame from at memory middle cost comes (Jumps to store then) does = tt
-runs-after allotted frame from at memory middle cost comes (Faults fault then) does = ends-after frame cost.turns then.turns from at memory middle comes (Faulted (error_of fault)) does
+runs-after allotted frame from at memory middle cost comes (Faults fault then) does = ends-after frame cost.turns then.turns from at memory middle comes (IsFault (error_of fault)) does
 runs-after allotted frame from at memory middle cost comes Stuck does = tt
 runs-after allotted frame from at memory middle cost comes (More then) does = enters-both frame cost.turns then.turns from at memory middle comes does
 
@@ -47,14 +47,14 @@ runs-after allotted frame from at memory middle cost comes (More then) does = en
 return-ends : (frame : Frame) (memory : Memory) (bytes : List ℕ) (more : ℕ) → frame.below ≡ [] → local_bytes frame memory 0 ≡ Some bytes → run_from frame memory Exit more ≡ record { ending = Returned bytes; left = more }
 unfolding going_on after_return local_bytes
 return-ends frame memory bytes more alone slot =
-    ap (λ (below : List Waiting). going_on more (elim below [ [] ↦ Stops (returned (option_and_then (bytes_at memory) (slice_get frame.cells 0))) | caller ∷ others ↦ resumed memory caller others ])) alone
+    ap (λ (below : List Waiting). going_on more (elim below [ [] ↦ Stops (returned (option_and_then (bytes_at memory) (slice_get frame.cells 0))) | caller ∷ others ↦ resumed frame.program memory caller others ])) alone
     ∙ ap (λ o. record { ending = returned o; left = more }) slot
 
 -- so there a run ends as the meaning does
 ends-as-run : (allotted : Cell → Option ℕ) (frame : Frame) (from : Point) (memory : Memory) → frame.below ≡ [] → (end : End (List ℕ)) → RunsAs allotted frame from memory end → EndsAs end (run_from frame memory from)
 ends-as-run allotted frame from memory alone (Go bytes store cost) does =
     record {
-      with_more = λ more. does.1.with_more more ∙ return-ends frame does.0 bytes more alone does.3;
+      with_more = λ more. (Returned bytes, refl, does.1.with_more more ∙ return-ends frame does.0 bytes more alone does.3);
       with_fewer = does.1.with_fewer;
     }
 ends-as-run allotted frame from memory alone (Jumps to store cost) does = tt
@@ -73,11 +73,11 @@ ends-as-costed : (cost : Cost) (end : End (List ℕ)) (run : ℕ → Ended) → 
 unfolding after plus
 ends-as-costed cost (Go bytes store rest) run free ends =
     let plain : rest.turns ≡ cost.turns + rest.turns = omega arith in
-    subst (λ (n : ℕ). EndsAfter n (Returned bytes) run) plain ends
+    subst (λ (n : ℕ). EndsAfter n (IsReturned bytes) run) plain ends
 ends-as-costed cost (Jumps to store rest) run free ends = tt
 ends-as-costed cost (Faults fault rest) run free ends =
     let plain : rest.turns ≡ cost.turns + rest.turns = omega arith in
-    subst (λ (n : ℕ). EndsAfter n (Faulted (error_of fault)) run) plain ends
+    subst (λ (n : ℕ). EndsAfter n (IsFault (error_of fault)) run) plain ends
 ends-as-costed cost Stuck run free ends = tt
 ends-as-costed cost (More rest) run free ends =
     let plain : rest.turns ≡ cost.turns + rest.turns = omega arith in
@@ -110,11 +110,11 @@ unfolding entering_cost
 runs-entered source allotted frame memory block end does = runs-after allotted frame (Entry block) (start_of block) memory memory (entering_cost source) (enters-block frame memory block) end does
 
 -- the frame in which a body begins
-pub begun-cells : (world : HirDatabase) (body : MirBody) (start : Frame × Memory) → begun world body ≡ Ok start → (all : List Interval × Memory) × (cells_of world body.locals first_memory ≡ Ok all) × ◌≡◌ {A = Frame × Memory} start (record { body = body; cells = all.0; below = [] }, all.1)
+pub begun-cells : (program : Program) (body : MirBody) (start : Frame × Memory) → begun program body ≡ Ok start → (all : List Interval × Memory) × (cells_of program.world body.locals first_memory ≡ Ok all) × ◌≡◌ {A = Frame × Memory} start (record { program = program; body = body; cells = all.0; below = [] }, all.1)
 unfolding begun
-begun-cells world body start h =
-    let first = first-ok (cells_of world body.locals first_memory) (λ all. Ok (record { body = body; cells = all.0; below = [] }, all.1)) start h in
-    (first.0, first.1, (let same : ◌≡◌ {A = Frame × Memory} (record { body = body; cells = first.0.0; below = [] }, first.0.1) start = cc in sym same))
+begun-cells program body start h =
+    let first = first-ok (cells_of program.world body.locals first_memory) (λ all. Ok (record { program = program; body = body; cells = all.0; below = [] }, all.1)) start h in
+    (first.0, first.1, (let same : ◌≡◌ {A = Frame × Memory} (record { program = program; body = body; cells = first.0.0; below = [] }, first.0.1) start = cc in sym same))
 
 -- each cell's local is zero at first
 starts-zeroed : (source : Source) (s : Shape) (frame : Frame) (memory : Memory) → IsSound source s → Placing source.world s.locals first_memory frame.cells memory → Holds s frame (zeroed source) memory
@@ -211,10 +211,11 @@ module _ (source : Source) (s0 s1 s2 : Shape) (span : MirSpan) (begins : here s0
             subst (λ (ls : List Local). sum (map (λ local. room_of (layout_of source.world local.ty)) ls) ≤ body_room source) (sym locals)
             (fits-room source Whole within whole-sound);
         laid_out = lays-out body.locals locals;
-        runs = λ fuel begin h.
-            let all = begun-cells source.world body begin h in
-            let frame : Frame = record { body = body; cells = all.0.0; below = [] } in
-            let placing = places-all source.world aligned body.locals first_memory all.0 all.1 in
+        runs = λ fuel program begin world h.
+            let all = begun-cells program body begin h in
+            let frame : Frame = record { program = program; body = body; cells = all.0.0; below = [] } in
+            let placed = ap (λ (w : HirDatabase). cells_of w body.locals first_memory) (sym world) ∙ all.1 in
+            let placing = places-all source.world aligned body.locals first_memory all.0 placed in
             let placing' : Placing source.world Whole.locals first_memory all.0.0 all.0.1 = subst (λ (l : List Local). Placing source.world l first_memory all.0.0 all.0.1) locals placing in
             subst (λ (b : Frame × Memory). EndsAs (meaning_of source fuel) (λ budget. entering budget b.0 b.1 body.start_block.0)) (sym all.2)
             (ends-as-run-alone (meaning_from source (zeroed source) fuel) (λ budget. entering budget frame all.0.1 body.start_block.0)

@@ -2,7 +2,7 @@
 use Rattle.std.specs.Prelude.{◌≡◌, ℕ, List, ◌∷◌, [], Option, Some, unwrap_or}
 use Rattle.mir.specs.declared.operand.OperandKind.{OperandKind}
 use Rattle.mir.specs.Memory.{Memory}
-use Rattle.mir.specs.Run.{Frame, Faulted, operand_bytes as mir_bytes, operand_type as mir_type}
+use Rattle.mir.specs.Run.{Frame, operand_bytes as mir_bytes, operand_type as mir_type}
 use Rattle.source_meaning.specs.Around.{Around, Target}
 use Rattle.source_meaning.specs.Ends.{End, Go, Jumps, Faults, Stuck, More, Jump, Break, Continue, Return}
 use Rattle.source_meaning.specs.Meaning.{level_at, operands_of, statements_of, tail_into, bind}
@@ -11,7 +11,7 @@ use Rattle.world.specs.declared.body.Statement.{Statement}
 use Rattle.types.specs.declared.ids.ExprId.{ExprId}
 use Rattle.mir_lower.specs.Graph.{Shape, OpenTarget, local_of}
 use Rattle.mir_lower.specs.Growth.{Grows, IsSound, count_at}
-use Rattle.mir_lower.specs.Runs.{Point, Within, Entry, Exit, run_from, Enters, EndsAfter, error_of, AreApart, Comes, Represents}
+use Rattle.mir_lower.specs.Runs.{Point, Within, Entry, Exit, run_from, Enters, IsFault, EndsAfter, error_of, AreApart, Comes, Represents}
 
 -- the point behind the last statement of the current block
 abbrev pub here : Shape → Point
@@ -48,7 +48,7 @@ abbrev pub Reaches : {A : Type 0} → Shape → Landings → Frame → Point →
 Reaches whole lands frame from to memory claim (Go value store cost) =
     (later : Memory) × Comes frame cost.turns from memory to later × Holds whole frame store later × claim value
 Reaches whole lands frame from to memory claim (Jumps jump store cost) = Lands whole frame from memory store cost.turns (lands jump)
-Reaches whole lands frame from to memory claim (Faults fault cost) = EndsAfter cost.turns (Faulted (error_of fault)) (run_from frame memory from)
+Reaches whole lands frame from to memory claim (Faults fault cost) = EndsAfter cost.turns (IsFault (error_of fault)) (run_from frame memory from)
 Reaches whole lands frame from to memory claim Stuck = Unit {0}
 Reaches whole lands frame from to memory claim (More cost) = Enters cost.turns (run_from frame memory from)
 

@@ -2,8 +2,9 @@
 use Rattle.std.specs.Prelude.{◌≡◌, ◌≢◌, ◌⊎◌, ℕ, ◌+◌, ◌<◌, ◌≤◌, List, Option, Some, slice_get, option_and_then}
 use Rattle.mir.specs.declared.errors.MirEvalError.{MirEvalError}
 use Rattle.mir.specs.declared.errors.MirEvalError as error
+use Rattle.mir.specs.declared.errors.TrailEntry.{TrailEntry}
 use Rattle.mir.specs.Memory.{Interval, Memory, bytes_at}
-use Rattle.mir.specs.Run.{Frame, Ending, Ended, out_of_blocks, after_return, entering, going_on, running}
+use Rattle.mir.specs.Run.{Frame, Ending, Returned, Faulted, Ended, out_of_blocks, after_return, entering, going_on, running}
 use Rattle.source_meaning.specs.Ends.{Fault, Panic, Undefined}
 use Rattle.source_meaning.specs.Source.{Cell, Store}
 
@@ -24,14 +25,26 @@ run_from frame memory (Within block index) budget = running budget frame memory 
 run_from frame memory (Entry block) budget = entering budget frame memory block
 run_from frame memory Exit budget = going_on budget (after_return frame memory)
 
--- a run enters at least `turns` blocks: under a budget of fewer it runs out of them
-abbrev pub Enters : ℕ → (ℕ → Ended) → Type 0
-Enters turns run = (fewer : ℕ) → fewer < turns → run fewer ≡ out_of_blocks
+-- a run ended for want of blocks, over whatever calls were open then
+abbrev pub IsOutOfBlocks : Ended → Type 0
+IsOutOfBlocks ended = (trail : List TrailEntry) × (ended ≡ out_of_blocks trail)
 
--- A run under every budget: it ends in `ending`, after exactly `turns` blocks. With just as many blocks or more it ends so
+-- a run enters at least `turns` blocks: under a budget of fewer it runs out of them, over whatever calls are open then
+abbrev pub Enters : ℕ → (ℕ → Ended) → Type 0
+Enters turns run = (fewer : ℕ) → fewer < turns → IsOutOfBlocks (run fewer)
+
+-- an ending returns these bytes
+abbrev pub IsReturned : List ℕ → Ending → Type 0
+IsReturned bytes ending = ending ≡ Returned bytes
+
+-- an ending is a fault with this error, whatever calls were open then
+abbrev pub IsFault : MirEvalError → Ending → Type 0
+IsFault e ending = (trail : List TrailEntry) × (ending ≡ Faulted e trail)
+
+-- A run under every budget: it ends in such an ending, after exactly `turns` blocks. With just as many blocks or more it ends so
 -- and leaves the rest, and with fewer it runs out of them.
-pub record EndsAfter (turns : ℕ) (ending : Ending) (run : ℕ → Ended) : Type 0 where
-  pub with_more : (more : ℕ) → run (turns + more) ≡ record { ending = ending; left = more }
+pub record EndsAfter (turns : ℕ) (ends : Ending → Type 0) (run : ℕ → Ended) : Type 0 where
+  pub with_more : (more : ℕ) → (ending : Ending) × ends ending × (run (turns + more) ≡ record { ending = ending; left = more })
   pub with_fewer : Enters turns run
 
 -- the error in which a run ends where the meaning ends in a fault

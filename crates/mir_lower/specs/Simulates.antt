@@ -4,7 +4,7 @@ use Rattle.types.specs.declared.ty.Ty.{Ty}
 use Rattle.mir.specs.declared.body.Local.{Local}
 use Rattle.mir.specs.declared.body.MirBody.{MirBody}
 use Rattle.mir.specs.Memory.{Memory}
-use Rattle.mir.specs.Run.{Frame, Returned, Faulted, Ended, entering, begun}
+use Rattle.mir.specs.Run.{Program, Frame, Ended, entering, begun}
 use Rattle.source_meaning.specs.Ends.{End, Go, Jumps, Faults, Stuck, More}
 use Rattle.source_meaning.specs.Entering.{body_room, room_of}
 use Rattle.source_meaning.specs.Meaning.{meaning_from, meaning_of}
@@ -12,15 +12,15 @@ use Rattle.source_meaning.specs.Source.{Source, Cell, Result, Binding, Store, bi
 use Rattle.source_meaning.specs.Valid.{IsPlain, IsLaidOut, AreLaidOut}
 use Rattle.world.specs.Lookups.{layout_of}
 use Rattle.mir_lower.specs.Growth.{IsUsed}
-use Rattle.mir_lower.specs.Runs.{Point, Entry, Exit, run_from, Enters, EndsAfter, error_of, local_bytes, AreApart, Comes, Represents}
+use Rattle.mir_lower.specs.Runs.{Point, Entry, Exit, run_from, Enters, IsReturned, IsFault, EndsAfter, error_of, local_bytes, AreApart, Comes, Represents}
 
 -- A run ends as the meaning does, after exactly as many blocks as that counts. Where the fuel of the meaning ran out, the run
--- enters as many blocks as were counted up to there. Of a meaning that ends in a jump nothing is said: that of a plain body
--- doesn't.
+-- enters as many blocks as were counted up to there. Of the calls that are open at a fault, or when the blocks run out, nothing is
+-- said. Of a meaning that ends in a jump nothing is said: that of a plain body doesn't.
 abbrev pub EndsAs : End (List ℕ) → (ℕ → Ended) → Type 0
-EndsAs (Go bytes store cost) run = EndsAfter cost.turns (Returned bytes) run
+EndsAs (Go bytes store cost) run = EndsAfter cost.turns (IsReturned bytes) run
 EndsAs (Jumps to store cost) run = Unit {0}
-EndsAs (Faults fault cost) run = EndsAfter cost.turns (Faulted (error_of fault)) run
+EndsAs (Faults fault cost) run = EndsAfter cost.turns (IsFault (error_of fault)) run
 EndsAs Stuck run = Unit {0}
 EndsAs (More cost) run = Enters cost.turns run
 
@@ -32,17 +32,18 @@ abbrev pub RunsAs : (Cell → Option ℕ) → Frame → Point → Memory → End
 RunsAs allotted frame from memory (Go bytes store cost) =
     (later : Memory) × Comes frame cost.turns from memory Exit later × Represents allotted frame store later × (local_bytes frame later 0 ≡ Some bytes)
 RunsAs allotted frame from memory (Jumps to store cost) = Unit {0}
-RunsAs allotted frame from memory (Faults fault cost) = EndsAfter cost.turns (Faulted (error_of fault)) (run_from frame memory from)
+RunsAs allotted frame from memory (Faults fault cost) = EndsAfter cost.turns (IsFault (error_of fault)) (run_from frame memory from)
 RunsAs allotted frame from memory Stuck = Unit {0}
 RunsAs allotted frame from memory (More cost) = Enters cost.turns (run_from frame memory from)
 
 -- A MIR body does what a typed body means. A cell is where the source keeps a value: the result, a variable, a temporary of an expression;
 -- a store gives each cell's bytes. `allotted` says which local stands for a cell, if any does: the return slot for the result, one for each
 -- binding that no closure owns, no local for two cells, and for each cell one of its type; each local stands for a cell that is used.
--- `does`: entered at its start block, in a frame whose locals share no byte and hold the store's bytes, whatever callers are suspended below
--- it, the body runs as its meaning from that store says. `runs`: so it does alone, from zeroed locals, where that can begin. All locals
--- together take no more bytes than the source counts for its cells (`room`). Where the source is plain and each local's type has a
--- layout, so have the types of all that is evaluated (`laid_out`).
+-- `does`: entered at its start block, in a frame whose locals share no byte and hold the store's bytes, whatever the run goes by and whatever
+-- callers are suspended below it, the body runs as its meaning from that store says. `runs`: so it does alone, from zeroed locals in the
+-- source's world, where that can begin, whatever limits and answers the run goes by. All locals together take no more bytes than the source
+-- counts for its cells (`room`). Where the source is plain and each local's type has a layout, so have the types of all that is evaluated
+-- (`laid_out`).
 pub record Simulates (source : Source) (body : MirBody) : Type 0 where
   pub allotted : Cell → Option ℕ
   pub result : allotted Result ≡ Some 0
@@ -55,5 +56,5 @@ pub record Simulates (source : Source) (body : MirBody) : Type 0 where
   pub cells : (l : ℕ) (local : Local) → slice_get body.locals l ≡ Some local → (cell : Cell) × IsUsed source cell × (cell_type source cell ≡ Some local.ty) × (allotted cell ≡ Some l)
   pub room : sum (map (λ local. room_of (layout_of source.world local.ty)) body.locals) ≤ body_room source
   pub laid_out : IsPlain source → ((l : ℕ) (local : Local) → slice_get body.locals l ≡ Some local → IsLaidOut source (Some local.ty)) → AreLaidOut source
-  pub runs : (fuel : ℕ) (start : Frame × Memory) → begun source.world body ≡ Ok start →
+  pub runs : (fuel : ℕ) (program : Program) (start : Frame × Memory) → program.world ≡ source.world → begun program body ≡ Ok start →
       EndsAs (meaning_of source fuel) (λ budget. entering budget start.0 start.1 body.start_block.0)

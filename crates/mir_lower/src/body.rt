@@ -19,10 +19,10 @@ use std::alloc::Global;
 use world::{Body, DefWithBodyId, HirDatabase, InferenceResult};
 
 /// The graph of a typed body: a run of it does what the body means. Its locals are the return slot, one for each binding
-/// that no closure owns, by rising id, and then the temporaries. The refusals are `HasErrors` where
-/// inference met an error, that of an expression, `NotSupported` where the world has a drop function and
-/// a local's type isn't listed as `Copy`, and `NoMemory`: also where a block or a local would be the 2^32nd of its
-/// kind, since the room for ids is used up then.
+/// that no closure owns, by rising id, and then the temporaries; none is a parameter's. The refusals are `HasErrors`
+/// where inference met an error, that of an expression, `NotSupported` where the world has a drop function and a
+/// local's type isn't listed as `Copy`, and `NoMemory`: also where a block or a local would be the 2^32nd of its kind,
+/// since the room for ids is used up then.
 pub fn lower_to_mir(
     alloc: Global,
     db: &HirDatabase,
@@ -35,6 +35,7 @@ pub fn lower_to_mir(
     ensures simulates { IfOk result (Simulates (record { world = db.now; body = body.now; infer = infer.now })) }
     ensures order { IfOk result (λ lowered. AreInOrder (record { world = db.now; body = body.now; infer = infer.now }) lowered.locals) }
     ensures owner { IfOk result (λ lowered. lowered.owner ≡ owner) }
+    ensures params { IfOk result (λ lowered. lowered.param_locals ≡ []) }
     ensures errors { OnOk result ((infer.now.erroneous ≡ false) × (infer.now.mismatches ≡ [])) }
     ensures dropless { IfOk result (λ lowered. needs_drops (record { world = db.now; body = body.now; infer = infer.now }) lowered.locals ≡ false) }
     ensures built { OnOk result (IsBuilt (record { world = db.now; body = body.now; infer = infer.now }) body.now.body_expr.0) }
@@ -68,6 +69,7 @@ fn lower_inferred(context: &Context<'_>, owner: DefWithBodyId) -> Result<MirBody
     ensures simulates { IfOk result (Simulates (source_of context.now)) }
     ensures order { IfOk result (λ lowered. AreInOrder (source_of context.now) lowered.locals) }
     ensures owner { IfOk result (λ lowered. lowered.owner ≡ owner) }
+    ensures params { IfOk result (λ lowered. lowered.param_locals ≡ []) }
     ensures dropless { IfOk result (λ lowered. needs_drops (source_of context.now) lowered.locals ≡ false) }
     ensures built { OnOk result (IsBuilt (source_of context.now) (root (source_of context.now))) }
     ensures refused { IfErr result (RefusesInferred (source_of context.now)) }
@@ -86,6 +88,7 @@ fn lower_body(context: &Context<'_>, owner: DefWithBodyId) -> Result<MirBody, Mi
     ensures simulates { IfOk result (Simulates (source_of context.now)) }
     ensures order { IfOk result (λ lowered. AreInOrder (source_of context.now) lowered.locals) }
     ensures owner { IfOk result (λ lowered. lowered.owner ≡ owner) }
+    ensures params { IfOk result (λ lowered. lowered.param_locals ≡ []) }
     ensures built { OnOk result (IsBuilt (source_of context.now) (root (source_of context.now))) }
     ensures refused { IfErr result (RefusesAt (source_of context.now) (root (source_of context.now))) }
 {
@@ -99,5 +102,5 @@ fn lower_body(context: &Context<'_>, owner: DefWithBodyId) -> Result<MirBody, Mi
         span: MirSpan::ExprId(start),
         kind: TerminatorKind::Return,
     });
-    Ok(graph.into_body(owner))
+    Ok(graph.into_body(context.alloc, owner))
 }

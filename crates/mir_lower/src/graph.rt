@@ -1,6 +1,6 @@
 //! The graph that lowering builds: blocks, one of which is open, and locals.
 
-ghost use Rattle.std.specs.Prelude.{◌≡◌, ◌<◌, ◌≤◌, ◌^◌, ◌∷◌, ℕ, List, length, IfOk, IfSome, IfNone, OnOk, Some, None, slice_get};
+ghost use Rattle.std.specs.Prelude.{◌≡◌, ◌<◌, ◌≤◌, ◌^◌, ◌∷◌, ℕ, List, length, IfOk, IfSome, IfNone, OnOk, Some, None, [], slice_get};
 ghost use Rattle.std.specs.Option.{option_map};
 ghost use Rattle.mir_lower.specs.Graph.{OpenTarget, with_targets, target_of_blocks, meant_target, shape, first_shape, with_statement, with_terminator, with_block, with_reserved, with_entered, with_binding, with_temp, with_mark, temp_of, binding_local, no_statements, cell_of, with_never, never_of};
 ghost use Rattle.source_meaning.specs.Around.{is_meant};
@@ -336,12 +336,13 @@ impl Graph {
         None
     }
 
-    /// The body with these blocks and locals. It takes no memory.
-    pub fn into_body(self, owner: DefWithBodyId) -> MirBody
+    /// The body with these blocks and locals, none of which is a parameter's. It takes no memory.
+    pub fn into_body(self, alloc: Global, owner: DefWithBodyId) -> MirBody
         ensures blocks { result.basic_blocks ≡ (shape self).blocks }
         ensures locals { result.locals ≡ (shape self).locals }
         ensures start { result.start_block.0 ≡ 0 }
         ensures owner { result.owner ≡ owner }
+        ensures params { result.param_locals ≡ [] }
     {
         let Graph { blocks, locals, .. } = self;
         MirBody {
@@ -349,6 +350,7 @@ impl Graph {
             locals,
             start_block: BasicBlockId(0),
             owner,
+            param_locals: List::new(alloc),
         }
     }
 }

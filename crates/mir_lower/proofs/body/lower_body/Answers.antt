@@ -70,6 +70,7 @@ returns c =
           (c.into_body.ensures.blocks ∙ ap (λ (s : Shape). s.blocks) c.set_terminator.ensures) locals c.into_body.ensures.start;
       order = record { temporaries = front.0; order = front.1 ∙ ap (λ (ls : List Local). ls ++ front.0) first.locals };
       owner = c.into_body.ensures.owner;
+      params = c.into_body.ensures.params;
       built = c.in_ok-lower_into.ensures.built;
       refused = tt;
     }
