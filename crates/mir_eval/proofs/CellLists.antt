@@ -2,11 +2,7 @@
 use Rattle.std.proofs.Common.{◌≡◌, List, [], ◌∷◌, ◌++◌, Result, Ok, Err, refl, append_assoc}
 use Rattle.mir.specs.declared.errors.MirEvalError.{MirEvalError}
 use Rattle.mir.specs.Memory.{Interval, Memory, cell_before}
-
--- cells before others
-abbrev pub with_before : List Interval → Result (List Interval × Memory) MirEvalError → Result (List Interval × Memory) MirEvalError
-with_before cells (Ok rest) = Ok (cells ++ rest.0, rest.1)
-with_before cells (Err e) = Err e
+use Rattle.mir_eval.specs.Room.{with_before}
 
 -- one more cell before others
 pub before_one : (cells : List Interval) (cell : Interval) (rest : Result (List Interval × Memory) MirEvalError) →

@@ -1,8 +1,34 @@
--- The frame of a run, as the machine keeps it.
-use Rattle.mir.specs.Run.{Frame}
+-- The frames of a run, as the machine keeps them.
+use Rattle.std.specs.Prelude.{Bool, true, List, is_some, map, reverse, option_map}
+use Rattle.mir.specs.declared.body.MirBody.{MirBody}
+use Rattle.mir.specs.Run.{Frame, Program, Waiting}
+use Rattle.mir_eval.specs.declared.frames.Point.{Point}
+use Rattle.mir_eval.specs.declared.frames.Point.TheVariants as point
+use Rattle.mir_eval.specs.declared.frames.Program.{Program as RunProgram}
 use Rattle.mir_eval.specs.declared.frames.StackFrame.{StackFrame}
-use Rattle.mir_eval.specs.Steps.{frame}
+use Rattle.mir_eval.specs.declared.frames.Suspended.{Suspended}
+use Rattle.mir_eval.specs.Machine.{call_at}
+use Rattle.mir_eval.specs.Steps.{interval_of}
 
--- a body that runs, and where its locals lie
+-- what a run goes by
+abbrev pub program_of : RunProgram → Program
+program_of program = record { world = program.db.now; nesting = program.nesting; bytes = program.bytes; answers = program.answers }
+
+-- a caller that waits
+abbrev pub waiting_of : Suspended → Waiting
+waiting_of caller =
+    record { body = caller.body.value; cells = map interval_of caller.cells.items; next = option_map (λ block. block.0) caller.next; call = caller.call }
+
+-- the callers that wait, the nearest first, of which the machine keeps the nearest last
+abbrev pub callers : List Suspended → List Waiting
+callers below = reverse (map waiting_of below)
+
+-- a body that runs, over its callers
 abbrev pub frame_of : StackFrame → Frame
-frame_of running = frame running.body.now running.cells.now
+frame_of running =
+    record { program = program_of running.program.now; body = running.body.now; cells = map interval_of running.cells.now; below = callers running.below.now }
+
+-- where a run stands at a call, a block of its body ends in one
+abbrev pub stands_at : MirBody → Point → Bool
+stands_at body (point.Entry block) = true
+stands_at body (point.AtCall block) = is_some (call_at body block.0)

@@ -1,3 +1,4 @@
+pub mod Calls
 pub mod Evaluators
 pub mod Frames
 pub mod Machine

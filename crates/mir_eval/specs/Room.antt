@@ -1,18 +1,8 @@
--- How many bytes the cells of locals take, and whether a limit holds them.
-use Rattle.std.specs.Prelude.{◌≡◌, ℕ, ◌-◌, ◌<◌, ◌≤◌, if◌then◌else◌, nat_le, List, [], ◌∷◌, ◌++◌, length, replicate, Option, Some, None, Result, Ok, Err}
-use Rattle.world.specs.declared.layout.Layout.{Layout}
+-- Cells that are placed one behind the other, and stacks that zeros make longer.
+use Rattle.std.specs.Prelude.{◌≡◌, ℕ, ◌-◌, ◌<◌, ◌≤◌, List, [], ◌∷◌, ◌++◌, length, replicate, Option, Some, None, Result, Ok, Err}
 use Rattle.mir.specs.declared.errors.MirEvalError.{MirEvalError}
-use Rattle.mir.specs.declared.errors.MirEvalError as error
+use Rattle.world.specs.declared.layout.Layout.{Layout}
 use Rattle.mir.specs.Memory.{Interval, Memory, with_cell}
-
--- how many bytes cells take, with what lies between them: those of the stack, but for the one at its start
-abbrev pub bytes_taken : Memory → ℕ
-bytes_taken memory = length memory.stack - 1
-
--- what was placed, where its memory takes no more bytes than a limit
-abbrev pub within_bytes : {A : Type 0} → ℕ → Result (A × Memory) MirEvalError → Result (A × Memory) MirEvalError
-within_bytes bytes (Ok placed) = if nat_le (bytes_taken placed.1) bytes then Ok placed else Err error.MemoryLimitExceeded
-within_bytes bytes (Err e) = Err e
 
 -- a memory of zeros
 abbrev pub zeros : ℕ → Memory
@@ -26,3 +16,12 @@ AddsCell layout most cells (Some end) after (Some last) =
 AddsCell layout most cells (Some end) after None = most < length (with_cell layout (zeros end)).1.stack
 AddsCell layout most cells None after (Some last) = ⊥
 AddsCell layout most cells None after None = Unit {0}
+
+-- a stack that was made longer by zeros
+abbrev pub grown : List ℕ → (end : ℕ) → List ℕ
+grown stack end = stack ++ replicate (end - length stack) 0
+
+-- cells before others
+abbrev pub with_before : List Interval → Result (List Interval × Memory) MirEvalError → Result (List Interval × Memory) MirEvalError
+with_before cells (Ok rest) = Ok (cells ++ rest.0, rest.1)
+with_before cells (Err e) = Err e

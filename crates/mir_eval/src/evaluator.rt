@@ -1,15 +1,18 @@
-//! The machine as its callers use it: made, begun once, run to its end, and taken apart.
+//! The machine as its callers use it: made, begun once, run to its end, told what it asks for on the way, and taken apart.
 
-ghost use Rattle.std.specs.Prelude.{◌≡◌, ◌↔◌, ◌⊎◌, ◌^◌, ◌≤◌, [], slice_get, option_and_then, codes, IfOk, IfErr, OnOk, OnErr, IsOk, IsSome, IsTrue};
+ghost use Rattle.std.specs.Prelude.{◌≡◌, ◌↔◌, ◌⊎◌, ◌^◌, ◌≤◌, [], slice_get, option_and_then, codes, IfOk, IfErr, IfSome, OnOk, OnErr, IsOk, IsSome, IsTrue};
+ghost use Rattle.std.specs.Option.{option_copied};
 ghost use Rattle.mir_eval.specs.Start.{is_own_width};
 ghost use Rattle.mir.specs.declared.errors.MirEvalError as error;
 
 use crate::MirOutput;
+use crate::frames::Program;
 use crate::runs::{Phase, Run};
-use mir::{MirBody, MirEvalError};
+use mir::{Answer, Answers, MirBody, MirEvalError, Query};
 use std::alloc::Global;
+use std::mem;
 use std::rc::Rc;
-use world::{Const, Crate, DefWithBodyId, HirDatabase, Limits, Text};
+use world::{Const, Crate, DefWithBodyId, HirDatabase, Limits, NoMemory, Text};
 
 /// How a run turned out.
 #[derive(Clone, Copy, PartialEq, Eq, Debug)]
@@ -18,6 +21,8 @@ pub enum Turned {
     Done,
     /// It ended in a fault.
     Fault,
+    /// It waits for the answer to a query, and goes on once it is told.
+    Ask,
 }
 
 /// The machine for one run of one body.
@@ -30,7 +35,7 @@ pub struct Evaluator<'a> {
     nesting: u32,
     bytes: u64,
     ghost few_bytes: { bytes ≤ 2 ^ 59 },
-    phase: Phase,
+    phase: Phase<'a>,
 }
 
 /// The size of a pointer of the crate that something belongs to, where it is known.
@@ -68,9 +73,10 @@ fn other_width(alloc: Global) -> MirEvalError
 
 impl<'a> Evaluator<'a> {
     ghost use Rattle.world.specs.Limits.{IsWithin};
-    ghost use Rattle.mir_eval.specs.Machine.{Fresh, nesting_left, pointer_bytes, stepped, finished, turns_of};
+    ghost use Rattle.mir.specs.Answers.{answers_kind};
+    ghost use Rattle.mir_eval.specs.Machine.{Fresh, Over, nesting_left, pointer_bytes, turns_of, RunsTo, StepsTo, blocks_left};
     ghost use Rattle.mir_eval.specs.Start.{start_of};
-    ghost use Rattle.mir_eval.specs.Evaluators.{machine_of, crate_or_first, is_fresh, is_going, is_over, turned, outcome, Became};
+    ghost use Rattle.mir_eval.specs.Evaluators.{machine_of, crate_or_first, is_fresh, is_going, is_over, has_stopped, wanted_in, in_state, turned, outcome, Goes, IsTold};
 
     /// A machine for a body that belongs to `owner`. It takes no memory. The refusal is
     /// `TargetDataLayoutNotAvailable`, exactly where the size of a pointer of the owner's crate isn't
@@ -106,9 +112,9 @@ impl<'a> Evaluator<'a> {
     /// order: `NotSupported` where the pointers of the owner's crate have another size than 8 bytes;
     /// `StackOverflow` where the limit on nesting is 0; `LayoutError` or `TypeIsUnsized` for the first
     /// local whose type has no layout or no size; `MemoryLimitExceeded` where the stack with the cells of
-    /// all locals would have more bytes, the one at its start aside, than the limit on bytes. `NoMemory`,
-    /// for want of memory alone, may come in place of any of them and of a run. The stack is taken once
-    /// it is known to be within the limit. After a refusal nothing was begun.
+    /// all locals would have more bytes, the one at its start aside, than the limit on bytes; `InternalError` where the
+    /// body has parameters. `NoMemory`, for want of memory alone, may come in place of any of them and of a run. The
+    /// stack is taken once it is known to be within the limit. After a refusal nothing was begun.
     #[tactic(auto, unfolding(crate::specs::Start::start_of))]
     pub fn begin(&mut self, body: Rc<MirBody>) -> Result<(), MirEvalError>
         requires { IsTrue (is_fresh (machine_of self.old).state) }
@@ -124,7 +130,17 @@ impl<'a> Evaluator<'a> {
         if self.nesting == 0 {
             return Err(MirEvalError::StackOverflow);
         }
-        match Run::start(self.alloc, self.db, body, self.blocks, self.bytes) {
+        match Run::start(
+            self.alloc,
+            Program {
+                db: self.db,
+                nesting: self.nesting,
+                bytes: self.bytes,
+                answers: Answers::new(self.alloc),
+            },
+            body,
+            self.blocks,
+        ) {
             Ok(run) => {
                 self.phase = Phase::Going(run);
                 Ok(())
@@ -133,48 +149,82 @@ impl<'a> Evaluator<'a> {
         }
     }
 
-    /// Runs one block to its end. Want of memory ends the run, and so does a value for which no level
-    /// of nesting is left.
+    /// Runs one block to its end, to a query or to a fault; or, after an answer, the call that waited for it. Want of memory
+    /// ends the run, and so does a value for which no level of nesting is left.
     pub fn advance(&mut self)
         requires { IsTrue (is_going (machine_of self.old).state) }
-        ensures { Became (machine_of self.old) (machine_of self.new) (stepped (nesting_left (machine_of self.old)) (machine_of self.old).state) }
+        ensures stepped { Goes (machine_of self.old).state StepsTo (machine_of self.new).state }
+        ensures kept { machine_of self.new ≡ in_state (machine_of self.new).state (machine_of self.old) }
     {
         let alloc = self.alloc;
-        let levels = self.nesting_left();
-        match &mut self.phase {
-            Phase::Going(run) => {
-                if let Some(phase) = run.step(alloc, levels) {
-                    self.phase = phase;
-                }
+        self.phase = match mem::replace(&mut self.phase, Phase::Fresh) {
+            Phase::Going(mut run) => {
+                let went = run.step(alloc);
+                run.into_phase(went)
             }
-            Phase::Fresh => unreachable!(),
-            Phase::Over { .. } => unreachable!(),
+            other => other,
+        };
+    }
+
+    /// Runs to the end, or to a query, and returns which. A value takes one of the levels of nesting that are left:
+    /// where there is none, the end is `StackOverflow`, a fault that isn't the body's own. Want of memory is a fault.
+    pub fn run(&mut self) -> Turned
+        requires { IsTrue (is_going (machine_of self.old).state) }
+        ensures ended { Goes (machine_of self.old).state RunsTo (machine_of self.new).state }
+        ensures stopped { IsTrue (has_stopped (machine_of self.new).state) }
+        ensures variant { result ≡ turned (machine_of self.new).state }
+        ensures kept { machine_of self.new ≡ in_state (machine_of self.new).state (machine_of self.old) }
+    {
+        let alloc = self.alloc;
+        self.phase = match mem::replace(&mut self.phase, Phase::Fresh) {
+            Phase::Going(mut run) => {
+                let went = run.finish(alloc);
+                run.into_phase(went)
+            }
+            other => other,
+        };
+        match &self.phase {
+            Phase::Over { outcome: Ok(_), .. } => Turned::Done,
+            Phase::Asking(..) => Turned::Ask,
+            _ => Turned::Fault,
         }
     }
 
-    /// Runs to the end, and returns whether that is a value or a fault. A value takes one of the levels of
-    /// nesting that are left: where there is none, the end is `StackOverflow`, a fault that isn't the
-    /// body's own. Want of memory is a fault.
-    #[tactic(auto, unfolding(crate::specs::Machine::finished))]
-    pub fn run(&mut self) -> Turned
-        requires { IsTrue (is_going (machine_of self.old).state) }
-        ensures ended { Became (machine_of self.old) (machine_of self.new) (finished (nesting_left (machine_of self.old)) (machine_of self.old).state) }
-        ensures over { IsTrue (is_over (machine_of self.new).state) }
-        ensures variant { result ≡ turned (machine_of self.new).state }
+    /// The query that the run waits for, where it waits for one. It takes no memory.
+    pub fn wanted(&self) -> Option<&Query>
+        ensures { option_copied result ≡ wanted_in (machine_of self.now).state }
     {
-        let alloc = self.alloc;
-        let levels = self.nesting_left();
-        let phase = match &mut self.phase {
-            Phase::Going(run) => run.finish(alloc, levels),
-            Phase::Fresh => unreachable!(),
-            Phase::Over { .. } => unreachable!(),
+        match &self.phase {
+            Phase::Asking(query, _) => Some(query),
+            _ => None,
+        }
+    }
+
+    /// Tells the answer to the query that the run waits for, which is of the kind that the query wants. The run can go on then.
+    /// Without memory it is over, and no query is wanted either.
+    pub fn tell(&mut self, answer: Answer) -> Result<(), NoMemory>
+        requires wanted { IsSome (wanted_in (machine_of self.old).state) }
+        requires kind { IfSome (wanted_in (machine_of self.old).state) (λ q. IsTrue (answers_kind q answer)) }
+        ensures told { OnOk result (IsTold (machine_of self.old).state answer (machine_of self.new).state) }
+        ensures goes { OnOk result (IsTrue (is_going (machine_of self.new).state)) }
+        ensures over { OnErr result ((machine_of self.new).state ≡ Over (Err error.NoMemory) (blocks_left 0 (machine_of self.old).state)) }
+        ensures kept { machine_of self.new ≡ in_state (machine_of self.new).state (machine_of self.old) }
+    {
+        let mut told = Ok(());
+        self.phase = match mem::replace(&mut self.phase, Phase::Fresh) {
+            Phase::Asking(query, mut run) => match run.program.answers.put(query, answer) {
+                Ok(()) => Phase::Going(run),
+                Err(error) => {
+                    told = Err(error);
+                    Phase::Over {
+                        outcome: Err(MirEvalError::NoMemory),
+                        left: run.left,
+                    }
+                }
+            },
+            other => other,
         };
-        let turned = match &phase {
-            Phase::Over { outcome: Ok(_), .. } => Turned::Done,
-            _ => Turned::Fault,
-        };
-        self.phase = phase;
-        turned
+        told
     }
 
     /// How many blocks were entered.
@@ -184,19 +234,22 @@ impl<'a> Evaluator<'a> {
         match &self.phase {
             Phase::Fresh => 0,
             Phase::Going(run) => self.blocks.saturating_sub(run.left),
+            Phase::Asking(_, run) => self.blocks.saturating_sub(run.left),
             Phase::Over { left, .. } => self.blocks.saturating_sub(*left),
         }
     }
 
     /// How many levels of nesting are left: the limit, less the one that the run holds from its
-    /// beginning on, until it ended in a value. It takes no memory.
+    /// beginning on, until it ended in a value, and less one for each open call without a target. It takes no memory.
     pub fn nesting_left(&self) -> u32
         ensures { result ≡ nesting_left (machine_of self.now) }
     {
         match &self.phase {
             Phase::Fresh => self.nesting,
+            Phase::Going(run) => self.nesting.saturating_sub(run.levels),
+            Phase::Asking(_, run) => self.nesting.saturating_sub(run.levels),
             Phase::Over { outcome: Ok(_), .. } => self.nesting,
-            _ => self.nesting.saturating_sub(1),
+            Phase::Over { .. } => self.nesting.saturating_sub(1),
         }
     }
 
@@ -216,8 +269,7 @@ impl<'a> Evaluator<'a> {
         let Evaluator { alloc, phase, .. } = self;
         match phase {
             Phase::Over { outcome, left: _ } => (outcome, MirOutput::empty(alloc)),
-            Phase::Fresh => unreachable!(),
-            Phase::Going(_) => unreachable!(),
+            _ => unreachable!(),
         }
     }
 }

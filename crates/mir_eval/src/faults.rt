@@ -16,6 +16,14 @@ pub(crate) enum Fault {
     Undefined,
     NoTerminator,
     OutOfBlocks,
+    /// A call of something that is no function.
+    NoFunction,
+    /// The callee returned of a call that has no target.
+    Returned,
+    /// No level of nesting is left for a call without a target.
+    NoLevel,
+    TooManyArguments,
+    TooFewArguments,
 }
 
 /// The error that a fault is.
@@ -44,5 +52,22 @@ pub(crate) fn to_error(alloc: Global, fault: Fault) -> Result<MirEvalError, NoMe
             Ok(MirEvalError::NotSupported(text))
         }
         Fault::OutOfBlocks => Ok(MirEvalError::ExecutionLimitExceeded),
+        Fault::NoFunction => {
+            let text = Text::from_str(alloc, "form not built")?;
+            Ok(MirEvalError::NotSupported(text))
+        }
+        Fault::Returned => {
+            let text = Text::from_str(alloc, "Diverging function returned")?;
+            Ok(MirEvalError::UndefinedBehavior(text))
+        }
+        Fault::NoLevel => Ok(MirEvalError::StackOverflow),
+        Fault::TooManyArguments => {
+            let text = Text::from_str(alloc, "too many arguments")?;
+            Ok(MirEvalError::InternalError(text))
+        }
+        Fault::TooFewArguments => {
+            let text = Text::from_str(alloc, "too few arguments")?;
+            Ok(MirEvalError::InternalError(text))
+        }
     }
 }

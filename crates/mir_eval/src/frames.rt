@@ -1,11 +1,45 @@
-//! Bodies that run.
+//! Bodies that run, and callers that wait for them.
 
 use crate::cells::Cell;
-use mir::MirBody;
+use mir::{Answers, BasicBlockId, MirBody, TrailEntry};
+use std::rc::Rc;
+use world::HirDatabase;
 
-/// A body that runs, and where each of its locals lies.
+/// What a run goes by: its world, its limits, and what it was told.
+#[derive(Drop)]
+pub(crate) struct Program<'a> {
+    pub db: &'a HirDatabase,
+    /// How many levels of nesting it may take.
+    pub nesting: u32,
+    /// How many bytes cells may take.
+    pub bytes: u64,
+    pub answers: Answers,
+}
+
+/// A caller that waits for its callee.
+#[derive(Drop)]
+pub(crate) struct Suspended {
+    pub body: Rc<MirBody>,
+    /// One for each local of the body.
+    pub cells: Vec<Cell>,
+    /// The block to go on in; none where the callee must not return.
+    pub next: Option<BasicBlockId>,
+    /// The call, as a fault's trail names it.
+    pub call: TrailEntry,
+}
+
+/// A body that runs, what its run goes by, where each of its locals lies, and the callers that wait, the nearest last.
 #[derive(Clone, Copy)]
-pub(crate) struct StackFrame<'r> {
+pub(crate) struct StackFrame<'r, 'a> {
+    pub program: &'r Program<'a>,
     pub body: &'r MirBody,
     pub cells: &'r [Cell],
+    pub below: &'r [Suspended],
+}
+
+/// A point of a run: about to enter a block, or at the call that ends a block.
+#[derive(Clone, Copy, PartialEq, Eq, Debug)]
+pub(crate) enum Point {
+    Entry(BasicBlockId),
+    AtCall(BasicBlockId),
 }

@@ -1,7 +1,8 @@
-//! The machine: it runs a lowered body over one flat list of bytes, block by block, and gives the end
-//! that the meaning of the body's blocks has.
+//! The machine: it runs a lowered body, and the functions that this calls, over one flat list of bytes, block by block, and gives
+//! the end that the meaning of the blocks has. It stops where it needs a body that it wasn't told.
 #![tactic(auto)]
 
+mod calls;
 mod cells;
 mod evaluator;
 mod faults;

@@ -1,21 +1,65 @@
 //! What a run hands out at its end.
 
-ghost use Rattle.std.specs.Prelude.{◌≡◌, [], Err, IfOk};
+ghost use Rattle.std.specs.Prelude.{◌≡◌, ◌++◌, [], map, Err, IfOk, Some, option_and_then, slice_get};
+ghost use Rattle.std.specs.Option.{option_to_list};
 ghost use Rattle.mir.specs.declared.errors.MirEvalError as error;
-ghost use Rattle.mir_eval.specs.Machine.{on_a_level, value_of, outcome_of};
-ghost use Rattle.mir_eval.specs.Steps.{error_of, ending_of};
+ghost use Rattle.mir.specs.Memory.{bytes_at};
+ghost use Rattle.mir.specs.Run.{bad_read, returned};
+ghost use Rattle.mir_eval.specs.Frames.{callers};
+ghost use Rattle.mir_eval.specs.Machine.{on_a_level, value_of, wrapped, outcome_of};
+ghost use Rattle.mir_eval.specs.Steps.{interval_of, memory};
 
 use crate::cells::{Cell, cell_of, read};
 use crate::faults::{Fault, to_error};
-use mir::{LocalId, MirBody, MirEvalError};
+use crate::frames::Suspended;
+use mir::{LocalId, MirBody, MirEvalError, TrailEntry};
 use std::alloc::Global;
 use world::{Box, Bytes, Const, List, MemoryMap, NoMemory, TryClone, ValueConst};
 
-/// A fault, wrapped for the frame that it ended.
-fn faulted(alloc: Global, fault: Fault) -> Result<Result<Const, MirEvalError>, NoMemory>
-    ensures { IfOk result (λ r. r ≡ Err (error.InFunction (error_of fault) [])) }
+/// The calls that are open, the innermost first, behind one whose callee's body couldn't be got, if there is one.
+fn trail(
+    alloc: Global,
+    first: Option<TrailEntry>,
+    below: &[Suspended],
+) -> Result<List<TrailEntry>, NoMemory>
+    ensures { IfOk result (λ trail. trail ≡ option_to_list first ++ map (λ caller. caller.call) (callers below.now)) }
 {
-    let inner = to_error(alloc, fault)?;
+    let mut trail = List::new(alloc);
+    if let Some(entry) = first {
+        trail.push(entry)?;
+    }
+    let mut i = below.len();
+    while i > 0 {
+        i -= 1;
+        trail.push(below[i].call)?;
+    }
+    Ok(trail)
+}
+
+/// A fault, wrapped once with the calls that it passed through; want of memory is passed on.
+pub(crate) fn faulted(
+    alloc: Global,
+    error: MirEvalError,
+    first: Option<TrailEntry>,
+    below: &[Suspended],
+) -> Result<Result<Const, MirEvalError>, NoMemory>
+    ensures { IfOk result (λ r. r ≡ Err (wrapped error (option_to_list first ++ map (λ caller. caller.call) (callers below.now)))) }
+{
+    match error {
+        MirEvalError::NoMemory => Ok(Err(MirEvalError::NoMemory)),
+        other => {
+            let trail = trail(alloc, first, below)?;
+            let inner = Box::new(alloc, other)?;
+            Ok(Err(MirEvalError::InFunction(inner, trail)))
+        }
+    }
+}
+
+/// A read of a local that isn't there, in a run without callers.
+fn bad_slot(alloc: Global) -> Result<Result<Const, MirEvalError>, NoMemory>
+    ensures { IfOk result (λ r. r ≡ Err (error.InFunction bad_read [])) }
+{
+    let inner = to_error(alloc, Fault::BadRead)?;
     let inner = Box::new(alloc, inner)?;
     Ok(Err(MirEvalError::InFunction(inner, List::new(alloc))))
 }
@@ -32,7 +76,7 @@ fn copy_of(alloc: Global, bytes: &[u8]) -> Result<Bytes, NoMemory>
 }
 
 /// The value of a body whose return slot has these bytes, with `levels` levels of nesting left for it.
-fn returned(
+fn value(
     alloc: Global,
     body: &MirBody,
     bytes: &[u8],
@@ -54,30 +98,26 @@ fn returned(
             };
             Ok(Ok(Const::Value(value)))
         }
-        None => faulted(alloc, Fault::BadRead),
+        None => bad_slot(alloc),
     }
 }
 
-/// What a run hands out at its end, with `levels` levels of nesting left for its value.
+/// What a run hands out whose body returned that none called, with `levels` levels of nesting left for its value.
 #[tactic(auto, unfolding(crate::specs::Machine::outcome_of))]
-pub(crate) fn outcome(
+pub(crate) fn returned(
     alloc: Global,
     body: &MirBody,
     cells: &[Cell],
     stack: &[u8],
-    end: Result<(), Fault>,
     levels: u32,
 ) -> Result<Result<Const, MirEvalError>, NoMemory>
-    ensures { IfOk result (λ r. r ≡ outcome_of levels body.now (ending_of cells.now stack.now end)) }
+    ensures { IfOk result (λ r. outcome_of levels body.now (returned (option_and_then (bytes_at (memory stack.now)) (slice_get (map interval_of cells.now) 0))) ≡ Some r) }
 {
-    match end {
-        Ok(()) => match cell_of(cells, LocalId(0)) {
-            Some(cell) => match read(stack, cell) {
-                Some(bytes) => returned(alloc, body, bytes, levels),
-                None => faulted(alloc, Fault::BadRead),
-            },
-            None => faulted(alloc, Fault::BadRead),
+    match cell_of(cells, LocalId(0)) {
+        Some(cell) => match read(stack, cell) {
+            Some(bytes) => value(alloc, body, bytes, levels),
+            None => bad_slot(alloc),
         },
-        Err(fault) => faulted(alloc, fault),
+        None => bad_slot(alloc),
     }
 }

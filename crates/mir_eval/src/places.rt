@@ -1,31 +1,24 @@
 //! The cells of a body's locals, placed on the stack.
 
-ghost use Rattle.std.specs.Prelude.{◌≡◌, ◌⊎◌, ◌^◌, ◌<◌, ◌≤◌, true, codes, length, map, replicate, Some, Ok, Err, IfOk, IfErr, IfSome, IfNone};
+ghost use Rattle.std.specs.Prelude.{◌≡◌, ◌⊎◌, ◌^◌, ◌<◌, ◌≤◌, true, codes, length, map, Some, Ok, Err, IfOk, IfErr, IfSome, IfNone, OnOk};
 ghost use Rattle.world.specs.Lookups.{layout_of};
 ghost use Rattle.mir.specs.declared.errors.MirEvalError as error;
 ghost use Rattle.mir.specs.Errors.{layout_error_of};
-ghost use Rattle.mir.specs.Memory.{Memory, first_memory, aligned, with_cell, placed, cells_of};
+ghost use Rattle.mir.specs.Memory.{Memory, aligned, with_cell, placed, cells_of, within_bytes};
 ghost use Rattle.mir_eval.specs.Steps.{interval_of};
-ghost use Rattle.mir_eval.specs.Phases.{cells_and_memory};
-ghost use Rattle.mir_eval.specs.Room.{zeros, AddsCell, within_bytes};
+ghost use Rattle.mir_eval.specs.Room.{zeros, AddsCell, grown, with_before};
+ghost use Rattle.mir_eval.specs.Steps.{memory};
 
 use crate::cells::Cell;
 use mir::{Local, MirEvalError, layout_error_of};
 use std::alloc::Global;
 use world::{HirDatabase, Layout, NoMemory, Text, TryClone, Ty};
 
-/// The cells of locals, and the stack with all of them.
-#[derive(Drop)]
-pub(crate) struct Placed {
-    pub cells: Vec<Cell>,
-    pub stack: Vec<u8>,
-}
-
 /// The cells of locals, and the length of the stack with all of them.
 #[derive(Drop)]
-struct Room {
-    cells: Vec<Cell>,
-    end: u64,
+pub(crate) struct Room {
+    pub cells: Vec<Cell>,
+    pub end: u64,
 }
 
 /// A cell, and the length of the stack with it.
@@ -136,21 +129,34 @@ fn sized_layout<'w>(alloc: Global, db: &'w HirDatabase, ty: &Ty) -> Result<&'w L
     Ok(layout)
 }
 
-/// Where the cells of locals lie, each behind the one before. A local whose type has no layout or no size
-/// is refused before a stack that would pass the limit on bytes, wherever it stands. No stack is taken.
-fn lay_out(
+/// The length of a stack, where it has at most `most` bytes.
+fn end_within(stack: &[u8], most: u64) -> Option<u64>
+    ensures some { IfSome result (λ end. (end ≡ length stack.now) × (end ≤ most)) }
+    ensures none { IfNone result (most < length stack.now) }
+{
+    let end = stack.len() as u64;
+    if end <= most { Some(end) } else { None }
+}
+
+/// Where the cells of locals lie, each behind the one before and the first behind a stack; `before` are cells that stand before
+/// them. A local whose type has no layout or no size is refused before a stack that would pass the limit on bytes, wherever
+/// it stands. The stack stays as it is.
+pub(crate) fn lay_out(
     alloc: Global,
     db: &HirDatabase,
+    before: Vec<Cell>,
     locals: &[Local],
+    stack: &[u8],
     bytes: u64,
 ) -> Result<Room, MirEvalError>
     requires { bytes ≤ 2 ^ 59 }
-    ensures ok { IfOk result (λ room. within_bytes bytes (cells_of db.now locals.now first_memory) ≡ Ok (map interval_of room.cells.items, zeros room.end)) }
-    ensures err { IfErr result (λ e. (e ≡ error.NoMemory) ⊎ (within_bytes bytes (cells_of db.now locals.now first_memory) ≡ Err e)) }
+    ensures ok { IfOk result (λ room. within_bytes bytes (with_before (map interval_of before.items) (cells_of db.now locals.now (memory stack.now))) ≡ Ok (map interval_of room.cells.items, memory (grown stack.now room.end))) }
+    ensures long { IfOk result (λ room. length stack.now ≤ room.end) }
+    ensures err { IfErr result (λ e. (e ≡ error.NoMemory) ⊎ (within_bytes bytes (with_before (map interval_of before.items) (cells_of db.now locals.now (memory stack.now))) ≡ Err e)) }
 {
     let most = bytes + 1;
-    let mut cells = Vec::new(alloc);
-    let mut end = Some(1);
+    let mut cells = before;
+    let mut end = end_within(stack, most);
     for local in locals {
         let layout = match sized_layout(alloc, db, &local.ty) {
             Ok(layout) => layout,
@@ -167,36 +173,11 @@ fn lay_out(
     }
 }
 
-/// A stack of this length, of zeros.
-fn zeroed(alloc: Global, end: u64) -> Result<Vec<u8>, NoMemory>
-    ensures { IfOk result (λ stack. stack.items ≡ replicate end 0) }
+/// Makes a stack longer, by zeros.
+pub(crate) fn grow(stack: &mut Vec<u8>, end: u64) -> Result<(), NoMemory>
+    requires { length stack.old.items ≤ end }
+    ensures { OnOk result (stack.new.items ≡ grown stack.old.items end) }
 {
-    let mut stack = Vec::new(alloc);
     stack.resize(end as usize, 0)?;
-    Ok(stack)
-}
-
-/// One cell for each local in order, and the stack with all of them, where that takes no more bytes than
-/// the limit.
-pub(crate) fn place_all(
-    alloc: Global,
-    db: &HirDatabase,
-    locals: &[Local],
-    bytes: u64,
-) -> Result<Placed, MirEvalError>
-    requires { bytes ≤ 2 ^ 59 }
-    ensures ok { IfOk result (λ all. within_bytes bytes (cells_of db.now locals.now first_memory) ≡ Ok (cells_and_memory all)) }
-    ensures err { IfErr result (λ e. (e ≡ error.NoMemory) ⊎ (within_bytes bytes (cells_of db.now locals.now first_memory) ≡ Err e)) }
-{
-    let room = match lay_out(alloc, db, locals, bytes) {
-        Ok(room) => room,
-        Err(e) => return Err(e),
-    };
-    match zeroed(alloc, room.end) {
-        Ok(stack) => Ok(Placed {
-            cells: room.cells,
-            stack,
-        }),
-        Err(_) => Err(MirEvalError::NoMemory),
-    }
+    Ok(())
 }

@@ -1,142 +1,539 @@
 //! A run that has begun, and the phases of an evaluator.
 
-ghost use Rattle.std.specs.Prelude.{◌≡◌, ◌⊎◌, ◌^◌, ◌≤◌, Err, IfOk, IfErr, IfSome, IfNone};
+ghost use Rattle.std.specs.Prelude.{true, ◌≡◌, ◌⊎◌, ◌+◌, ◌^◌, ◌<◌, ◌≤◌, ◌∷◌, ◌++◌, Err, Ok, Some, None, IfOk, IfErr, IsSome, OnOk, map, option_map, slice_get};
+ghost use Rattle.mir.specs.Run.{callee_error, levels_over};
+ghost use Rattle.mir_eval.specs.Frames.{callers, stands_at};
 
-use crate::cells::Cell;
-use crate::faults::Fault;
-use crate::frames::StackFrame;
-use crate::outcomes::outcome;
-use crate::places::place_all;
-use crate::steps::{Exit, enter, enter_all};
-use mir::{BasicBlockId, MirBody, MirEvalError};
+use crate::calls::{Call, Function, call_at, callee, callee_room, fill};
+use crate::cells::{Cell, cell_of};
+use crate::faults::{Fault, to_error};
+use crate::frames::{Point, Program, StackFrame, Suspended};
+use crate::outcomes::{faulted, returned};
+use crate::places::{grow, lay_out};
+use crate::steps::{Exit, Halt, Stop, enter, enter_all};
+use either::Either;
+use mir::{Answer, BasicBlockId, ConstEvalError, MirBody, MirEvalError, Query, TrailEntry};
 use std::alloc::Global;
+use std::mem;
 use std::rc::Rc;
-use world::{Const, HirDatabase};
+use world::{Const, DefWithBodyId, FunctionId, NoMemory, TryClone};
 
 /// A run that has begun and isn't over.
 #[derive(Drop)]
-pub(crate) struct Run {
+pub(crate) struct Run<'a> {
+    pub program: Program<'a>,
     pub body: Rc<MirBody>,
     /// One for each local of the body.
     pub cells: Vec<Cell>,
+    /// The callers that wait, the nearest last.
+    pub below: Vec<Suspended>,
+    /// How many levels of nesting the run holds.
+    pub levels: u32,
     pub stack: Vec<u8>,
-    /// The block to be entered next.
-    pub block: BasicBlockId,
+    pub point: Point,
     /// How many blocks may still be entered.
     pub left: u64,
+    ghost nested: { levels ≡ levels_over (callers below.items) },
+    ghost few_bytes: { program.bytes ≤ 2 ^ 59 },
+    ghost stands: { stands_at body.value point ≡ true },
 }
 
 /// Where an evaluator is in its one run.
 #[derive(Drop)]
-pub(crate) enum Phase {
+pub(crate) enum Phase<'a> {
     Fresh,
-    Going(Run),
+    Going(Run<'a>),
+    /// The run waits for the answer to the query.
+    Asking(Query, Run<'a>),
     Over {
         outcome: Result<Const, MirEvalError>,
         left: u64,
     },
 }
 
-impl Run {
-    ghost use Rattle.mir.specs.declared.errors.MirEvalError as error;
-    ghost use Rattle.mir.specs.Run.{begun};
-    ghost use Rattle.mir_eval.specs.Machine.{Over, outcome_of, stepped, finished};
-    ghost use Rattle.mir_eval.specs.Steps.{ending_of};
-    ghost use Rattle.mir_eval.specs.Room.{within_bytes};
-    ghost use Rattle.mir_eval.specs.Start.{started};
-    ghost use Rattle.mir_eval.specs.Phases.{going, Reached};
+/// Where a run went: to a block, to a query at the call that ends a block, or to its end.
+#[derive(Drop)]
+pub(crate) enum Went {
+    On(BasicBlockId),
+    Asks(Query, BasicBlockId),
+    Over(Result<Const, MirEvalError>),
+}
 
-    /// The run of a body under limits on blocks and on bytes, before its first block.
-    #[tactic(auto, unfolding(mir::specs::Run::begun), using(crate::proofs::Laying::begun_within))]
+impl<'a> Run<'a> {
+    ghost use Rattle.mir.specs.declared.errors.MirEvalError as error;
+    ghost use Rattle.mir.specs.Memory.{within_bytes};
+    ghost use Rattle.mir.specs.Run.{after_return, begun, called, called_by, callee_error, body_query, calls, going_on, next_from, entered, entry_of, entering, faults, terminated, trail_of, Stops, GoesTo, Faulted};
+    ghost use Rattle.mir.specs.Answers.{answer_to};
+    ghost use Rattle.mir_eval.specs.Calls.{call_is, called_frame, function_is};
+    ghost use Rattle.mir_eval.specs.Frames.{program_of};
+    ghost use Rattle.std.specs.Option.{option_to_list};
+    ghost use Rattle.mir_eval.specs.Machine.{Entry, Going, RunsTo, StepsTo, call_at, terminator_at};
+    ghost use Rattle.mir_eval.specs.Steps.{error_of, halt_of, next_of, interval_of, HaltsAtCall};
+    ghost use Rattle.mir_eval.specs.declared.steps.Exit.TheVariants.{Calls};
+    ghost use Rattle.mir_eval.specs.Start.{started};
+    ghost use Rattle.mir_eval.specs.Phases.{AsksAtCall, Continues, HasStopped, IsInRun, Leads, to_go, frame_in, memory_in, position_at, position_of, state_of, state_after};
+
+    /// The run of a body, before its first block, within a limit on blocks.
+    #[tactic(auto, unfolding(mir::specs::Run::begun))]
     pub(crate) fn start(
         alloc: Global,
-        db: &HirDatabase,
+        program: Program<'a>,
         body: Rc<MirBody>,
         blocks: u64,
-        bytes: u64,
-    ) -> Result<Run, MirEvalError>
-        requires { bytes ≤ 2 ^ 59 }
-        ensures ok { IfOk result (λ run. started (within_bytes bytes (begun db.now body.value)) body.value.start_block.0 blocks ≡ Ok (going run)) }
-        ensures err { IfErr result (λ e. (e ≡ error.NoMemory) ⊎ (within_bytes bytes (begun db.now body.value) ≡ Err e)) }
+    ) -> Result<Run<'a>, MirEvalError>
+        requires { program.bytes ≤ 2 ^ 59 }
+        ensures ok { IfOk result (λ run. started body.value.param_locals (within_bytes program.entry.bytes (begun (program_of program.entry) body.value)) body.value.start_block.0 blocks ≡ Ok (Going (position_of run))) }
+        ensures err { IfErr result (λ e. (e ≡ error.NoMemory) ⊎ (started body.value.param_locals (within_bytes program.entry.bytes (begun (program_of program.entry) body.value)) body.value.start_block.0 blocks ≡ Err e)) }
     {
-        match place_all(alloc, db, body.locals.as_slice(), bytes) {
-            Ok(placed) => {
-                let block = body.start_block;
-                Ok(Run {
-                    body,
-                    cells: placed.cells,
-                    stack: placed.stack,
-                    block,
-                    left: blocks,
-                })
-            }
-            Err(e) => Err(e),
+        let mut stack = Vec::new(alloc);
+        if stack.push(0).is_err() {
+            return Err(MirEvalError::NoMemory);
         }
+        let room = lay_out(
+            alloc,
+            program.db,
+            Vec::new(alloc),
+            body.locals.as_slice(),
+            stack.as_slice(),
+            program.bytes,
+        )?;
+        if !body.param_locals.as_slice().is_empty() {
+            return Err(match to_error(alloc, Fault::TooFewArguments) {
+                Ok(error) => error,
+                Err(_) => MirEvalError::NoMemory,
+            });
+        }
+        if grow(&mut stack, room.end).is_err() {
+            return Err(MirEvalError::NoMemory);
+        }
+        let block = body.start_block;
+        Ok(Run {
+            program,
+            body,
+            cells: room.cells,
+            below: Vec::new(alloc),
+            levels: 1,
+            stack,
+            point: Point::Entry(block),
+            left: blocks,
+        })
     }
 
-    /// The run, over, with `levels` levels of nesting left for its value.
-    fn over(&self, alloc: Global, levels: u32, end: Result<(), Fault>, left: u64) -> Phase
-        ensures { Reached result (Over (outcome_of levels self.now.body.value (ending_of self.now.cells.items self.now.stack.items end)) left) }
+    /// The phase of a run that went somewhere.
+    pub(crate) fn into_phase(self, went: Went) -> Phase<'a>
+        requires { AsksAtCall self went }
+        ensures { state_of result ≡ state_after self.entry went }
     {
-        match outcome(
-            alloc,
-            self.body.as_ref(),
-            self.cells.as_slice(),
-            self.stack.as_slice(),
-            end,
-            levels,
-        ) {
-            Ok(outcome) => Phase::Over { outcome, left },
-            Err(_) => Phase::Over {
-                outcome: Err(MirEvalError::NoMemory),
-                left,
+        let mut run = self;
+        match went {
+            Went::On(block) => {
+                run.point = Point::Entry(block);
+                Phase::Going(run)
+            }
+            Went::Asks(query, block) => {
+                run.point = Point::AtCall(block);
+                Phase::Asking(query, run)
+            }
+            Went::Over(outcome) => Phase::Over {
+                outcome,
+                left: run.left,
             },
         }
     }
 
-    /// Runs one block, and is over where that ends the run. `levels` levels of nesting are left for its
-    /// value.
-    #[tactic(auto, unfolding(crate::specs::Machine::stepped, mir::specs::Run::after_return))]
-    pub(crate) fn step(&mut self, alloc: Global, levels: u32) -> Option<Phase>
-        ensures on { IfNone result (going self.new ≡ stepped levels (going self.old)) }
-        ensures over { IfSome result (λ phase. Reached phase (stepped levels (going self.old))) }
+    /// The end of a run in an error, which passed through the open calls, behind one whose callee's body couldn't be got, if there is one.
+    fn over(&self, alloc: Global, error: MirEvalError, first: Option<TrailEntry>) -> Went
+        ensures asks { AsksAtCall self.now result }
+        ensures leads { Leads (frame_in self.now) (Stops (Faulted error (option_to_list first ++ trail_of (frame_in self.now)))) self.now result }
     {
-        if self.left == 0 {
-            return Some(self.over(alloc, levels, Err(Fault::OutOfBlocks), 0));
+        match faulted(alloc, error, first, self.below.as_slice()) {
+            Ok(outcome) => Went::Over(outcome),
+            Err(_) => Went::Over(Err(MirEvalError::NoMemory)),
         }
-        let left = self.left - 1;
-        match enter(
+    }
+
+    /// The end of a run in a fault.
+    fn fault(&self, alloc: Global, fault: Fault) -> Went
+        ensures asks { AsksAtCall self.now result }
+        ensures leads { Leads (frame_in self.now) (faults (frame_in self.now) (error_of fault)) self.now result }
+    {
+        match to_error(alloc, fault) {
+            Ok(error) => self.over(alloc, error, None),
+            Err(_) => Went::Over(Err(MirEvalError::NoMemory)),
+        }
+    }
+
+    /// Gives control back to the nearest caller; one whose callee must not return faults. Where none waits, the run is over,
+    /// and the return slot has its value.
+    #[tactic(auto, unfolding(mir::specs::Run::after_return, mir::specs::Run::resumed, mir::specs::Run::first_body))]
+    fn give_back(&mut self, alloc: Global) -> Went
+        ensures leads { Leads (frame_in self.old) (after_return (frame_in self.old) (memory_in self.old)) self.new result }
+        ensures same { self.new.left ≡ self.old.left }
+        ensures run { IsInRun (frame_in self.old) self.new result }
+        ensures asks { AsksAtCall self.new result }
+    {
+        match self.below.pop() {
+            None => {
+                let levels = self.program.nesting.saturating_sub(1);
+                match returned(
+                    alloc,
+                    self.body.as_ref(),
+                    self.cells.as_slice(),
+                    self.stack.as_slice(),
+                    levels,
+                ) {
+                    Ok(outcome) => Went::Over(outcome),
+                    Err(_) => Went::Over(Err(MirEvalError::NoMemory)),
+                }
+            }
+            Some(caller) => {
+                let Suspended {
+                    body,
+                    cells,
+                    next,
+                    ..
+                } = caller;
+                self.point = Point::Entry(body.start_block);
+                self.body = body;
+                self.cells = cells;
+                match next {
+                    Some(block) => Went::On(block),
+                    None => {
+                        self.levels -= 1;
+                        self.fault(alloc, Fault::Returned)
+                    }
+                }
+            }
+        }
+    }
+
+    /// Enters the body of a function, whose return slot is the destination, where there is one.
+    #[tactic(auto, unfolding(mir::specs::Run::entered))]
+    fn enter_body(
+        &mut self,
+        alloc: Global,
+        call: Call<'_>,
+        id: FunctionId,
+        body: Rc<MirBody>,
+        destination: Option<Cell>,
+    ) -> Went
+        requires { call.target ≡ None → self.old.levels < self.old.program.nesting }
+        ensures leads { Leads (frame_in self.old) (entered (frame_in self.old) (memory_in self.old) (call_is call.entry) id body.value (option_map interval_of destination)) self.new result }
+        ensures same { self.new.left ≡ self.old.left }
+        ensures run { IsInRun (frame_in self.old) self.new result }
+        ensures asks { AsksAtCall self.new result }
+    {
+        let room = match callee_room(
+            alloc,
+            &self.program,
+            body.as_ref(),
+            destination,
+            self.stack.as_slice(),
+        ) {
+            Ok(room) => room,
+            Err(MirEvalError::NoMemory) => return Went::Over(Err(MirEvalError::NoMemory)),
+            Err(error) => return self.over(alloc, error, None),
+        };
+        if grow(&mut self.stack, room.end).is_err() {
+            return Went::Over(Err(MirEvalError::NoMemory));
+        }
+        let filled = fill(
             StackFrame {
+                program: &self.program,
                 body: self.body.as_ref(),
                 cells: self.cells.as_slice(),
+                below: self.below.as_slice(),
             },
             self.stack.as_mut_slice(),
-            self.block,
-        ) {
-            Ok(Exit::GoesTo(target)) => {
-                self.block = target;
-                self.left = left;
-                None
-            }
-            Ok(Exit::Returns) => Some(self.over(alloc, levels, Ok(()), left)),
-            Err(fault) => Some(self.over(alloc, levels, Err(fault), left)),
+            room.cells.as_slice(),
+            body.param_locals.as_slice(),
+            call.args,
+        );
+        match filled {
+            Ok(()) => self.suspend(call, id, body, room.cells),
+            Err(fault) => self.fault(alloc, fault),
         }
     }
 
-    /// Runs to the end, with `levels` levels of nesting left for its value.
-    #[tactic(auto, unfolding(crate::specs::Machine::finished))]
-    pub(crate) fn finish(&mut self, alloc: Global, levels: u32) -> Phase
-        ensures { Reached result (finished levels (going self.old)) }
+    /// Suspends the body that runs, and goes to the first block of its callee.
+    #[tactic(auto, unfolding(mir::specs::Run::first_body))]
+    fn suspend(
+        &mut self,
+        call: Call<'_>,
+        id: FunctionId,
+        body: Rc<MirBody>,
+        cells: Vec<Cell>,
+    ) -> Went
+        requires { call.target ≡ None → self.old.levels < self.old.program.nesting }
+        ensures leads { Leads (frame_in self.old) (GoesTo (called_frame (frame_in self.old) (call_is call.entry) id body.value (map interval_of cells.items)) (memory_in self.old) body.value.start_block.0) self.new result }
+        ensures same { self.new.left ≡ self.old.left }
+        ensures run { IsInRun (frame_in self.old) self.new result }
+        ensures asks { AsksAtCall self.new result }
+    {
+        let entry = TrailEntry {
+            callee: Either::Left(id),
+            span: call.span,
+            caller: self.body.owner,
+        };
+        let block = body.start_block;
+        self.point = Point::Entry(block);
+        let levels = match call.target {
+            Some(_) => self.levels,
+            None => one_level_more(self.levels, self.program.nesting),
+        };
+        let caller = Suspended {
+            body: mem::replace(&mut self.body, body),
+            cells: mem::replace(&mut self.cells, cells),
+            next: call.target,
+            call: entry,
+        };
+        if self.below.push(caller).is_err() {
+            return Went::Over(Err(MirEvalError::NoMemory));
+        }
+        self.levels = levels;
+        Went::On(block)
+    }
+
+    /// Calls a function whose body is at hand.
+    #[tactic(auto, unfolding(mir::specs::Run::called))]
+    fn enter_function(
+        &mut self,
+        alloc: Global,
+        call: Call<'_>,
+        id: FunctionId,
+        body: Rc<MirBody>,
+    ) -> Went
+        ensures leads { Leads (frame_in self.old) (called (frame_in self.old) (memory_in self.old) (call_is call.entry) id body.value) self.new result }
+        ensures same { self.new.left ≡ self.old.left }
+        ensures run { IsInRun (frame_in self.old) self.new result }
+        ensures asks { AsksAtCall self.new result }
+    {
+        match call.target {
+            Some(_) => match cell_of(self.cells.as_slice(), call.destination.local) {
+                Some(cell) => self.enter_body(alloc, call, id, body, Some(cell)),
+                None => self.fault(alloc, Fault::BadWrite),
+            },
+            None => {
+                if self.levels < self.program.nesting {
+                    self.enter_body(alloc, call, id, body, None)
+                } else {
+                    self.fault(alloc, Fault::NoLevel)
+                }
+            }
+        }
+    }
+
+    /// Ends a run at a call of a function whose body could not be got.
+    fn refuse(&self, alloc: Global, call: Call<'_>, id: FunctionId, error: &ConstEvalError) -> Went
+        ensures asks { AsksAtCall self.now result }
+        ensures leads { Leads (frame_in self.now) (Stops (Faulted (callee_error id error.now) (entry_of (frame_in self.now) (call_is call.entry) id ∷ trail_of (frame_in self.now)))) self.now result }
+    {
+        let entry = TrailEntry {
+            callee: Either::Left(id),
+            span: call.span,
+            caller: self.body.owner,
+        };
+        match callee_error(alloc, id, error) {
+            Ok(error) => self.over(alloc, error, Some(entry)),
+            Err(_) => Went::Over(Err(MirEvalError::NoMemory)),
+        }
+    }
+
+    /// Calls a function whose body the run was told, or asks for it.
+    #[tactic(auto, unfolding(mir::specs::Run::called_by))]
+    fn call_function(
+        &mut self,
+        alloc: Global,
+        call: Call<'_>,
+        function: Function<'_>,
+        block: BasicBlockId,
+    ) -> Went
+        requires { call_at self.old.body.value block.0 ≡ Some (call_is call) }
+        ensures leads { Leads (frame_in self.old) (called_by (frame_in self.old) (memory_in self.old) (call_is call.entry) (function_is function.entry) (answer_to self.old.program.answers (body_query (function_is function.entry)))) self.new result }
+        ensures same { self.new.left ≡ self.old.left }
+        ensures run { IsInRun (frame_in self.old) self.new result }
+        ensures asks { AsksAtCall self.new result }
+    {
+        let Ok(args) = function.args.try_clone(alloc) else {
+            return Went::Over(Err(MirEvalError::NoMemory));
+        };
+        let query = Query::Body(DefWithBodyId::FunctionId(function.id), args);
+        match self.program.answers.get(&query) {
+            Some(Answer::Body(body)) => match Rc::clone(body) {
+                Ok(body) => self.enter_function(alloc, call, function.id, body),
+                Err(_) => Went::Over(Err(MirEvalError::NoMemory)),
+            },
+            Some(Answer::Failed(error)) => self.refuse(alloc, call, function.id, error),
+            _ => Went::Asks(query, block),
+        }
+    }
+
+    /// Does the call that ends a block.
+    #[tactic(auto, unfolding(mir::specs::Run::calls, mir::specs::Run::terminated))]
+    fn call(&mut self, alloc: Global, block: BasicBlockId) -> Went
+        requires { IsSome (call_at self.old.body.value block.0) }
+        ensures leads { Leads (frame_in self.old) (terminated (frame_in self.old) (memory_in self.old) (terminator_at self.old.body.value block.0)) self.new result }
+        ensures same { self.new.left ≡ self.old.left }
+        ensures run { IsInRun (frame_in self.old) self.new result }
+        ensures asks { AsksAtCall self.new result }
+    {
+        let Ok(body) = Rc::clone(&self.body) else {
+            return Went::Over(Err(MirEvalError::NoMemory));
+        };
+        let Some(call) = call_at(body.as_ref(), block) else {
+            unreachable!()
+        };
+        match callee(body.as_ref(), &call.func.kind) {
+            Some(function) => self.call_function(alloc, call, function, block),
+            None => self.fault(alloc, Fault::NoFunction),
+        }
+    }
+
+    /// Goes on where the blocks of a frame led.
+    fn go_on(&mut self, alloc: Global, block: BasicBlockId, end: Result<Halt, Fault>) -> Went
+        requires { HaltsAtCall self.old.body.value block.0 end }
+        ensures leads { Leads (frame_in self.old) (halt_of (frame_in self.old) self.old.stack.items (terminator_at self.old.body.value block.0) end) self.new result }
+        ensures same { self.new.left ≡ self.old.left }
+        ensures run { IsInRun (frame_in self.old) self.new result }
+        ensures asks { AsksAtCall self.new result }
+    {
+        match end {
+            Ok(Halt::Returns) => self.give_back(alloc),
+            Ok(Halt::Calls) => self.call(alloc, block),
+            Err(fault) => self.fault(alloc, fault),
+        }
+    }
+
+    /// Runs blocks of the frame, until the body returns, calls or faults.
+    fn run_blocks(&mut self, block: BasicBlockId) -> Stop
+        ensures run { going_on result.left (halt_of (frame_in self.old) self.new.stack.items (terminator_at self.old.body.value result.block.0) result.end) ≡ entering self.old.left (frame_in self.old) (memory_in self.old) block.0 }
+        ensures frame { frame_in self.new ≡ frame_in self.old }
+        ensures left { self.new.left ≡ result.left }
+        ensures call { HaltsAtCall self.new.body.value result.block.0 result.end }
+        ensures fewer { OnOk result.end (self.new.left < self.old.left) }
+        ensures within { self.new.left ≤ self.old.left }
     {
         let stop = enter_all(
             StackFrame {
+                program: &self.program,
                 body: self.body.as_ref(),
                 cells: self.cells.as_slice(),
+                below: self.below.as_slice(),
             },
             self.stack.as_mut_slice(),
-            self.block,
+            block,
             self.left,
         );
-        self.over(alloc, levels, stop.end, stop.left)
+        self.left = stop.left;
+        stop
+    }
+
+    /// Runs one block of the frame.
+    fn run_block(&mut self, block: BasicBlockId) -> Result<Exit, Fault>
+        ensures next { next_of (frame_in self.old) self.new.stack.items (terminator_at self.old.body.value block.0) result ≡ next_from (frame_in self.old) (memory_in self.old) (slice_get self.old.body.value.basic_blocks block.0) 0 }
+        ensures frame { frame_in self.new ≡ frame_in self.old }
+        ensures left { self.new.left ≡ self.old.left }
+        ensures call { result ≡ Ok Calls → IsSome (call_at self.new.body.value block.0) }
+    {
+        enter(
+            StackFrame {
+                program: &self.program,
+                body: self.body.as_ref(),
+                cells: self.cells.as_slice(),
+                below: self.below.as_slice(),
+            },
+            self.stack.as_mut_slice(),
+            block,
+        )
+    }
+
+    /// Runs blocks until a body returns, calls or faults, and goes on from there.
+    fn run_frame(&mut self, alloc: Global, block: BasicBlockId) -> Went
+        ensures went { Continues (position_at self.old (Entry block.0)) self.new result }
+        ensures fewer { to_go self.new.left result ≤ self.old.left }
+        ensures asks { AsksAtCall self.new result }
+    {
+        let stop = self.run_blocks(block);
+        self.go_on(alloc, stop.block, stop.end)
+    }
+
+    /// Begins where the run stands: at the entry of a block, or by the call at which it waited.
+    fn resume(&mut self, alloc: Global) -> Went
+        ensures went { Continues (position_of self.old) self.new result }
+        ensures asks { AsksAtCall self.new result }
+    {
+        match self.point {
+            Point::Entry(block) => Went::On(block),
+            Point::AtCall(block) => self.call(alloc, block),
+        }
+    }
+
+    /// Runs frame after frame, to the end or to a query.
+    fn run_frames(&mut self, alloc: Global) -> Went
+        ensures went { Continues (position_of self.old) self.new result }
+        ensures stopped { HasStopped result }
+        ensures asks { AsksAtCall self.new result }
+    {
+        let mut went = self.resume(alloc);
+        while let Went::On(block) = went {
+            went = self.run_frame(alloc, block);
+        }
+        went
+    }
+
+    /// Runs to the end, or to a query.
+    pub(crate) fn finish(&mut self, alloc: Global) -> Went
+        ensures went { RunsTo (position_of self.old) (state_after self.new result) }
+        ensures stopped { HasStopped result }
+        ensures asks { AsksAtCall self.new result }
+    {
+        self.run_frames(alloc)
+    }
+
+    /// Runs one block, or the call at which the run waited.
+    #[tactic(auto, unfolding(mir::specs::Run::next_from))]
+    pub(crate) fn step(&mut self, alloc: Global) -> Went
+        ensures went { StepsTo (position_of self.old) (state_after self.new result) }
+        ensures asks { AsksAtCall self.new result }
+    {
+        let block = match self.point {
+            Point::Entry(block) => block,
+            Point::AtCall(block) => return self.call(alloc, block),
+        };
+        if self.left == 0 {
+            return self.fault(alloc, Fault::OutOfBlocks);
+        }
+        self.left -= 1;
+        match self.run_block(block) {
+            Ok(Exit::GoesTo(target)) => Went::On(target),
+            Ok(Exit::Returns) => self.go_on(alloc, block, Ok(Halt::Returns)),
+            Ok(Exit::Calls) => self.go_on(alloc, block, Ok(Halt::Calls)),
+            Err(fault) => self.go_on(alloc, block, Err(fault)),
+        }
+    }
+}
+
+/// One level of nesting more, where that is within the limit.
+fn one_level_more(levels: u32, most: u32) -> u32
+    requires { levels < most }
+    ensures { result ≡ levels + 1 }
+{
+    levels + 1
+}
+
+/// The error of a call whose callee's body can't be got.
+fn callee_error(
+    alloc: Global,
+    id: FunctionId,
+    error: &ConstEvalError,
+) -> Result<MirEvalError, NoMemory>
+    ensures { IfOk result (λ e. e ≡ callee_error id error.now) }
+{
+    match error {
+        ConstEvalError::MirLowerError(error) => {
+            Ok(MirEvalError::MirLowerError(id, error.try_clone(alloc)?))
+        }
+        ConstEvalError::MirEvalError(error) => error.try_clone(alloc),
+        ConstEvalError::NoMemory => Ok(MirEvalError::NoMemory),
     }
 }

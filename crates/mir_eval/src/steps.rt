@@ -1,12 +1,14 @@
-//! The steps of a run: operands, assignments, statements, blocks, and the run itself.
+//! The steps of a run: operands, assignments, statements, and the blocks of one frame.
 
-ghost use Rattle.std.specs.Prelude.{◌≡◌, ◌≤◌, IsTrue, IfOk, IfSome, Ok, Some, slice_get, option_and_then, option_copied};
+ghost use Rattle.std.specs.Prelude.{◌≡◌, ◌≢◌, ◌<◌, ◌≤◌, IsTrue, IfOk, IfSome, IsSome, OnOk, Ok, Some, slice_get, option_and_then, option_copied};
 ghost use Rattle.numbers.specs.Operators.{kind_of};
-ghost use Rattle.mir.specs.Run.{constant_bytes, copied, read, answered, operated, computed_of, operated_on, rvalue_bytes, operand_bytes, operand_type, after_statement, after_statements, switched, terminated, next_from, entering};
+ghost use Rattle.mir.specs.Run.{constant_bytes, copied, read, answered, operated, computed_of, operated_on, rvalue_bytes, operand_bytes, operand_type, after_statement, after_statements, switched, terminated, next_from, entering, going_on};
+ghost use Rattle.mir_eval.specs.Machine.{call_at, call_of, terminator_at};
+ghost use Rattle.mir_eval.specs.declared.steps.Exit.TheVariants.{Calls};
 ghost use Rattle.numbers.specs.Computed.{answer_of, count_of};
 ghost use Rattle.mir_ops.specs.Made.{made_bytes};
 ghost use Rattle.mir_eval.specs.Frames.{frame_of};
-ghost use Rattle.mir_eval.specs.Steps.{interval_of, operated_bytes, memory, left_with, next_of, ended_of};
+ghost use Rattle.mir_eval.specs.Steps.{interval_of, operated_bytes, memory, left_with, next_of, halt_of, HaltsAtCall};
 
 use crate::cells::{Cell, cell_of, copy, read, write};
 use crate::faults::Fault;
@@ -20,18 +22,28 @@ use mir_ops::{Made, byte_of, bytes1, bytes2, bytes4, bytes8, bytes16, made_of};
 use numbers::{Computed, Kind, compute, invert, negate};
 use world::{Const, Ty};
 
-/// Where a block leads that doesn't fault.
+/// Where a block leads that doesn't fault: out of the body, to another block of it, or to a call, which its terminator is.
 #[derive(Clone, Copy, PartialEq, Eq, Debug)]
 pub(crate) enum Exit {
     Returns,
     GoesTo(BasicBlockId),
+    Calls,
 }
 
-/// How a run ended.
+/// Why the blocks of a frame go no further: the body returns, or the last block calls.
+#[derive(Clone, Copy, PartialEq, Eq, Debug)]
+pub(crate) enum Halt {
+    Returns,
+    Calls,
+}
+
+/// Where the blocks of a frame led.
 #[derive(Clone, Copy, PartialEq, Eq, Debug)]
 pub(crate) struct Stop {
-    pub end: Result<(), Fault>,
-    /// How many blocks could still have been entered.
+    pub end: Result<Halt, Fault>,
+    /// The last block.
+    pub block: BasicBlockId,
+    /// How many blocks may still be entered.
     pub left: u64,
 }
 
@@ -47,7 +59,11 @@ fn constant_bytes(konst: &Const) -> Option<&[u8]>
 
 /// The bytes that an operand has now.
 #[tactic(auto, unfolding(mir::specs::Run::operand_bytes))]
-fn operand<'r>(frame: StackFrame<'_>, stack: &'r [u8], kind: &'r OperandKind) -> Option<&'r [u8]>
+fn operand<'r>(
+    frame: StackFrame<'_, '_>,
+    stack: &'r [u8],
+    kind: &'r OperandKind,
+) -> Option<&'r [u8]>
     ensures { option_copied result ≡ operand_bytes (frame_of frame.entry) (memory stack.now) kind.now }
 {
     match kind {
@@ -91,8 +107,8 @@ fn operand_kind(body: &MirBody, kind: &OperandKind) -> Option<Kind>
 
 /// Copies the bytes of an operand to a cell.
 #[tactic(auto, unfolding(mir::specs::Run::operand_bytes, mir::specs::Run::copied))]
-fn assign_operand(
-    frame: StackFrame<'_>,
+pub(crate) fn assign_operand(
+    frame: StackFrame<'_, '_>,
     stack: &mut [u8],
     to: Cell,
     kind: &OperandKind,
@@ -128,7 +144,7 @@ fn answered(computed: Computed) -> Result<([u8; 16], u8), Fault>
 /// The bytes that an operator makes of two operands.
 #[tactic(auto, unfolding(mir::specs::Run::operated))]
 fn operate(
-    frame: StackFrame<'_>,
+    frame: StackFrame<'_, '_>,
     stack: &[u8],
     op: BinOp,
     left: &OperandKind,
@@ -163,7 +179,7 @@ fn compute_one(op: UnOp, kind: Option<Kind>, bytes: &[u8]) -> Computed
 /// The bytes that an operator makes of one operand.
 #[tactic(auto, unfolding(mir::specs::Run::operated_on))]
 fn operate_on(
-    frame: StackFrame<'_>,
+    frame: StackFrame<'_, '_>,
     stack: &[u8],
     op: UnOp,
     kind: &OperandKind,
@@ -205,7 +221,7 @@ fn assign_word(stack: &mut [u8], to: Cell, made: Made) -> Result<(), Fault>
 
 /// What an operator makes of two operands of one kind, without the table. There is none where `made_of` has none.
 fn operate_on_words(
-    frame: StackFrame<'_>,
+    frame: StackFrame<'_, '_>,
     stack: &[u8],
     op: BinOp,
     left: &OperandKind,
@@ -228,7 +244,7 @@ fn operate_on_words(
 /// over statements.
 #[inline(never)]
 fn assign_by_table(
-    frame: StackFrame<'_>,
+    frame: StackFrame<'_, '_>,
     stack: &mut [u8],
     to: Cell,
     op: BinOp,
@@ -243,7 +259,7 @@ fn assign_by_table(
 
 /// Copies what an operator makes of two operands to a cell.
 fn assign_operated(
-    frame: StackFrame<'_>,
+    frame: StackFrame<'_, '_>,
     stack: &mut [u8],
     to: Cell,
     op: BinOp,
@@ -260,7 +276,12 @@ fn assign_operated(
 
 /// Copies what is computed to a cell.
 #[tactic(auto, unfolding(mir::specs::Run::rvalue_bytes))]
-fn assign(frame: StackFrame<'_>, stack: &mut [u8], to: Cell, rvalue: &Rvalue) -> Result<(), Fault>
+fn assign(
+    frame: StackFrame<'_, '_>,
+    stack: &mut [u8],
+    to: Cell,
+    rvalue: &Rvalue,
+) -> Result<(), Fault>
     ensures { left_with stack.new result ≡ copied (memory stack.old) (Some (interval_of to)) (rvalue_bytes (frame_of frame.entry) (memory stack.old) rvalue.now) }
 {
     match rvalue {
@@ -277,7 +298,11 @@ fn assign(frame: StackFrame<'_>, stack: &mut [u8], to: Cell, rvalue: &Rvalue) ->
 
 /// Runs a statement.
 #[tactic(auto, unfolding(mir::specs::Run::after_statement, mir::specs::Run::copied))]
-fn execute(frame: StackFrame<'_>, stack: &mut [u8], statement: &StatementKind) -> Result<(), Fault>
+fn execute(
+    frame: StackFrame<'_, '_>,
+    stack: &mut [u8],
+    statement: &StatementKind,
+) -> Result<(), Fault>
     ensures { left_with stack.new result ≡ after_statement (frame_of frame.entry) (memory stack.old) statement.now }
 {
     match statement {
@@ -294,7 +319,7 @@ fn execute(frame: StackFrame<'_>, stack: &mut [u8], statement: &StatementKind) -
 /// Runs statements in order, up to the first that faults.
 #[tactic(auto, unfolding(mir::specs::Run::after_statements))]
 fn execute_all(
-    frame: StackFrame<'_>,
+    frame: StackFrame<'_, '_>,
     stack: &mut [u8],
     statements: &[Statement],
 ) -> Result<(), Fault>
@@ -312,12 +337,13 @@ fn execute_all(
 /// Where a switch leads.
 #[tactic(auto, unfolding(mir::specs::Run::switched))]
 fn branch(
-    frame: StackFrame<'_>,
+    frame: StackFrame<'_, '_>,
     stack: &[u8],
     discr: &OperandKind,
     targets: &SwitchTargets,
 ) -> Result<Exit, Fault>
-    ensures { next_of (frame_of frame.entry) stack.now result ≡ switched (frame_of frame.entry) (memory stack.now) targets.now (operand_bytes (frame_of frame.entry) (memory stack.now) discr.now) }
+    ensures leads { (terminator : _) → next_of (frame_of frame.entry) stack.now terminator result ≡ switched (frame_of frame.entry) (memory stack.now) targets.now (operand_bytes (frame_of frame.entry) (memory stack.now) discr.now) }
+    ensures block { result ≢ Ok Calls }
 {
     match operand(frame, stack, discr) {
         Some(bytes) => {
@@ -334,11 +360,12 @@ fn branch(
 /// What a terminator does.
 #[tactic(auto, unfolding(mir::specs::Run::terminated))]
 fn terminate(
-    frame: StackFrame<'_>,
+    frame: StackFrame<'_, '_>,
     stack: &[u8],
     terminator: &Option<Terminator>,
 ) -> Result<Exit, Fault>
-    ensures { next_of (frame_of frame.entry) stack.now result ≡ terminated (frame_of frame.entry) (memory stack.now) terminator.now }
+    ensures next { next_of (frame_of frame.entry) stack.now terminator.now result ≡ terminated (frame_of frame.entry) (memory stack.now) terminator.now }
+    ensures call { result ≡ Ok Calls → IsSome (option_and_then call_of terminator.now) }
 {
     match terminator {
         Some(terminator) => match &terminator.kind {
@@ -348,6 +375,7 @@ fn terminate(
             }
             TerminatorKind::Return => Ok(Exit::Returns),
             TerminatorKind::Drop { target, .. } => Ok(Exit::GoesTo(*target)),
+            TerminatorKind::Call { .. } => Ok(Exit::Calls),
         },
         None => Err(Fault::NoTerminator),
     }
@@ -356,11 +384,12 @@ fn terminate(
 /// Runs a block.
 #[tactic(auto, unfolding(mir::specs::Run::next_from))]
 pub(crate) fn enter(
-    frame: StackFrame<'_>,
+    frame: StackFrame<'_, '_>,
     stack: &mut [u8],
     block: BasicBlockId,
 ) -> Result<Exit, Fault>
-    ensures { next_of (frame_of frame.entry) stack.new result ≡ next_from (frame_of frame.entry) (memory stack.old) (slice_get frame.entry.body.now.basic_blocks block.0) 0 }
+    ensures next { next_of (frame_of frame.entry) stack.new (terminator_at frame.entry.body.now block.0) result ≡ next_from (frame_of frame.entry) (memory stack.old) (slice_get frame.entry.body.now.basic_blocks block.0) 0 }
+    ensures call { result ≡ Ok Calls → IsSome (call_at frame.entry.body.now block.0) }
 {
     match frame.body.basic_blocks.get(block.0 as u64) {
         Some(block) => match execute_all(frame, stack, block.statements.as_slice()) {
@@ -371,15 +400,18 @@ pub(crate) fn enter(
     }
 }
 
-/// Runs blocks to the end of the run, at most `left` of them.
-#[tactic(auto, unfolding(mir::specs::Run::entering, mir::specs::Run::going_on, mir::specs::Run::after_return), using(crate::proofs::Blocks::enter_one))]
+/// Runs blocks of a frame, at most `blocks` of them, until the body returns, calls or faults.
+#[tactic(auto, unfolding(mir::specs::Run::entering, mir::specs::Run::going_on), using(crate::proofs::Blocks::enter_one))]
 pub(crate) fn enter_all(
-    frame: StackFrame<'_>,
+    frame: StackFrame<'_, '_>,
     stack: &mut [u8],
     start: BasicBlockId,
     blocks: u64,
 ) -> Stop
-    ensures { ended_of frame.entry.cells.now stack.new result ≡ entering blocks (frame_of frame.entry) (memory stack.old) start.0 }
+    ensures run { going_on result.left (halt_of (frame_of frame.entry) stack.new (terminator_at frame.entry.body.now result.block.0) result.end) ≡ entering blocks (frame_of frame.entry) (memory stack.old) start.0 }
+    ensures call { HaltsAtCall frame.entry.body.now result.block.0 result.end }
+    ensures fewer { OnOk result.end (result.left < blocks) }
+    ensures within { result.left ≤ blocks }
 {
     let mut block = start;
     let mut left = blocks;
@@ -388,11 +420,23 @@ pub(crate) fn enter_all(
         match enter(frame, stack, block) {
             Ok(Exit::GoesTo(target)) => block = target,
             Ok(Exit::Returns) => {
-                return Stop { end: Ok(()), left };
+                return Stop {
+                    end: Ok(Halt::Returns),
+                    block,
+                    left,
+                };
+            }
+            Ok(Exit::Calls) => {
+                return Stop {
+                    end: Ok(Halt::Calls),
+                    block,
+                    left,
+                };
             }
             Err(fault) => {
                 return Stop {
                     end: Err(fault),
+                    block,
                     left,
                 };
             }
@@ -400,6 +444,7 @@ pub(crate) fn enter_all(
     }
     Stop {
         end: Err(Fault::OutOfBlocks),
+        block,
         left: 0,
     }
 }

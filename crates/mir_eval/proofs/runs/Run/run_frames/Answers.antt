@@ -1,0 +1,17 @@
+-- One more frame.
+use Rattle.std.proofs.Common.{◌≡◌, sym, ap, subst}
+use Rattle.mir_eval.specs.declared.runs.Went.{Went}
+use Rattle.mir_eval.specs.Machine.{Entry}
+use Rattle.mir_eval.specs.Phases.{Continues, position_at, position_of}
+use Rattle.mir_eval.proofs.Leading.{continues-trans}
+use Rattle.mir_eval.proofs.runs.Run.run_frames.Goals as goal
+
+pub loop-went-preserved : goal.loop-went-preserved
+loop-went-preserved c =
+    let start = position_of c.args.self.now in
+    let now = position_at c.loop-went.self (Entry c.in-On.block.0) in
+    record {
+      continues =
+          continues-trans start now (subst (λ (w : Went). Continues start c.loop-went.self w) c.in-On.is c.loop-went.invariant.continues) c.run_frame-went.new.self c.run_frame-went.result c.run_frame-went.ensures.went;
+      asks = c.run_frame-went.ensures.asks;
+    }
