@@ -13,7 +13,7 @@ use Rattle.mir.specs.declared.errors.MirEvalError.{MirEvalError}
 use Rattle.mir.specs.declared.errors.MirEvalError as error
 use Rattle.mir.specs.Errors.{layout_error_of}
 use Rattle.mir.specs.Memory.{Interval, Memory, first_memory, with_cell, placed, cell_before, cells_of}
-use Rattle.mir.specs.Run.{Frame, begun}
+use Rattle.mir.specs.Run.{Program, Frame, begun}
 use Rattle.mir_lower.specs.Simulates.{Simulates}
 use Rattle.mir_lower.proofs.Aligned.{are-aligned}
 use Rattle.mir_lower.proofs.Placing.{places-all}
@@ -25,10 +25,11 @@ use Rattle.consteval.proofs.Faults.{NeverRunsFor, never-without-layout, never-wi
 use Rattle.source_meaning.specs.Valid.{itself, IsPlain, AreLaidOut, HasSizedLayout, HasDefinedCost}
 
 -- the types of a plain body that began have layouts
-pub has-layouts : (source : Source) (body : MirBody) (start : Frame × Memory) → IsChecked source.world → Simulates source body → begun source.world body ≡ Ok start → IsPlain source → AreLaidOut source
-has-layouts source body start checked simulates began plain =
-    let cells = begun-cells source.world body start began in
-    let placing = places-all source.world (are-aligned source.world checked) body.locals first_memory cells.0 cells.1 in
+pub has-layouts : (source : Source) (program : Program) (body : MirBody) (start : Frame × Memory) → IsChecked source.world → program.world ≡ source.world → Simulates source body → begun program body ≡ Ok start → IsPlain source → AreLaidOut source
+has-layouts source program body start checked same simulates began plain =
+    let cells = begun-cells program body start began in
+    let in_world : cells_of source.world body.locals first_memory ≡ Ok cells.0 = ap (λ w. cells_of w body.locals first_memory) (sym same) ∙ cells.1 in
+    let placing = places-all source.world (are-aligned source.world checked) body.locals first_memory cells.0 in_world in
     simulates.laid_out plain (λ l local there. let cell = placing.each l local there in record { layout = cell.layout; found = cell.found })
 
 -- a local whose type has a size has a cell
@@ -53,9 +54,9 @@ cells-there world (local ∷ locals) memory sized =
           ∙ ap (cell_before (with_cell first.0 memory).0) rest.1,
     )
 
-begun-from : (world : HirDatabase) (body : MirBody) (all : List Interval × Memory) → cells_of world body.locals first_memory ≡ Ok all → begun world body ≡ Ok (record { body = body; cells = all.0; below = [] }, all.1)
+pub begun-from : (program : Program) (body : MirBody) (all : List Interval × Memory) → cells_of program.world body.locals first_memory ≡ Ok all → begun program body ≡ Ok (record { program = program; body = body; cells = all.0; below = [] }, all.1)
 unfolding begun
-begun-from world body all is = ap (λ (r : Result (List Interval × Memory) MirEvalError). elim r [ Ok a ↦ Ok (record { body = body; cells = a.0; below = [] }, a.1) | Err e ↦ Err e ]) is
+begun-from program body all is = ap (λ (r : Result (List Interval × Memory) MirEvalError). elim r [ Ok a ↦ Ok (record { program = program; body = body; cells = a.0; below = [] }, a.1) | Err e ↦ Err e ]) is
 
 -- what the cell of a `!` holds is of the expression's own type
 never-typed : (test : Bool) (own : Option Ty) (ty : Ty) → cond test own None ≡ Some ty → own ≡ Some ty
@@ -63,10 +64,10 @@ never-typed true own ty is = is
 never-typed false own ty is = absurd cc
 
 -- a body with a defined cost can begin
-pub begins : (source : Source) (body : MirBody) → Simulates source body → HasDefinedCost source → (start : Frame × Memory) × (begun source.world body ≡ Ok start)
-begins source body simulates cost =
+pub begins : (source : Source) (program : Program) (body : MirBody) → program.world ≡ source.world → Simulates source body → HasDefinedCost source → (start : Frame × Memory) × (begun program body ≡ Ok start)
+begins source program body same simulates cost =
     let all = cells-there source.world body.locals first_memory sized in
-    ((record { body = body; cells = all.0.0; below = [] }, all.0.1), begun-from source.world body all.0 all.1) where
+    ((record { program = program; body = body; cells = all.0.0; below = [] }, all.0.1), begun-from program body all.0 (ap (λ w. cells_of w body.locals first_memory) same ∙ all.1)) where
       of-type : (local : Local) (ty : Option Ty) → ty ≡ Some local.ty → HasSizedLayout source ty → HasLayout source.world local
       of-type local ty is layout = (layout.layout, ap (option_and_then (layout_of source.world)) (sym is) ∙ layout.found, layout.sized)
 
@@ -110,20 +111,21 @@ module _ (source : Source) (body : MirBody) (Fails : MirEvalError → Type 0) (l
       (placed-fails local.ty (layout_of source.world local.ty) memory (of-cells 0 local refl) refl)
       (λ first. before-fails first.0 (cells_of source.world locals first.1) (cells-fail locals first.1 (λ l other there. of-cells (suc l) other there)))
 
-  begun-fails : Simulates source body → FailsForType (begun source.world body)
+  begun-fails : (program : Program) → program.world ≡ source.world → Simulates source body → FailsForType (begun program body)
   unfolding begun
-  begun-fails simulates =
-      then-fails (cells_of source.world body.locals first_memory) _
-      (cells-fail body.locals first_memory (λ l local there. let cell = simulates.cells l local there in (cell.0, cell.1, cell.2))) (λ all. tt)
+  begun-fails program same simulates =
+      then-fails (cells_of program.world body.locals first_memory) _
+      (subst (λ w. FailsForType (cells_of w body.locals first_memory)) (sym same)
+      (cells-fail body.locals first_memory (λ l local there. let cell = simulates.cells l local there in (cell.0, cell.1, cell.2)))) (λ all. tt)
 
-  begun-fails-for : (e : MirEvalError) → Simulates source body → begun source.world body ≡ Err e → Fails e
-  begun-fails-for e simulates is = subst (λ (r : Result (Frame × Memory) MirEvalError). FailsForType r) is (begun-fails simulates)
+  begun-fails-for : (program : Program) (e : MirEvalError) → program.world ≡ source.world → Simulates source body → begun program body ≡ Err e → Fails e
+  begun-fails-for program e same simulates is = subst (λ (r : Result (Frame × Memory) MirEvalError). FailsForType r) is (begun-fails program same simulates)
 
 -- a body can't begin for a local whose type has no layout or no size
-pub begun-refusal : (source : Source) (limits : Limits) (body : MirBody) (e : MirEvalError) → Simulates source body → begun source.world body ≡ Err e → EndsEvaluation source limits e
-begun-refusal source limits body e =
-    begun-fails-for source body (EndsEvaluation source limits) (without-layout source limits) (without-size source limits) e
+pub begun-refusal : (source : Source) (program : Program) (limits : Limits) (body : MirBody) (e : MirEvalError) → program.world ≡ source.world → Simulates source body → begun program body ≡ Err e → EndsEvaluation source limits e
+begun-refusal source program limits body e =
+    begun-fails-for source body (EndsEvaluation source limits) (without-layout source limits) (without-size source limits) program e
 
-pub begun-never : (source : Source) (limits : Limits) (body : MirBody) (e : MirEvalError) → Simulates source body → begun source.world body ≡ Err e → NeverRunsFor source limits e
-begun-never source limits body e =
-    begun-fails-for source body (NeverRunsFor source limits) (never-without-layout source limits) (never-without-size source limits) e
+pub begun-never : (source : Source) (program : Program) (limits : Limits) (body : MirBody) (e : MirEvalError) → program.world ≡ source.world → Simulates source body → begun program body ≡ Err e → NeverRunsFor source limits e
+begun-never source program limits body e =
+    begun-fails-for source body (NeverRunsFor source limits) (never-without-layout source limits) (never-without-size source limits) program e

@@ -1,5 +1,5 @@
 -- How many bytes a body's cells take, against what its source counts.
-use Rattle.std.proofs.Common.{◌≡◌, ◌≢◌, ℕ, zero, suc, ◌+◌, ◌-◌, ◌*◌, ◌/◌, ◌≤◌, Bool, true, false, cond, List, [], ◌∷◌, length, Option, Some, None, Result, Ok, Err, refl, sym, ap, subst, arith, length-append}
+use Rattle.std.proofs.Common.{◌≡◌, ◌≢◌, ℕ, zero, suc, ◌+◌, ◌-◌, ◌*◌, ◌/◌, ◌≤◌, Bool, true, false, cond, List, [], ◌∷◌, length, Option, Some, None, Result, Ok, Err, refl, sym, ap, ◌∙◌, subst, arith, length-append}
 use Rattle.std.specs.Prelude.{codes, map, replicate, sum, sum_by}
 use Rattle.std.proofs.lemmas.List.{length-replicate}
 use Rattle.std.proofs.lemmas.List.Sums.{sum-map, sum_by-cons}
@@ -11,9 +11,8 @@ use Rattle.mir.specs.declared.body.Local.{Local}
 use Rattle.mir.specs.declared.body.MirBody.{MirBody}
 use Rattle.mir.specs.declared.errors.MirEvalError.{MirEvalError}
 use Rattle.mir.specs.declared.errors.MirEvalError as error
-use Rattle.mir.specs.Memory.{Interval, Memory, first_memory, aligned, with_cell, placed, cell_before, cells_of}
-use Rattle.mir.specs.Run.{Frame, begun}
-use Rattle.mir_eval.specs.Room.{bytes_taken}
+use Rattle.mir.specs.Memory.{Interval, Memory, bytes_taken, first_memory, aligned, with_cell, placed, cell_before, cells_of}
+use Rattle.mir.specs.Run.{Program, Frame, begun}
 use Rattle.mir_lower.specs.Simulates.{Simulates}
 use Rattle.mir_lower.proofs.Placing.{first-ok}
 use Rattle.mir_lower.proofs.Whole.{begun-cells}
@@ -79,10 +78,10 @@ unfolding entering
 entering-takes source = refl
 
 -- the cells of a body take no more bytes than its source counts on entering it
-pub taken-within : (source : Source) (body : MirBody) (start : Frame × Memory) → Simulates source body → begun source.world body ≡ Ok start → bytes_taken start.1 ≤ (entering source).bytes
-taken-within source body start simulates began =
-    let cells = begun-cells source.world body start began in
-    let last = cells-end source.world body.locals first_memory cells.0 cells.1 in
+pub taken-within : (source : Source) (program : Program) (body : MirBody) (start : Frame × Memory) → program.world ≡ source.world → Simulates source body → begun program body ≡ Ok start → bytes_taken start.1 ≤ (entering source).bytes
+taken-within source program body start in_world simulates began =
+    let cells = begun-cells program body start began in
+    let last = cells-end source.world body.locals first_memory cells.0 (ap (λ w. cells_of w body.locals first_memory) (sym in_world) ∙ cells.1) in
     let counts = entering-takes source in
     let room = simulates.room in
     let same : sum (map (λ (l : Local). room_of (layout_of source.world l.ty)) body.locals) ≡ rooms source.world body.locals = sum-map (λ (l : Local). room_of (layout_of source.world l.ty)) body.locals in

@@ -13,6 +13,10 @@ use Rattle.mir.specs.declared.body.MirBody.{MirBody}
 use Rattle.mir.specs.declared.errors.ConstEvalError.{ConstEvalError}
 use Rattle.mir.specs.declared.errors.ConstEvalError.TheVariants as constant
 use Rattle.mir.specs.declared.errors.MirEvalError.{MirEvalError}
+use Rattle.mir.specs.declared.errors.MirEvalError as error
+use Rattle.mir.specs.declared.answers.Answer.{Answer}
+use Rattle.mir.specs.declared.answers.Query.{Query}
+use Rattle.mir.specs.Run.{Program}
 use Rattle.mir.specs.declared.errors.MirLowerError.{MirLowerError}
 use Rattle.mir.specs.declared.errors.MirLowerError.TheVariants as refusal
 use Rattle.mir.specs.Errors.{from_lower_error, from_eval_error}
@@ -22,13 +26,15 @@ use Rattle.source_meaning.specs.Ends.{Panic, Stuck, JumpsNowhere}
 use Rattle.source_meaning.specs.Meaning.{meaning_of}
 use Rattle.source_meaning.specs.Source.{Source}
 use Rattle.source_meaning.specs.Valid.{AreLaidOut, HasDefinedCost}
-use Rattle.consteval.specs.Answers.{GivesValue, CountsBlocks, GivesPanic, AnswersWithin, AnswersEndless, HasNoEnd, OrNoMemory, PassesBytes, past_blocks, EndsIn, HasCause, AnswersBody, RunsTo, RefusesBody, carried, panic_word}
-use Rattle.consteval.specs.Kept.{Kept, Lowered, IsSound, IsLowered, Ran, source_of}
+use Rattle.consteval.specs.Answers.{GivesValue, CountsBlocks, GivesPanic, AnswersWithin, AnswersEndless, HasNoEnd, OrNoMemory, PassesBytes, IsPastBlocks, EndsIn, HasCause, AnswersBody, RefusesRun, RunsTo, carried, panic_word}
+use Rattle.consteval.specs.Refusals.{RefusesBody}
+use Rattle.consteval.specs.Kept.{Kept, Lowered, IsSound, IsLowered, Ran, program_of}
+use Rattle.consteval.specs.Sources.{source_of}
 use Rattle.consteval.specs.Valid.{IsValid}
 use Rattle.consteval.proofs.Begins.{has-layouts}
 use Rattle.consteval.proofs.Causes.{carried-value}
 use Rattle.consteval.proofs.Bytes.{fault-takes, value-takes}
-use Rattle.consteval.proofs.Ends.{ComesTo, completes-value, completes-panic, gives-value, counts-value, gives-fault, gives-no-end}
+use Rattle.consteval.proofs.Ends.{ComesTo, completes-value, completes-panic, gives-value, counts-value, gives-fault, gives-no-end, same-outcome}
 use Rattle.consteval.proofs.Faults.{carried-fault, carried-never, carried-refusal, carried-unlowered, ends-in-panic}
 use Rattle.consteval.proofs.Keeping.{kept-body-lowered}
 use Rattle.consteval.proofs.Nesting.{fault-nests, value-nests}
@@ -61,52 +67,60 @@ module _ (world : HirDatabase) (checked : IsChecked world) (def : DefWithBodyId)
       let body = checked-body world def row checked valid.body in
       (run_is_never_stuck Of fuel checked body valid.plain laid, run_jumps_nowhere Of fuel checked body valid.plain laid)
 
-  module _ (limits : Limits) (turns : ℕ) (answer : Result Const ConstEvalError) where
-    run-value : (body : MirBody) → IsLowered world def body → RunsTo world def body limits turns answer → (konst : Const) → answer ≡ Ok konst → GivesValue Of konst
+  module _ (kept : Kept) (same : kept.world ≡ world) (limits : Limits) (turns : ℕ) (answer : Result Const ConstEvalError) where
+    -- what a run goes by that is told some answers
+    abbrev ProgramWith : List (Query × Answer) → Program
+    ProgramWith answers = program_of kept.world limits answers
+
+    run-value : (body : MirBody) → IsLowered world def body → RunsTo kept def body limits turns answer → (konst : Const) → answer ≡ Ok konst → GivesValue Of konst
     run-value body lowered runs konst is =
         let simulates = simulated body lowered in
         let ran = runs.ran in
-        let laid = has-layouts Of body ran.start checked simulates ran.began valid.plain in
+        let laid = has-layouts Of (ProgramWith ran.answers) body ran.start checked same simulates ran.began valid.plain in
         let end = comes limits in
-        gives-value Of body simulates ran.start ran.began limits ran.nests (meaning_of Of end.0) end.1 (ends-well laid end.0) konst
-        (carried-value runs.outcome konst (sym is ∙ runs.is) ∙ ran.ended)
+        gives-value Of (ProgramWith ran.answers) body same simulates ran.start ran.began limits ran.nests (meaning_of Of end.0) end.1 (ends-well laid end.0) konst
+        (ran.ended ∙ ap Some (sym (carried-value runs.outcome konst (sym is ∙ runs.is))))
 
-    run-counts : (body : MirBody) → IsLowered world def body → RunsTo world def body limits turns answer → (konst : Const) → answer ≡ Ok konst → CountsBlocks Of turns
+    run-counts : (body : MirBody) → IsLowered world def body → RunsTo kept def body limits turns answer → (konst : Const) → answer ≡ Ok konst → CountsBlocks Of turns
     run-counts body lowered runs konst is =
         let simulates = simulated body lowered in
         let ran = runs.ran in
-        let laid = has-layouts Of body ran.start checked simulates ran.began valid.plain in
+        let laid = has-layouts Of (ProgramWith ran.answers) body ran.start checked same simulates ran.began valid.plain in
         let end = comes limits in
         subst (CountsBlocks Of) (sym ran.entered)
-        (counts-value Of body simulates ran.start ran.began limits ran.nests (meaning_of Of end.0) end.1 (ends-well laid end.0) konst
-        (carried-value runs.outcome konst (sym is ∙ runs.is) ∙ ran.ended))
+        (counts-value Of (ProgramWith ran.answers) body same simulates ran.start ran.began limits ran.nests (meaning_of Of end.0) end.1 (ends-well laid end.0) konst
+        (ran.ended ∙ ap Some (sym (carried-value runs.outcome konst (sym is ∙ runs.is)))))
 
-    run-closed : (body : MirBody) → IsLowered world def body → RunsTo world def body limits turns answer → IfErr answer (EndsIn Of limits)
+    run-closed : (body : MirBody) → IsLowered world def body → RunsTo kept def body limits turns answer → IfErr answer (EndsIn Of limits)
     run-closed body lowered runs = subst (λ a. IfErr a (EndsIn Of limits)) (sym runs.is) (by runs.outcome runs.ran) where
-      by : (outcome : Result Const MirEvalError) → Ran world body limits turns outcome → IfErr (carried outcome) (EndsIn Of limits)
+      by : (outcome : Result Const MirEvalError) → Ran kept body limits turns outcome → IfErr (carried outcome) (EndsIn Of limits)
       by (Ok konst) ran = tt
       by (Err e) ran =
           let simulates = simulated body lowered in
-          let laid = has-layouts Of body ran.start checked simulates ran.began valid.plain in
+          let laid = has-layouts Of (ProgramWith ran.answers) body ran.start checked same simulates ran.began valid.plain in
           let end = comes limits in
           carried-fault Of limits e
-          (gives-fault Of body simulates ran.start ran.began limits ran.nests (meaning_of Of end.0) end.1 (ends-well laid end.0) e ran.ended)
+          (gives-fault Of (ProgramWith ran.answers) body same simulates ran.start ran.began limits ran.nests (meaning_of Of end.0) end.1 (ends-well laid end.0) e ran.ended)
 
-    run-completes : (body : MirBody) → IsLowered world def body → RunsTo world def body limits turns answer → AnswersWithin Of limits answer
+    run-completes : (body : MirBody) → IsLowered world def body → RunsTo kept def body limits turns answer → AnswersWithin Of limits answer
     run-completes body lowered runs =
         let simulates = simulated body lowered in
         let ran = runs.ran in
         record {
-          value = λ ty bytes store cost typed gives within. inl (runs.is ∙ ap carried (ran.ended ∙ completes-value Of body simulates ran.start ran.began limits ran.nests ty bytes store cost typed gives within));
-          panic = λ word cost gives within. inl (runs.is ∙ ap carried (ran.ended ∙ completes-panic Of body simulates ran.start ran.began limits ran.nests word cost gives within));
+          value = λ ty bytes store cost typed gives within.
+              inl (runs.is ∙ ap carried (same-outcome _ _ (sym ran.ended ∙ completes-value Of (ProgramWith ran.answers) body same simulates ran.start ran.began limits ran.nests ty bytes store cost typed gives within)));
+          panic = λ word cost gives within.
+              let faults = completes-panic Of (ProgramWith ran.answers) body same simulates ran.start ran.began limits ran.nests word cost gives within in
+              inl (faults.0, runs.is ∙ ap carried (same-outcome _ _ (sym ran.ended ∙ faults.1)));
         }
 
-    run-endless : (body : MirBody) → IsLowered world def body → HasNoEnd Of → RunsTo world def body limits turns answer → answer ≡ Err past_blocks
+    run-endless : (body : MirBody) → IsLowered world def body → HasNoEnd Of → RunsTo kept def body limits turns answer → IsPastBlocks answer
     run-endless body lowered none runs =
         let simulates = simulated body lowered in
         let ran = runs.ran in
         let end = comes limits in
-        runs.is ∙ ap carried (ran.ended ∙ gives-no-end Of body simulates ran.start ran.began limits ran.nests (meaning_of Of end.0) end.1 (none end.0))
+        let faults = gives-no-end Of (ProgramWith ran.answers) body same simulates ran.start ran.began limits ran.nests (meaning_of Of end.0) end.1 (none end.0) in
+        (faults.0, runs.is ∙ ap carried (same-outcome _ _ (sym ran.ended ∙ faults.1)))
 
     out-of-memory : answer ≡ Err constant.NoMemory → AnswersWithin Of limits answer
     out-of-memory none = record { value = λ ty bytes store cost typed gives within. inr none; panic = λ word cost gives within. inr none }
@@ -130,36 +144,40 @@ module _ (world : HirDatabase) (checked : IsChecked world) (def : DefWithBodyId)
     abbrev Closed : Result Const ConstEvalError → Type 0
     Closed a = IfErr a (EndsIn Of limits)
 
-    body-value : (body : MirBody) → IsLowered world def body → AnswersBody world def body limits turns answer → (konst : Const) → answer ≡ Ok konst → GivesValue Of konst
+    -- what a run is refused for in the world of what is kept
+    refuses-in : (body : MirBody) (e : MirEvalError) → (e ≡ error.NoMemory) ⊎ RefusesRun kept.world def body limits e → (e ≡ error.NoMemory) ⊎ RefusesRun world def body limits e
+    refuses-in body e refuses = subst (λ w. (e ≡ error.NoMemory) ⊎ RefusesRun w def body limits e) same refuses
+
+    body-value : (body : MirBody) → IsLowered world def body → AnswersBody kept def body limits turns answer → (konst : Const) → answer ≡ Ok konst → GivesValue Of konst
     body-value body lowered answers konst is =
         ⊎_elim (λ runs. run-value body lowered runs konst is)
         (⊎_elim (λ never. let err = never.is in absurd cc) (λ out. let err = out.is in absurd cc)) answers
 
-    body-counts : (body : MirBody) → IsLowered world def body → AnswersBody world def body limits turns answer → (konst : Const) → answer ≡ Ok konst → CountsBlocks Of turns
+    body-counts : (body : MirBody) → IsLowered world def body → AnswersBody kept def body limits turns answer → (konst : Const) → answer ≡ Ok konst → CountsBlocks Of turns
     body-counts body lowered answers konst is =
         ⊎_elim (λ runs. run-counts body lowered runs konst is)
         (⊎_elim (λ never. let err = never.is in absurd cc) (λ out. let err = out.is in absurd cc)) answers
 
-    body-closed : (body : MirBody) → IsLowered world def body → AnswersBody world def body limits turns answer → Closed answer
+    body-closed : (body : MirBody) → IsLowered world def body → AnswersBody kept def body limits turns answer → Closed answer
     body-closed body lowered =
         ⊎_elim (run-closed body lowered)
         (⊎_elim
         (λ never. subst Closed (sym never.is)
-        (⊎_elim (λ none. subst (λ e. EndsIn Of limits (from_eval_error e)) (sym none) tt) (λ refuses. carried-fault Of limits never.fault (run-refusal world def args row limits body never.fault valid (simulated body lowered) refuses)) never.refuses))
+        (⊎_elim (λ none. subst (λ e. EndsIn Of limits (from_eval_error e)) (sym none) tt) (λ refuses. carried-fault Of limits never.fault (run-refusal world def args row limits body never.fault valid (simulated body lowered) refuses)) (refuses-in body never.fault never.refuses)))
         (λ out. subst Closed (sym out.is) tt))
 
-    body-completes : (body : MirBody) → IsLowered world def body → HasDefinedCost Of → AnswersBody world def body limits turns answer → AnswersWithin Of limits answer
+    body-completes : (body : MirBody) → IsLowered world def body → HasDefinedCost Of → AnswersBody kept def body limits turns answer → AnswersWithin Of limits answer
     body-completes body lowered cost answers =
         ⊎_elim (λ runs. run-completes body lowered runs)
         (⊎_elim
-        (λ never. ⊎_elim (λ none. out-of-memory (never.is ∙ ap (λ e. Err (from_eval_error e)) none)) (λ refuses. ⊎_elim without-level without-room (run-is-refused-by-limits world def args row limits body never.fault valid (simulated body lowered) cost refuses)) never.refuses)
+        (λ never. ⊎_elim (λ none. out-of-memory (never.is ∙ ap (λ e. Err (from_eval_error e)) none)) (λ refuses. ⊎_elim without-level without-room (run-is-refused-by-limits world def args row limits body never.fault valid (simulated body lowered) cost refuses)) (refuses-in body never.fault never.refuses))
         (λ out. out-of-memory out.is)) answers
 
     -- an answer that has one of the two, whatever the limits are
-    always : OrNoMemory answer (Err past_blocks) → AnswersEndless Of limits answer
+    always : OrNoMemory answer IsPastBlocks → AnswersEndless Of limits answer
     always is = record { ends = inl is; within = λ cost nests room. is }
 
-    body-endless : (body : MirBody) → IsLowered world def body → HasNoEnd Of → AnswersBody world def body limits turns answer → AnswersEndless Of limits answer
+    body-endless : (body : MirBody) → IsLowered world def body → HasNoEnd Of → AnswersBody kept def body limits turns answer → AnswersEndless Of limits answer
     body-endless body lowered none answers =
         ⊎_elim (λ runs. always (inl (run-endless body lowered none runs)))
         (⊎_elim
@@ -173,32 +191,29 @@ module _ (world : HirDatabase) (checked : IsChecked world) (def : DefWithBodyId)
           within = λ cost nests room.
               absurd (⊎_elim (λ zero-levels. omega arith) (λ passes. omega arith) (run-is-refused-by-limits world def args row limits body never.fault valid (simulated body lowered) cost refuses));
         })
-        never.refuses)
+        (refuses-in body never.fault never.refuses))
         (λ out. always (inr out.is))) answers
 
-    module _ (kept : Kept) (same : kept.world ≡ world) (sound : IsSound kept) where
+    module _ (sound : IsSound kept) where
       lowered-from : (body : MirBody) → Contains kept.entries (Lowered def body) → IsLowered world def body
       lowered-from body found = subst (λ w. IsLowered w def body) same (kept-body-lowered kept sound def body found)
-
-      answers-in : (body : MirBody) → AnswersBody kept.world def body limits turns answer → AnswersBody world def body limits turns answer
-      answers-in body answers = subst (λ w. AnswersBody w def body limits turns answer) same answers
 
       refusal-in : (e : MirLowerError) → (e ≡ refusal.NoMemory) ⊎ RefusesBody kept.world def args e → (e ≡ refusal.NoMemory) ⊎ RefusesBody world def args e
       refusal-in e refuses = subst (λ w. (e ≡ refusal.NoMemory) ⊎ RefusesBody w def args e) same refuses
 
       pub answer-value : HasCause kept def args limits turns answer → (konst : Const) → answer ≡ Ok konst → GivesValue Of konst
       answer-value cause konst is =
-          ⊎_elim (λ has. body-value has.body (lowered-from has.body has.found) (answers-in has.body has.answers) konst is)
+          ⊎_elim (λ has. body-value has.body (lowered-from has.body has.found) has.answers konst is)
           (λ never. let err = never.is in absurd cc) cause
 
       pub answer-counts : HasCause kept def args limits turns answer → (konst : Const) → answer ≡ Ok konst → CountsBlocks Of turns
       answer-counts cause konst is =
-          ⊎_elim (λ has. body-counts has.body (lowered-from has.body has.found) (answers-in has.body has.answers) konst is)
+          ⊎_elim (λ has. body-counts has.body (lowered-from has.body has.found) has.answers konst is)
           (λ never. let err = never.is in absurd cc) cause
 
       pub answer-closed : HasCause kept def args limits turns answer → Closed answer
       answer-closed =
-          ⊎_elim (λ has. body-closed has.body (lowered-from has.body has.found) (answers-in has.body has.answers))
+          ⊎_elim (λ has. body-closed has.body (lowered-from has.body has.found) has.answers)
           (λ never. subst Closed (sym never.is)
           (⊎_elim (λ none. subst (λ e. EndsIn Of limits (from_lower_error e)) (sym none) tt) (carried-refusal Of limits never.fault)
           (lowering-refusal world def args row never.fault checked valid (refusal-in never.fault never.refuses))))
@@ -208,13 +223,13 @@ module _ (world : HirDatabase) (checked : IsChecked world) (def : DefWithBodyId)
 
       pub answer-completes : HasDefinedCost Of → HasCause kept def args limits turns answer → AnswersWithin Of limits answer
       answer-completes cost =
-          ⊎_elim (λ has. body-completes has.body (lowered-from has.body has.found) cost (answers-in has.body has.answers))
+          ⊎_elim (λ has. body-completes has.body (lowered-from has.body has.found) cost has.answers)
           (λ never. out-of-memory (never.is ∙ ap (λ e. Err (from_lower_error e)) (lowering-is-not-refused world def args row never.fault checked valid cost (refusal-in never.fault never.refuses))))
 
       -- a source without an end is answered by the limit on blocks, unless no run began
       pub answer-endless : HasNoEnd Of → HasCause kept def args limits turns answer → AnswersEndless Of limits answer
       answer-endless none =
-          ⊎_elim (λ has. body-endless has.body (lowered-from has.body has.found) none (answers-in has.body has.answers))
+          ⊎_elim (λ has. body-endless has.body (lowered-from has.body has.found) none has.answers)
           (λ never. ⊎_elim (λ lacks. always (inr (never.is ∙ ap (λ e. Err (from_lower_error e)) lacks)))
           (λ unlowered. record {
             ends = inr (record { fault = from_lower_error never.fault; is = never.is; never = carried-unlowered Of limits never.fault unlowered });

@@ -30,12 +30,14 @@ use Rattle.source_meaning.proofs.Built.{plain_is_built}
 use Rattle.source_meaning.proofs.Layouts.{integer_is_width}
 use Rattle.source_meaning.specs.Source.{Source, node, root}
 use Rattle.source_meaning.specs.Valid.{Evaluates, IsInteger, HasPlainForm, IsPlainNode, HasDefinedCost, FitsAround, JumpsFit}
-use Rattle.consteval.specs.Answers.{EndsEvaluation, EndsLowering, PassesBytes, RefusesBody, RefusesRun}
+use Rattle.consteval.specs.Answers.{EndsEvaluation, EndsLowering, PassesBytes, RefusesRun}
+use Rattle.consteval.specs.Refusals.{RefusesBody}
 use Rattle.consteval.specs.Built.{has_errors, has_generics, has_params, is_empty, is_erroneous, is_unbuilt, is_unbuilt_function, is_unbuilt_item}
 use Rattle.source_meaning.specs.Around.{Opened, meant}
 use Rattle.types.specs.declared.ids.LabelId.{LabelId}
 use Rattle.types.specs.declared.ids.ExprId.{ExprId}
-use Rattle.consteval.specs.Kept.{source_of}
+use Rattle.consteval.specs.Kept.{program_of}
+use Rattle.consteval.specs.Sources.{source_of}
 use Rattle.consteval.specs.Valid.{IsPlainItem, IsValid}
 use Rattle.consteval.proofs.Begins.{begins, begun-never, begun-refusal}
 use Rattle.consteval.proofs.Built.{built-without-args}
@@ -45,13 +47,13 @@ use Rattle.consteval.proofs.Faults.{NeverRunsFor, never-without-level, never-wit
 module _ (world : HirDatabase) (def : DefWithBodyId) (args : GenericArgs) (row : BodyRow) (limits : Limits) (body : MirBody) (e : MirEvalError) (valid : IsValid world def args row) (simulates : Simulates (source_of world row) body) where
   -- A refusal of a run of a valid body is for the limit on nesting, for a type without a layout or without a size, or for the limit
   -- on bytes.
-  refusal-cases : {A : Type 0} → RefusesRun world def body limits e → ((e ≡ error.StackOverflow) → (limits.nesting ≡ 0) → A) → ((begun world body ≡ Err e) → A) → ((e ≡ error.MemoryLimitExceeded) → PassesBytes (source_of world row) limits.bytes → A) → A
+  refusal-cases : {A : Type 0} → RefusesRun world def body limits e → ((e ≡ error.StackOverflow) → (limits.nesting ≡ 0) → A) → ((begun (program_of world limits []) body ≡ Err e) → A) → ((e ≡ error.MemoryLimitExceeded) → PassesBytes (source_of world row) limits.bytes → A) → A
   refusal-cases refuses by-nesting by-type by-bytes =
       ⊎_elim (λ none. let is = none.1 in let there = valid.pointers in absurd cc)
       (⊎_elim (λ other. absurd (let is = other.2 in let there = valid.pointers in other.3 cc))
       (⊎_elim (λ deep. by-nesting deep.0 deep.2)
       (⊎_elim (λ refused. by-type refused.2) (λ full.
-      let taken = taken-within (source_of world row) body full.3 simulates full.4 in
+      let taken = taken-within (source_of world row) (program_of world limits []) body full.3 refl simulates full.4 in
       let passes = full.5 in
       by-bytes full.0 (omega arith)))))
       refuses
@@ -59,21 +61,21 @@ module _ (world : HirDatabase) (def : DefWithBodyId) (args : GenericArgs) (row :
   pub run-refusal : RefusesRun world def body limits e → EndsEvaluation (source_of world row) limits e
   run-refusal refuses =
       refusal-cases refuses (λ is none. subst (EndsEvaluation (source_of world row) limits) (sym is) (overflowed (source_of world row) limits (omega arith)))
-      (begun-refusal (source_of world row) limits body e simulates)
+      (begun-refusal (source_of world row) (program_of world limits []) limits body e refl simulates)
       (λ is passes. subst (EndsEvaluation (source_of world row) limits) (sym is) (overfull (source_of world row) limits passes))
 
   -- so none begins
   pub run-never : RefusesRun world def body limits e → NeverRunsFor (source_of world row) limits e
   run-never refuses =
       refusal-cases refuses (λ is none. subst (NeverRunsFor (source_of world row) limits) (sym is) (never-without-level (source_of world row) limits none))
-      (begun-never (source_of world row) limits body e simulates)
+      (begun-never (source_of world row) (program_of world limits []) limits body e refl simulates)
       (λ is passes. subst (NeverRunsFor (source_of world row) limits) (sym is) (never-without-room (source_of world row) limits passes))
 
   -- a valid body with a defined cost can begin where there is a level of nesting for its run and room for its cells
   pub run-is-refused-by-limits : HasDefinedCost (source_of world row) → RefusesRun world def body limits e → (limits.nesting ≡ 0) ⊎ PassesBytes (source_of world row) limits.bytes
   run-is-refused-by-limits cost refuses =
       refusal-cases refuses (λ is none. inl none)
-      (λ refused. absurd (let can = begins (source_of world row) body simulates cost in let is = can.1 in cc))
+      (λ refused. absurd (let can = begins (source_of world row) (program_of world limits []) body refl simulates cost in let is = can.1 in cc))
       (λ is passes. inr passes)
 
 -- `==` is false of a number and a lesser one

@@ -1,6 +1,5 @@
 -- What the answer to a definition says: the value or the panic that its source means, and the cause of any other.
-use Rattle.std.specs.Prelude.{◌≡◌, ◌≢◌, ℕ, ◌-◌, ◌<◌, ◌≤◌, true, false, List, [], ◌⊎◌, Option, Some, None, Result, Ok, Err, Contains, codes}
-use Rattle.world.specs.declared.database.BodyRow.{BodyRow}
+use Rattle.std.specs.Prelude.{◌≡◌, ◌≢◌, ℕ, ◌-◌, ◌<◌, ◌≤◌, false, List, [], ◌⊎◌, Option, Some, None, Result, Ok, Err, Contains, codes}
 use Rattle.world.specs.declared.database.HirDatabase.{HirDatabase}
 use Rattle.types.specs.declared.ids.DefWithBodyId.{DefWithBodyId}
 use Rattle.types.specs.declared.ty.Const.{Const}
@@ -8,7 +7,7 @@ use Rattle.types.specs.declared.ty.Const.TheVariants.{Value}
 use Rattle.types.specs.declared.ty.GenericArgs.{GenericArgs}
 use Rattle.types.specs.declared.ty.MemoryMap.TheVariants.{Empty}
 use Rattle.types.specs.declared.ty.Ty.{Ty}
-use Rattle.world.specs.Lookups.{body_row, layout_of}
+use Rattle.world.specs.Lookups.{layout_of}
 use Rattle.world.specs.declared.layout.Layout.{Layout}
 use Rattle.world.specs.declared.limits.Limits.{Limits}
 use Rattle.mir.specs.declared.body.MirBody.{MirBody}
@@ -20,28 +19,35 @@ use Rattle.mir.specs.declared.errors.MirEvalError.TheOpen as layer
 use Rattle.mir.specs.declared.errors.MirLowerError.{MirLowerError}
 use Rattle.mir.specs.declared.errors.MirLowerError.TheVariants as refusal
 use Rattle.mir.specs.Errors.{from_lower_error, from_eval_error, layout_error_of}
-use Rattle.mir.specs.Memory.{Memory}
+use Rattle.mir.specs.declared.errors.TrailEntry.{TrailEntry}
+use Rattle.mir.specs.declared.answers.Answer.{Answer}
+use Rattle.mir.specs.declared.answers.Query.{Query}
+use Rattle.mir.specs.Memory.{Memory, bytes_taken}
 use Rattle.mir.specs.Run.{Frame, begun}
 use Rattle.mir_eval.specs.Evaluators.{crate_or_first}
 use Rattle.mir_eval.specs.Machine.{pointer_bytes}
-use Rattle.mir_eval.specs.Room.{bytes_taken}
 use Rattle.mir_lower.specs.Growth.{IsUsed}
-use Rattle.mir_lower.specs.Refusals.{RefusesAt, RefusesInferred}
+use Rattle.mir_lower.specs.Refusals.{RefusesAt}
 use Rattle.source_meaning.specs.Ends.{Cost, no_cost, End, Go, Jumps, Faults, Stuck, More, Panic, Undefined, IsOver}
 use Rattle.source_meaning.specs.Entering.{entering}
 use Rattle.source_meaning.specs.Meaning.{Gives, meaning_of}
 use Rattle.source_meaning.specs.Source.{Source, Cell, Store, cell_type, node_type, root}
 use Rattle.source_meaning.specs.Valid.{HasDefinedCost}
-use Rattle.consteval.specs.Built.{is_erroneous, is_unbuilt}
-use Rattle.consteval.specs.Kept.{IsLowered, Kept, Lowered, Ran, run_of, source_of}
+use Rattle.consteval.specs.Built.{is_unbuilt}
+use Rattle.consteval.specs.Kept.{AreRightAnswers, IsLowered, Kept, Lowered, Ran, program_of, run_of}
+use Rattle.consteval.specs.Refusals.{RefusesBody}
 
 -- a constant of a type, with these bytes and no memory behind them
 abbrev pub constant_of : Ty → List ℕ → Const
 constant_of ty bytes = Value (record { ty = ty; memory = bytes; memory_map = Empty })
 
--- the error that a panic of a root ends in, which says a word
-abbrev pub panic_of : List ℕ → ConstEvalError
-panic_of word = constant.MirEvalError (error.InFunction (error.Panic word) [])
+-- an answer is a fault that ended a frame, over some trail
+abbrev pub IsFrameFault : MirEvalError → Result Const ConstEvalError → Type 0
+IsFrameFault fault answer = (trail : List TrailEntry) × (answer ≡ Err (constant.MirEvalError (error.InFunction fault trail)))
+
+-- an answer is a panic that says a word, over some trail
+abbrev pub IsPanicOf : List ℕ → Result Const ConstEvalError → Type 0
+IsPanicOf word = IsFrameFault (error.Panic word)
 
 -- the source means this value: the type of its root, and exactly these bytes
 pub record GivesValue (source : Source) (konst : Const) : Type 0 where
@@ -148,9 +154,9 @@ EndsIn source limits (constant.MirLowerError e) = EndsLowering source e
 EndsIn source limits (constant.MirEvalError e) = EndsEvaluation source limits e
 EndsIn source limits constant.NoMemory = Unit {0}
 
--- an answer is this one, or want of memory
-abbrev pub OrNoMemory : Result Const ConstEvalError → Result Const ConstEvalError → Type 0
-OrNoMemory answer expected = (answer ≡ expected) ⊎ (answer ≡ Err constant.NoMemory)
+-- an answer is as expected, or want of memory
+abbrev pub OrNoMemory : Result Const ConstEvalError → (expected : Result Const ConstEvalError → Type 0) → Type 0
+OrNoMemory answer expected = expected answer ⊎ (answer ≡ Err constant.NoMemory)
 
 -- a cost is within all limits
 pub record IsWithinLimits (cost : Cost) (limits : Limits) : Type 0 where
@@ -161,16 +167,16 @@ pub record IsWithinLimits (cost : Cost) (limits : Limits) : Type 0 where
 -- within the limits the answer is what the source means, or want of memory
 pub record AnswersWithin (source : Source) (limits : Limits) (answer : Result Const ConstEvalError) : Type 0 where
   pub value : (ty : Ty) (bytes : List ℕ) (store : Store) (cost : Cost) → node_type source (root source) ≡ Some ty →
-      Gives source (Go bytes store cost) → IsWithinLimits cost limits → OrNoMemory answer (Ok (constant_of ty bytes))
-  pub panic : (word : List ℕ) (cost : Cost) → Gives source (Faults (Panic word) cost) → IsWithinLimits cost limits → OrNoMemory answer (Err (panic_of word))
+      Gives source (Go bytes store cost) → IsWithinLimits cost limits → OrNoMemory answer (λ a. a ≡ Ok (constant_of ty bytes))
+  pub panic : (word : List ℕ) (cost : Cost) → Gives source (Faults (Panic word) cost) → IsWithinLimits cost limits → OrNoMemory answer (IsPanicOf word)
 
 -- the source has no end, whatever fuel there is
 abbrev pub HasNoEnd : Source → Type 0
 HasNoEnd source = (fuel : ℕ) → ¬ IsOver (meaning_of source fuel)
 
--- the error of a root's run that may enter no more blocks
-abbrev pub past_blocks : ConstEvalError
-past_blocks = constant.MirEvalError (error.InFunction error.ExecutionLimitExceeded [])
+-- an answer is the error of a run that may enter no more blocks, over some trail
+abbrev pub IsPastBlocks : Result Const ConstEvalError → Type 0
+IsPastBlocks = IsFrameFault error.ExecutionLimitExceeded
 
 -- The cause of a `MirEvalError` for which no run of a valid definition's body begins, by the error's outermost variant. Of
 -- `LayoutError` and `TypeIsUnsized` it states that the type in the error is that of a cell, and has no layout, or one without a size.
@@ -198,8 +204,8 @@ pub record RefusesToRun (source : Source) (limits : Limits) (answer : Result Con
 -- or no run began. Where the types have sizes, there is a level of nesting for the run, and the bytes that the source counts on entering
 -- it are within the limit, a run begins, unless memory ran out.
 pub record AnswersEndless (source : Source) (limits : Limits) (answer : Result Const ConstEvalError) : Type 0 where
-  pub ends : OrNoMemory answer (Err past_blocks) ⊎ RefusesToRun source limits answer
-  pub within : HasDefinedCost source → 0 < limits.nesting → (entering source).bytes ≤ limits.bytes → OrNoMemory answer (Err past_blocks)
+  pub ends : OrNoMemory answer IsPastBlocks ⊎ RefusesToRun source limits answer
+  pub within : HasDefinedCost source → 0 < limits.nesting → (entering source).bytes ≤ limits.bytes → OrNoMemory answer IsPastBlocks
 
 -- a machine's outcome as an answer
 abbrev pub carried : Result Const MirEvalError → Result Const ConstEvalError
@@ -207,42 +213,11 @@ carried (Ok konst) = Ok konst
 carried (Err e) = Err (from_eval_error e)
 
 -- a run of the body entered `turns` blocks and ended in the answer, and the pointers of its definition's crate have 8 bytes
-pub record RunsTo (world : HirDatabase) (def : DefWithBodyId) (body : MirBody) (limits : Limits) (turns : ℕ) (answer : Result Const ConstEvalError) : Type 0 where
-  pub pointers : pointer_bytes world def ≡ Some 8
+pub record RunsTo (kept : Kept) (def : DefWithBodyId) (body : MirBody) (limits : Limits) (turns : ℕ) (answer : Result Const ConstEvalError) : Type 0 where
+  pub pointers : pointer_bytes kept.world def ≡ Some 8
   pub outcome : Result Const MirEvalError
-  pub ran : Ran world body limits turns outcome
+  pub ran : Ran kept body limits turns outcome
   pub is : answer ≡ carried outcome
-
--- the definition's body has a typing error
-pub record RefusesErrors (world : HirDatabase) (def : DefWithBodyId) (e : MirLowerError) : Type 0 where
-  pub errors : is_erroneous world def ≡ true
-  pub is : e ≡ refusal.HasErrors
-
--- the definition has no typing error, and isn't built yet
-pub record RefusesUnbuilt (world : HirDatabase) (def : DefWithBodyId) (args : GenericArgs) (e : MirLowerError) : Type 0 where
-  pub no_errors : is_erroneous world def ≡ false
-  pub unbuilt : is_unbuilt world def args ≡ true
-  pub is : e ≡ refusal.NotSupported (codes "form not built")
-
--- the definition is built, and has no body
-pub record RefusesMissing (world : HirDatabase) (def : DefWithBodyId) (args : GenericArgs) (e : MirLowerError) : Type 0 where
-  pub built : is_unbuilt world def args ≡ false
-  pub missing : body_row world def ≡ None
-  pub is : e ≡ refusal.IncompleteExpr
-
--- the definition is built, its body has no typing error, and its lowering was refused
-pub record RefusesLowering (world : HirDatabase) (def : DefWithBodyId) (args : GenericArgs) (e : MirLowerError) : Type 0 where
-  pub no_errors : is_erroneous world def ≡ false
-  pub built : is_unbuilt world def args ≡ false
-  pub row : BodyRow
-  pub found : body_row world def ≡ Some row
-  pub refuses : RefusesInferred (source_of world row) e
-
--- The body could not be lowered. Each cause stands only where those before it don't: a typing error, a definition that
--- isn't built yet, no body, and what lowering refuses.
-abbrev pub RefusesBody : HirDatabase → DefWithBodyId → GenericArgs → MirLowerError → Type 0
-RefusesBody world def args e =
-    RefusesErrors world def e ⊎ RefusesUnbuilt world def args e ⊎ RefusesMissing world def args e ⊎ RefusesLowering world def args e
 
 -- A body could not begin: the size of the crate's pointers isn't known, or it is another than 8 bytes, or else there is no
 -- level of nesting for the run, or else a local can have no cell, or else the cells take more bytes than the limit.
@@ -251,8 +226,8 @@ RefusesRun world def body limits e =
     ((e ≡ error.TargetDataLayoutNotAvailable (crate_or_first world def)) × (pointer_bytes world def ≡ None))
     ⊎ ((e ≡ error.NotSupported (codes "targets with different pointer size from host")) × (width : ℕ) × (pointer_bytes world def ≡ Some width) × (width ≢ 8))
     ⊎ ((e ≡ error.StackOverflow) × (pointer_bytes world def ≡ Some 8) × (limits.nesting ≡ 0))
-    ⊎ ((pointer_bytes world def ≡ Some 8) × (0 < limits.nesting) × (begun world body ≡ Err e))
-    ⊎ ((e ≡ error.MemoryLimitExceeded) × (pointer_bytes world def ≡ Some 8) × (0 < limits.nesting) × (start : Frame × Memory) × (begun world body ≡ Ok start) × (limits.bytes < bytes_taken start.1))
+    ⊎ ((pointer_bytes world def ≡ Some 8) × (0 < limits.nesting) × (begun (program_of world limits []) body ≡ Err e))
+    ⊎ ((e ≡ error.MemoryLimitExceeded) × (pointer_bytes world def ≡ Some 8) × (0 < limits.nesting) × (start : Frame × Memory) × (begun (program_of world limits []) body ≡ Ok start) × (limits.bytes < bytes_taken start.1))
 
 -- no run of a body began, for want of memory or for a cause that the answer names
 pub record NeverBegins (world : HirDatabase) (def : DefWithBodyId) (body : MirBody) (limits : Limits) (turns : ℕ) (answer : Result Const ConstEvalError) : Type 0 where
@@ -261,20 +236,23 @@ pub record NeverBegins (world : HirDatabase) (def : DefWithBodyId) (body : MirBo
   pub is : answer ≡ Err (from_eval_error fault)
   pub refuses : (fault ≡ error.NoMemory) ⊎ RefusesRun world def body limits fault
 
--- memory ran out in a run of a body or at its end: no more blocks are counted than the whole run enters
-pub record RunsOut (world : HirDatabase) (def : DefWithBodyId) (body : MirBody) (limits : Limits) (turns : ℕ) (answer : Result Const ConstEvalError) : Type 0 where
-  pub pointers : pointer_bytes world def ≡ Some 8
+-- memory ran out in a run of a body, at its end, or at a call for which it had to be told more: no more blocks are counted than
+-- the run enters that is told these answers, up to its end or its next question
+pub record RunsOut (kept : Kept) (def : DefWithBodyId) (body : MirBody) (limits : Limits) (turns : ℕ) (answer : Result Const ConstEvalError) : Type 0 where
+  pub pointers : pointer_bytes kept.world def ≡ Some 8
   pub nests : 0 < limits.nesting
+  pub answers : List (Query × Answer)
+  pub right : AreRightAnswers kept answers
   pub start : Frame × Memory
-  pub began : begun world body ≡ Ok start
+  pub began : begun (program_of kept.world limits answers) body ≡ Ok start
   pub fits : bytes_taken start.1 ≤ limits.bytes
   pub entered : turns ≤ limits.blocks - (run_of body start limits.blocks).left
   pub is : answer ≡ Err constant.NoMemory
 
 -- the answer of a body: that of its run, or why none began, or want of memory
-abbrev pub AnswersBody : HirDatabase → DefWithBodyId → MirBody → Limits → ℕ → Result Const ConstEvalError → Type 0
-AnswersBody world def body limits turns answer =
-    RunsTo world def body limits turns answer ⊎ NeverBegins world def body limits turns answer ⊎ RunsOut world def body limits turns answer
+abbrev pub AnswersBody : Kept → DefWithBodyId → MirBody → Limits → ℕ → Result Const ConstEvalError → Type 0
+AnswersBody kept def body limits turns answer =
+    RunsTo kept def body limits turns answer ⊎ NeverBegins kept.world def body limits turns answer ⊎ RunsOut kept def body limits turns answer
 
 -- The answer is that of the definition's kept body: the definition is built and is given no arguments, and the body is what lowering makes
 -- of its row.
@@ -283,7 +261,7 @@ pub record AnswersKept (kept : Kept) (def : DefWithBodyId) (args : GenericArgs) 
   pub body : MirBody
   pub found : Contains kept.entries (Lowered def body)
   pub lowered : IsLowered kept.world def body
-  pub answers : AnswersBody kept.world def body limits turns answer
+  pub answers : AnswersBody kept def body limits turns answer
 
 -- the definition's body could not be lowered, for want of memory or for a cause that the answer names, and no run began
 pub record NeverLowered (world : HirDatabase) (def : DefWithBodyId) (args : GenericArgs) (turns : ℕ) (answer : Result Const ConstEvalError) : Type 0 where

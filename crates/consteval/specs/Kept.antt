@@ -6,17 +6,24 @@ use Rattle.world.specs.declared.limits.Limits.{Limits}
 use Rattle.types.specs.declared.ids.DefWithBodyId.{DefWithBodyId}
 use Rattle.types.specs.declared.ty.Const.{Const}
 use Rattle.world.specs.Lookups.{body_row}
+use Rattle.mir.specs.Answers.{answer_to}
+use Rattle.mir.specs.declared.answers.Answer.{Answer}
+use Rattle.mir.specs.declared.answers.Answer.TheVariants as answer
+use Rattle.mir.specs.declared.answers.Query.{Query}
+use Rattle.mir.specs.declared.answers.Query.TheVariants as query
 use Rattle.mir.specs.declared.body.MirBody.{MirBody}
-use Rattle.mir.specs.Memory.{Memory}
-use Rattle.mir.specs.Run.{Frame, Ended, begun, entering}
-use Rattle.mir_eval.specs.Machine.{Machine, Going, outcome_of, pointer_bytes}
-use Rattle.mir_eval.specs.Room.{bytes_taken}
+use Rattle.mir.specs.declared.errors.ConstEvalError.TheVariants as constant
+use Rattle.mir.specs.Memory.{Memory, bytes_taken}
+use Rattle.mir.specs.Run.{Program, Frame, Ended, begun, entering}
+use Rattle.mir_eval.specs.Machine.{Machine, Going, Entry as BeforeBlock, outcome_of, pointer_bytes}
 use Rattle.mir_lower.specs.Built.{IsBuilt}
 use Rattle.mir_lower.specs.Order.{AreInOrder}
 use Rattle.mir_lower.specs.Refusals.{needs_drops}
 use Rattle.mir_lower.specs.Simulates.{Simulates}
-use Rattle.source_meaning.specs.Source.{Source, root}
+use Rattle.source_meaning.specs.Source.{root}
 use Rattle.consteval.specs.Built.{is_erroneous, is_unbuilt_definition}
+use Rattle.consteval.specs.Refusals.{RefusesBody}
+use Rattle.consteval.specs.Sources.{source_of}
 use Rattle.consteval.specs.declared.kept.Held.{Held}
 use Rattle.consteval.specs.declared.kept.Held.TheVariants as held
 use Rattle.consteval.specs.declared.kept.Key.{Key}
@@ -59,13 +66,9 @@ pub record Stays (before after : Kept) : Type 0 where
   pub more : List Entry
   pub entries : after.entries ≡ before.entries ++ more
 
--- a row of bodies as a source
-abbrev pub source_of : HirDatabase → BodyRow → Source
-source_of world row = record { world = world; body = row.body; infer = row.infer }
-
 -- A body that is kept for a definition is what lowering makes of its row: the definition is built, inference met no error in its body, each
--- expression that is evaluated has a form that is built, none of the graph's locals needs a drop function, the locals stand in the order of
--- lowering, and the graph simulates the row.
+-- expression that is evaluated has a form that is built, none of the graph's locals needs a drop function, none is a parameter's, the
+-- locals stand in the order of lowering, and the graph simulates the row.
 pub record IsLowered (world : HirDatabase) (def : DefWithBodyId) (body : MirBody) : Type 0 where
   pub no_errors : is_erroneous world def ≡ false
   pub built : is_unbuilt_definition world def ≡ false
@@ -73,43 +76,60 @@ pub record IsLowered (world : HirDatabase) (def : DefWithBodyId) (body : MirBody
   pub found : body_row world def ≡ Some row
   pub forms : IsBuilt (source_of world row) (root (source_of world row))
   pub dropless : needs_drops (source_of world row) body.locals ≡ false
+  pub params : body.param_locals ≡ []
   pub order : AreInOrder (source_of world row) body.locals
   pub owner : body.owner ≡ def
   pub simulates : Simulates (source_of world row) body
+
+-- An answer is right by what is kept: for the body of a definition that is given no arguments, the body that is kept for it; for one that
+-- can't be lowered, the refusal. Nothing else is a right answer.
+abbrev pub IsRightAnswer : Kept → Query → Answer → Type 0
+IsRightAnswer kept (query.Body def args) (answer.Body body) = (args.0 ≡ []) × Contains kept.entries (Lowered def body.value)
+IsRightAnswer kept (query.Body def args) (answer.Failed (constant.MirLowerError e)) = RefusesBody kept.world def args e
+IsRightAnswer kept _ _ = ⊥
+
+-- each answer that a run is told is right by what is kept
+pub record AreRightAnswers (kept : Kept) (answers : List (Query × Answer)) : Type 0 where
+  pub each : (q : Query) (a : Answer) → answer_to answers q ≡ Some a → IsRightAnswer kept q a
+
+-- what a run goes by, under limits, that is told these answers
+abbrev pub program_of : HirDatabase → Limits → List (Query × Answer) → Program
+program_of world limits answers = record { world = world; nesting = limits.nesting; bytes = limits.bytes; answers = answers }
 
 -- the end of a body's run under a budget of blocks
 abbrev pub run_of : MirBody → Frame × Memory → ℕ → Ended
 run_of body start blocks = entering blocks start.0 start.1 body.start_block.0
 
--- a machine is about to enter the body's first block, there is a level of nesting for its run, its cells are within the limit
--- on bytes, and the pointers of its owner's crate have 8 bytes
+-- a machine that was told nothing yet is about to enter the body's first block, there is a level of nesting for its run, its cells are
+-- within the limit on bytes, and the pointers of its owner's crate have 8 bytes
 pub record HasBegun (world : HirDatabase) (def : DefWithBodyId) (body : MirBody) (limits : Limits) (machine : Machine) : Type 0 where
   pub pointers : pointer_bytes world def ≡ Some 8
   pub nests : 0 < limits.nesting
   pub start : Frame × Memory
-  pub began : begun world body ≡ Ok start
+  pub began : begun (program_of world limits []) body ≡ Ok start
   pub fits : bytes_taken start.1 ≤ limits.bytes
   pub blocks : machine.blocks ≡ limits.blocks
-  pub nesting : machine.nesting ≡ limits.nesting
-  pub state : machine.state ≡ Going start.0 start.1 body.start_block.0 limits.blocks
+  pub state : machine.state ≡ Going (record { frame = start.0; memory = start.1; point = BeforeBlock body.start_block.0; left = limits.blocks })
 
--- A run of a kept body entered `turns` blocks and had this outcome. It took one level of nesting for itself, and handed out
--- its value from those that were left. Its cells took no more bytes than the limit.
-pub record Ran (world : HirDatabase) (body : MirBody) (limits : Limits) (turns : ℕ) (outcome : Result Const _) : Type 0 where
+-- A run of a kept body, told answers that are right by what is kept, entered `turns` blocks and had this outcome. It took one level of
+-- nesting for itself, and handed out its value from those that were left. The cells of the body took no more bytes than the limit.
+pub record Ran (kept : Kept) (body : MirBody) (limits : Limits) (turns : ℕ) (outcome : Result Const _) : Type 0 where
   pub nests : 0 < limits.nesting
+  pub answers : List (Query × Answer)
+  pub right : AreRightAnswers kept answers
   pub start : Frame × Memory
-  pub began : begun world body ≡ Ok start
+  pub began : begun (program_of kept.world limits answers) body ≡ Ok start
   pub fits : bytes_taken start.1 ≤ limits.bytes
-  pub ended : outcome ≡ outcome_of (limits.nesting - 1) body (run_of body start limits.blocks).ending
+  pub ended : outcome_of (limits.nesting - 1) body (run_of body start limits.blocks).ending ≡ Some outcome
   pub entered : turns ≡ limits.blocks - (run_of body start limits.blocks).left
 
--- a value is what a run of a kept body of its definition returned
+-- a value is what a run of a kept body of its definition returned, which was told answers that are right by what is kept
 pub record IsValueOf (kept : Kept) (def : DefWithBodyId) (konst : Const) : Type 0 where
   pub body : MirBody
   pub from : Contains kept.entries (Lowered def body)
   pub limits : Limits
   pub turns : ℕ
-  pub ran : Ran kept.world body limits turns (Ok konst)
+  pub ran : Ran kept body limits turns (Ok konst)
 
 -- an answer is right by its world and by the answers that were kept before it
 abbrev pub RestsOn : Kept → Entry → Type 0

@@ -1,4 +1,7 @@
 pub mod Answers
 pub mod Built
 pub mod Kept
+pub mod Questions
+pub mod Refusals
+pub mod Sources
 pub mod Valid

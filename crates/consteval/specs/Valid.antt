@@ -15,7 +15,7 @@ use Rattle.mir_eval.specs.Machine.{pointer_bytes}
 use Rattle.source_meaning.specs.Source.{node_type, root}
 use Rattle.source_meaning.specs.Valid.{IsPlain}
 use Rattle.mir_lower.specs.Refusals.{HasDrops}
-use Rattle.consteval.specs.Kept.{source_of}
+use Rattle.consteval.specs.Sources.{source_of}
 
 -- a constant of a type, without generic parameters
 pub record IsPlainConst (world : HirDatabase) (id : ConstId) (ty : Ty) : Type 0 where

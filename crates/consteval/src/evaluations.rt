@@ -5,7 +5,7 @@ ghost use Rattle.std.specs.Prelude.{◌≡◌, IfOk};
 use crate::Evaluated;
 use crate::kept::{Held, Key};
 use crate::lowering::{has_none, lower};
-use crate::running::{refused, run_body};
+use crate::running::refused;
 use mir::{ConstEvalError, MirBody, MirLowerError};
 use mir_eval::Limits;
 use std::alloc::Global;
@@ -70,10 +70,12 @@ impl<'w> Evaluations<'w> {
     ghost use Rattle.source_meaning.specs.Valid.{HasDefinedCost};
     ghost use Rattle.world.specs.Checked.{IsChecked};
     ghost use Rattle.consteval.specs.declared.kept.Key.TheVariants as key;
-    ghost use Rattle.consteval.specs.Kept.{Lowered, Value, IsKept, IsLowered, IsSound, IsValueOf, RestsOn, Stays, entry_of, key_of, source_of, with_entry};
+    ghost use Rattle.consteval.specs.Kept.{Lowered, Value, IsKept, IsLowered, IsSound, IsValueOf, RestsOn, Stays, entry_of, key_of, with_entry};
     ghost use Rattle.consteval.specs.Built.{no_args};
     ghost use Rattle.consteval.specs.Valid.{IsValid};
-    ghost use Rattle.consteval.specs.Answers.{GivesValue, CountsBlocks, GivesPanic, AnswersWithin, AnswersEndless, HasNoEnd, EndsIn, HasCause, RefusesBody, panic_word};
+    ghost use Rattle.consteval.specs.Answers.{GivesValue, CountsBlocks, GivesPanic, AnswersWithin, AnswersEndless, HasNoEnd, EndsIn, HasCause, panic_word};
+    ghost use Rattle.consteval.specs.Refusals.{RefusesBody};
+    ghost use Rattle.consteval.specs.Sources.{source_of};
 
     /// Evaluations that have kept nothing yet. It takes no memory.
     pub fn new(alloc: Global, world: &'w CheckedWorld) -> Result<Evaluations<'w>, NoMemory>
@@ -92,6 +94,13 @@ impl<'w> Evaluations<'w> {
         ensures { result.now ≡ self.now.world }
     {
         self.world
+    }
+
+    /// Where memory is taken from.
+    pub(crate) fn alloc(&self) -> Global
+        ensures sound { IsSound self.now }
+    {
+        self.alloc
     }
 
     /// What is kept for a key.
@@ -161,7 +170,7 @@ impl<'w> Evaluations<'w> {
     }
 
     /// The lowered body of a definition: the kept one, or a new one, which is then kept.
-    fn body_of(
+    pub(crate) fn body_of(
         &mut self,
         def: DefWithBodyId,
         args: &GenericArgs,
@@ -218,13 +227,15 @@ impl<'w> Evaluations<'w> {
         ensures sound { IsSound self.new }
         ensures checked { IsChecked self.new.world }
     {
+        // The clause `checked` needs that the world is checked, and `db` ensures it.
         let world = self.world;
         let db = world.db();
+        let _ = db;
         let body = match self.body_of(def, args) {
             Ok(body) => body,
             Err(error) => return refused(self.alloc, ConstEvalError::from(error)),
         };
-        run_body(self.alloc, db, def, body, limits)
+        self.run_body(def, body, limits)
     }
 
     /// Keeps the value of a definition, unless one is kept.
@@ -261,7 +272,8 @@ impl<'w> Evaluations<'w> {
     }
 
     /// Evaluates a definition: runs its kept lowered body, which is lowered and kept first where there is
-    /// none. A value is kept too, unless one is kept already.
+    /// none. So is the body of each function that the run calls. A value is kept too, unless one is kept
+    /// already.
     pub fn eval_def(&mut self, def: DefWithBodyId, args: &GenericArgs, limits: &Limits) -> Evaluated
         requires { IsWithin limits.now }
         ensures printed { result.output ≡ ([], []) }

@@ -3,7 +3,7 @@
 ghost use Rattle.std.specs.Prelude.{◌≡◌, ◌⊎◌, [], IsTrue, IfOk, IfErr, OnOk};
 ghost use Rattle.mir.specs.declared.errors.MirLowerError.TheVariants as refusal;
 ghost use Rattle.std.specs.Option.{option_copied};
-ghost use Rattle.consteval.specs.Answers.{RefusesBody};
+ghost use Rattle.consteval.specs.Refusals.{RefusesBody};
 ghost use Rattle.consteval.specs.Built.{has_errors, has_generics, has_params, is_unbuilt, is_unbuilt_definition, is_unbuilt_function, is_unbuilt_item};
 ghost use Rattle.consteval.specs.Kept.{IsLowered};
 

@@ -7,7 +7,8 @@ use Rattle.mir.specs.declared.errors.MirEvalError.{MirEvalError}
 use Rattle.world.specs.Limits.{default_limits}
 use Rattle.world.specs.declared.limits.Limits.{Limits}
 use Rattle.source_meaning.specs.Valid.{HasDefinedCost}
-use Rattle.consteval.specs.Kept.{Kept, IsSound, Stays, Value, source_of}
+use Rattle.consteval.specs.Kept.{Kept, IsSound, Stays, Value}
+use Rattle.consteval.specs.Sources.{source_of}
 use Rattle.consteval.specs.Valid.{IsValid}
 use Rattle.consteval.specs.Answers.{GivesValue, CountsBlocks, GivesPanic, AnswersWithin, AnswersEndless, HasNoEnd, EndsIn, HasCause, panic_word}
 use Rattle.consteval.specs.declared.evaluated.Evaluated.{Evaluated}

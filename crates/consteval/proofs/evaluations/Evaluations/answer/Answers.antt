@@ -1,9 +1,11 @@
 -- Each answer has its cause.
-use Rattle.std.proofs.Common.{◌≡◌, rules, Err, sym, subst}
+use Rattle.std.proofs.Common.{Err, sym, subst}
 use Rattle.mir.specs.declared.errors.ConstEvalError.{ConstEvalError}
 use Rattle.consteval.specs.Answers.{HasCause}
 use Rattle.consteval.specs.declared.evaluated.Evaluated.{Evaluated}
+use Rattle.consteval.specs.Kept.{Lowered}
 use Rattle.consteval.proofs.Causes.{cause-refused, cause-answered}
+use Rattle.consteval.proofs.Keeping.{contains-stays, kept-body-lowered, stays-then}
 use Rattle.consteval.proofs.evaluations.Evaluations.answer.Goals as goal
 
 pub returns-in-Err-clause-cause : goal.returns-in-Err-clause-cause
@@ -12,8 +14,15 @@ returns-in-Err-clause-cause c =
     (subst (λ (e : ConstEvalError). HasCause c.body_of.new.self c.args.def c.args.args.now c.args.limits.now 0 (Err e)) (sym c.from.ensures)
     (cause-refused c.body_of.new.self _ c.args.def c.args.args.now c.args.limits.now c.in-Err.error c.body_of.ensures.stays.world c.in-Err.ensures.refused))
 
+pub run_body-requires-clause-no_params : goal.run_body-requires-clause-no_params
+run_body-requires-clause-no_params c =
+    let lowered = kept-body-lowered c.body_of.new.self c.body_of.ensures.sound c.args.def c.in-Ok.body.value c.in-Ok.ensures.found in
+    lowered.params
+
 pub returns-clause-cause : goal.returns-clause-cause
 returns-clause-cause c =
-    let same : c.body_of.new.self.world ≡ c.db-db.result.now = search rules in
-    cause-answered c.body_of.new.self c.db-db.result.now c.args.def c.args.args.now c.args.limits.now c.run_body.result.turns c.in-Ok.body.value c.run_body.result.result
-    c.body_of.ensures.sound same c.in-Ok.ensures.given c.in-Ok.ensures.found c.run_body.ensures.answered
+    cause-answered c.run_body.new.self c.args.def c.args.args.now c.args.limits.now c.run_body.result.turns c.in-Ok.body.value c.run_body.result.result
+    c.run_body.ensures.sound c.in-Ok.ensures.given (contains-stays c.body_of.new.self c.run_body.new.self c.run_body.ensures.stays (Lowered c.args.def c.in-Ok.body.value) c.in-Ok.ensures.found) c.run_body.ensures.answered
+
+pub returns-clause-stays : goal.returns-clause-stays
+returns-clause-stays c = stays-then c.args.self.now c.body_of.new.self c.run_body.new.self c.body_of.ensures.stays c.run_body.ensures.stays

@@ -6,7 +6,7 @@ use Rattle.types.specs.declared.ty.GenericArg.{GenericArg}
 use Rattle.types.specs.declared.ty.GenericArgs.{GenericArgs}
 use Rattle.world.specs.Checked.{IsChecked}
 use Rattle.mir.specs.declared.errors.MirLowerError.TheVariants as refusal
-use Rattle.consteval.specs.Answers.{RefusesBody}
+use Rattle.consteval.specs.Refusals.{RefusesBody}
 use Rattle.consteval.specs.Built.{no_args}
 use Rattle.consteval.specs.Kept.{IsLowered}
 use Rattle.consteval.proofs.Keeping.{kept-body-lowered}
