@@ -1,15 +1,16 @@
 //! The lines of answers that no run of the program gives yet, written by hand.
 
-use mir::{ConstEvalError, MirEvalError, MirSpan, TrailEntry};
+use either::Either;
+use mir::{ConstEvalError, MirEvalError, MirLowerError, MirSpan, TrailEntry};
 use mir_eval::MirOutput;
 use report_text::goal_text;
 use std::alloc::Global;
 use std::test::Fail;
 use world::{
     BindingId, Box, Bytes, ComplexMemoryMap, Const, ConstId, ConstParamId, ConstParamRow,
-    DefWithBodyId, EnumVariantId, ExprId, FunctionId, HirDatabase, List, Map, MemoryMap,
-    Mutability, NoMemory, ParamConst, ParamTy, PatId, StaticId, Text, Ty, TypeParamId, UintTy,
-    ValueConst,
+    DefWithBodyId, EnumVariantId, ExprId, FunctionId, HirDatabase, InternedClosureId, List, Map,
+    MemoryMap, Mutability, NoMemory, ParamConst, ParamTy, PatId, StaticId, Text, Ty, TypeParamId,
+    UintTy, ValueConst,
 };
 
 /// A list of one element.
@@ -154,45 +155,77 @@ fn unsized_fault(alloc: Global) -> Result<MirEvalError, NoMemory> {
     Ok(MirEvalError::TypeIsUnsized(Ty::Slice(element), text))
 }
 
-/// A fault inside two frames.
-fn framed(
+/// What a fault of a run with these open calls is handed out as.
+fn in_function(
     alloc: Global,
-    first: TrailEntry,
-    second: TrailEntry,
+    fault: MirEvalError,
+    trail: List<TrailEntry>,
 ) -> Result<ConstEvalError, NoMemory> {
-    let fault = unsized_fault(alloc)?;
     let inner = Box::new(alloc, fault)?;
-    let trail = two(alloc, first, second)?;
     Ok(ConstEvalError::MirEvalError(MirEvalError::InFunction(inner, trail)))
 }
 
-/// A frame.
-fn entry(span: MirSpan, caller: DefWithBodyId) -> TrailEntry {
-    TrailEntry { span, caller }
+/// A call of a function.
+fn call_of(function: u32, span: MirSpan, caller: DefWithBodyId) -> TrailEntry {
+    TrailEntry {
+        callee: Either::Left(FunctionId(function)),
+        span,
+        caller,
+    }
 }
 
-/// A fault that passed through frames of a function and of a static.
-fn frames_of_a_function(alloc: Global) -> Result<(), Fail> {
-    let function = DefWithBodyId::FunctionId(FunctionId(2));
-    let of_static = DefWithBodyId::StaticId(StaticId(1));
-    let first = entry(MirSpan::ExprId(ExprId(4)), function);
-    let second = entry(MirSpan::Unknown, of_static);
-    let answer = Err(framed(alloc, first, second)?);
+/// A fault that passed through a function's call of a closure, and a static's call of that function.
+fn calls_of_a_closure(alloc: Global) -> Result<(), Fail> {
+    let of_closure = TrailEntry {
+        callee: Either::Right(InternedClosureId(3)),
+        span: MirSpan::ExprId(ExprId(4)),
+        caller: DefWithBodyId::FunctionId(FunctionId(2)),
+    };
+    let of_function = call_of(2, MirSpan::Unknown, DefWithBodyId::StaticId(StaticId(1)));
+    let trail = two(alloc, of_closure, of_function)?;
+    let answer = Err(in_function(alloc, unsized_fault(alloc)?, trail)?);
     let lines =
-        "goal 2 error eval InFunction(TypeIsUnsized([T], \"a \\\"b\\\"\\n\\\\\"), [expr#4 of fn#2, unknown of static#1])\n  turns 5\n";
+        "goal 2 error eval InFunction(TypeIsUnsized([T], \"a \\\"b\\\"\\n\\\\\"), [closure#3 at expr#4 of fn#2, fn#2 at unknown of static#1])\n  turns 5\n";
     says(alloc, 2, &answer, 5, lines)
 }
 
-/// A fault that passed through frames of a constant and of a variant.
-fn frames_of_a_constant(alloc: Global) -> Result<(), Fail> {
+/// A fault that passed through calls of functions by a constant and by a variant.
+fn calls_of_functions(alloc: Global) -> Result<(), Fail> {
     let constant = DefWithBodyId::ConstId(ConstId(0));
     let variant = DefWithBodyId::VariantId(EnumVariantId(9));
-    let first = entry(MirSpan::PatId(PatId(3)), constant);
-    let second = entry(MirSpan::BindingId(BindingId(6)), variant);
-    let answer = Err(framed(alloc, first, second)?);
+    let first = call_of(0, MirSpan::PatId(PatId(3)), constant);
+    let second = call_of(10, MirSpan::BindingId(BindingId(6)), variant);
+    let trail = two(alloc, first, second)?;
+    let text = Text::from_str(alloc, "too few arguments")?;
+    let answer = Err(in_function(alloc, MirEvalError::InternalError(text), trail)?);
     let lines =
-        "goal 0 error eval InFunction(TypeIsUnsized([T], \"a \\\"b\\\"\\n\\\\\"), [pat#3 of const#0, binding#6 of variant#9])\n  turns 1\n";
+        "goal 0 error eval InFunction(InternalError(\"too few arguments\"), [fn#0 at pat#3 of const#0, fn#10 at binding#6 of variant#9])\n  turns 1\n";
     says(alloc, 0, &answer, 1, lines)
+}
+
+/// A constant's call of a function whose body cannot be lowered, for this reason.
+fn not_lowered(alloc: Global, error: MirLowerError) -> Result<ConstEvalError, NoMemory> {
+    let constant = DefWithBodyId::ConstId(ConstId(1));
+    let call = call_of(0, MirSpan::ExprId(ExprId(1)), constant);
+    let fault = MirEvalError::MirLowerError(FunctionId(0), error);
+    in_function(alloc, fault, one(alloc, call)?)
+}
+
+/// A call of a function whose body has a typing error.
+fn erroneous_function(alloc: Global) -> Result<(), Fail> {
+    let answer = Err(not_lowered(alloc, MirLowerError::HasErrors)?);
+    let lines =
+        "goal 1 error eval InFunction(MirLowerError(fn#0, HasErrors), [fn#0 at expr#1 of const#1])\n  turns 1\n";
+    says(alloc, 1, &answer, 1, lines)
+}
+
+/// A call of a function whose body has a name that stands for nothing.
+fn unresolved_function(alloc: Global) -> Result<(), Fail> {
+    let name = Text::from_str(alloc, "x")?;
+    let answer = Err(not_lowered(alloc, MirLowerError::UnresolvedName(name))?);
+    let lines =
+        "goal 1 error eval InFunction(MirLowerError(fn#0, UnresolvedName(\"x\")), [fn#0 at expr#1 of const#1])\n  turns 1\n";
+    says(alloc, 1, &answer, 1, lines)
 }
 
 #[test]
@@ -203,6 +236,8 @@ fn answers_that_no_run_gives_have_lines(rt: HostRuntime) -> Result<(), Fail> {
     missing_constant(alloc)?;
     memory(alloc)?;
     memory_at_zero(alloc)?;
-    frames_of_a_function(alloc)?;
-    frames_of_a_constant(alloc)
+    calls_of_a_closure(alloc)?;
+    calls_of_functions(alloc)?;
+    erroneous_function(alloc)?;
+    unresolved_function(alloc)
 }

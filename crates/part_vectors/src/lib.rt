@@ -1,11 +1,15 @@
-//! Parts of the program by themselves, where no run reaches what is tested: a switch and the machine alone, a body that
-//! is checked by itself, and texts that no run writes yet.
+//! Parts of the program by themselves, where no run reaches what is tested: a switch, the machine and its calls alone, a
+//! body that is checked by itself, and texts that no run writes yet.
 #![tactic(auto)]
 
 #[cfg(test)]
 mod bodies;
 #[cfg(test)]
+mod calls;
+#[cfg(test)]
 mod goal_texts;
+#[cfg(test)]
+mod graphs;
 #[cfg(test)]
 mod machine;
 #[cfg(test)]

@@ -10,7 +10,7 @@ use Rattle.mir.specs.declared.errors.MirLowerError.{MirLowerError}
 use Rattle.mir.specs.declared.errors.MirLowerError.TheVariants as lower
 use Rattle.mir.specs.declared.errors.TrailEntry.{TrailEntry}
 use Rattle.world.specs.declared.database.HirDatabase.{HirDatabase}
-use Rattle.report_text.specs.Ids.{crate_text, def_text, span_text}
+use Rattle.report_text.specs.Ids.{callee_text, crate_text, def_text, function_text, span_text}
 use Rattle.report_text.specs.Texts.{bracketed, named, quoted}
 use Rattle.report_text.specs.Types.{type_text}
 
@@ -19,11 +19,11 @@ abbrev pub layout_error_text : LayoutError → List ℕ
 layout_error_text layout.HasPlaceholder = codes "HasPlaceholder"
 layout_error_text layout.Unknown = codes "Unknown"
 
--- the text of a stack frame that an error passed through: the place of the call in the source, and the body that it is in
+-- the text of a call that an error passed through: what was called, at which place in the source, and the body that this place is in
 abbrev pub entry_text : TrailEntry → List ℕ
-entry_text entry = span_text entry.span ++ (codes " of " ++ def_text entry.caller)
+entry_text entry = callee_text entry.callee ++ (codes " at " ++ (span_text entry.span ++ (codes " of " ++ def_text entry.caller)))
 
--- the text of all stack frames that an error passed through, in brackets
+-- the text of all calls that an error passed through, in brackets
 abbrev pub trail_text : List TrailEntry → List ℕ
 trail_text trail = bracketed (map entry_text trail)
 
@@ -47,12 +47,14 @@ eval_layer_text world (eval.LayoutError error ty) = named (codes "LayoutError") 
 eval_layer_text world (eval.TargetDataLayoutNotAvailable krate) = named (codes "TargetDataLayoutNotAvailable") (crate_text krate ∷ [])
 eval_layer_text world (eval.UndefinedBehavior text) = named (codes "UndefinedBehavior") (quoted text ∷ [])
 eval_layer_text world (eval.Panic text) = named (codes "Panic") (quoted text ∷ [])
+eval_layer_text world (eval.MirLowerError id error) = named (codes "MirLowerError") (function_text id ∷ lower_error_text error ∷ [])
 eval_layer_text world (eval.TypeIsUnsized ty text) = named (codes "TypeIsUnsized") (type_text world ty ∷ quoted text ∷ [])
 eval_layer_text world (eval.NotSupported text) = named (codes "NotSupported") (quoted text ∷ [])
 eval_layer_text world (eval.InFunction inner trail) = named (codes "InFunction") (inner ∷ trail_text trail ∷ [])
 eval_layer_text world eval.ExecutionLimitExceeded = codes "ExecutionLimitExceeded"
 eval_layer_text world eval.StackOverflow = codes "StackOverflow"
 eval_layer_text world eval.MemoryLimitExceeded = codes "MemoryLimitExceeded"
+eval_layer_text world (eval.InternalError text) = named (codes "InternalError") (quoted text ∷ [])
 eval_layer_text world eval.NoMemory = codes "NoMemory"
 
 -- the text of an error of running MIR

@@ -1,22 +1,29 @@
 -- The texts of the ids of items, of nodes of a body and of MIR locals: a word for what has the id, and a number.
 use Rattle.std.specs.Prelude.{ℕ, List, ◌++◌, codes, decimal}
+use Rattle.either.specs.declared.Either.{Either}
+use Rattle.either.specs.declared.Either.TheVariants.{Left, Right}
 use Rattle.mir.specs.declared.ids.LocalId.{LocalId}
 use Rattle.mir.specs.declared.span.MirSpan.{MirSpan}
 use Rattle.mir.specs.declared.span.MirSpan.TheVariants.{ExprId, PatId, BindingId, Unknown}
 use Rattle.types.specs.declared.ids.Crate.{Crate}
 use Rattle.types.specs.declared.ids.DefWithBodyId.{DefWithBodyId}
-use Rattle.types.specs.declared.ids.DefWithBodyId.TheVariants.{FunctionId, StaticId, ConstId, VariantId}
+use Rattle.types.specs.declared.ids.DefWithBodyId.TheVariants as body
+use Rattle.types.specs.declared.ids.FunctionId.{FunctionId}
 use Rattle.types.specs.declared.ids.GenericParamId.{GenericParamId}
 use Rattle.types.specs.declared.ids.GenericParamId.TheVariants.{TypeParamId, ConstParamId}
 use Rattle.types.specs.declared.ids.InternedClosureId.{InternedClosureId}
 use Rattle.types.specs.declared.ids.TraitId.{TraitId}
 
+-- the text of a function
+abbrev pub function_text : FunctionId → List ℕ
+function_text id = codes "fn#" ++ decimal id.0
+
 -- the text of a definition with a body
 abbrev pub def_text : DefWithBodyId → List ℕ
-def_text (FunctionId id) = codes "fn#" ++ decimal id.0
-def_text (StaticId id) = codes "static#" ++ decimal id.0
-def_text (ConstId id) = codes "const#" ++ decimal id.0
-def_text (VariantId id) = codes "variant#" ++ decimal id.0
+def_text (body.FunctionId id) = function_text id
+def_text (body.StaticId id) = codes "static#" ++ decimal id.0
+def_text (body.ConstId id) = codes "const#" ++ decimal id.0
+def_text (body.VariantId id) = codes "variant#" ++ decimal id.0
 
 -- the text of a generic parameter
 abbrev pub generic_param_text : GenericParamId → List ℕ
@@ -34,6 +41,11 @@ crate_text krate = codes "crate#" ++ decimal krate.0
 -- the text of a closure
 abbrev pub closure_text : InternedClosureId → List ℕ
 closure_text id = codes "closure#" ++ decimal id.0
+
+-- the text of what a call enters: a function or a closure
+abbrev pub callee_text : Either FunctionId InternedClosureId → List ℕ
+callee_text (Left id) = function_text id
+callee_text (Right id) = closure_text id
 
 -- the text of a local of a MIR body
 abbrev pub local_text : LocalId → List ℕ

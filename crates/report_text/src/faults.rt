@@ -3,15 +3,15 @@
 ghost use Rattle.std.specs.Prelude.{◌≡◌, [], ◌∷◌, codes, map, IfOk};
 ghost use Rattle.report_text.specs.Texts.{named, quoted};
 ghost use Rattle.report_text.specs.Types.{type_text};
-ghost use Rattle.report_text.specs.Ids.{crate_text};
+ghost use Rattle.report_text.specs.Ids.{crate_text, function_text};
 ghost use Rattle.report_text.specs.Faults.{layout_error_text, entry_text, trail_text, lower_error_text, eval_error_text, fault_text};
 
-use crate::ids::{crate_text, def_text, span_text};
+use crate::ids::{callee_text, crate_text, def_text, function_text, span_text};
 use crate::texts::{bracketed, enclosed, joined, named_one, named_two, quoted};
 use crate::ty::type_text;
 use mir::{ConstEvalError, LayoutError, MirEvalError, MirLowerError, TrailEntry};
 use std::alloc::Global;
-use world::{Bytes, Crate, HirDatabase, List, NoMemory, Text, Ty};
+use world::{Bytes, Crate, FunctionId, HirDatabase, List, NoMemory, Text, Ty};
 
 /// The text of why a type has no layout.
 fn layout_error_text(alloc: Global, error: LayoutError) -> Result<Bytes, NoMemory>
@@ -23,17 +23,19 @@ fn layout_error_text(alloc: Global, error: LayoutError) -> Result<Bytes, NoMemor
     }
 }
 
-/// The text of a stack frame that an error passed through: the place of the call in the source, and the body
-/// that it is in.
+/// The text of a call that an error passed through: what was called, at which place in the source, and the body
+/// that this place is in.
 fn entry_text(alloc: Global, entry: TrailEntry) -> Result<Bytes, NoMemory>
     ensures { IfOk result (λ text. text ≡ entry_text entry) }
 {
+    let callee = callee_text(alloc, entry.callee)?;
     let span = span_text(alloc, entry.span)?;
     let caller = def_text(alloc, entry.caller)?;
-    enclosed(alloc, span.as_slice(), b" of ", caller.as_slice())
+    let place = enclosed(alloc, span.as_slice(), b" of ", caller.as_slice())?;
+    enclosed(alloc, callee.as_slice(), b" at ", place.as_slice())
 }
 
-/// The texts of the stack frames that an error passed through.
+/// The texts of the calls that an error passed through.
 fn entry_texts(alloc: Global, trail: &[TrailEntry]) -> Result<List<Bytes>, NoMemory>
     ensures { IfOk result (λ texts. texts ≡ map entry_text trail.now) }
 {
@@ -44,7 +46,7 @@ fn entry_texts(alloc: Global, trail: &[TrailEntry]) -> Result<List<Bytes>, NoMem
     Ok(texts)
 }
 
-/// The text of all stack frames that an error passed through, in brackets.
+/// The text of all calls that an error passed through, in brackets.
 fn trail_text(alloc: Global, trail: &List<TrailEntry>) -> Result<Bytes, NoMemory>
     ensures { IfOk result (λ text. text ≡ trail_text trail.now) }
 {
@@ -113,8 +115,21 @@ fn no_target_text(alloc: Global, krate: Crate) -> Result<Bytes, NoMemory>
     named_one(alloc, b"TargetDataLayoutNotAvailable", part)
 }
 
-/// The text of an error that was raised in a function, from the text of that error and the stack frames that it
-/// passed through.
+/// The text of the error for a function that was called and whose body could not be lowered to MIR.
+fn callee_not_lowered_text(
+    alloc: Global,
+    id: FunctionId,
+    error: &MirLowerError,
+) -> Result<Bytes, NoMemory>
+    ensures { IfOk result (λ text. text ≡ named (codes "MirLowerError") (function_text id ∷ lower_error_text error.now ∷ [])) }
+{
+    let callee = function_text(alloc, id)?;
+    let error = lower_error_text(alloc, error)?;
+    named_two(alloc, b"MirLowerError", callee, error)
+}
+
+/// The text of an error that was raised in a function, from the text of that error and the calls that it passed
+/// through.
 fn in_function_text(
     alloc: Global,
     inner: Bytes,
@@ -136,6 +151,7 @@ fn eval_error_text(alloc: Global, db: &HirDatabase, error: &MirEvalError) -> Res
         MirEvalError::TargetDataLayoutNotAvailable(krate) => no_target_text(alloc, *krate),
         MirEvalError::UndefinedBehavior(text) => with_quoted(alloc, b"UndefinedBehavior", text),
         MirEvalError::Panic(text) => with_quoted(alloc, b"Panic", text),
+        MirEvalError::MirLowerError(id, error) => callee_not_lowered_text(alloc, *id, error),
         MirEvalError::TypeIsUnsized(ty, text) => unsized_text(alloc, db, ty, text),
         MirEvalError::NotSupported(text) => with_quoted(alloc, b"NotSupported", text),
         MirEvalError::InFunction(inner, trail) => {
@@ -147,6 +163,7 @@ fn eval_error_text(alloc: Global, db: &HirDatabase, error: &MirEvalError) -> Res
         }
         MirEvalError::StackOverflow => Bytes::from_slice(alloc, b"StackOverflow"),
         MirEvalError::MemoryLimitExceeded => Bytes::from_slice(alloc, b"MemoryLimitExceeded"),
+        MirEvalError::InternalError(text) => with_quoted(alloc, b"InternalError", text),
         MirEvalError::NoMemory => Bytes::from_slice(alloc, b"NoMemory"),
     }
 }

@@ -2,19 +2,29 @@
 //! number.
 
 ghost use Rattle.std.specs.Prelude.{◌≡◌, IfOk};
-ghost use Rattle.report_text.specs.Ids.{def_text, generic_param_text, trait_text, crate_text, closure_text, local_text, span_text};
+ghost use Rattle.report_text.specs.Ids.{function_text, def_text, generic_param_text, trait_text, crate_text, closure_text, callee_text, local_text, span_text};
 
 use crate::texts::numbered;
+use either::Either;
 use mir::{LocalId, MirSpan};
 use std::alloc::Global;
-use world::{Bytes, Crate, DefWithBodyId, GenericParamId, InternedClosureId, NoMemory, TraitId};
+use world::{
+    Bytes, Crate, DefWithBodyId, FunctionId, GenericParamId, InternedClosureId, NoMemory, TraitId,
+};
+
+/// The text of a function.
+pub(crate) fn function_text(alloc: Global, id: FunctionId) -> Result<Bytes, NoMemory>
+    ensures { IfOk result (λ text. text ≡ function_text id) }
+{
+    numbered(alloc, b"fn#", id.0 as u64)
+}
 
 /// The text of a definition with a body.
 pub(crate) fn def_text(alloc: Global, def: DefWithBodyId) -> Result<Bytes, NoMemory>
     ensures { IfOk result (λ text. text ≡ def_text def) }
 {
     match def {
-        DefWithBodyId::FunctionId(id) => numbered(alloc, b"fn#", id.0 as u64),
+        DefWithBodyId::FunctionId(id) => function_text(alloc, id),
         DefWithBodyId::StaticId(id) => numbered(alloc, b"static#", id.0 as u64),
         DefWithBodyId::ConstId(id) => numbered(alloc, b"const#", id.0 as u64),
         DefWithBodyId::VariantId(id) => numbered(alloc, b"variant#", id.0 as u64),
@@ -50,6 +60,19 @@ pub(crate) fn closure_text(alloc: Global, id: InternedClosureId) -> Result<Bytes
     ensures { IfOk result (λ text. text ≡ closure_text id) }
 {
     numbered(alloc, b"closure#", id.0 as u64)
+}
+
+/// The text of what a call enters: a function or a closure.
+pub(crate) fn callee_text(
+    alloc: Global,
+    callee: Either<FunctionId, InternedClosureId>,
+) -> Result<Bytes, NoMemory>
+    ensures { IfOk result (λ text. text ≡ callee_text callee) }
+{
+    match callee {
+        Either::Left(id) => function_text(alloc, id),
+        Either::Right(id) => closure_text(alloc, id),
+    }
 }
 
 /// The text of a local of a MIR body.

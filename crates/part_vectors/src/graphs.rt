@@ -1,0 +1,109 @@
+//! Parts of graphs that are made by hand, without a source.
+
+use mir::{
+    BasicBlock, Local, LocalId, MirSpan, Operand, OperandKind, Place, Statement, StatementKind,
+    Terminator, TerminatorKind,
+};
+use std::alloc::Global;
+use world::{
+    Bytes, Const, ConstId, ConstRow, Crate, CrateRow, DefWithBodyId, HirDatabase, Layout, List,
+    MemoryMap, NoMemory, Ty, UintTy, ValueConst, Variants,
+};
+
+/// The constant whose body a run begins in.
+pub(crate) const OWNER: DefWithBodyId = DefWithBodyId::ConstId(ConstId(0));
+
+/// The return place.
+pub(crate) const SLOT: Place = Place { local: LocalId(0) };
+
+fn u64_type() -> Ty {
+    Ty::Uint(UintTy::U64)
+}
+
+/// A world of one constant of the type `u64`.
+pub(crate) fn world_of_one(alloc: Global) -> Result<HirDatabase, NoMemory> {
+    let mut db = HirDatabase::new(alloc);
+    db.crates.push(CrateRow {
+        pointer_bytes: Some(8),
+    })?;
+    db.consts.push(ConstRow {
+        name: None,
+        krate: Crate(0),
+        generics: List::new(alloc),
+        ty: u64_type(),
+        body: None,
+    })?;
+    let layout = Layout {
+        size: 8,
+        align: 8,
+        sized: true,
+        offsets: List::new(alloc),
+        variants: Variants::Single(0),
+    };
+    db.layouts.push((u64_type(), layout))?;
+    Ok(db)
+}
+
+/// A constant of this type with these bytes, as an operand.
+pub(crate) fn constant(ty: Ty, value: ValueConst) -> Operand {
+    Operand {
+        kind: OperandKind::Constant {
+            konst: Const::Value(value),
+            ty,
+        },
+        span: None,
+    }
+}
+
+/// A number as an operand.
+pub(crate) fn number(alloc: Global, number: u8) -> Result<Operand, NoMemory> {
+    let mut memory = Bytes::new(alloc);
+    memory.push(number)?;
+    for _ in 0..7 {
+        memory.push(0)?;
+    }
+    let value = ValueConst {
+        ty: u64_type(),
+        memory,
+        memory_map: MemoryMap::Empty,
+    };
+    Ok(constant(u64_type(), value))
+}
+
+/// What a local has, as an operand.
+pub(crate) fn copy_of(local: u32) -> Operand {
+    Operand {
+        kind: OperandKind::Copy(Place {
+            local: LocalId(local),
+        }),
+        span: None,
+    }
+}
+
+pub(crate) fn statement(kind: StatementKind) -> Statement {
+    Statement {
+        kind,
+        span: MirSpan::Unknown,
+    }
+}
+
+/// A block that runs these statements and then ends.
+pub(crate) fn block(statements: List<Statement>, kind: TerminatorKind) -> BasicBlock {
+    BasicBlock {
+        statements,
+        terminator: Some(Terminator {
+            span: MirSpan::Unknown,
+            kind,
+        }),
+        is_cleanup: false,
+    }
+}
+
+/// This many locals of the type `u64`.
+pub(crate) fn locals(alloc: Global, count: u8) -> Result<List<Local>, NoMemory> {
+    let mut locals = List::new(alloc);
+    for _ in 0..count {
+        locals.push(Local { ty: u64_type() })?;
+    }
+    Ok(locals)
+}
