@@ -1,76 +1,56 @@
--- The memory of a run: the bytes at an interval, and where the cells of a body's locals lie.
-use Rattle.std.specs.Prelude.{ℕ, ◌+◌, ◌-◌, ◌*◌, ◌/◌, if◌then◌else◌, nat_le, List, [], ◌∷◌, ◌++◌, length, take, drop, replicate, Option, Some, None, Result, Ok, Err, codes}
+-- The memory of a run as its frames use it: the cells of a body's locals, and why locals can have none.
+use Rattle.std.specs.Prelude.{ℕ, if◌then◌else◌, List, [], ◌∷◌, Option, Some, None, Result, Ok, Err, codes}
 use Rattle.world.specs.declared.database.HirDatabase.{HirDatabase}
 use Rattle.world.specs.declared.layout.Layout.{Layout}
 use Rattle.types.specs.declared.ty.Ty.{Ty}
 use Rattle.world.specs.Lookups.{layout_of}
+use Rattle.mir.specs.Areas.{Areas, after_push, bytes_at}
+use Rattle.mir.specs.declared.address.CellSize.{CellSize}
+use Rattle.mir.specs.declared.address.Interval.{Interval}
 use Rattle.mir.specs.declared.body.Local.{Local}
+use Rattle.mir.specs.declared.mem_fault.MemFault.{MemFault}
 use Rattle.mir.specs.declared.errors.MirEvalError.{MirEvalError}
 use Rattle.mir.specs.declared.errors.MirEvalError as error
 use Rattle.mir.specs.Errors.{layout_error_of}
 
--- where a cell lies on the stack: its first byte, and how many bytes it has
-pub record Interval : Type 0 where
-  pub address : ℕ
-  pub size : ℕ
+-- what a run keeps its bytes in: a stack and a heap, each up to a limit
+abbrev pub Memory : Type 0
+Memory = Areas
 
--- what a run keeps its bytes in
-pub record Memory : Type 0 where
-  pub stack : List ℕ
+-- the bytes of a cell, where the memory has them
+abbrev pub cell_bytes : Memory → Interval → Option (List ℕ)
+cell_bytes memory cell = bytes_at memory cell.addr cell.size
 
--- before anything was placed: one byte, so that no cell has the address 0
-abbrev pub first_memory : Memory
-first_memory = record { stack = 0 ∷ [] }
+-- how large a local's cell is, and which number divides its address; or why it can have none: its type has no layout, or no size
+unfoldable pub cell_size_of : Ty → Option Layout → Result CellSize MirEvalError
+cell_size_of ty None = Err (error.LayoutError (layout_error_of ty) ty)
+cell_size_of ty (Some layout) =
+    if layout.sized
+    then Ok (record { size = layout.size; align = layout.align })
+    else Err (error.TypeIsUnsized ty (codes "no unsized local in extending stack"))
 
--- the bytes of an interval, where it lies inside the stack
-unfoldable pub bytes_at : Memory → Interval → Option (List ℕ)
-bytes_at memory cell =
-    if nat_le (cell.address + cell.size) (length memory.stack) then Some (take cell.size (drop cell.address memory.stack)) else None
+-- a cell's size before those of the cells after it
+abbrev pub size_before : CellSize → Result (List CellSize) MirEvalError → Result (List CellSize) MirEvalError
+size_before size (Ok sizes) = Ok (size ∷ sizes)
+size_before size (Err e) = Err e
 
--- the memory with other bytes from an address on, where they lie inside the stack
-unfoldable pub with_bytes : Memory → ℕ → List ℕ → Option Memory
-with_bytes memory address bytes =
-    if nat_le (address + length bytes) (length memory.stack)
-    then Some (record { stack = take address memory.stack ++ (bytes ++ drop (address + length bytes) memory.stack) })
-    else None
+-- the sizes of the cells of locals in order; or why the first that can have none has none
+unfoldable pub sizes_of : HirDatabase → List Local → Result (List CellSize) MirEvalError
+sizes_of world [] = Ok []
+sizes_of world (local ∷ locals) =
+    elim (cell_size_of local.ty (layout_of world local.ty)) [ Ok size ↦ size_before size (sizes_of world locals) | Err e ↦ Err e ]
 
--- the first address from one on that an alignment divides
-unfoldable pub aligned : ℕ → ℕ → ℕ
-aligned address align = (address + (align - 1)) / align * align
+-- cells that were pushed, in the errors of a run: they aren't where they would take more bytes than the limit
+abbrev pub pushed : Result (List Interval × Memory) MemFault → Result (List Interval × Memory) MirEvalError
+pushed (Ok placed) = Ok placed
+pushed (Err fault) = Err error.MemoryLimitExceeded
 
--- a zeroed cell at the first address from the stack's end on that the alignment divides
-unfoldable pub with_cell : Layout → Memory → Interval × Memory
-with_cell layout memory =
-    let address = aligned (length memory.stack) layout.align in (
-      record { address = address; size = layout.size },
-      record { stack = memory.stack ++ replicate (address + layout.size - length memory.stack) 0 },
-    )
+-- A new zeroed cell for each local in order, at the stack's end, and the memory with all of them; or why there are none: a local's type
+-- has no layout or no size, or the stack would pass the limit.
+unfoldable pub cells_of : HirDatabase → List Local → Memory → Result (List Interval × Memory) MirEvalError
+cells_of world locals memory = elim (sizes_of world locals) [ Ok sizes ↦ pushed (after_push memory sizes) | Err e ↦ Err e ]
 
--- a local's cell, or why it can have none: its type has no layout, or no size
-unfoldable pub placed : Ty → Option Layout → Memory → Result (Interval × Memory) MirEvalError
-placed ty None memory = Err (error.LayoutError (layout_error_of ty) ty)
-placed ty (Some layout) memory =
-    if layout.sized then Ok (with_cell layout memory) else Err (error.TypeIsUnsized ty (codes "no unsized local in extending stack"))
-
--- a cell before the cells of the locals after it
+-- a cell before other cells
 abbrev pub cell_before : Interval → Result (List Interval × Memory) MirEvalError → Result (List Interval × Memory) MirEvalError
 cell_before cell (Ok rest) = Ok (cell ∷ rest.0, rest.1)
 cell_before cell (Err e) = Err e
-
--- one cell for each local in order, and the memory with all of them; or why the first that has none has none
-unfoldable pub cells_of : HirDatabase → List Local → Memory → Result (List Interval × Memory) MirEvalError
-cells_of world [] memory = Ok ([], memory)
-cells_of world (local ∷ locals) memory =
-    elim (placed local.ty (layout_of world local.ty) memory) [
-      | Ok first ↦ cell_before first.0 (cells_of world locals first.1)
-      | Err e ↦ Err e
-    ]
-
--- how many bytes cells take, with what lies between them: those of the stack, but for the one at its start
-abbrev pub bytes_taken : Memory → ℕ
-bytes_taken memory = length memory.stack - 1
-
--- what was placed, where its memory takes no more bytes than a limit
-abbrev pub within_bytes : {A : Type 0} → ℕ → Result (A × Memory) MirEvalError → Result (A × Memory) MirEvalError
-within_bytes bytes (Ok placed) = if nat_le (bytes_taken placed.1) bytes then Ok placed else Err error.MemoryLimitExceeded
-within_bytes bytes (Err e) = Err e

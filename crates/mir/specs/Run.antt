@@ -51,7 +51,9 @@ use Rattle.mir.specs.declared.operand.Rvalue.TheVariants.{Use, CheckedBinaryOp, 
 use Rattle.mir.specs.declared.statement.Statement.{Statement}
 use Rattle.mir.specs.declared.statement.StatementKind.{StatementKind}
 use Rattle.mir.specs.declared.statement.StatementKind.TheVariants.{Assign, FakeRead, StorageLive, StorageDead}
-use Rattle.mir.specs.Memory.{Interval, Memory, first_memory, bytes_at, with_bytes, cell_before, cells_of, within_bytes}
+use Rattle.mir.specs.declared.address.Interval.{Interval}
+use Rattle.mir.specs.Areas.{first_areas, with_bytes}
+use Rattle.mir.specs.Memory.{Memory, cell_bytes, cell_before, cells_of}
 
 -- What a run goes by: its world, how deep calls may nest, how many bytes cells may take, and the answers that it was told, at most one
 -- to each query.
@@ -105,7 +107,7 @@ constant_bytes konst = layer_bytes (out-Const konst)
 
 -- the bytes that an operand has now
 unfoldable pub operand_bytes : Frame → Memory → OperandKind → Option (List ℕ)
-operand_bytes frame memory (Copy place) = option_and_then (bytes_at memory) (slice_get frame.cells place.local.0)
+operand_bytes frame memory (Copy place) = option_and_then (cell_bytes memory) (slice_get frame.cells place.local.0)
 operand_bytes frame memory (Constant konst ty) = constant_bytes konst
 
 -- the type of an operand
@@ -158,7 +160,7 @@ rvalue_bytes frame memory (UnaryOp op operand) = operated_on op (operand_type fr
 -- the memory after bytes were copied to a cell
 unfoldable pub copied : Memory → Option Interval → Result (List ℕ) MirEvalError → Result Memory MirEvalError
 copied memory (Some cell) (Ok bytes) =
-    elim (with_bytes memory cell.address bytes) [ Some after ↦ Ok after | None ↦ Err bad_write ]
+    elim (with_bytes memory cell.addr bytes) [ Some after ↦ Ok after | None ↦ Err bad_write ]
 copied memory (Some cell) (Err e) = Err e
 copied memory None bytes = Err bad_write
 
@@ -224,7 +226,7 @@ resumed program memory caller below =
 unfoldable pub after_return : Frame → Memory → Next
 after_return frame memory =
     elim frame.below [
-      | [] ↦ Stops (returned (option_and_then (bytes_at memory) (slice_get frame.cells 0)))
+      | [] ↦ Stops (returned (option_and_then (cell_bytes memory) (slice_get frame.cells 0)))
       | caller ∷ below ↦ resumed frame.program memory caller below
     ]
 
@@ -272,7 +274,7 @@ waiting frame call id = record { body = frame.body; cells = frame.cells; next = 
 -- and copied to them. A fault on the way is one of the caller, whose callee has no frame yet.
 unfoldable pub entered : Frame → Memory → Calling → FunctionId → MirBody → (destination : Option Interval) → Next
 entered frame memory call id body destination =
-    elim (within_bytes frame.program.bytes (called_cells frame.program.world body.locals destination memory)) [
+    elim (called_cells frame.program.world body.locals destination memory) [
       | Err e ↦ faults frame e
       | Ok placed ↦ elim (filled frame placed.0 body.param_locals call.args placed.1) [
         | Err e ↦ faults frame e
@@ -378,7 +380,7 @@ running budget frame memory block index = going_on budget (next_from frame memor
 -- a body's frame and memory before its first block, where none called it, or why it can't begin
 unfoldable pub begun : Program → MirBody → Result (Frame × Memory) MirEvalError
 begun program body =
-    elim (cells_of program.world body.locals first_memory) [
+    elim (cells_of program.world body.locals (first_areas program.bytes)) [
       | Ok placed ↦ Ok (record { program = program; body = body; cells = placed.0; below = [] }, placed.1)
       | Err e ↦ Err e
     ]

@@ -50,7 +50,8 @@ pub enum Answer {
     Discriminant(i128),
     /// A lowered body, which is shared with the runs of it.
     Body(Rc<MirBody>),
-    /// Why the query has no other answer. It answers each kind of query.
+    /// Why the query has no other answer. It answers each kind of query; a body fails only for an error of lowering,
+    /// or for want of memory.
     Failed(ConstEvalError),
 }
 

@@ -2,7 +2,8 @@
 use Rattle.std.proofs.Common.{◌≡◌, ℕ, suc, Bool, true, false, List, Option, Some, None, refl}
 use Rattle.std.specs.Prelude.{slice_get, Result, Ok, Err, nat_le}
 use Rattle.types.specs.declared.ids.FunctionId.{FunctionId}
-use Rattle.mir.specs.Memory.{Interval, Memory, within_bytes}
+use Rattle.mir.specs.declared.address.Interval.{Interval}
+use Rattle.mir.specs.Memory.{Memory}
 use Rattle.mir.specs.Run.{Frame, Calling, Next, Stops, GoesTo, Asks, levels_over, called_cells, filled, entered, called}
 use Rattle.mir.specs.declared.body.MirBody.{MirBody}
 use Rattle.mir.specs.declared.errors.MirEvalError.{MirEvalError}
@@ -22,7 +23,7 @@ entering_asks_nothing start (Asks q frame memory call) enters = absurd enters
 module _ (frame : Frame) where
   module _ (memory : Memory) (call : Calling) (id : FunctionId) (body : MirBody) where
     enters_filled : (destination : Option Interval) (placed : List Interval × Memory) (r : Result Memory MirEvalError)
-        → within_bytes frame.program.bytes (called_cells frame.program.world body.locals destination memory) ≡ Ok placed
+        → called_cells frame.program.world body.locals destination memory ≡ Ok placed
         → filled frame placed.0 body.param_locals call.args placed.1 ≡ r
         → Enters frame (entered frame memory call id body destination)
     unfolding entered
@@ -30,14 +31,14 @@ module _ (frame : Frame) where
     enters_filled destination placed (Err e) is then_is = rw (is, then_is, entered) tt
 
     enters_placed : (destination : Option Interval) (r : Result (List Interval × Memory) MirEvalError)
-        → within_bytes frame.program.bytes (called_cells frame.program.world body.locals destination memory) ≡ r
+        → called_cells frame.program.world body.locals destination memory ≡ r
         → Enters frame (entered frame memory call id body destination)
     unfolding entered
     enters_placed destination (Ok placed) is = enters_filled destination placed (filled frame placed.0 body.param_locals call.args placed.1) is refl
     enters_placed destination (Err e) is = rw (is, entered) tt
 
     enters_body : (destination : Option Interval) → Enters frame (entered frame memory call id body destination)
-    enters_body destination = enters_placed destination (within_bytes frame.program.bytes (called_cells frame.program.world body.locals destination memory)) refl
+    enters_body destination = enters_placed destination (called_cells frame.program.world body.locals destination memory) refl
 
     enters_returning : (cell : Option Interval) (block : ℕ) → call.target ≡ Some block → slice_get frame.cells call.destination.local.0 ≡ cell
         → Enters frame (called frame memory call id body)

@@ -1,7 +1,8 @@
 -- What a frame does that doesn't look at the answers of its run: with other answers it reads, writes and fills the same.
 use Rattle.std.proofs.Common.{◌≡◌, List, [], ◌∷◌, refl, ap}
 use Rattle.std.specs.Prelude.{slice_get, Result, Ok, Err}
-use Rattle.mir.specs.Memory.{Interval, Memory}
+use Rattle.mir.specs.declared.address.Interval.{Interval}
+use Rattle.mir.specs.Memory.{Memory}
 use Rattle.mir.specs.Run.{Frame, read, operand_bytes, rvalue_bytes, copied, after_statement, after_statements, filled}
 use Rattle.mir.specs.declared.answers.Answer.{Answer}
 use Rattle.mir.specs.declared.answers.Query.{Query}

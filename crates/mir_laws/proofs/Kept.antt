@@ -4,7 +4,7 @@ use Rattle.std.specs.Prelude.{slice_get, Result, Ok, Err, length, option_and_the
 use Rattle.types.specs.declared.ids.FunctionId.{FunctionId}
 use Rattle.types.specs.declared.ty.GenericArgs.{GenericArgs}
 use Rattle.mir.specs.Answers.{answer_to, answers_kind}
-use Rattle.mir.specs.Memory.{Memory, bytes_at}
+use Rattle.mir.specs.Memory.{Memory, cell_bytes}
 use Rattle.mir.specs.Run.{Frame, Waiting, Calling, Next, Stops, GoesTo, Asks, operand_bytes, operand_type, function_in, body_query, calling, returned, resumed, after_return, after_statements, called, called_by, calls, switched, terminated, next_from}
 use Rattle.mir.specs.declared.answers.Answer.{Answer}
 use Rattle.mir.specs.declared.answers.Answer.TheVariants as answer
@@ -88,7 +88,7 @@ module _ (frame : Frame) where
 
   kept_return : (memory : Memory) (below : List Waiting) → frame.below ≡ below → Keeps frame (after_return frame memory)
   unfolding after_return
-  kept_return memory [] is = rw (is, after_return) (kept_returned (option_and_then (bytes_at memory) (slice_get frame.cells 0)))
+  kept_return memory [] is = rw (is, after_return) (kept_returned (option_and_then (cell_bytes memory) (slice_get frame.cells 0)))
   kept_return memory (caller ∷ below) is =
       let goes_on : after_return frame memory ≡ resumed frame.program memory caller below = rw (is, after_return) in
       subst (Keeps frame) (sym goes_on) (kept_resumed memory caller below caller.next refl)

@@ -4,7 +4,8 @@ use Rattle.std.specs.Prelude.{slice_get, Result, Ok, Err, length, option_and_the
 use Rattle.types.specs.declared.ids.FunctionId.{FunctionId}
 use Rattle.types.specs.declared.ty.GenericArgs.{GenericArgs}
 use Rattle.mir.specs.Answers.{answer_to}
-use Rattle.mir.specs.Memory.{Interval, Memory, within_bytes}
+use Rattle.mir.specs.declared.address.Interval.{Interval}
+use Rattle.mir.specs.Memory.{Memory}
 use Rattle.mir.specs.Run.{Frame, Waiting, Calling, Next, Stops, GoesTo, Asks, operand_bytes, operand_type, function_in, body_query, calling, levels_over, resumed, after_return, after_statements, called_cells, filled, entered, called, called_by, calls, switched, terminated, next_from}
 use Rattle.mir.specs.declared.answers.Answer.{Answer}
 use Rattle.mir.specs.declared.answers.Answer.TheVariants as answer
@@ -28,7 +29,7 @@ retold later (Asks q frame memory call) = calls (telling later frame) memory cal
 module _ (later : List (Query × Answer)) (frame : Frame) where
   module _ (memory : Memory) (call : Calling) (id : FunctionId) (body : MirBody) where
     retold_filled : (destination : Option Interval) (placed : List Interval × Memory) (r : Result Memory MirEvalError)
-        → within_bytes frame.program.bytes (called_cells frame.program.world body.locals destination memory) ≡ Ok placed
+        → called_cells frame.program.world body.locals destination memory ≡ Ok placed
         → filled frame placed.0 body.param_locals call.args placed.1 ≡ r
         → entered (telling later frame) memory call id body destination ≡ retold later (entered frame memory call id body destination)
     unfolding entered
@@ -36,14 +37,14 @@ module _ (later : List (Query × Answer)) (frame : Frame) where
     retold_filled destination placed (Err e) is then_is = rw (is, same_filled later frame placed.0 body.param_locals call.args placed.1, then_is, entered)
 
     retold_placed : (destination : Option Interval) (r : Result (List Interval × Memory) MirEvalError)
-        → within_bytes frame.program.bytes (called_cells frame.program.world body.locals destination memory) ≡ r
+        → called_cells frame.program.world body.locals destination memory ≡ r
         → entered (telling later frame) memory call id body destination ≡ retold later (entered frame memory call id body destination)
     unfolding entered
     retold_placed destination (Ok placed) is = retold_filled destination placed (filled frame placed.0 body.param_locals call.args placed.1) is refl
     retold_placed destination (Err e) is = rw (is, entered)
 
     retold_entered : (destination : Option Interval) → entered (telling later frame) memory call id body destination ≡ retold later (entered frame memory call id body destination)
-    retold_entered destination = retold_placed destination (within_bytes frame.program.bytes (called_cells frame.program.world body.locals destination memory)) refl
+    retold_entered destination = retold_placed destination (called_cells frame.program.world body.locals destination memory) refl
 
     retold_returning : (cell : Option Interval) (block : ℕ) → call.target ≡ Some block → slice_get frame.cells call.destination.local.0 ≡ cell
         → called (telling later frame) memory call id body ≡ retold later (called frame memory call id body)

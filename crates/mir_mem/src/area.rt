@@ -5,9 +5,11 @@ ghost use Rattle.std.specs.Bool.{OnTrue, OnFalse};
 ghost use Rattle.std.specs.Option.{option_copied};
 ghost use Rattle.mir.specs.Areas.{part_of, with_part, grown_to};
 
+use crate::moves::move_bytes;
 use world::NoMemory;
 
 /// Whether an area has `size` bytes from an offset on.
+#[inline]
 fn has(area: &[u8], place: u64, size: u64) -> bool
     ensures { IsTrue result ↔ (place + size ≤ length area.now) }
 {
@@ -19,6 +21,7 @@ fn has(area: &[u8], place: u64, size: u64) -> bool
 
 /// The `size` bytes of an area from an offset on, if it has that many there.
 #[tactic(auto, unfolding(mir::specs::Areas::part_of))]
+#[inline]
 pub(crate) fn part_of(area: &[u8], place: u64, size: u64) -> Option<&[u8]>
     ensures { option_copied result ≡ part_of area.now place size }
 {
@@ -31,6 +34,7 @@ pub(crate) fn part_of(area: &[u8], place: u64, size: u64) -> Option<&[u8]>
 
 /// Writes bytes from an offset on, if the area has that many there; returns whether it has.
 #[tactic(auto, unfolding(mir::specs::Areas::with_part))]
+#[inline]
 pub(crate) fn write_part(area: &mut [u8], place: u64, bytes: &[u8]) -> bool
     ensures written { OnTrue result (with_part area.old place bytes.now ≡ Some area.new) }
     ensures refused { OnFalse result (with_part area.old place bytes.now ≡ None) }
@@ -47,6 +51,7 @@ pub(crate) fn write_part(area: &mut [u8], place: u64, bytes: &[u8]) -> bool
 
 /// Copies bytes of an area to another offset of it, if the area has that many there; returns whether it has.
 #[tactic(auto, unfolding(mir::specs::Areas::with_part))]
+#[inline]
 pub(crate) fn copy_part(area: &mut [u8], to: u64, from: u64, size: u64) -> bool
     requires { from + size ≤ length area.old }
     ensures written { OnTrue result (with_part area.old to (take size (drop from area.old)) ≡ Some area.new) }
@@ -54,7 +59,7 @@ pub(crate) fn copy_part(area: &mut [u8], to: u64, from: u64, size: u64) -> bool
     ensures kept { OnFalse result (area.new ≡ area.old) }
 {
     if has(area, to, size) {
-        area.copy_within(from as usize..(from + size) as usize, to as usize);
+        move_bytes(area, from as usize, size as usize, to as usize);
         true
     } else {
         false

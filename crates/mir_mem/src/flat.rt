@@ -34,6 +34,7 @@ impl FlatMemory {
 
     /// The bytes at an address, if they are in the memory.
     #[tactic(auto, unfolding(mir::specs::Areas::bytes_at, mir::specs::Areas::some_bytes_at))]
+    #[inline]
     fn bytes_at(&self, addr: Address, size: u64) -> Option<&[u8]>
         ensures { option_copied result ≡ bytes_at (areas_of self.now) addr size }
     {
@@ -49,6 +50,7 @@ impl FlatMemory {
 
     /// Writes bytes to an address, if the memory has that many there; returns whether it has.
     #[tactic(auto, unfolding(mir::specs::Areas::with_bytes, mir::specs::Areas::with_some_bytes))]
+    #[inline]
     fn put(&mut self, addr: Address, bytes: &[u8]) -> bool
         ensures written { OnTrue result (with_bytes (areas_of self.old) addr bytes.now ≡ Some (areas_of self.new)) }
         ensures refused { OnFalse result (with_bytes (areas_of self.old) addr bytes.now ≡ None) }
@@ -66,6 +68,7 @@ impl FlatMemory {
 
     /// Copies bytes of the stack to an address, if the memory has that many there; returns whether it has.
     #[tactic(auto, unfolding(mir::specs::Areas::with_some_bytes))]
+    #[inline]
     fn copy_from_stack(&mut self, to: Address, place: u64, size: u64) -> bool
         requires { place + size ≤ length (areas_of self.old).stack }
         ensures written { OnTrue result (with_some_bytes (areas_of self.old) to (take size (drop place (areas_of self.old).stack)) ≡ Some (areas_of self.new)) }
@@ -102,6 +105,7 @@ impl FlatMemory {
 
     /// Copies the bytes of an interval, which are in the memory, to an address, if the memory has that many
     /// there; returns whether it has.
+    #[inline]
     fn put_from(&mut self, to: Address, from: Interval) -> bool
         requires { IsSome (bytes_at (areas_of self.old) from.addr from.size) }
         ensures written { OnTrue result (option_and_then (with_bytes (areas_of self.old) to) (bytes_at (areas_of self.old) from.addr from.size) ≡ Some (areas_of self.new)) }
@@ -155,6 +159,7 @@ impl Memory for FlatMemory {
     }
 
     #[tactic(auto, unfolding(mir::specs::Areas::reading))]
+    #[inline]
     fn read(&self, addr: Address, size: u64) -> Result<View<'_>, MemFault> {
         match self.bytes_at(addr, size) {
             Some(bytes) => Ok(View::of(bytes)),
@@ -163,6 +168,7 @@ impl Memory for FlatMemory {
     }
 
     #[tactic(auto, unfolding(mir::specs::Areas::after_write))]
+    #[inline]
     fn write(&mut self, addr: Address, bytes: &[u8]) -> Result<(), MemFault> {
         if self.put(addr, bytes) {
             Ok(())
@@ -172,6 +178,7 @@ impl Memory for FlatMemory {
     }
 
     #[tactic(auto, unfolding(mir::specs::Areas::reading, mir::specs::Areas::after_write, mir::specs::Areas::after_copy))]
+    #[inline]
     fn copy(&mut self, to: Address, from: Interval) -> Result<(), MemFault> {
         if self.bytes_at(from.addr, from.size).is_none() {
             return Err(bad_read(self.alloc, from.addr, from.size));

@@ -10,6 +10,7 @@ mod int_value;
 mod interval;
 mod memory;
 mod memory_laws;
+mod moves;
 mod pad;
 mod placing;
 mod view;

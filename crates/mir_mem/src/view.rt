@@ -23,6 +23,7 @@ impl<'a> View<'a> {
     ghost use Rattle.std.specs.List.{concat};
 
     /// A view of these bytes, as one piece, or as none if there are no bytes.
+    #[inline]
     pub fn of(bytes: &'a [u8]) -> View<'a>
         ensures { result ≡ pieces_of bytes.now }
     {
@@ -30,6 +31,7 @@ impl<'a> View<'a> {
     }
 
     /// The length of all pieces together.
+    #[inline]
     pub fn len(&self) -> u64
         ensures { result ≡ length (concat self.now) }
     {
@@ -37,6 +39,7 @@ impl<'a> View<'a> {
     }
 
     /// The number of pieces.
+    #[inline]
     pub fn pieces(&self) -> u64
         ensures { result ≡ length self.now }
     {
@@ -44,6 +47,7 @@ impl<'a> View<'a> {
     }
 
     /// The piece at index `i`.
+    #[inline]
     pub fn piece(&self, i: u64) -> &[u8]
         requires { i < length self.now }
         ensures { slice_get self.now i ≡ Some result.now }
