@@ -1,8 +1,11 @@
+pub mod Alignments
 pub mod Blocks
 pub mod Callers
-pub mod CellLists
 pub mod Filling
 pub mod Laying
 pub mod Leading
 pub mod Operated
 pub mod Padded
+pub mod Joined
+pub mod Starting
+pub mod Wide

@@ -1,11 +1,14 @@
 -- Operators of a run that were computed without the table.
-use Rattle.std.proofs.Common.{◌≡◌, ℕ, List, Option, Some, None, Ok, ◌∙◌, ap}
-use Rattle.std.specs.Prelude.{IfSome, option_and_then}
+use Rattle.std.proofs.Common.{◌≡◌, ℕ, ◌<◌, ◌⊎◌, List, length, Option, Some, None, Ok, Err, ◌∙◌, ap}
+use Rattle.std.specs.Prelude.{IfSome, codes, option_and_then}
 use Rattle.types.specs.declared.ty.Ty.{Ty}
 use Rattle.numbers.specs.declared.operator.Kind.{Kind}
 use Rattle.numbers.specs.declared.operator.Operator.{Operator}
 use Rattle.numbers.specs.Operators.{Computes, computed, kind_of}
-use Rattle.mir.specs.Run.{answered, operated}
+use Rattle.mir.specs.declared.errors.MirEvalError as error
+use Rattle.mir.specs.declared.operand.UnOp.{UnOp}
+use Rattle.mir.specs.Run.{answered, operated, operated_on}
+use Rattle.mir_eval.proofs.Wide.{no-answer, no-answer-of-one}
 
 -- what the table would answer for two operands of one kind is what the run has
 pub operated_if_made : {A : Type 0} (bytes : A → List ℕ) (result : Option A) (op : Operator) (kind : Kind) (left_type right_type : Option Ty) (first second : Option (List ℕ)) (left right : List ℕ) → option_and_then kind_of left_type ≡ Some kind → option_and_then kind_of right_type ≡ Some kind → first ≡ Some left → second ≡ Some right → IfSome result (λ made. computed op (Some kind) (Some kind) left right ≡ Computes (bytes made)) → IfSome result (λ made. operated op left_type right_type first second ≡ Ok (bytes made))
@@ -17,3 +20,18 @@ operated_if_made bytes (Some made) op kind left_type right_type first second lef
     ∙ ap (λ (x : Option Kind). answered (computed op x (option_and_then kind_of right_type) left right)) h
     ∙ ap (λ (x : Option Kind). answered (computed op (Some kind) x left right)) k
     ∙ ap answered is
+
+-- operands of more than 16 bytes
+pub operated-wide : (op : Operator) (left_type right_type : Option Ty) (first second : Option (List ℕ)) (left right : List ℕ) → first ≡ Some left → second ≡ Some right → (16 < length left) ⊎ (16 < length right) →
+    operated op left_type right_type first second ≡ Err (error.NotSupported (codes "comparison of this type"))
+unfolding operated answered
+operated-wide op left_type right_type first second left right f g more =
+    ap (λ (x : Option (List ℕ)). operated op left_type right_type x second) f
+    ∙ ap (λ (x : Option (List ℕ)). operated op left_type right_type (Some left) x) g
+    ∙ ap answered (no-answer op left right more (option_and_then kind_of left_type) (option_and_then kind_of right_type))
+
+pub operated-on-wide : (op : UnOp) (ty : Option Ty) (first : Option (List ℕ)) (bytes : List ℕ) → first ≡ Some bytes → 16 < length bytes →
+    operated_on op ty first ≡ Err (error.NotSupported (codes "comparison of this type"))
+unfolding operated_on answered
+operated-on-wide op ty first bytes f more =
+    ap (λ (x : Option (List ℕ)). operated_on op ty x) f ∙ ap answered (no-answer-of-one bytes more op (option_and_then kind_of ty))

@@ -3,7 +3,7 @@ use Rattle.std.specs.Prelude.{List, ◌∷◌, option_map}
 use Rattle.types.specs.declared.ids.FunctionId.{FunctionId}
 use Rattle.types.specs.declared.ty.GenericArgs.{GenericArgs}
 use Rattle.mir.specs.declared.body.MirBody.{MirBody}
-use Rattle.mir.specs.Memory.{Interval}
+use Rattle.mir.specs.declared.address.Interval.{Interval}
 use Rattle.mir.specs.Run.{Calling, Frame, waiting}
 use Rattle.mir_eval.specs.declared.calls.Call.{Call}
 use Rattle.mir_eval.specs.declared.calls.Function.{Function}

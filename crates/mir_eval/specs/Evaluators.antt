@@ -1,11 +1,12 @@
 -- The machine that an evaluator is, and how its calls change it.
-use Rattle.std.specs.Prelude.{◌≡◌, Bool, true, false, List, Option, Some, None, Result, Ok, Err, unwrap_or}
+use Rattle.std.specs.Prelude.{◌≡◌, Bool, true, false, List, Option, Some, None, Result, Ok, unwrap_or}
 use Rattle.world.specs.declared.database.HirDatabase.{HirDatabase}
 use Rattle.types.specs.declared.ids.Crate.{Crate}
 use Rattle.types.specs.declared.ids.DefWithBodyId.{DefWithBodyId}
 use Rattle.types.specs.declared.ty.Const.{Const}
 use Rattle.world.specs.Lookups.{crate_of}
 use Rattle.mir.specs.declared.errors.MirEvalError.{MirEvalError}
+use Rattle.mir.specs.Areas.{Areas}
 use Rattle.mir.specs.Answers.{IsAfterPut}
 use Rattle.mir.specs.declared.answers.Answer.{Answer}
 use Rattle.mir.specs.declared.answers.Query.{Query}
@@ -15,16 +16,16 @@ use Rattle.mir_eval.specs.declared.evaluator.Evaluator.{Evaluator}
 use Rattle.mir_eval.specs.Phases.{state_of}
 use Rattle.mir_eval.specs.Machine.{Machine, Position, State, Fresh, Going, Asking, Over, with_answers}
 
--- the machine that an evaluator is
-abbrev pub machine_of : Evaluator → Machine
-machine_of evaluator =
+-- the machine that an evaluator is; `areas`: the stack and the heap that its memory is
+abbrev pub machine_of : {M : Type 0} → (areas : M → Areas) → Evaluator M → Machine
+machine_of areas evaluator =
     record {
       world = evaluator.db.now;
       owner = evaluator.owner;
       blocks = evaluator.blocks;
       nesting = evaluator.nesting;
       bytes = evaluator.bytes;
-      state = state_of evaluator.phase;
+      state = state_of areas evaluator.phase;
     }
 
 -- the crate of what has a body, and the first crate where the world has no row of it

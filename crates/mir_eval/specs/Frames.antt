@@ -8,7 +8,6 @@ use Rattle.mir_eval.specs.declared.frames.Program.{Program as RunProgram}
 use Rattle.mir_eval.specs.declared.frames.StackFrame.{StackFrame}
 use Rattle.mir_eval.specs.declared.frames.Suspended.{Suspended}
 use Rattle.mir_eval.specs.Machine.{call_at}
-use Rattle.mir_eval.specs.Steps.{interval_of}
 
 -- what a run goes by
 abbrev pub program_of : RunProgram → Program
@@ -17,7 +16,7 @@ program_of program = record { world = program.db.now; nesting = program.nesting;
 -- a caller that waits
 abbrev pub waiting_of : Suspended → Waiting
 waiting_of caller =
-    record { body = caller.body.value; cells = map interval_of caller.cells.items; next = option_map (λ block. block.0) caller.next; call = caller.call }
+    record { body = caller.body.value; cells = caller.cells.items; next = option_map (λ block. block.0) caller.next; call = caller.call }
 
 -- the callers that wait, the nearest first, of which the machine keeps the nearest last
 abbrev pub callers : List Suspended → List Waiting
@@ -26,7 +25,7 @@ callers below = reverse (map waiting_of below)
 -- a body that runs, over its callers
 abbrev pub frame_of : StackFrame → Frame
 frame_of running =
-    record { program = program_of running.program.now; body = running.body.now; cells = map interval_of running.cells.now; below = callers running.below.now }
+    record { program = program_of running.program.now; body = running.body.now; cells = running.cells.now; below = callers running.below.now }
 
 -- where a run stands at a call, a block of its body ends in one
 abbrev pub stands_at : MirBody → Point → Bool

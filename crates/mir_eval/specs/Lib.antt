@@ -1,8 +1,8 @@
+pub mod Alignments
 pub mod Calls
 pub mod Evaluators
 pub mod Frames
 pub mod Machine
 pub mod Phases
-pub mod Room
 pub mod Start
 pub mod Steps

@@ -4,7 +4,7 @@ use Rattle.mir.specs.declared.body.MirBody.{MirBody}
 use Rattle.mir.specs.declared.errors.MirEvalError.{MirEvalError}
 use Rattle.mir.specs.declared.errors.MirEvalError as error
 use Rattle.mir.specs.declared.ids.LocalId.{LocalId}
-use Rattle.mir.specs.Memory.{Memory, within_bytes}
+use Rattle.mir.specs.Memory.{Memory}
 use Rattle.mir.specs.Run.{Frame, begun}
 use Rattle.mir_eval.specs.Machine.{Machine, State, Going, Entry, on_a_level, pointer_bytes, program_at_first}
 
@@ -32,5 +32,5 @@ start_of machine body =
     if is_own_width (pointer_bytes machine.world machine.owner)
     then
     on_a_level machine.nesting
-    (started body.param_locals (within_bytes machine.bytes (begun (program_at_first machine) body)) body.start_block.0 machine.blocks)
+    (started body.param_locals (begun (program_at_first machine) body) body.start_block.0 machine.blocks)
     else Err (error.NotSupported (codes "targets with different pointer size from host"))

@@ -1,24 +1,24 @@
 //! Calls: what is called, the cells of its body, and its arguments.
 
-ghost use Rattle.std.specs.Prelude.{◌≡◌, ◌⊎◌, ◌^◌, ◌≤◌, ◌++◌, map, length, Ok, Err, IfOk, IfErr, option_map, option_and_then, slice_get};
+ghost use Rattle.std.specs.Prelude.{◌≡◌, ◌⊎◌, Ok, Err, IfOk, IfErr, option_map, option_and_then, slice_get};
 ghost use Rattle.mir.specs.declared.errors.MirEvalError as error;
-ghost use Rattle.mir.specs.Memory.{cells_of, within_bytes};
+ghost use Rattle.mir_eval.specs.Alignments.{HasAlignments};
 ghost use Rattle.mir.specs.Run.{called_cells, copied, filled, function_in, operand_bytes, operand_type, read};
 ghost use Rattle.mir_eval.specs.Calls.{call_is, function_is};
 ghost use Rattle.mir_eval.specs.Frames.{frame_of};
 ghost use Rattle.mir_eval.specs.Machine.{call_at};
-ghost use Rattle.mir_eval.specs.Room.{grown};
-ghost use Rattle.mir_eval.specs.Steps.{interval_of, memory, left_with};
+ghost use Rattle.mir_eval.specs.Steps.{left_with};
 
-use crate::cells::{Cell, cell_of};
+use crate::cells::cell_of;
 use crate::faults::Fault;
 use crate::frames::{Program, StackFrame};
-use crate::places::{Room, lay_out};
+use crate::places::{lay_out, listed};
 use crate::steps::assign_operand;
 use mir::{
-    BasicBlockId, LocalId, MirBody, MirEvalError, MirSpan, Operand, OperandKind, Place,
+    BasicBlockId, Interval, LocalId, MirBody, MirEvalError, MirSpan, Operand, OperandKind, Place,
     TerminatorKind,
 };
+use mir_mem::Memory;
 use std::alloc::Global;
 use world::{CallableDefId, FunctionId, GenericArgs, Ty};
 
@@ -92,73 +92,66 @@ pub(crate) fn callee<'r>(body: &'r MirBody, func: &'r OperandKind) -> Option<Fun
     }
 }
 
-/// Where the cells of a called body lie: its return slot at the destination, where there is one, and the others behind the stack.
-pub(crate) fn callee_room(
+/// The cells of a called body: its return slot is the destination, where there is one, and the others are new ones at the end of
+/// the stack.
+pub(crate) fn callee_cells<M: Memory>(
     alloc: Global,
     program: &Program<'_>,
     body: &MirBody,
-    destination: Option<Cell>,
-    stack: &[u8],
-) -> Result<Room, MirEvalError>
-    requires { program.now.bytes ≤ 2 ^ 59 }
-    ensures ok { IfOk result (λ room. within_bytes program.now.bytes (called_cells program.now.db.now body.now.locals (option_map interval_of destination) (memory stack.now)) ≡ Ok (map interval_of room.cells.items, memory (grown stack.now room.end))) }
-    ensures long { IfOk result (λ room. length stack.now ≤ room.end) }
-    ensures err { IfErr result (λ e. (e ≡ error.NoMemory) ⊎ (within_bytes program.now.bytes (called_cells program.now.db.now body.now.locals (option_map interval_of destination) (memory stack.now)) ≡ Err e)) }
+    destination: Option<Interval>,
+    memory: &mut M,
+) -> Result<Vec<Interval>, MirEvalError>
+    requires { HasAlignments program.now.db.now }
+    ensures ok { IfOk result (λ cells. called_cells program.now.db.now body.now.locals destination (M.areas memory.old) ≡ Ok (cells.items, M.areas memory.new)) }
+    ensures err { IfErr result (λ e. (e ≡ error.NoMemory) ⊎ (called_cells program.now.db.now body.now.locals destination (M.areas memory.old) ≡ Err e)) }
 {
-    let mut before = Vec::new(alloc);
     let locals = body.locals.as_slice();
-    match destination {
-        Some(cell) => {
-            if locals.is_empty() {
-                return lay_out(alloc, program.db, before, locals, stack, program.bytes);
-            }
-            if before.push(cell).is_err() {
-                return Err(MirEvalError::NoMemory);
-            }
-            lay_out(
-                alloc,
-                program.db,
-                before,
-                &locals[1..],
-                stack,
-                program.bytes,
-            )
-        }
-        None => lay_out(alloc, program.db, before, locals, stack, program.bytes),
+    let slot = if locals.is_empty() { None } else { destination };
+    let others = match slot {
+        Some(_) => &locals[1..],
+        None => locals,
+    };
+    let placed = match lay_out(alloc, program.db, others, memory) {
+        Ok(placed) => placed,
+        Err(error) => return Err(error),
+    };
+    match listed(alloc, slot, placed.as_slice()) {
+        Ok(cells) => Ok(cells),
+        Err(_) => Err(MirEvalError::NoMemory),
     }
 }
 
 /// Copies an argument to the local of its parameter.
 #[tactic(auto, unfolding(mir::specs::Run::copied))]
-fn fill_one(
+fn fill_one<M: Memory>(
     caller: StackFrame<'_, '_>,
-    stack: &mut [u8],
-    cells: &[Cell],
+    memory: &mut M,
+    cells: &[Interval],
     param: LocalId,
     arg: &Operand,
 ) -> Result<(), Fault>
-    ensures { left_with stack.new result ≡ copied (memory stack.old) (slice_get (map interval_of cells.now) param.0) (read (operand_bytes (frame_of caller.entry) (memory stack.old) arg.now.kind)) }
+    ensures { left_with (M.areas memory.new) result ≡ copied (M.areas memory.old) (slice_get cells.now param.0) (read (operand_bytes (frame_of caller.entry) (M.areas memory.old) arg.now.kind)) }
 {
     match cell_of(cells, param) {
-        Some(to) => assign_operand(caller, stack, to, &arg.kind),
+        Some(to) => assign_operand(caller, memory, to, &arg.kind),
         None => Err(Fault::BadWrite),
     }
 }
 
 /// Copies each argument to the local of its parameter.
 #[tactic(auto, unfolding(mir::specs::Run::filled))]
-pub(crate) fn fill(
+pub(crate) fn fill<M: Memory>(
     caller: StackFrame<'_, '_>,
-    stack: &mut [u8],
-    cells: &[Cell],
+    memory: &mut M,
+    cells: &[Interval],
     params: &[LocalId],
     args: &[Operand],
 ) -> Result<(), Fault>
-    ensures { left_with stack.new result ≡ filled (frame_of caller.entry) (map interval_of cells.now) params.now args.now (memory stack.old) }
+    ensures { left_with (M.areas memory.new) result ≡ filled (frame_of caller.entry) cells.now params.now args.now (M.areas memory.old) }
 {
     let mut i: usize = 0;
     while i < params.len() && i < args.len() {
-        match fill_one(caller, stack, cells, params[i], &args[i]) {
+        match fill_one(caller, memory, cells, params[i], &args[i]) {
             Ok(()) => {}
             Err(fault) => return Err(fault),
         }

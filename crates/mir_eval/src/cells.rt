@@ -1,25 +1,18 @@
 //! The cells of locals, and the bytes in them.
 
-ghost use Rattle.std.specs.Prelude.{◌≡◌, map, slice_get, option_map, option_copied, Some, Ok};
-ghost use Rattle.mir.specs.Memory.{bytes_at};
+ghost use Rattle.std.specs.Prelude.{◌≡◌, slice_get, option_map, Some, Ok};
+ghost use Rattle.std.specs.List.{concat};
+ghost use Rattle.mir.specs.Memory.{cell_bytes};
 ghost use Rattle.mir.specs.Run.{copied, read};
-ghost use Rattle.mir_eval.specs.Steps.{interval_of, memory, left_with};
+ghost use Rattle.mir_eval.specs.Steps.{left_with};
 
 use crate::faults::Fault;
-use crate::moves::move_bytes;
-use mir::LocalId;
-
-/// Where the cell of a local lies on the stack: its first byte, and how many bytes it has.
-#[derive(Clone, Copy, PartialEq, Eq, Debug)]
-pub(crate) struct Cell {
-    pub address: u64,
-    pub size: u64,
-}
+use mir::{Interval, LocalId};
+use mir_mem::{Memory, View};
 
 /// The cell of a local.
-#[tactic(auto, using(std::proofs::lemmas::Option::gets))]
-pub(crate) fn cell_of(cells: &[Cell], local: LocalId) -> Option<Cell>
-    ensures { option_map interval_of result ≡ slice_get (map interval_of cells.now) local.0 }
+pub(crate) fn cell_of(cells: &[Interval], local: LocalId) -> Option<Interval>
+    ensures { result ≡ slice_get cells.now local.0 }
 {
     match cells.get(local.0 as usize) {
         Some(cell) => Some(*cell),
@@ -27,64 +20,41 @@ pub(crate) fn cell_of(cells: &[Cell], local: LocalId) -> Option<Cell>
     }
 }
 
-/// The bytes of a cell, where it lies inside the stack.
-#[tactic(auto, unfolding(mir::specs::Memory::bytes_at))]
-pub(crate) fn read(stack: &[u8], cell: Cell) -> Option<&[u8]>
-    ensures { option_copied result ≡ bytes_at (memory stack.now) (interval_of cell) }
-{
-    match cell.address.checked_add(cell.size) {
-        Some(end) => {
-            if end <= stack.len() as u64 {
-                Some(&stack[cell.address as usize..end as usize])
-            } else {
-                None
-            }
-        }
-        None => None,
-    }
-}
-
-/// Writes bytes from the start of a cell on, where they lie inside the stack.
+/// The bytes of a cell, where the memory has them.
 #[inline(always)]
-#[tactic(auto, unfolding(mir::specs::Memory::with_bytes, mir::specs::Run::copied))]
-pub(crate) fn write(stack: &mut [u8], to: Cell, bytes: &[u8]) -> Result<(), Fault>
-    ensures { left_with stack.new result ≡ copied (memory stack.old) (Some (interval_of to)) (Ok bytes.now) }
+#[tactic(auto, unfolding(mir::specs::Areas::reading))]
+pub(crate) fn read<M: Memory>(memory: &M, cell: Interval) -> Option<View<'_>>
+    ensures { option_map concat result ≡ cell_bytes (M.areas memory.now) cell }
 {
-    match to.address.checked_add(bytes.len() as u64) {
-        Some(end) => {
-            if end <= stack.len() as u64 {
-                stack[to.address as usize..end as usize].copy_from_slice(bytes);
-                Ok(())
-            } else {
-                Err(Fault::BadWrite)
-            }
-        }
-        None => Err(Fault::BadWrite),
+    memory.read(cell.addr, cell.size).ok()
+}
+
+/// Writes bytes from the start of a cell on, where the memory has as many there.
+#[inline(always)]
+#[tactic(auto, unfolding(mir::specs::Areas::after_write, mir::specs::Run::copied))]
+pub(crate) fn write<M: Memory>(memory: &mut M, to: Interval, bytes: &[u8]) -> Result<(), Fault>
+    ensures { left_with (M.areas memory.new) result ≡ copied (M.areas memory.old) (Some to) (Ok bytes.now) }
+{
+    match memory.write(to.addr, bytes) {
+        Ok(()) => Ok(()),
+        Err(_) => Err(Fault::BadWrite),
     }
 }
 
-/// Copies the bytes of a cell to the start of another one, where both lie inside the stack.
-#[tactic(auto, unfolding(mir::specs::Memory::bytes_at, mir::specs::Memory::with_bytes, mir::specs::Run::copied))]
-pub(crate) fn copy(stack: &mut [u8], from: Cell, to: Cell) -> Result<(), Fault>
-    ensures { left_with stack.new result ≡ copied (memory stack.old) (Some (interval_of to)) (read (bytes_at (memory stack.old) (interval_of from))) }
+/// Copies the bytes of a cell to the start of another one, where the memory has both.
+#[inline(always)]
+#[tactic(auto, unfolding(mir::specs::Areas::reading, mir::specs::Areas::after_write, mir::specs::Areas::after_copy, mir::specs::Run::copied))]
+pub(crate) fn copy<M: Memory>(memory: &mut M, from: Interval, to: Interval) -> Result<(), Fault>
+    ensures { left_with (M.areas memory.new) result ≡ copied (M.areas memory.old) (Some to) (read (cell_bytes (M.areas memory.old) from)) }
 {
-    let Some(end) = from.address.checked_add(from.size) else {
-        return Err(Fault::BadRead);
-    };
-    if end > stack.len() as u64 {
-        return Err(Fault::BadRead);
+    match memory.copy(to.addr, from) {
+        Ok(()) => Ok(()),
+        Err(_) => {
+            if memory.read(from.addr, from.size).is_ok() {
+                Err(Fault::BadWrite)
+            } else {
+                Err(Fault::BadRead)
+            }
+        }
     }
-    let Some(last) = to.address.checked_add(from.size) else {
-        return Err(Fault::BadWrite);
-    };
-    if last > stack.len() as u64 {
-        return Err(Fault::BadWrite);
-    }
-    move_bytes(
-        stack,
-        from.address as usize,
-        from.size as usize,
-        to.address as usize,
-    );
-    Ok(())
 }

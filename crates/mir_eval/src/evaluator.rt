@@ -2,6 +2,8 @@
 
 ghost use Rattle.std.specs.Prelude.{◌≡◌, ◌↔◌, ◌⊎◌, ◌^◌, ◌≤◌, [], slice_get, option_and_then, codes, IfOk, IfErr, IfSome, OnOk, OnErr, IsOk, IsSome, IsTrue};
 ghost use Rattle.std.specs.Option.{option_copied};
+ghost use Rattle.world.specs.Checked.{IsChecked};
+ghost use Rattle.mir_eval.specs.Alignments.{HasAlignments};
 ghost use Rattle.mir_eval.specs.Start.{is_own_width};
 ghost use Rattle.mir.specs.declared.errors.MirEvalError as error;
 
@@ -9,6 +11,7 @@ use crate::MirOutput;
 use crate::frames::Program;
 use crate::runs::{Phase, Run};
 use mir::{Answer, Answers, MirBody, MirEvalError, Query};
+use mir_mem::Memory;
 use std::alloc::Global;
 use std::mem;
 use std::rc::Rc;
@@ -27,7 +30,7 @@ pub enum Turned {
 
 /// The machine for one run of one body.
 #[derive(Drop)]
-pub struct Evaluator<'a> {
+pub struct Evaluator<'a, M> {
     alloc: Global,
     db: &'a HirDatabase,
     owner: DefWithBodyId,
@@ -35,7 +38,8 @@ pub struct Evaluator<'a> {
     nesting: u32,
     bytes: u64,
     ghost few_bytes: { bytes ≤ 2 ^ 59 },
-    phase: Phase<'a>,
+    ghost aligned: { HasAlignments db.now },
+    phase: Phase<'a, M>,
 }
 
 /// The size of a pointer of the crate that something belongs to, where it is known.
@@ -71,7 +75,7 @@ fn other_width(alloc: Global) -> MirEvalError
     }
 }
 
-impl<'a> Evaluator<'a> {
+impl<'a, M: Memory + Drop> Evaluator<'a, M> {
     ghost use Rattle.world.specs.Limits.{IsWithin};
     ghost use Rattle.mir.specs.Answers.{answers_kind};
     ghost use Rattle.mir_eval.specs.Machine.{Fresh, Over, nesting_left, pointer_bytes, turns_of, RunsTo, StepsTo, blocks_left};
@@ -81,15 +85,17 @@ impl<'a> Evaluator<'a> {
     /// A machine for a body that belongs to `owner`. It takes no memory. The refusal is
     /// `TargetDataLayoutNotAvailable`, exactly where the size of a pointer of the owner's crate isn't
     /// known.
+    #[tactic(auto, using(crate::proofs::Alignments::has_alignments))]
     pub fn new(
         alloc: Global,
         db: &'a HirDatabase,
         owner: DefWithBodyId,
         _assert_placeholder_ty_is_unused: bool,
         limits: &Limits,
-    ) -> Result<Evaluator<'a>, MirEvalError>
-        requires { IsWithin limits.now }
-        ensures made { IfOk result (λ evaluator. machine_of evaluator ≡ record { world = db.now; owner = owner; blocks = limits.now.blocks; nesting = limits.now.nesting; bytes = limits.now.bytes; state = Fresh }) }
+    ) -> Result<Evaluator<'a, M>, MirEvalError>
+        requires limits { IsWithin limits.now }
+        requires checked { IsChecked db.now }
+        ensures made { IfOk result (λ evaluator. machine_of M.areas evaluator ≡ record { world = db.now; owner = owner; blocks = limits.now.blocks; nesting = limits.now.nesting; bytes = limits.now.bytes; state = Fresh }) }
         ensures refused { IfErr result (λ e. e ≡ error.TargetDataLayoutNotAvailable (crate_or_first db.now owner)) }
         ensures variant { IsOk result ↔ IsSome (pointer_bytes db.now owner) }
     {
@@ -117,12 +123,12 @@ impl<'a> Evaluator<'a> {
     /// stack is taken once it is known to be within the limit. After a refusal nothing was begun.
     #[tactic(auto, unfolding(crate::specs::Start::start_of))]
     pub fn begin(&mut self, body: Rc<MirBody>) -> Result<(), MirEvalError>
-        requires { IsTrue (is_fresh (machine_of self.old).state) }
-        ensures began { IfOk result (λ _. start_of (machine_of self.old) body.value ≡ Ok (machine_of self.new).state) }
-        ensures kept { machine_of self.new ≡ record (machine_of self.old) { state = (machine_of self.new).state } }
-        ensures goes { OnOk result (IsTrue (is_going (machine_of self.new).state)) }
-        ensures refused { IfErr result (λ e. (e ≡ error.NoMemory) ⊎ (start_of (machine_of self.old) body.value ≡ Err e)) }
-        ensures unchanged { OnErr result (machine_of self.new ≡ machine_of self.old) }
+        requires { IsTrue (is_fresh (machine_of M.areas self.old).state) }
+        ensures began { IfOk result (λ _. start_of (machine_of M.areas self.old) body.value ≡ Ok (machine_of M.areas self.new).state) }
+        ensures kept { machine_of M.areas self.new ≡ record (machine_of M.areas self.old) { state = (machine_of M.areas self.new).state } }
+        ensures goes { OnOk result (IsTrue (is_going (machine_of M.areas self.new).state)) }
+        ensures refused { IfErr result (λ e. (e ≡ error.NoMemory) ⊎ (start_of (machine_of M.areas self.old) body.value ≡ Err e)) }
+        ensures unchanged { OnErr result (machine_of M.areas self.new ≡ machine_of M.areas self.old) }
     {
         if !is_own_width(pointer_bytes(self.db, self.db.crate_of(self.owner))) {
             return Err(other_width(self.alloc));
@@ -152,9 +158,9 @@ impl<'a> Evaluator<'a> {
     /// Runs one block to its end, to a query or to a fault; or, after an answer, the call that waited for it. Want of memory
     /// ends the run, and so does a value for which no level of nesting is left.
     pub fn advance(&mut self)
-        requires { IsTrue (is_going (machine_of self.old).state) }
-        ensures stepped { Goes (machine_of self.old).state StepsTo (machine_of self.new).state }
-        ensures kept { machine_of self.new ≡ in_state (machine_of self.new).state (machine_of self.old) }
+        requires { IsTrue (is_going (machine_of M.areas self.old).state) }
+        ensures stepped { Goes (machine_of M.areas self.old).state StepsTo (machine_of M.areas self.new).state }
+        ensures kept { machine_of M.areas self.new ≡ in_state (machine_of M.areas self.new).state (machine_of M.areas self.old) }
     {
         let alloc = self.alloc;
         self.phase = match mem::replace(&mut self.phase, Phase::Fresh) {
@@ -169,11 +175,11 @@ impl<'a> Evaluator<'a> {
     /// Runs to the end, or to a query, and returns which. A value takes one of the levels of nesting that are left:
     /// where there is none, the end is `StackOverflow`, a fault that isn't the body's own. Want of memory is a fault.
     pub fn run(&mut self) -> Turned
-        requires { IsTrue (is_going (machine_of self.old).state) }
-        ensures ended { Goes (machine_of self.old).state RunsTo (machine_of self.new).state }
-        ensures stopped { IsTrue (has_stopped (machine_of self.new).state) }
-        ensures variant { result ≡ turned (machine_of self.new).state }
-        ensures kept { machine_of self.new ≡ in_state (machine_of self.new).state (machine_of self.old) }
+        requires { IsTrue (is_going (machine_of M.areas self.old).state) }
+        ensures ended { Goes (machine_of M.areas self.old).state RunsTo (machine_of M.areas self.new).state }
+        ensures stopped { IsTrue (has_stopped (machine_of M.areas self.new).state) }
+        ensures variant { result ≡ turned (machine_of M.areas self.new).state }
+        ensures kept { machine_of M.areas self.new ≡ in_state (machine_of M.areas self.new).state (machine_of M.areas self.old) }
     {
         let alloc = self.alloc;
         self.phase = match mem::replace(&mut self.phase, Phase::Fresh) {
@@ -192,7 +198,7 @@ impl<'a> Evaluator<'a> {
 
     /// The query that the run waits for, where it waits for one. It takes no memory.
     pub fn wanted(&self) -> Option<&Query>
-        ensures { option_copied result ≡ wanted_in (machine_of self.now).state }
+        ensures { option_copied result ≡ wanted_in (machine_of M.areas self.now).state }
     {
         match &self.phase {
             Phase::Asking(query, _) => Some(query),
@@ -203,12 +209,12 @@ impl<'a> Evaluator<'a> {
     /// Tells the answer to the query that the run waits for, which is of the kind that the query wants. The run can go on then.
     /// Without memory it is over, and no query is wanted either.
     pub fn tell(&mut self, answer: Answer) -> Result<(), NoMemory>
-        requires wanted { IsSome (wanted_in (machine_of self.old).state) }
-        requires kind { IfSome (wanted_in (machine_of self.old).state) (λ q. IsTrue (answers_kind q answer)) }
-        ensures told { OnOk result (IsTold (machine_of self.old).state answer (machine_of self.new).state) }
-        ensures goes { OnOk result (IsTrue (is_going (machine_of self.new).state)) }
-        ensures over { OnErr result ((machine_of self.new).state ≡ Over (Err error.NoMemory) (blocks_left 0 (machine_of self.old).state)) }
-        ensures kept { machine_of self.new ≡ in_state (machine_of self.new).state (machine_of self.old) }
+        requires wanted { IsSome (wanted_in (machine_of M.areas self.old).state) }
+        requires kind { IfSome (wanted_in (machine_of M.areas self.old).state) (λ q. IsTrue (answers_kind q answer)) }
+        ensures told { OnOk result (IsTold (machine_of M.areas self.old).state answer (machine_of M.areas self.new).state) }
+        ensures goes { OnOk result (IsTrue (is_going (machine_of M.areas self.new).state)) }
+        ensures over { OnErr result ((machine_of M.areas self.new).state ≡ Over (Err error.NoMemory) (blocks_left 0 (machine_of M.areas self.old).state)) }
+        ensures kept { machine_of M.areas self.new ≡ in_state (machine_of M.areas self.new).state (machine_of M.areas self.old) }
     {
         let mut told = Ok(());
         self.phase = match mem::replace(&mut self.phase, Phase::Fresh) {
@@ -229,7 +235,7 @@ impl<'a> Evaluator<'a> {
 
     /// How many blocks were entered.
     pub fn turns(&self) -> u64
-        ensures { result ≡ turns_of (machine_of self.now) }
+        ensures { result ≡ turns_of (machine_of M.areas self.now) }
     {
         match &self.phase {
             Phase::Fresh => 0,
@@ -242,7 +248,7 @@ impl<'a> Evaluator<'a> {
     /// How many levels of nesting are left: the limit, less the one that the run holds from its
     /// beginning on, until it ended in a value, and less one for each open call without a target. It takes no memory.
     pub fn nesting_left(&self) -> u32
-        ensures { result ≡ nesting_left (machine_of self.now) }
+        ensures { result ≡ nesting_left (machine_of M.areas self.now) }
     {
         match &self.phase {
             Phase::Fresh => self.nesting,
@@ -255,15 +261,15 @@ impl<'a> Evaluator<'a> {
 
     /// Whether the run has ended, in a value or in a fault.
     pub fn is_over(&self) -> bool
-        ensures { result ≡ is_over (machine_of self.now).state }
+        ensures { result ≡ is_over (machine_of M.areas self.now).state }
     {
         matches!(&self.phase, Phase::Over { .. })
     }
 
     /// What the run ended in, and what it wrote. It takes no memory.
     pub fn finish(self) -> (Result<Const, MirEvalError>, MirOutput)
-        requires { IsTrue (is_over (machine_of self).state) }
-        ensures ended { Some result.0 ≡ outcome (machine_of self.entry).state }
+        requires { IsTrue (is_over (machine_of M.areas self).state) }
+        ensures ended { Some result.0 ≡ outcome (machine_of M.areas self.entry).state }
         ensures wrote { result.1 ≡ ([], []) }
     {
         let Evaluator { alloc, phase, .. } = self;

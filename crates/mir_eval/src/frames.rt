@@ -1,7 +1,6 @@
 //! Bodies that run, and callers that wait for them.
 
-use crate::cells::Cell;
-use mir::{Answers, BasicBlockId, MirBody, TrailEntry};
+use mir::{Answers, BasicBlockId, Interval, MirBody, TrailEntry};
 use std::rc::Rc;
 use world::HirDatabase;
 
@@ -11,7 +10,7 @@ pub(crate) struct Program<'a> {
     pub db: &'a HirDatabase,
     /// How many levels of nesting it may take.
     pub nesting: u32,
-    /// How many bytes cells may take.
+    /// How many bytes the stack may take, and how many the heap.
     pub bytes: u64,
     pub answers: Answers,
 }
@@ -21,7 +20,7 @@ pub(crate) struct Program<'a> {
 pub(crate) struct Suspended {
     pub body: Rc<MirBody>,
     /// One for each local of the body.
-    pub cells: Vec<Cell>,
+    pub cells: Vec<Interval>,
     /// The block to go on in; none where the callee must not return.
     pub next: Option<BasicBlockId>,
     /// The call, as a fault's trail names it.
@@ -33,7 +32,7 @@ pub(crate) struct Suspended {
 pub(crate) struct StackFrame<'r, 'a> {
     pub program: &'r Program<'a>,
     pub body: &'r MirBody,
-    pub cells: &'r [Cell],
+    pub cells: &'r [Interval],
     pub below: &'r [Suspended],
 }
 

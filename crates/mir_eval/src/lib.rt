@@ -1,5 +1,5 @@
-//! The machine: it runs a lowered body, and the functions that this calls, over one flat list of bytes, block by block, and gives
-//! the end that the meaning of the blocks has. It stops where it needs a body that it wasn't told.
+//! The machine: it runs a lowered body, and the functions that this calls, over any memory that keeps the laws of one, block by
+//! block, and gives the end that the meaning of the blocks has. It stops where it needs a body that it wasn't told.
 #![tactic(auto)]
 
 mod calls;
@@ -7,9 +7,9 @@ mod cells;
 mod evaluator;
 mod faults;
 mod frames;
-mod moves;
 mod outcomes;
 mod output;
+mod pieces;
 mod places;
 mod runs;
 mod steps;

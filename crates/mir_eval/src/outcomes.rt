@@ -1,20 +1,22 @@
 //! What a run hands out at its end.
 
 ghost use Rattle.std.specs.Prelude.{◌≡◌, ◌++◌, [], map, Err, IfOk, Some, option_and_then, slice_get};
+ghost use Rattle.std.specs.List.{concat};
 ghost use Rattle.std.specs.Option.{option_to_list};
 ghost use Rattle.mir.specs.declared.errors.MirEvalError as error;
-ghost use Rattle.mir.specs.Memory.{bytes_at};
+ghost use Rattle.mir.specs.Memory.{cell_bytes};
 ghost use Rattle.mir.specs.Run.{bad_read, returned};
 ghost use Rattle.mir_eval.specs.Frames.{callers};
 ghost use Rattle.mir_eval.specs.Machine.{on_a_level, value_of, wrapped, outcome_of};
-ghost use Rattle.mir_eval.specs.Steps.{interval_of, memory};
 
-use crate::cells::{Cell, cell_of, read};
+use crate::cells::{cell_of, read};
 use crate::faults::{Fault, to_error};
 use crate::frames::Suspended;
-use mir::{LocalId, MirBody, MirEvalError, TrailEntry};
+use crate::pieces::copy_of;
+use mir::{Interval, LocalId, MirBody, MirEvalError, TrailEntry};
+use mir_mem::{Memory, View};
 use std::alloc::Global;
-use world::{Box, Bytes, Const, List, MemoryMap, NoMemory, TryClone, ValueConst};
+use world::{Box, Const, List, MemoryMap, NoMemory, TryClone, ValueConst};
 
 /// The calls that are open, the innermost first, behind one whose callee's body couldn't be got, if there is one.
 fn trail(
@@ -64,25 +66,14 @@ fn bad_slot(alloc: Global) -> Result<Result<Const, MirEvalError>, NoMemory>
     Ok(Err(MirEvalError::InFunction(inner, List::new(alloc))))
 }
 
-/// A copy of bytes.
-fn copy_of(alloc: Global, bytes: &[u8]) -> Result<Bytes, NoMemory>
-    ensures { IfOk result (λ copy. copy ≡ bytes.now) }
-{
-    let mut copy = Bytes::new(alloc);
-    for byte in bytes {
-        copy.push(*byte)?;
-    }
-    Ok(copy)
-}
-
 /// The value of a body whose return slot has these bytes, with `levels` levels of nesting left for it.
 fn value(
     alloc: Global,
     body: &MirBody,
-    bytes: &[u8],
+    bytes: &View<'_>,
     levels: u32,
 ) -> Result<Result<Const, MirEvalError>, NoMemory>
-    ensures { IfOk result (λ r. r ≡ on_a_level levels (value_of body.now bytes.now)) }
+    ensures { IfOk result (λ r. r ≡ on_a_level levels (value_of body.now (concat bytes.now))) }
 {
     if levels == 0 {
         return Ok(Err(MirEvalError::StackOverflow));
@@ -104,18 +95,18 @@ fn value(
 
 /// What a run hands out whose body returned that none called, with `levels` levels of nesting left for its value.
 #[tactic(auto, unfolding(crate::specs::Machine::outcome_of))]
-pub(crate) fn returned(
+pub(crate) fn returned<M: Memory>(
     alloc: Global,
     body: &MirBody,
-    cells: &[Cell],
-    stack: &[u8],
+    cells: &[Interval],
+    memory: &M,
     levels: u32,
 ) -> Result<Result<Const, MirEvalError>, NoMemory>
-    ensures { IfOk result (λ r. outcome_of levels body.now (returned (option_and_then (bytes_at (memory stack.now)) (slice_get (map interval_of cells.now) 0))) ≡ Some r) }
+    ensures { IfOk result (λ r. outcome_of levels body.now (returned (option_and_then (cell_bytes (M.areas memory.now)) (slice_get cells.now 0))) ≡ Some r) }
 {
     match cell_of(cells, LocalId(0)) {
-        Some(cell) => match read(stack, cell) {
-            Some(bytes) => value(alloc, body, bytes, levels),
+        Some(cell) => match read(memory, cell) {
+            Some(bytes) => value(alloc, body, &bytes, levels),
             None => bad_slot(alloc),
         },
         None => bad_slot(alloc),

@@ -1,93 +1,20 @@
 //! The cells of a body's locals, placed on the stack.
 
-ghost use Rattle.std.specs.Prelude.{◌≡◌, ◌⊎◌, ◌^◌, ◌<◌, ◌≤◌, true, codes, length, map, Some, Ok, Err, IfOk, IfErr, IfSome, IfNone, OnOk};
+ghost use Rattle.std.specs.Prelude.{◌≡◌, ◌⊎◌, ◌++◌, true, codes, All, Ok, Err, IfOk, IfErr, OnErr};
+ghost use Rattle.std.specs.Option.{option_to_list};
+ghost use Rattle.world.specs.Checked.{IsAlignment};
+ghost use Rattle.mir_eval.specs.Alignments.{HasAlignments};
 ghost use Rattle.world.specs.Lookups.{layout_of};
 ghost use Rattle.mir.specs.declared.errors.MirEvalError as error;
+ghost use Rattle.mir.specs.Areas.{after_push};
 ghost use Rattle.mir.specs.Errors.{layout_error_of};
-ghost use Rattle.mir.specs.Memory.{Memory, aligned, with_cell, placed, cells_of, within_bytes};
-ghost use Rattle.mir_eval.specs.Steps.{interval_of};
-ghost use Rattle.mir_eval.specs.Room.{zeros, AddsCell, grown, with_before};
-ghost use Rattle.mir_eval.specs.Steps.{memory};
+ghost use Rattle.mir.specs.Memory.{cell_size_of, sizes_of, pushed, cells_of};
+ghost use Rattle.mir.specs.Run.{called_cells};
 
-use crate::cells::Cell;
-use mir::{Local, MirEvalError, layout_error_of};
+use mir::{CellSize, Interval, Local, MemFault, MirEvalError, layout_error_of};
+use mir_mem::Memory;
 use std::alloc::Global;
-use world::{HirDatabase, Layout, NoMemory, Text, TryClone, Ty};
-
-/// The cells of locals, and the length of the stack with all of them.
-#[derive(Drop)]
-pub(crate) struct Room {
-    pub cells: Vec<Cell>,
-    pub end: u64,
-}
-
-/// A cell, and the length of the stack with it.
-#[derive(Clone, Copy, PartialEq, Eq, Debug)]
-struct Next {
-    cell: Cell,
-    end: u64,
-}
-
-/// The first address from one on that an alignment divides.
-#[tactic(auto, unfolding(mir::specs::Memory::aligned))]
-fn aligned(address: u64, align: u64) -> u128
-    ensures is { result ≡ aligned address align }
-    ensures below { result < 2 ^ 65 }
-{
-    if align == 0 {
-        return 0;
-    }
-    (address as u128 + (align - 1) as u128) / align as u128 * align as u128
-}
-
-/// A cell at the first address from the stack's end on that the alignment divides, where the stack with
-/// it has at most `most` bytes.
-#[tactic(auto, using(crate::proofs::Laying::zeros_cell, crate::proofs::Laying::zeros_length))]
-fn next_cell(end: u64, layout: &Layout, most: u64) -> Option<Next>
-    requires { end ≤ most }
-    ensures some { IfSome result (λ next. with_cell layout.now (zeros end) ≡ (interval_of next.cell, zeros next.end)) }
-    ensures within { IfSome result (λ next. next.end ≤ most) }
-    ensures none { IfNone result (most < length (with_cell layout.now (zeros end)).1.stack) }
-{
-    let size = layout.size;
-    let address = aligned(end, layout.align);
-    let last = address + size as u128;
-    if last > most as u128 {
-        return None;
-    }
-    let cell = Cell {
-        address: address as u64,
-        size,
-    };
-    let last = last as u64;
-    Some(Next {
-        cell,
-        end: if last < end { end } else { last },
-    })
-}
-
-/// One more cell behind the others, where the stack with it has at most `most` bytes. There is no end
-/// where the stack has more.
-fn add_cell(
-    cells: &mut Vec<Cell>,
-    end: Option<u64>,
-    layout: &Layout,
-    most: u64,
-) -> Result<Option<u64>, NoMemory>
-    requires { IfSome end (λ end. end ≤ most) }
-    ensures { IfOk result (AddsCell layout.now most (map interval_of cells.old.items) end (map interval_of cells.new.items)) }
-{
-    let Some(end) = end else {
-        return Ok(None);
-    };
-    match next_cell(end, layout, most) {
-        Some(next) => {
-            cells.push(next.cell)?;
-            Ok(Some(next.end))
-        }
-        None => Ok(None),
-    }
-}
+use world::{HirDatabase, List, NoMemory, Text, TryClone, Ty};
 
 /// The refusal of a local whose type has no layout.
 fn without_layout(alloc: Global, ty: &Ty) -> MirEvalError
@@ -113,12 +40,13 @@ fn without_size(alloc: Global, ty: &Ty) -> MirEvalError
     }
 }
 
-/// The layout of a local's type, which has a size.
-#[tactic(auto, unfolding(mir::specs::Memory::placed))]
-fn sized_layout<'w>(alloc: Global, db: &'w HirDatabase, ty: &Ty) -> Result<&'w Layout, MirEvalError>
-    ensures found { IfOk result (λ layout. layout_of db.now ty.now ≡ Some layout.now) }
-    ensures sized { IfOk result (λ layout. layout.now.sized ≡ true) }
-    ensures err { IfErr result (λ e. (e ≡ error.NoMemory) ⊎ ((memory : Memory) → placed ty.now (layout_of db.now ty.now) memory ≡ Err e)) }
+/// How large a local's cell is.
+#[tactic(auto, unfolding(mir::specs::Memory::cell_size_of), using(crate::proofs::Alignments::is_alignment))]
+fn cell_size(alloc: Global, db: &HirDatabase, ty: &Ty) -> Result<CellSize, MirEvalError>
+    requires { HasAlignments db.now }
+    ensures ok { IfOk result (λ size. cell_size_of ty.now (layout_of db.now ty.now) ≡ Ok size) }
+    ensures aligned { IfOk result (λ size. IsAlignment size.align) }
+    ensures err { IfErr result (λ e. (e ≡ error.NoMemory) ⊎ (cell_size_of ty.now (layout_of db.now ty.now) ≡ Err e)) }
 {
     let Some(layout) = db.layout_of(ty) else {
         return Err(without_layout(alloc, ty));
@@ -126,58 +54,69 @@ fn sized_layout<'w>(alloc: Global, db: &'w HirDatabase, ty: &Ty) -> Result<&'w L
     if !layout.sized {
         return Err(without_size(alloc, ty));
     }
-    Ok(layout)
+    Ok(CellSize {
+        size: layout.size,
+        align: layout.align,
+    })
 }
 
-/// The length of a stack, where it has at most `most` bytes.
-fn end_within(stack: &[u8], most: u64) -> Option<u64>
-    ensures some { IfSome result (λ end. (end ≡ length stack.now) × (end ≤ most)) }
-    ensures none { IfNone result (most < length stack.now) }
+/// How large the cells of locals are, in order.
+fn sizes(alloc: Global, db: &HirDatabase, locals: &[Local]) -> Result<List<CellSize>, MirEvalError>
+    requires { HasAlignments db.now }
+    ensures ok { IfOk result (λ sizes. sizes_of db.now locals.now ≡ Ok sizes) }
+    ensures aligned { IfOk result (λ sizes. All (λ cell. IsAlignment cell.align) sizes) }
+    ensures err { IfErr result (λ e. (e ≡ error.NoMemory) ⊎ (sizes_of db.now locals.now ≡ Err e)) }
 {
-    let end = stack.len() as u64;
-    if end <= most { Some(end) } else { None }
+    let mut sizes = List::new(alloc);
+    for local in locals {
+        let size = match cell_size(alloc, db, &local.ty) {
+            Ok(size) => size,
+            Err(error) => return Err(error),
+        };
+        if sizes.push(size).is_err() {
+            return Err(MirEvalError::NoMemory);
+        }
+    }
+    Ok(sizes)
 }
 
-/// Where the cells of locals lie, each behind the one before and the first behind a stack; `before` are cells that stand before
-/// them. A local whose type has no layout or no size is refused before a stack that would pass the limit on bytes, wherever
-/// it stands. The stack stays as it is.
-pub(crate) fn lay_out(
+/// A new cell for each local in order, at the end of the stack: all of them, or none. A local whose type has no layout or no
+/// size is refused before a stack that would pass its limit, wherever it stands.
+#[tactic(auto, unfolding(mir::specs::Memory::cells_of))]
+pub(crate) fn lay_out<M: Memory>(
     alloc: Global,
     db: &HirDatabase,
-    before: Vec<Cell>,
     locals: &[Local],
-    stack: &[u8],
-    bytes: u64,
-) -> Result<Room, MirEvalError>
-    requires { bytes ≤ 2 ^ 59 }
-    ensures ok { IfOk result (λ room. within_bytes bytes (with_before (map interval_of before.items) (cells_of db.now locals.now (memory stack.now))) ≡ Ok (map interval_of room.cells.items, memory (grown stack.now room.end))) }
-    ensures long { IfOk result (λ room. length stack.now ≤ room.end) }
-    ensures err { IfErr result (λ e. (e ≡ error.NoMemory) ⊎ (within_bytes bytes (with_before (map interval_of before.items) (cells_of db.now locals.now (memory stack.now))) ≡ Err e)) }
+    memory: &mut M,
+) -> Result<List<Interval>, MirEvalError>
+    requires { HasAlignments db.now }
+    ensures ok { IfOk result (λ cells. cells_of db.now locals.now (M.areas memory.old) ≡ Ok (cells, M.areas memory.new)) }
+    ensures err { IfErr result (λ e. (e ≡ error.NoMemory) ⊎ (cells_of db.now locals.now (M.areas memory.old) ≡ Err e)) }
+    ensures kept { OnErr result (M.areas memory.new ≡ M.areas memory.old) }
 {
-    let most = bytes + 1;
-    let mut cells = before;
-    let mut end = end_within(stack, most);
-    for local in locals {
-        let layout = match sized_layout(alloc, db, &local.ty) {
-            Ok(layout) => layout,
-            Err(e) => return Err(e),
-        };
-        end = match add_cell(&mut cells, end, layout, most) {
-            Ok(end) => end,
-            Err(_) => return Err(MirEvalError::NoMemory),
-        };
-    }
-    match end {
-        Some(end) => Ok(Room { cells, end }),
-        None => Err(MirEvalError::MemoryLimitExceeded),
+    let sizes = match sizes(alloc, db, locals) {
+        Ok(sizes) => sizes,
+        Err(error) => return Err(error),
+    };
+    match memory.push_cells(&sizes) {
+        Ok(cells) => Ok(cells),
+        Err(MemFault::NoMemory) => Err(MirEvalError::NoMemory),
+        Err(_) => Err(MirEvalError::MemoryLimitExceeded),
     }
 }
 
-/// Makes a stack longer, by zeros.
-pub(crate) fn grow(stack: &mut Vec<u8>, end: u64) -> Result<(), NoMemory>
-    requires { length stack.old.items ≤ end }
-    ensures { OnOk result (stack.new.items ≡ grown stack.old.items end) }
+/// Cells behind another one, where there is one.
+pub(crate) fn listed(
+    alloc: Global,
+    first: Option<Interval>,
+    others: &[Interval],
+) -> Result<Vec<Interval>, NoMemory>
+    ensures { IfOk result (λ cells. cells.items ≡ option_to_list first ++ others.now) }
 {
-    stack.resize(end as usize, 0)?;
-    Ok(())
+    let mut cells = Vec::with_capacity(alloc, others.len())?;
+    if let Some(cell) = first {
+        cells.push(cell)?;
+    }
+    cells.extend_from_slice(others)?;
+    Ok(cells)
 }

@@ -1,18 +1,22 @@
 //! A run that has begun, and the phases of an evaluator.
 
 ghost use Rattle.std.specs.Prelude.{true, ◌≡◌, ◌⊎◌, ◌+◌, ◌^◌, ◌<◌, ◌≤◌, ◌∷◌, ◌++◌, Err, Ok, Some, None, IfOk, IfErr, IsSome, OnOk, map, option_map, slice_get};
+ghost use Rattle.mir_eval.specs.Alignments.{HasAlignments};
 ghost use Rattle.mir.specs.Run.{callee_error, levels_over};
 ghost use Rattle.mir_eval.specs.Frames.{callers, stands_at};
 
-use crate::calls::{Call, Function, call_at, callee, callee_room, fill};
-use crate::cells::{Cell, cell_of};
+use crate::calls::{Call, Function, call_at, callee, callee_cells, fill};
+use crate::cells::cell_of;
 use crate::faults::{Fault, to_error};
 use crate::frames::{Point, Program, StackFrame, Suspended};
 use crate::outcomes::{faulted, returned};
-use crate::places::{grow, lay_out};
+use crate::places::{lay_out, listed};
 use crate::steps::{Exit, Halt, Stop, enter, enter_all};
 use either::Either;
-use mir::{Answer, BasicBlockId, ConstEvalError, MirBody, MirEvalError, Query, TrailEntry};
+use mir::{
+    Answer, BasicBlockId, ConstEvalError, Interval, MirBody, MirEvalError, Query, TrailEntry,
+};
+use mir_mem::Memory;
 use std::alloc::Global;
 use std::mem;
 use std::rc::Rc;
@@ -20,31 +24,31 @@ use world::{Const, DefWithBodyId, FunctionId, NoMemory, TryClone};
 
 /// A run that has begun and isn't over.
 #[derive(Drop)]
-pub(crate) struct Run<'a> {
+pub(crate) struct Run<'a, M> {
     pub program: Program<'a>,
     pub body: Rc<MirBody>,
     /// One for each local of the body.
-    pub cells: Vec<Cell>,
+    pub cells: Vec<Interval>,
     /// The callers that wait, the nearest last.
     pub below: Vec<Suspended>,
     /// How many levels of nesting the run holds.
     pub levels: u32,
-    pub stack: Vec<u8>,
+    pub memory: M,
     pub point: Point,
     /// How many blocks may still be entered.
     pub left: u64,
     ghost nested: { levels ≡ levels_over (callers below.items) },
-    ghost few_bytes: { program.bytes ≤ 2 ^ 59 },
+    ghost aligned: { HasAlignments program.db.now },
     ghost stands: { stands_at body.value point ≡ true },
 }
 
 /// Where an evaluator is in its one run.
 #[derive(Drop)]
-pub(crate) enum Phase<'a> {
+pub(crate) enum Phase<'a, M> {
     Fresh,
-    Going(Run<'a>),
+    Going(Run<'a, M>),
     /// The run waits for the answer to the query.
-    Asking(Query, Run<'a>),
+    Asking(Query, Run<'a, M>),
     Over {
         outcome: Result<Const, MirEvalError>,
         left: u64,
@@ -59,19 +63,18 @@ pub(crate) enum Went {
     Over(Result<Const, MirEvalError>),
 }
 
-impl<'a> Run<'a> {
+impl<'a, M: Memory + Drop> Run<'a, M> {
     ghost use Rattle.mir.specs.declared.errors.MirEvalError as error;
-    ghost use Rattle.mir.specs.Memory.{within_bytes};
     ghost use Rattle.mir.specs.Run.{after_return, begun, called, called_by, callee_error, body_query, calls, going_on, next_from, entered, entry_of, entering, faults, terminated, trail_of, Stops, GoesTo, Faulted};
     ghost use Rattle.mir.specs.Answers.{answer_to};
     ghost use Rattle.mir_eval.specs.Calls.{call_is, called_frame, function_is};
     ghost use Rattle.mir_eval.specs.Frames.{program_of};
     ghost use Rattle.std.specs.Option.{option_to_list};
     ghost use Rattle.mir_eval.specs.Machine.{Entry, Going, RunsTo, StepsTo, call_at, terminator_at};
-    ghost use Rattle.mir_eval.specs.Steps.{error_of, halt_of, next_of, interval_of, HaltsAtCall};
+    ghost use Rattle.mir_eval.specs.Steps.{error_of, halt_of, next_of, HaltsAtCall};
     ghost use Rattle.mir_eval.specs.declared.steps.Exit.TheVariants.{Calls};
     ghost use Rattle.mir_eval.specs.Start.{started};
-    ghost use Rattle.mir_eval.specs.Phases.{AsksAtCall, Continues, HasStopped, IsInRun, Leads, to_go, frame_in, memory_in, position_at, position_of, state_of, state_after};
+    ghost use Rattle.mir_eval.specs.Phases.{AsksAtCall, Continues, HasStopped, IsInRun, Leads, to_go, frame_in, position_at, position_of, state_of, state_after};
 
     /// The run of a body, before its first block, within a limit on blocks.
     #[tactic(auto, unfolding(mir::specs::Run::begun))]
@@ -80,49 +83,45 @@ impl<'a> Run<'a> {
         program: Program<'a>,
         body: Rc<MirBody>,
         blocks: u64,
-    ) -> Result<Run<'a>, MirEvalError>
-        requires { program.bytes ≤ 2 ^ 59 }
-        ensures ok { IfOk result (λ run. started body.value.param_locals (within_bytes program.entry.bytes (begun (program_of program.entry) body.value)) body.value.start_block.0 blocks ≡ Ok (Going (position_of run))) }
-        ensures err { IfErr result (λ e. (e ≡ error.NoMemory) ⊎ (started body.value.param_locals (within_bytes program.entry.bytes (begun (program_of program.entry) body.value)) body.value.start_block.0 blocks ≡ Err e)) }
+    ) -> Result<Run<'a, M>, MirEvalError>
+        requires bytes { program.bytes ≤ 2 ^ 59 }
+        requires aligned { HasAlignments program.db.now }
+        ensures ok { IfOk result (λ run. started body.value.param_locals (begun (program_of program.entry) body.value) body.value.start_block.0 blocks ≡ Ok (Going (position_of M.areas run))) }
+        ensures err { IfErr result (λ e. (e ≡ error.NoMemory) ⊎ (started body.value.param_locals (begun (program_of program.entry) body.value) body.value.start_block.0 blocks ≡ Err e)) }
     {
-        let mut stack = Vec::new(alloc);
-        if stack.push(0).is_err() {
+        let Ok(mut memory) = M::new(alloc, program.bytes) else {
             return Err(MirEvalError::NoMemory);
-        }
-        let room = lay_out(
-            alloc,
-            program.db,
-            Vec::new(alloc),
-            body.locals.as_slice(),
-            stack.as_slice(),
-            program.bytes,
-        )?;
+        };
+        let placed = match lay_out(alloc, program.db, body.locals.as_slice(), &mut memory) {
+            Ok(placed) => placed,
+            Err(error) => return Err(error),
+        };
         if !body.param_locals.as_slice().is_empty() {
             return Err(match to_error(alloc, Fault::TooFewArguments) {
                 Ok(error) => error,
                 Err(_) => MirEvalError::NoMemory,
             });
         }
-        if grow(&mut stack, room.end).is_err() {
+        let Ok(cells) = listed(alloc, None, placed.as_slice()) else {
             return Err(MirEvalError::NoMemory);
-        }
+        };
         let block = body.start_block;
         Ok(Run {
             program,
             body,
-            cells: room.cells,
+            cells,
             below: Vec::new(alloc),
             levels: 1,
-            stack,
+            memory,
             point: Point::Entry(block),
             left: blocks,
         })
     }
 
     /// The phase of a run that went somewhere.
-    pub(crate) fn into_phase(self, went: Went) -> Phase<'a>
+    pub(crate) fn into_phase(self, went: Went) -> Phase<'a, M>
         requires { AsksAtCall self went }
-        ensures { state_of result ≡ state_after self.entry went }
+        ensures { state_of M.areas result ≡ state_after M.areas self.entry went }
     {
         let mut run = self;
         match went {
@@ -144,7 +143,7 @@ impl<'a> Run<'a> {
     /// The end of a run in an error, which passed through the open calls, behind one whose callee's body couldn't be got, if there is one.
     fn over(&self, alloc: Global, error: MirEvalError, first: Option<TrailEntry>) -> Went
         ensures asks { AsksAtCall self.now result }
-        ensures leads { Leads (frame_in self.now) (Stops (Faulted error (option_to_list first ++ trail_of (frame_in self.now)))) self.now result }
+        ensures leads { Leads M.areas (frame_in self.now) (Stops (Faulted error (option_to_list first ++ trail_of (frame_in self.now)))) self.now result }
     {
         match faulted(alloc, error, first, self.below.as_slice()) {
             Ok(outcome) => Went::Over(outcome),
@@ -155,7 +154,7 @@ impl<'a> Run<'a> {
     /// The end of a run in a fault.
     fn fault(&self, alloc: Global, fault: Fault) -> Went
         ensures asks { AsksAtCall self.now result }
-        ensures leads { Leads (frame_in self.now) (faults (frame_in self.now) (error_of fault)) self.now result }
+        ensures leads { Leads M.areas (frame_in self.now) (faults (frame_in self.now) (error_of fault)) self.now result }
     {
         match to_error(alloc, fault) {
             Ok(error) => self.over(alloc, error, None),
@@ -167,7 +166,7 @@ impl<'a> Run<'a> {
     /// and the return slot has its value.
     #[tactic(auto, unfolding(mir::specs::Run::after_return, mir::specs::Run::resumed, mir::specs::Run::first_body))]
     fn give_back(&mut self, alloc: Global) -> Went
-        ensures leads { Leads (frame_in self.old) (after_return (frame_in self.old) (memory_in self.old)) self.new result }
+        ensures leads { Leads M.areas (frame_in self.old) (after_return (frame_in self.old) (M.areas self.old.memory)) self.new result }
         ensures same { self.new.left ≡ self.old.left }
         ensures run { IsInRun (frame_in self.old) self.new result }
         ensures asks { AsksAtCall self.new result }
@@ -179,7 +178,7 @@ impl<'a> Run<'a> {
                     alloc,
                     self.body.as_ref(),
                     self.cells.as_slice(),
-                    self.stack.as_slice(),
+                    &self.memory,
                     levels,
                 ) {
                     Ok(outcome) => Went::Over(outcome),
@@ -215,28 +214,25 @@ impl<'a> Run<'a> {
         call: Call<'_>,
         id: FunctionId,
         body: Rc<MirBody>,
-        destination: Option<Cell>,
+        destination: Option<Interval>,
     ) -> Went
         requires { call.target ≡ None → self.old.levels < self.old.program.nesting }
-        ensures leads { Leads (frame_in self.old) (entered (frame_in self.old) (memory_in self.old) (call_is call.entry) id body.value (option_map interval_of destination)) self.new result }
+        ensures leads { Leads M.areas (frame_in self.old) (entered (frame_in self.old) (M.areas self.old.memory) (call_is call.entry) id body.value destination) self.new result }
         ensures same { self.new.left ≡ self.old.left }
         ensures run { IsInRun (frame_in self.old) self.new result }
         ensures asks { AsksAtCall self.new result }
     {
-        let room = match callee_room(
+        let cells = match callee_cells(
             alloc,
             &self.program,
             body.as_ref(),
             destination,
-            self.stack.as_slice(),
+            &mut self.memory,
         ) {
-            Ok(room) => room,
+            Ok(cells) => cells,
             Err(MirEvalError::NoMemory) => return Went::Over(Err(MirEvalError::NoMemory)),
             Err(error) => return self.over(alloc, error, None),
         };
-        if grow(&mut self.stack, room.end).is_err() {
-            return Went::Over(Err(MirEvalError::NoMemory));
-        }
         let filled = fill(
             StackFrame {
                 program: &self.program,
@@ -244,13 +240,13 @@ impl<'a> Run<'a> {
                 cells: self.cells.as_slice(),
                 below: self.below.as_slice(),
             },
-            self.stack.as_mut_slice(),
-            room.cells.as_slice(),
+            &mut self.memory,
+            cells.as_slice(),
             body.param_locals.as_slice(),
             call.args,
         );
         match filled {
-            Ok(()) => self.suspend(call, id, body, room.cells),
+            Ok(()) => self.suspend(call, id, body, cells),
             Err(fault) => self.fault(alloc, fault),
         }
     }
@@ -262,10 +258,10 @@ impl<'a> Run<'a> {
         call: Call<'_>,
         id: FunctionId,
         body: Rc<MirBody>,
-        cells: Vec<Cell>,
+        cells: Vec<Interval>,
     ) -> Went
         requires { call.target ≡ None → self.old.levels < self.old.program.nesting }
-        ensures leads { Leads (frame_in self.old) (GoesTo (called_frame (frame_in self.old) (call_is call.entry) id body.value (map interval_of cells.items)) (memory_in self.old) body.value.start_block.0) self.new result }
+        ensures leads { Leads M.areas (frame_in self.old) (GoesTo (called_frame (frame_in self.old) (call_is call.entry) id body.value cells.items) (M.areas self.old.memory) body.value.start_block.0) self.new result }
         ensures same { self.new.left ≡ self.old.left }
         ensures run { IsInRun (frame_in self.old) self.new result }
         ensures asks { AsksAtCall self.new result }
@@ -303,7 +299,7 @@ impl<'a> Run<'a> {
         id: FunctionId,
         body: Rc<MirBody>,
     ) -> Went
-        ensures leads { Leads (frame_in self.old) (called (frame_in self.old) (memory_in self.old) (call_is call.entry) id body.value) self.new result }
+        ensures leads { Leads M.areas (frame_in self.old) (called (frame_in self.old) (M.areas self.old.memory) (call_is call.entry) id body.value) self.new result }
         ensures same { self.new.left ≡ self.old.left }
         ensures run { IsInRun (frame_in self.old) self.new result }
         ensures asks { AsksAtCall self.new result }
@@ -326,7 +322,7 @@ impl<'a> Run<'a> {
     /// Ends a run at a call of a function whose body could not be got.
     fn refuse(&self, alloc: Global, call: Call<'_>, id: FunctionId, error: &ConstEvalError) -> Went
         ensures asks { AsksAtCall self.now result }
-        ensures leads { Leads (frame_in self.now) (Stops (Faulted (callee_error id error.now) (entry_of (frame_in self.now) (call_is call.entry) id ∷ trail_of (frame_in self.now)))) self.now result }
+        ensures leads { Leads M.areas (frame_in self.now) (Stops (Faulted (callee_error id error.now) (entry_of (frame_in self.now) (call_is call.entry) id ∷ trail_of (frame_in self.now)))) self.now result }
     {
         let entry = TrailEntry {
             callee: Either::Left(id),
@@ -349,7 +345,7 @@ impl<'a> Run<'a> {
         block: BasicBlockId,
     ) -> Went
         requires { call_at self.old.body.value block.0 ≡ Some (call_is call) }
-        ensures leads { Leads (frame_in self.old) (called_by (frame_in self.old) (memory_in self.old) (call_is call.entry) (function_is function.entry) (answer_to self.old.program.answers (body_query (function_is function.entry)))) self.new result }
+        ensures leads { Leads M.areas (frame_in self.old) (called_by (frame_in self.old) (M.areas self.old.memory) (call_is call.entry) (function_is function.entry) (answer_to self.old.program.answers (body_query (function_is function.entry)))) self.new result }
         ensures same { self.new.left ≡ self.old.left }
         ensures run { IsInRun (frame_in self.old) self.new result }
         ensures asks { AsksAtCall self.new result }
@@ -372,7 +368,7 @@ impl<'a> Run<'a> {
     #[tactic(auto, unfolding(mir::specs::Run::calls, mir::specs::Run::terminated))]
     fn call(&mut self, alloc: Global, block: BasicBlockId) -> Went
         requires { IsSome (call_at self.old.body.value block.0) }
-        ensures leads { Leads (frame_in self.old) (terminated (frame_in self.old) (memory_in self.old) (terminator_at self.old.body.value block.0)) self.new result }
+        ensures leads { Leads M.areas (frame_in self.old) (terminated (frame_in self.old) (M.areas self.old.memory) (terminator_at self.old.body.value block.0)) self.new result }
         ensures same { self.new.left ≡ self.old.left }
         ensures run { IsInRun (frame_in self.old) self.new result }
         ensures asks { AsksAtCall self.new result }
@@ -392,7 +388,7 @@ impl<'a> Run<'a> {
     /// Goes on where the blocks of a frame led.
     fn go_on(&mut self, alloc: Global, block: BasicBlockId, end: Result<Halt, Fault>) -> Went
         requires { HaltsAtCall self.old.body.value block.0 end }
-        ensures leads { Leads (frame_in self.old) (halt_of (frame_in self.old) self.old.stack.items (terminator_at self.old.body.value block.0) end) self.new result }
+        ensures leads { Leads M.areas (frame_in self.old) (halt_of (frame_in self.old) (M.areas self.old.memory) (terminator_at self.old.body.value block.0) end) self.new result }
         ensures same { self.new.left ≡ self.old.left }
         ensures run { IsInRun (frame_in self.old) self.new result }
         ensures asks { AsksAtCall self.new result }
@@ -406,7 +402,7 @@ impl<'a> Run<'a> {
 
     /// Runs blocks of the frame, until the body returns, calls or faults.
     fn run_blocks(&mut self, block: BasicBlockId) -> Stop
-        ensures run { going_on result.left (halt_of (frame_in self.old) self.new.stack.items (terminator_at self.old.body.value result.block.0) result.end) ≡ entering self.old.left (frame_in self.old) (memory_in self.old) block.0 }
+        ensures run { going_on result.left (halt_of (frame_in self.old) (M.areas self.new.memory) (terminator_at self.old.body.value result.block.0) result.end) ≡ entering self.old.left (frame_in self.old) (M.areas self.old.memory) block.0 }
         ensures frame { frame_in self.new ≡ frame_in self.old }
         ensures left { self.new.left ≡ result.left }
         ensures call { HaltsAtCall self.new.body.value result.block.0 result.end }
@@ -420,7 +416,7 @@ impl<'a> Run<'a> {
                 cells: self.cells.as_slice(),
                 below: self.below.as_slice(),
             },
-            self.stack.as_mut_slice(),
+            &mut self.memory,
             block,
             self.left,
         );
@@ -430,7 +426,7 @@ impl<'a> Run<'a> {
 
     /// Runs one block of the frame.
     fn run_block(&mut self, block: BasicBlockId) -> Result<Exit, Fault>
-        ensures next { next_of (frame_in self.old) self.new.stack.items (terminator_at self.old.body.value block.0) result ≡ next_from (frame_in self.old) (memory_in self.old) (slice_get self.old.body.value.basic_blocks block.0) 0 }
+        ensures next { next_of (frame_in self.old) (M.areas self.new.memory) (terminator_at self.old.body.value block.0) result ≡ next_from (frame_in self.old) (M.areas self.old.memory) (slice_get self.old.body.value.basic_blocks block.0) 0 }
         ensures frame { frame_in self.new ≡ frame_in self.old }
         ensures left { self.new.left ≡ self.old.left }
         ensures call { result ≡ Ok Calls → IsSome (call_at self.new.body.value block.0) }
@@ -442,14 +438,14 @@ impl<'a> Run<'a> {
                 cells: self.cells.as_slice(),
                 below: self.below.as_slice(),
             },
-            self.stack.as_mut_slice(),
+            &mut self.memory,
             block,
         )
     }
 
     /// Runs blocks until a body returns, calls or faults, and goes on from there.
     fn run_frame(&mut self, alloc: Global, block: BasicBlockId) -> Went
-        ensures went { Continues (position_at self.old (Entry block.0)) self.new result }
+        ensures went { Continues M.areas (position_at M.areas self.old (Entry block.0)) self.new result }
         ensures fewer { to_go self.new.left result ≤ self.old.left }
         ensures asks { AsksAtCall self.new result }
     {
@@ -459,7 +455,7 @@ impl<'a> Run<'a> {
 
     /// Begins where the run stands: at the entry of a block, or by the call at which it waited.
     fn resume(&mut self, alloc: Global) -> Went
-        ensures went { Continues (position_of self.old) self.new result }
+        ensures went { Continues M.areas (position_of M.areas self.old) self.new result }
         ensures asks { AsksAtCall self.new result }
     {
         match self.point {
@@ -470,7 +466,7 @@ impl<'a> Run<'a> {
 
     /// Runs frame after frame, to the end or to a query.
     fn run_frames(&mut self, alloc: Global) -> Went
-        ensures went { Continues (position_of self.old) self.new result }
+        ensures went { Continues M.areas (position_of M.areas self.old) self.new result }
         ensures stopped { HasStopped result }
         ensures asks { AsksAtCall self.new result }
     {
@@ -483,7 +479,7 @@ impl<'a> Run<'a> {
 
     /// Runs to the end, or to a query.
     pub(crate) fn finish(&mut self, alloc: Global) -> Went
-        ensures went { RunsTo (position_of self.old) (state_after self.new result) }
+        ensures went { RunsTo (position_of M.areas self.old) (state_after M.areas self.new result) }
         ensures stopped { HasStopped result }
         ensures asks { AsksAtCall self.new result }
     {
@@ -493,7 +489,7 @@ impl<'a> Run<'a> {
     /// Runs one block, or the call at which the run waited.
     #[tactic(auto, unfolding(mir::specs::Run::next_from))]
     pub(crate) fn step(&mut self, alloc: Global) -> Went
-        ensures went { StepsTo (position_of self.old) (state_after self.new result) }
+        ensures went { StepsTo (position_of M.areas self.old) (state_after M.areas self.new result) }
         ensures asks { AsksAtCall self.new result }
     {
         let block = match self.point {

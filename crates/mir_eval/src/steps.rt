@@ -1,6 +1,8 @@
 //! The steps of a run: operands, assignments, statements, and the blocks of one frame.
 
-ghost use Rattle.std.specs.Prelude.{◌≡◌, ◌≢◌, ◌<◌, ◌≤◌, IsTrue, IfOk, IfSome, IsSome, OnOk, Ok, Some, slice_get, option_and_then, option_copied};
+ghost use Rattle.std.specs.Prelude.{◌≡◌, ◌≢◌, ◌<◌, ◌≤◌, IsTrue, IfOk, IfSome, IsSome, OnOk, Ok, Some, slice_get, option_and_then, option_map};
+ghost use Rattle.std.specs.List.{concat};
+ghost use Rattle.std.specs.Option.{option_copied};
 ghost use Rattle.numbers.specs.Operators.{kind_of};
 ghost use Rattle.mir.specs.Run.{constant_bytes, copied, read, answered, operated, computed_of, operated_on, rvalue_bytes, operand_bytes, operand_type, after_statement, after_statements, switched, terminated, next_from, entering, going_on};
 ghost use Rattle.mir_eval.specs.Machine.{call_at, call_of, terminator_at};
@@ -8,16 +10,18 @@ ghost use Rattle.mir_eval.specs.declared.steps.Exit.TheVariants.{Calls};
 ghost use Rattle.numbers.specs.Computed.{answer_of, count_of};
 ghost use Rattle.mir_ops.specs.Made.{made_bytes};
 ghost use Rattle.mir_eval.specs.Frames.{frame_of};
-ghost use Rattle.mir_eval.specs.Steps.{interval_of, operated_bytes, memory, left_with, next_of, halt_of, HaltsAtCall};
+ghost use Rattle.mir_eval.specs.Steps.{operated_bytes, left_with, next_of, halt_of, HaltsAtCall};
 
-use crate::cells::{Cell, cell_of, copy, read, write};
+use crate::cells::{cell_of, copy, read, write};
 use crate::faults::Fault;
 use crate::frames::StackFrame;
+use crate::pieces::{gather, whole};
 use crate::words::unsigned;
 use mir::{
-    BasicBlock, BasicBlockId, BinOp, MirBody, OperandKind, Place, Rvalue, Statement, StatementKind,
-    SwitchTargets, Terminator, TerminatorKind, UnOp,
+    BasicBlock, BasicBlockId, BinOp, Interval, MirBody, OperandKind, Place, Rvalue, Statement,
+    StatementKind, SwitchTargets, Terminator, TerminatorKind, UnOp,
 };
+use mir_mem::{Memory, View};
 use mir_ops::{Made, byte_of, bytes1, bytes2, bytes4, bytes8, bytes16, made_of};
 use numbers::{Computed, Kind, compute, invert, negate};
 use world::{Const, Ty};
@@ -58,20 +62,24 @@ fn constant_bytes(konst: &Const) -> Option<&[u8]>
 }
 
 /// The bytes that an operand has now.
-#[tactic(auto, unfolding(mir::specs::Run::operand_bytes))]
-fn operand<'r>(
+#[inline(always)]
+#[tactic(auto, unfolding(mir::specs::Run::operand_bytes), using(crate::proofs::Joined::concat_pieces_of))]
+fn operand<'r, M: Memory>(
     frame: StackFrame<'_, '_>,
-    stack: &'r [u8],
+    memory: &'r M,
     kind: &'r OperandKind,
-) -> Option<&'r [u8]>
-    ensures { option_copied result ≡ operand_bytes (frame_of frame.entry) (memory stack.now) kind.now }
+) -> Option<View<'r>>
+    ensures { option_map concat result ≡ operand_bytes (frame_of frame.entry) (M.areas memory.now) kind.now }
 {
     match kind {
         OperandKind::Copy(place) => match cell_of(frame.cells, place.local) {
-            Some(cell) => read(stack, cell),
+            Some(cell) => read(memory, cell),
             None => None,
         },
-        OperandKind::Constant { konst, .. } => constant_bytes(konst),
+        OperandKind::Constant { konst, .. } => match constant_bytes(konst) {
+            Some(bytes) => Some(View::of(bytes)),
+            None => None,
+        },
     }
 }
 
@@ -107,21 +115,21 @@ fn operand_kind(body: &MirBody, kind: &OperandKind) -> Option<Kind>
 
 /// Copies the bytes of an operand to a cell.
 #[tactic(auto, unfolding(mir::specs::Run::operand_bytes, mir::specs::Run::copied))]
-pub(crate) fn assign_operand(
+pub(crate) fn assign_operand<M: Memory>(
     frame: StackFrame<'_, '_>,
-    stack: &mut [u8],
-    to: Cell,
+    memory: &mut M,
+    to: Interval,
     kind: &OperandKind,
 ) -> Result<(), Fault>
-    ensures { left_with stack.new result ≡ copied (memory stack.old) (Some (interval_of to)) (read (operand_bytes (frame_of frame.entry) (memory stack.old) kind.now)) }
+    ensures { left_with (M.areas memory.new) result ≡ copied (M.areas memory.old) (Some to) (read (operand_bytes (frame_of frame.entry) (M.areas memory.old) kind.now)) }
 {
     match kind {
         OperandKind::Copy(place) => match cell_of(frame.cells, place.local) {
-            Some(from) => copy(stack, from, to),
+            Some(from) => copy(memory, from, to),
             None => Err(Fault::BadRead),
         },
         OperandKind::Constant { konst, .. } => match constant_bytes(konst) {
-            Some(bytes) => write(stack, to, bytes),
+            Some(bytes) => write(memory, to, bytes),
             None => Err(Fault::BadRead),
         },
     }
@@ -143,25 +151,38 @@ fn answered(computed: Computed) -> Result<([u8; 16], u8), Fault>
 
 /// The bytes that an operator makes of two operands.
 #[tactic(auto, unfolding(mir::specs::Run::operated))]
-fn operate(
+fn operate<M: Memory>(
     frame: StackFrame<'_, '_>,
-    stack: &[u8],
+    memory: &M,
     op: BinOp,
     left: &OperandKind,
     right: &OperandKind,
 ) -> Result<([u8; 16], u8), Fault>
-    ensures bytes { operated_bytes result ≡ operated op (operand_type frame.entry.body.now left.now) (operand_type frame.entry.body.now right.now) (operand_bytes (frame_of frame.entry) (memory stack.now) left.now) (operand_bytes (frame_of frame.entry) (memory stack.now) right.now) }
+    ensures bytes { operated_bytes result ≡ operated op (operand_type frame.entry.body.now left.now) (operand_type frame.entry.body.now right.now) (operand_bytes (frame_of frame.entry) (M.areas memory.now) left.now) (operand_bytes (frame_of frame.entry) (M.areas memory.now) right.now) }
     ensures count { IfOk result (λ r. r.1 ≤ 16) }
 {
-    let Some(left_bytes) = operand(frame, stack, left) else {
+    let Some(left_view) = operand(frame, memory, left) else {
         return Err(Fault::BadRead);
     };
-    let Some(right_bytes) = operand(frame, stack, right) else {
+    let Some(right_view) = operand(frame, memory, right) else {
         return Err(Fault::BadRead);
     };
     let left_kind = operand_kind(frame.body, left);
     let right_kind = operand_kind(frame.body, right);
-    answered(compute(op, left_kind, right_kind, left_bytes, right_bytes))
+    // No operator has an answer for operands of more than 16 bytes.
+    let Some(left_bytes) = gather(&left_view) else {
+        return Err(Fault::Undefined);
+    };
+    let Some(right_bytes) = gather(&right_view) else {
+        return Err(Fault::Undefined);
+    };
+    answered(compute(
+        op,
+        left_kind,
+        right_kind,
+        left_bytes.bytes(),
+        right_bytes.bytes(),
+    ))
 }
 
 /// What an operator on one operand makes of it.
@@ -178,62 +199,76 @@ fn compute_one(op: UnOp, kind: Option<Kind>, bytes: &[u8]) -> Computed
 
 /// The bytes that an operator makes of one operand.
 #[tactic(auto, unfolding(mir::specs::Run::operated_on))]
-fn operate_on(
+fn operate_on<M: Memory>(
     frame: StackFrame<'_, '_>,
-    stack: &[u8],
+    memory: &M,
     op: UnOp,
     kind: &OperandKind,
 ) -> Result<([u8; 16], u8), Fault>
-    ensures bytes { operated_bytes result ≡ operated_on op (operand_type frame.entry.body.now kind.now) (operand_bytes (frame_of frame.entry) (memory stack.now) kind.now) }
+    ensures bytes { operated_bytes result ≡ operated_on op (operand_type frame.entry.body.now kind.now) (operand_bytes (frame_of frame.entry) (M.areas memory.now) kind.now) }
     ensures count { IfOk result (λ r. r.1 ≤ 16) }
 {
-    let Some(bytes) = operand(frame, stack, kind) else {
+    let Some(view) = operand(frame, memory, kind) else {
         return Err(Fault::BadRead);
     };
-    answered(compute_one(op, operand_kind(frame.body, kind), bytes))
+    let own = operand_kind(frame.body, kind);
+    if let Some(bytes) = whole(&view) {
+        return answered(compute_one(op, own, bytes));
+    }
+    match gather(&view) {
+        Some(bytes) => answered(compute_one(op, own, bytes.bytes())),
+        None => Err(Fault::Undefined),
+    }
 }
 
 /// Copies what an operator made to a cell.
 #[tactic(auto, unfolding(mir::specs::Run::copied))]
-fn assign_made(stack: &mut [u8], to: Cell, made: Result<([u8; 16], u8), Fault>) -> Result<(), Fault>
+fn assign_made<M: Memory>(
+    memory: &mut M,
+    to: Interval,
+    made: Result<([u8; 16], u8), Fault>,
+) -> Result<(), Fault>
     requires { IfOk made (λ r. r.1 ≤ 16) }
-    ensures { left_with stack.new result ≡ copied (memory stack.old) (Some (interval_of to)) (operated_bytes made) }
+    ensures { left_with (M.areas memory.new) result ≡ copied (M.areas memory.old) (Some to) (operated_bytes made) }
 {
     match made {
-        Ok(made) => write(stack, to, &made.0[..made.1 as usize]),
+        Ok(made) => write(memory, to, &made.0[..made.1 as usize]),
         Err(fault) => Err(fault),
     }
 }
 
 /// Copies the bytes of a number or of a truth value to a cell.
-fn assign_word(stack: &mut [u8], to: Cell, made: Made) -> Result<(), Fault>
-    ensures { left_with stack.new result ≡ copied (memory stack.old) (Some (interval_of to)) (Ok (made_bytes made)) }
+fn assign_word<M: Memory>(memory: &mut M, to: Interval, made: Made) -> Result<(), Fault>
+    ensures { left_with (M.areas memory.new) result ≡ copied (M.areas memory.old) (Some to) (Ok (made_bytes made)) }
 {
     match made {
-        Made::Word1(word) => write(stack, to, &bytes1(word)),
-        Made::Word2(word) => write(stack, to, &bytes2(word)),
-        Made::Word4(word) => write(stack, to, &bytes4(word)),
-        Made::Word8(word) => write(stack, to, &bytes8(word)),
-        Made::WideWord(word) => write(stack, to, &bytes16(word)),
-        Made::Truth(truth) => write(stack, to, &byte_of(truth)),
+        Made::Word1(word) => write(memory, to, &bytes1(word)),
+        Made::Word2(word) => write(memory, to, &bytes2(word)),
+        Made::Word4(word) => write(memory, to, &bytes4(word)),
+        Made::Word8(word) => write(memory, to, &bytes8(word)),
+        Made::WideWord(word) => write(memory, to, &bytes16(word)),
+        Made::Truth(truth) => write(memory, to, &byte_of(truth)),
     }
 }
 
-/// What an operator makes of two operands of one kind, without the table. There is none where `made_of` has none.
-fn operate_on_words(
+/// What an operator makes of two operands of one kind, without the table. There is none where `made_of` has none, or where the
+/// bytes of one don't lie in one piece.
+fn operate_on_words<M: Memory>(
     frame: StackFrame<'_, '_>,
-    stack: &[u8],
+    memory: &M,
     op: BinOp,
     left: &OperandKind,
     right: &OperandKind,
 ) -> Option<Made>
-    ensures { IfSome result (λ made. operated op (operand_type frame.entry.body.now left.now) (operand_type frame.entry.body.now right.now) (operand_bytes (frame_of frame.entry) (memory stack.now) left.now) (operand_bytes (frame_of frame.entry) (memory stack.now) right.now) ≡ Ok (made_bytes made)) }
+    ensures { IfSome result (λ made. operated op (operand_type frame.entry.body.now left.now) (operand_type frame.entry.body.now right.now) (operand_bytes (frame_of frame.entry) (M.areas memory.now) left.now) (operand_bytes (frame_of frame.entry) (M.areas memory.now) right.now) ≡ Ok (made_bytes made)) }
 {
     let left_kind = operand_kind(frame.body, left)?;
     let right_kind = operand_kind(frame.body, right)?;
     if left_kind == right_kind {
-        let left_bytes = operand(frame, stack, left)?;
-        let right_bytes = operand(frame, stack, right)?;
+        let left_view = operand(frame, memory, left)?;
+        let right_view = operand(frame, memory, right)?;
+        let left_bytes = whole(&left_view)?;
+        let right_bytes = whole(&right_view)?;
         made_of(op, left_kind, left_bytes, right_bytes)
     } else {
         None
@@ -243,71 +278,71 @@ fn operate_on_words(
 /// Copies what an operator makes of two operands to a cell. The table of all operators and types is kept out of the loop
 /// over statements.
 #[inline(never)]
-fn assign_by_table(
+fn assign_by_table<M: Memory>(
     frame: StackFrame<'_, '_>,
-    stack: &mut [u8],
-    to: Cell,
+    memory: &mut M,
+    to: Interval,
     op: BinOp,
     left: &OperandKind,
     right: &OperandKind,
 ) -> Result<(), Fault>
-    ensures { left_with stack.new result ≡ copied (memory stack.old) (Some (interval_of to)) (operated op (operand_type frame.entry.body.now left.now) (operand_type frame.entry.body.now right.now) (operand_bytes (frame_of frame.entry) (memory stack.old) left.now) (operand_bytes (frame_of frame.entry) (memory stack.old) right.now)) }
+    ensures { left_with (M.areas memory.new) result ≡ copied (M.areas memory.old) (Some to) (operated op (operand_type frame.entry.body.now left.now) (operand_type frame.entry.body.now right.now) (operand_bytes (frame_of frame.entry) (M.areas memory.old) left.now) (operand_bytes (frame_of frame.entry) (M.areas memory.old) right.now)) }
 {
-    let made = operate(frame, stack, op, left, right);
-    assign_made(stack, to, made)
+    let made = operate(frame, memory, op, left, right);
+    assign_made(memory, to, made)
 }
 
 /// Copies what an operator makes of two operands to a cell.
-fn assign_operated(
+fn assign_operated<M: Memory>(
     frame: StackFrame<'_, '_>,
-    stack: &mut [u8],
-    to: Cell,
+    memory: &mut M,
+    to: Interval,
     op: BinOp,
     left: &OperandKind,
     right: &OperandKind,
 ) -> Result<(), Fault>
-    ensures { left_with stack.new result ≡ copied (memory stack.old) (Some (interval_of to)) (operated op (operand_type frame.entry.body.now left.now) (operand_type frame.entry.body.now right.now) (operand_bytes (frame_of frame.entry) (memory stack.old) left.now) (operand_bytes (frame_of frame.entry) (memory stack.old) right.now)) }
+    ensures { left_with (M.areas memory.new) result ≡ copied (M.areas memory.old) (Some to) (operated op (operand_type frame.entry.body.now left.now) (operand_type frame.entry.body.now right.now) (operand_bytes (frame_of frame.entry) (M.areas memory.old) left.now) (operand_bytes (frame_of frame.entry) (M.areas memory.old) right.now)) }
 {
-    match operate_on_words(frame, stack, op, left, right) {
-        Some(made) => assign_word(stack, to, made),
-        None => assign_by_table(frame, stack, to, op, left, right),
+    match operate_on_words(frame, memory, op, left, right) {
+        Some(made) => assign_word(memory, to, made),
+        None => assign_by_table(frame, memory, to, op, left, right),
     }
 }
 
 /// Copies what is computed to a cell.
 #[tactic(auto, unfolding(mir::specs::Run::rvalue_bytes))]
-fn assign(
+fn assign<M: Memory>(
     frame: StackFrame<'_, '_>,
-    stack: &mut [u8],
-    to: Cell,
+    memory: &mut M,
+    to: Interval,
     rvalue: &Rvalue,
 ) -> Result<(), Fault>
-    ensures { left_with stack.new result ≡ copied (memory stack.old) (Some (interval_of to)) (rvalue_bytes (frame_of frame.entry) (memory stack.old) rvalue.now) }
+    ensures { left_with (M.areas memory.new) result ≡ copied (M.areas memory.old) (Some to) (rvalue_bytes (frame_of frame.entry) (M.areas memory.old) rvalue.now) }
 {
     match rvalue {
-        Rvalue::Use(operand) => assign_operand(frame, stack, to, &operand.kind),
+        Rvalue::Use(operand) => assign_operand(frame, memory, to, &operand.kind),
         Rvalue::CheckedBinaryOp(op, left, right) => {
-            assign_operated(frame, stack, to, *op, &left.kind, &right.kind)
+            assign_operated(frame, memory, to, *op, &left.kind, &right.kind)
         }
         Rvalue::UnaryOp(op, operand) => {
-            let made = operate_on(frame, stack, *op, &operand.kind);
-            assign_made(stack, to, made)
+            let made = operate_on(frame, memory, *op, &operand.kind);
+            assign_made(memory, to, made)
         }
     }
 }
 
 /// Runs a statement.
 #[tactic(auto, unfolding(mir::specs::Run::after_statement, mir::specs::Run::copied))]
-fn execute(
+fn execute<M: Memory>(
     frame: StackFrame<'_, '_>,
-    stack: &mut [u8],
+    memory: &mut M,
     statement: &StatementKind,
 ) -> Result<(), Fault>
-    ensures { left_with stack.new result ≡ after_statement (frame_of frame.entry) (memory stack.old) statement.now }
+    ensures { left_with (M.areas memory.new) result ≡ after_statement (frame_of frame.entry) (M.areas memory.old) statement.now }
 {
     match statement {
         StatementKind::Assign(place, rvalue) => match cell_of(frame.cells, place.local) {
-            Some(to) => assign(frame, stack, to, rvalue),
+            Some(to) => assign(frame, memory, to, rvalue),
             None => Err(Fault::BadWrite),
         },
         StatementKind::FakeRead(_) => Ok(()),
@@ -318,15 +353,15 @@ fn execute(
 
 /// Runs statements in order, up to the first that faults.
 #[tactic(auto, unfolding(mir::specs::Run::after_statements))]
-fn execute_all(
+fn execute_all<M: Memory>(
     frame: StackFrame<'_, '_>,
-    stack: &mut [u8],
+    memory: &mut M,
     statements: &[Statement],
 ) -> Result<(), Fault>
-    ensures { left_with stack.new result ≡ after_statements (frame_of frame.entry) statements.now (memory stack.old) }
+    ensures { left_with (M.areas memory.new) result ≡ after_statements (frame_of frame.entry) statements.now (M.areas memory.old) }
 {
     for statement in statements {
-        match execute(frame, stack, &statement.kind) {
+        match execute(frame, memory, &statement.kind) {
             Ok(()) => {}
             Err(fault) => return Err(fault),
         }
@@ -336,42 +371,46 @@ fn execute_all(
 
 /// Where a switch leads.
 #[tactic(auto, unfolding(mir::specs::Run::switched))]
-fn branch(
+fn branch<M: Memory>(
     frame: StackFrame<'_, '_>,
-    stack: &[u8],
+    memory: &M,
     discr: &OperandKind,
     targets: &SwitchTargets,
 ) -> Result<Exit, Fault>
-    ensures leads { (terminator : _) → next_of (frame_of frame.entry) stack.now terminator result ≡ switched (frame_of frame.entry) (memory stack.now) targets.now (operand_bytes (frame_of frame.entry) (memory stack.now) discr.now) }
+    ensures leads { (terminator : _) → next_of (frame_of frame.entry) (M.areas memory.now) terminator result ≡ switched (frame_of frame.entry) (M.areas memory.now) targets.now (operand_bytes (frame_of frame.entry) (M.areas memory.now) discr.now) }
     ensures block { result ≢ Ok Calls }
 {
-    match operand(frame, stack, discr) {
-        Some(bytes) => {
-            if bytes.len() <= 16 {
-                Ok(Exit::GoesTo(targets.target_for_value(unsigned(bytes))))
-            } else {
-                Err(Fault::Undefined)
-            }
-        }
-        None => Err(Fault::BadRead),
+    let Some(view) = operand(frame, memory, discr) else {
+        return Err(Fault::BadRead);
+    };
+    if view.len() > 16 {
+        return Err(Fault::Undefined);
     }
+    let number = match whole(&view) {
+        Some(bytes) => unsigned(bytes),
+        None => match gather(&view) {
+            Some(bytes) => unsigned(bytes.bytes()),
+            None => return Err(Fault::Undefined),
+        },
+    };
+    Ok(Exit::GoesTo(targets.target_for_value(number)))
 }
 
 /// What a terminator does.
 #[tactic(auto, unfolding(mir::specs::Run::terminated))]
-fn terminate(
+fn terminate<M: Memory>(
     frame: StackFrame<'_, '_>,
-    stack: &[u8],
+    memory: &M,
     terminator: &Option<Terminator>,
 ) -> Result<Exit, Fault>
-    ensures next { next_of (frame_of frame.entry) stack.now terminator.now result ≡ terminated (frame_of frame.entry) (memory stack.now) terminator.now }
+    ensures next { next_of (frame_of frame.entry) (M.areas memory.now) terminator.now result ≡ terminated (frame_of frame.entry) (M.areas memory.now) terminator.now }
     ensures call { result ≡ Ok Calls → IsSome (option_and_then call_of terminator.now) }
 {
     match terminator {
         Some(terminator) => match &terminator.kind {
             TerminatorKind::Goto { target } => Ok(Exit::GoesTo(*target)),
             TerminatorKind::SwitchInt { discr, targets } => {
-                branch(frame, stack, &discr.kind, targets)
+                branch(frame, memory, &discr.kind, targets)
             }
             TerminatorKind::Return => Ok(Exit::Returns),
             TerminatorKind::Drop { target, .. } => Ok(Exit::GoesTo(*target)),
@@ -383,17 +422,17 @@ fn terminate(
 
 /// Runs a block.
 #[tactic(auto, unfolding(mir::specs::Run::next_from))]
-pub(crate) fn enter(
+pub(crate) fn enter<M: Memory>(
     frame: StackFrame<'_, '_>,
-    stack: &mut [u8],
+    memory: &mut M,
     block: BasicBlockId,
 ) -> Result<Exit, Fault>
-    ensures next { next_of (frame_of frame.entry) stack.new (terminator_at frame.entry.body.now block.0) result ≡ next_from (frame_of frame.entry) (memory stack.old) (slice_get frame.entry.body.now.basic_blocks block.0) 0 }
+    ensures next { next_of (frame_of frame.entry) (M.areas memory.new) (terminator_at frame.entry.body.now block.0) result ≡ next_from (frame_of frame.entry) (M.areas memory.old) (slice_get frame.entry.body.now.basic_blocks block.0) 0 }
     ensures call { result ≡ Ok Calls → IsSome (call_at frame.entry.body.now block.0) }
 {
     match frame.body.basic_blocks.get(block.0 as u64) {
-        Some(block) => match execute_all(frame, stack, block.statements.as_slice()) {
-            Ok(()) => terminate(frame, stack, &block.terminator),
+        Some(block) => match execute_all(frame, memory, block.statements.as_slice()) {
+            Ok(()) => terminate(frame, memory, &block.terminator),
             Err(fault) => Err(fault),
         },
         None => Err(Fault::NoTerminator),
@@ -402,13 +441,13 @@ pub(crate) fn enter(
 
 /// Runs blocks of a frame, at most `blocks` of them, until the body returns, calls or faults.
 #[tactic(auto, unfolding(mir::specs::Run::entering, mir::specs::Run::going_on), using(crate::proofs::Blocks::enter_one))]
-pub(crate) fn enter_all(
+pub(crate) fn enter_all<M: Memory>(
     frame: StackFrame<'_, '_>,
-    stack: &mut [u8],
+    memory: &mut M,
     start: BasicBlockId,
     blocks: u64,
 ) -> Stop
-    ensures run { going_on result.left (halt_of (frame_of frame.entry) stack.new (terminator_at frame.entry.body.now result.block.0) result.end) ≡ entering blocks (frame_of frame.entry) (memory stack.old) start.0 }
+    ensures run { going_on result.left (halt_of (frame_of frame.entry) (M.areas memory.new) (terminator_at frame.entry.body.now result.block.0) result.end) ≡ entering blocks (frame_of frame.entry) (M.areas memory.old) start.0 }
     ensures call { HaltsAtCall frame.entry.body.now result.block.0 result.end }
     ensures fewer { OnOk result.end (result.left < blocks) }
     ensures within { result.left ≤ blocks }
@@ -417,7 +456,7 @@ pub(crate) fn enter_all(
     let mut left = blocks;
     while left > 0 {
         left -= 1;
-        match enter(frame, stack, block) {
+        match enter(frame, memory, block) {
             Ok(Exit::GoesTo(target)) => block = target,
             Ok(Exit::Returns) => {
                 return Stop {

@@ -10,7 +10,7 @@ use Rattle.mir_eval.proofs.Leading.{over-leads}
 use Rattle.mir_eval.proofs.runs.Run.over.Goals as goal
 
 pub returns-in-Ok-clause-leads : goal.returns-in-Ok-clause-leads
-returns-in-Ok-clause-leads c =
+returns-in-Ok-clause-leads g c =
     let frame = frame_in c.args.self.now in
-    over-leads frame c.args.self.now c.args.error (option_to_list c.args.first ++ trail_of frame) c.in-Ok.outcome
+    over-leads g.M.Memory.areas frame c.args.self.now c.args.error (option_to_list c.args.first ++ trail_of frame) c.in-Ok.outcome
     (c.in-Ok.ensures ∙ ap (λ (below : List Suspended). Err (wrapped c.args.error (option_to_list c.args.first ++ map (λ (w : Waiting). w.call) (callers below)))) c.as_slice.ensures.value)

@@ -10,25 +10,25 @@ use Rattle.mir_eval.proofs.runs.Run.run_frame.Goals as goal
 
 pub returns-clause-went : goal.returns-clause-went
 unfolding end_of
-returns-clause-went c =
+returns-clause-went g c =
     let old = c.args.self.now in
     let mid = c.run_blocks-stop.new.self in
     let stop = c.run_blocks-stop.result in
-    let start : Position = position_at old (Entry c.args.block.0) in
-    let next-in : Frame → Next = λ frame. halt_of frame mid.stack.items (terminator_at frame.body stop.block.0) stop.end in
+    let start : Position = position_at g.M.Memory.areas old (Entry c.args.block.0) in
+    let next-in : Frame → Next = λ frame. halt_of frame (g.M.Memory.areas mid.memory) (terminator_at frame.body stop.block.0) stop.end in
     let same = c.run_blocks-stop.ensures.frame in
     let left : stop.left ≡ c.go_on.new.self.left = sym c.run_blocks-stop.ensures.left ∙ sym c.go_on.ensures.same in
-    leads-continues start c.go_on.new.self c.go_on.result (next-in (frame_in old))
+    leads-continues g.M.Memory.areas start c.go_on.new.self c.go_on.result (next-in (frame_in old))
     (sym c.run_blocks-stop.ensures.run ∙ ap (λ (n : ℕ). going_on n (next-in (frame_in old))) left)
-    (subst (λ (frame : Frame). Leads frame (next-in frame) c.go_on.new.self c.go_on.result) same c.go_on.ensures.leads)
+    (subst (λ (frame : Frame). Leads g.M.Memory.areas frame (next-in frame) c.go_on.new.self c.go_on.result) same c.go_on.ensures.leads)
     (subst (λ (frame : Frame). IsInRun frame c.go_on.new.self c.go_on.result) same c.go_on.ensures.run)
 
 pub returns-clause-fewer : goal.returns-clause-fewer
-returns-clause-fewer c =
+returns-clause-fewer g c =
     let mid = c.run_blocks-stop.new.self in
     let stop = c.run_blocks-stop.result in
     let same : mid.left ≡ c.go_on.new.self.left = sym c.go_on.ensures.same in
-    fewer-left (frame_in mid) mid.stack.items (terminator_at mid.body.value stop.block.0) stop.end c.go_on.new.self c.go_on.result c.args.self.now.left
+    fewer-left g.M.Memory.areas (frame_in mid) (g.M.Memory.areas mid.memory) (terminator_at mid.body.value stop.block.0) stop.end c.go_on.new.self c.go_on.result c.args.self.now.left
     (subst (λ (n : ℕ). OnOk stop.end (n < c.args.self.now.left)) same c.run_blocks-stop.ensures.fewer)
     (subst (λ (n : ℕ). n ≤ c.args.self.now.left) same c.run_blocks-stop.ensures.within)
     c.go_on.ensures.leads

@@ -1,0 +1,13 @@
+use Rattle.std.proofs.Common.{◌≡◌, ◌≤◌, ◌-◌, length, take}
+use Rattle.std.specs.List.{concat}
+use Rattle.mir_eval.proofs.pieces.copy_of.Given as goal
+
+-- the pieces so far are copied
+abbrev pub invariant-loop-i : goal.invariant-loop-i
+invariant-loop-i l = record {
+  within : l.i ≤ length l.view;
+  bytes : l.copy ≡ concat (take l.i l.view);
+}
+
+abbrev pub decreases-loop-i : goal.decreases-loop-i
+decreases-loop-i l = length l.view - l.i
