@@ -73,6 +73,7 @@ built-is-no-unbuilt source e (Some (expr.Loop label body)) built unbuilt = unbui
 built-is-no-unbuilt source e (Some (expr.Break label value)) built unbuilt = unbuilt
 built-is-no-unbuilt source e (Some (expr.Continue label)) built unbuilt = unbuilt
 built-is-no-unbuilt source e (Some (expr.Return value)) built unbuilt = unbuilt
+built-is-no-unbuilt source e (Some (expr.Call callee args)) built unbuilt = built
 built-is-no-unbuilt source e None built unbuilt = built
 
 -- two bindings that stand in one place are one
@@ -102,6 +103,7 @@ built-has-local source e (Some (expr.Loop label body)) built lacks = lacks
 built-has-local source e (Some (expr.Break label value)) built lacks = lacks
 built-has-local source e (Some (expr.Continue label)) built lacks = lacks
 built-has-local source e (Some (expr.Return value)) built lacks = lacks
+built-has-local source e (Some (expr.Call callee args)) built lacks = lacks
 built-has-local source e (Some (expr.Literal l)) built lacks = lacks
 built-has-local source e (Some (expr.Strict operation operands)) built lacks = lacks
 built-has-local source e (Some (expr.Logic op left right)) built lacks = lacks
@@ -125,4 +127,5 @@ built-is-resolved source e (Some (expr.Loop label body)) name built unresolved =
 built-is-resolved source e (Some (expr.Break label value)) name built unresolved = unresolved
 built-is-resolved source e (Some (expr.Continue label)) name built unresolved = unresolved
 built-is-resolved source e (Some (expr.Return value)) name built unresolved = unresolved
+built-is-resolved source e (Some (expr.Call callee args)) name built unresolved = unresolved
 built-is-resolved source e None name built unresolved = unresolved

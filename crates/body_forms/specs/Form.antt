@@ -1,8 +1,9 @@
--- The form of an expression, as far as forms are built.
+-- The form of an expression, as far as forms have a meaning.
 use Rattle.std.specs.Prelude.{◌≡◌, ℕ, Bool, [], ◌∷◌, Option, Some, None, pos}
 use Rattle.source_meaning.specs.Core.{CoreExpr, CoreLiteral, Truth, Number, Operation, Negate, Invert, Combine, core_of}
 use Rattle.source_meaning.specs.Core as expr
 use Rattle.source_meaning.specs.Source.{Source, node}
+use Rattle.world.specs.Nodes.{expr_numbers}
 use Rattle.world.specs.declared.expr.Expr.{Expr}
 use Rattle.mir.specs.declared.operand.UnOp.{UnOp}
 use Rattle.mir.specs.declared.operand.UnOp.TheVariants as one
@@ -38,6 +39,7 @@ core_form (form.Loop label body) = Some (expr.Loop label body.0)
 core_form (form.Break label value) = Some (expr.Break label value)
 core_form (form.Continue label) = Some (expr.Continue label)
 core_form (form.Return value) = Some (expr.Return value)
+core_form (form.Call callee args) = Some (expr.Call callee.0 (expr_numbers args.now))
 core_form form.Incomplete = None
 core_form form.Unbuilt = None
 

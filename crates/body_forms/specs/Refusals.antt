@@ -1,5 +1,5 @@
 -- Why an expression of a typed body can't be lowered.
-use Rattle.std.specs.Prelude.{◌≡◌, ℕ, ◌<◌, true, false, not, List, [], ◌⊎◌, Contains, Option, Some, None, codes}
+use Rattle.std.specs.Prelude.{◌≡◌, ℕ, ◌<◌, true, false, List, [], ◌⊎◌, Contains, Option, Some, None, codes}
 use Rattle.types.specs.declared.ty.Ty.{Ty}
 use Rattle.world.specs.Lookups.{expr_of}
 use Rattle.source_meaning.specs.Core.{CoreExpr, Number, core_of, is_adjusted_otherwise, names_item}
@@ -49,8 +49,8 @@ pub record IsUnbuiltExpr (source : Source) (e : ℕ) : Type 0 where
 
 -- An expression of a form that isn't built yet, whatever its parts are: one that is adjusted otherwise than by `NeverToAny`
 -- alone, whatever its form is, and one to which `core_of` gives no form, other than an incomplete one: `*`, `+=` and its like,
--- a literal that is neither a truth value nor a whole number, a path to an associated item or a variant, a call, a closure, a
--- `match` and so on.
+-- a literal that is neither a truth value nor a whole number, a path to an associated item or a variant, a method's call, a
+-- closure, a `match` and so on.
 abbrev pub IsUnbuiltForm : Source → ℕ → Type 0
 IsUnbuiltForm source e = (is_adjusted_otherwise source.infer (record { 0 = e }) ≡ true) ⊎ IsUnbuiltExpr source e
 
@@ -71,8 +71,8 @@ IsUnbuiltTarget source p =
     (target_path source p ≡ None)
     ⊎ ((named : ValueNs) × (pattern_named_by source p ≡ Some named) × (local_named named ≡ None))
 
--- an expression that isn't built yet: by its form, as a path by what it names, as an assignment by its target, or as a
--- block by one of its statements
+-- an expression that isn't built yet: by its form, as a path by what it names, as an assignment by its target, as a block by one
+-- of its statements, or as a call, whatever it calls: calls have a meaning, and aren't lowered yet
 abbrev pub IsUnbuilt : Source → ℕ → Option CoreExpr → Type 0
 IsUnbuilt source e (Some (expr.Literal l)) = ⊥
 IsUnbuilt source e (Some (expr.Path name)) = NamesNoBinding source e
@@ -86,6 +86,7 @@ IsUnbuilt source e (Some (expr.Loop label body)) = ⊥
 IsUnbuilt source e (Some (expr.Break label value)) = ⊥
 IsUnbuilt source e (Some (expr.Continue label)) = ⊥
 IsUnbuilt source e (Some (expr.Return value)) = ⊥
+IsUnbuilt source e (Some (expr.Call callee args)) = Unit {0}
 IsUnbuilt source e None = IsUnbuiltForm source e
 
 -- a name pattern of a binding that the body lacks

@@ -1,4 +1,4 @@
-//! The form of an expression, as far as forms are built.
+//! The form of an expression, as far as forms have a meaning.
 
 ghost use Rattle.std.specs.Prelude.{◌≡◌, ◌<◌, false, length, Some, IfSome, IfNone};
 ghost use Rattle.std.specs.Option.{option_and_then, option_copied};
@@ -19,7 +19,8 @@ use world::{
     Pat, PatId, Statement, Text, UnaryOp,
 };
 
-/// What lowering does with an expression. Its variants are the forms that are built, and two for the others.
+/// What lowering does with an expression. Its variants are the forms that have a meaning, and two for the others. All
+/// of these but calls are built.
 #[derive(Clone, Copy)]
 pub enum Form<'a> {
     Literal(LiteralValue),
@@ -35,6 +36,8 @@ pub enum Form<'a> {
     Break(Option<LabelId>, Option<ExprId>),
     Continue(Option<LabelId>),
     Return(Option<ExprId>),
+    /// A call, which isn't built yet.
+    Call(ExprId, &'a List<ExprId>),
     /// An expression that is missing, or whose operator is.
     Incomplete,
     Unbuilt,
@@ -122,6 +125,7 @@ fn form_of<'a>(names_item: bool, expr: &'a Expr) -> Form<'a>
         Expr::Break { expr, label } => Form::Break(*label, *expr),
         Expr::Continue { label } => Form::Continue(*label),
         Expr::Return { expr } => Form::Return(*expr),
+        Expr::Call { callee, args } => Form::Call(*callee, args),
         Expr::Missing => Form::Incomplete,
         _ => Form::Unbuilt,
     }

@@ -1,4 +1,4 @@
-//! What lowering reads of a typed body: the form of each expression, as far as forms are built, the types that inference
+//! What lowering reads of a typed body: the form of each expression, as far as forms have a meaning, the types that inference
 //! found, and literals as operands. Nothing here touches a graph.
 #![tactic(auto)]
 

@@ -8,15 +8,15 @@ use Rattle.world.specs.declared.expr.Expr.TheVariants as whole
 use Rattle.world.specs.declared.expr.Expr.{Expr}
 use Rattle.world.specs.Lookups.{expr_of}
 use Rattle.world.specs.Checked.{IsCheckedBody}
-use Rattle.world.specs.Nodes.{optional, children_of, statement_children}
+use Rattle.world.specs.Nodes.{optional, expr_numbers, children_of, statement_children}
 use Rattle.types.specs.declared.ids.ExprId.{ExprId}
 use Rattle.types.specs.declared.operators.BinaryOp.{BinaryOp}
 use Rattle.types.specs.declared.operators.BinaryOp.TheVariants as binary
 use Rattle.numbers.specs.Operators.{of_arith, of_compare}
-use Rattle.source_meaning.specs.Core.{CoreExpr, Operation, Literal, Path, Strict, Logic, If, Assign, Block, Labelled, Loop, Break, Continue, Return, core_literal, unary_operation, unary_form, eager_form, binary_form, core_of, is_adjusted_otherwise, names_item}
+use Rattle.source_meaning.specs.Core.{CoreExpr, Operation, Literal, Path, Strict, Logic, If, Assign, Block, Labelled, Loop, Break, Continue, Return, Call, core_literal, unary_operation, unary_form, eager_form, binary_form, core_of, is_adjusted_otherwise, names_item}
 use Rattle.source_meaning.specs.Source.{Source, node}
 use Rattle.source_meaning.specs.Steps.{parts_of, statement_parts}
-use Rattle.source_meaning.proofs.Parts.{nothing_is_contained, among_more, if_parts, block_parts, tail_part}
+use Rattle.source_meaning.proofs.Parts.{nothing_is_contained, rest_is_contained, among_more, if_parts, block_parts, tail_part, call_parts}
 
 mapped : {A B : Type 0} (f : A → B) (given : Option A) (y : B) → option_map f given ≡ Some y → (x : A) × (given ≡ Some x) × (f x ≡ y)
 mapped f (Some x) y is = (x, refl, (let same : f x ≡ y = cc in same))
@@ -76,6 +76,9 @@ part_is_child item (whole.Continue label) core is child within =
 part_is_child item (whole.Return value) core is child within =
     let same : core ≡ Return value = cc in
     subst (λ parts. Contains parts child) (ap (λ c. parts_of (Some c)) same ∙ tail_part value) within
+part_is_child item (whole.Call callee args) core is child within =
+    let same : core ≡ Call callee.0 (expr_numbers args) = cc in
+    rest_is_contained callee.0 (expr_numbers args) child (subst (λ parts. Contains parts child) (ap (λ c. parts_of (Some c)) same ∙ call_parts callee.0 (expr_numbers args)) within)
 part_is_child item _ core is child within = absurd cc
 
 node_from : (adjusted item : Bool) (found : Option Expr) (core : CoreExpr) → if adjusted then None else option_and_then (core_of item) found ≡ Some core →

@@ -7,12 +7,12 @@ use Rattle.types.specs.declared.ids.ExprId.{ExprId}
 use Rattle.types.specs.declared.operators.LogicOp.{LogicOp}
 use Rattle.world.specs.Checked.{IsCheckedBody}
 use Rattle.world.specs.Nodes.{optional}
-use Rattle.source_meaning.specs.Core.{Operation, Strict, Logic, If, Assign, Block}
+use Rattle.source_meaning.specs.Core.{Operation, Strict, Logic, If, Assign, Block, Call}
 use Rattle.source_meaning.specs.Source.{Source, node}
 use Rattle.source_meaning.specs.Steps.{parts_of, statement_parts}
 use Rattle.source_meaning.specs.Valid.{Evaluates, itself, part, NeedsLayout, own, inside}
 use Rattle.source_meaning.proofs.Core.{part_is_below}
-use Rattle.source_meaning.proofs.Parts.{among, first_is_contained, strict_parts, if_parts, block_parts, sized_part_is_part}
+use Rattle.source_meaning.proofs.Parts.{among, first_is_contained, strict_parts, if_parts, block_parts, call_parts, sized_part_is_part}
 
 -- what is evaluated where an expression is comes no later than it
 pub evaluated_is_no_later : (source : Source) → IsCheckedBody source.body source.infer → {e f : ℕ} → Evaluates source e f → f ≤ e
@@ -34,6 +34,11 @@ needed_is_evaluated source (inside {e = e} {child = child} within rest) = part (
 pub operand_is_part : (source : Source) (e : ℕ) (operation : Operation) (operands : List ℕ) (child : ℕ) → node source e ≡ Some (Strict operation operands) → Contains operands child → Contains (parts_of (node source e)) child
 operand_is_part source e operation operands child is within =
     subst (λ form. Contains (parts_of form) child) (sym is) (subst (λ parts. Contains parts child) (sym (strict_parts operation operands)) within)
+
+-- a call evaluates its arguments
+pub argument_is_part : (source : Source) (e callee : ℕ) (args : List ℕ) (child : ℕ) → node source e ≡ Some (Call callee args) → Contains args child → Contains (parts_of (node source e)) child
+argument_is_part source e callee args child is within =
+    subst (λ form. Contains (parts_of form) child) (sym is) (subst (λ parts. Contains parts child) (sym (call_parts callee args)) within)
 
 -- `&&` and `||` evaluate both operands, the right one unless the left one decides
 pub logic_operand_is_part : (source : Source) (e : ℕ) (op : LogicOp) (left right child : ℕ) → node source e ≡ Some (Logic op left right) → Contains (left ∷ right ∷ []) child → Contains (parts_of (node source e)) child

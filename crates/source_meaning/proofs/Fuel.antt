@@ -1,5 +1,5 @@
 -- More fuel changes no end.
-use Rattle.std.proofs.Common.{◌≡◌, ℕ, zero, suc, ◌≤◌, Bool, true, false, List, [], ◌∷◌, ◌==◌, if◌then◌else◌, Option, Some, None, refl, ap, ◌∙◌, arith}
+use Rattle.std.proofs.Common.{◌≡◌, ℕ, zero, suc, ◌≤◌, Bool, true, false, cond, List, [], ◌∷◌, map, ◌==◌, if◌then◌else◌, Option, Some, None, refl, ap, ◌∙◌, arith}
 use Rattle.std.specs.Prelude.{flat_map}
 use Rattle.world.specs.declared.body.Statement.{Statement}
 use Rattle.world.specs.declared.body.Statement.TheVariants as statement
@@ -7,12 +7,13 @@ use Rattle.types.specs.declared.ids.ExprId.{ExprId}
 use Rattle.types.specs.declared.ids.LabelId.{LabelId}
 use Rattle.types.specs.declared.operators.LogicOp.{LogicOp}
 use Rattle.source_meaning.specs.Around.{Around, Target, at_root, marking, inside, target_of}
+use Rattle.source_meaning.specs.Calls.{source_called, must_not_return, started}
 use Rattle.source_meaning.specs.Core as expr
 use Rattle.source_meaning.specs.Core.{CoreExpr, Operation}
 use Rattle.source_meaning.specs.Ends.{Cost, turns_alone, End, Go, Jumps, Break, Continue, Return, Faults, Stuck, More, IsOver, after, then_do}
 use Rattle.source_meaning.specs.Events.{marked, marked_as_operand, marked_by_statement}
-use Rattle.source_meaning.specs.Meaning.{Levels, no_fuel, place_of, operand_of, operands_of, strict_into, is_byte, deciding_byte, decided_into, branched, logic_into, tail_into, branch_into, if_into, assign_into, statement_of, statements_of, block_into, caught, again_into, labelled_into, turn_of, loop_into, break_to, return_into, into_of, level_above, level_at, returned, meaning_from}
-use Rattle.source_meaning.specs.Source.{Source, Store, Path, Result, Node, Operand, operand_bytes, node, unadjusted, never_marks, own_path, target, root}
+use Rattle.source_meaning.specs.Meaning.{Levels, Callees, no_fuel, place_of, operand_of, operands_of, strict_into, is_byte, deciding_byte, decided_into, branched, logic_into, tail_into, branch_into, if_into, assign_into, statement_of, statements_of, block_into, caught, again_into, labelled_into, turn_of, loop_into, break_to, return_into, gone_on, gone_astray, call_ended, entered_from, entered_into, into_of, level_above, level_at, returned, body_meaning, callees_at, meaning_from}
+use Rattle.source_meaning.specs.Source.{Source, Store, Path, Result, Node, Operand, operand_bytes, zeroed, node, unadjusted, never_marks, own_path, target, root}
 
 -- what is over after a cost is over
 over_before : {A : Type 0} (cost : Cost) (end : End A) → IsOver (after cost end) → IsOver end
@@ -68,6 +69,40 @@ returned_agrees source (Jumps to store cost) second same over = ap (returned sou
 returned_agrees source (Faults fault cost) second same over = ap (returned source) (same tt)
 returned_agrees source Stuck second same over = ap (returned source) (same tt)
 returned_agrees source (More cost) second same over = absurd over
+
+-- where the end of a callee agrees with another, so do those of the calls
+gone_on_agrees : (path : Path) (store : Store) (first second : End (List ℕ)) → (IsOver first → second ≡ first) → IsOver (gone_on path store first) → gone_on path store second ≡ gone_on path store first
+gone_on_agrees path store (Go value left cost) second same over = ap (gone_on path store) (same tt)
+gone_on_agrees path store (Jumps to left cost) second same over = ap (gone_on path store) (same tt)
+gone_on_agrees path store (Faults fault cost) second same over = ap (gone_on path store) (same tt)
+gone_on_agrees path store Stuck second same over = ap (gone_on path store) (same tt)
+gone_on_agrees path store (More cost) second same over = absurd over
+
+gone_astray_agrees : (first second : End (List ℕ)) → (IsOver first → second ≡ first) → IsOver (gone_astray first) → gone_astray second ≡ gone_astray first
+gone_astray_agrees (Go value left cost) second same over = ap gone_astray (same tt)
+gone_astray_agrees (Jumps to left cost) second same over = ap gone_astray (same tt)
+gone_astray_agrees (Faults fault cost) second same over = ap gone_astray (same tt)
+gone_astray_agrees Stuck second same over = ap gone_astray (same tt)
+gone_astray_agrees (More cost) second same over = absurd over
+
+call_agrees : (diverging : Bool) (path : Path) (store : Store) (first second : End (List ℕ)) → (IsOver first → second ≡ first) → IsOver (call_ended diverging path store first) → call_ended diverging path store second ≡ call_ended diverging path store first
+call_agrees true path store first second same over = gone_astray_agrees first second same over
+call_agrees false path store first second same over = gone_on_agrees path store first second same over
+
+-- wherever the ends of some callees are over, those of others are the same
+abbrev CalleesAgree : Callees → Callees → Type 0
+CalleesAgree below above = (callee : Source) (start : Store) → IsOver (below callee start) → above callee start ≡ below callee start
+
+entered_from_agrees : (below above : Callees) → CalleesAgree below above → (diverging : Bool) (callee : Source) (start : Option Store) (path : Path) (store : Store) →
+    IsOver (entered_from below diverging callee start path store) → entered_from above diverging callee start path store ≡ entered_from below diverging callee start path store
+entered_from_agrees below above agree diverging callee (Some start) path store over = call_agrees diverging path store (below callee start) (above callee start) (agree callee start) over
+entered_from_agrees below above agree diverging callee None path store over = refl
+
+entered_agrees : (below above : Callees) → CalleesAgree below above → (diverging : Bool) (callee : Option Source) (given : List (List ℕ)) (path : Path) (store : Store) →
+    IsOver (entered_into below diverging callee given path store) → entered_into above diverging callee given path store ≡ entered_into below diverging callee given path store
+entered_agrees below above agree diverging (Some callee) given path store over =
+    entered_from_agrees below above agree diverging callee (started callee (cond diverging (zeroed callee Result) (store path.cell)) given) path store over
+entered_agrees below above agree diverging None given path store over = refl
 
 -- wherever the evaluations of some levels end, those of others end the same
 pub record Agrees (below above : Levels) : Type 0 where
@@ -171,25 +206,29 @@ module _ (source : Source) (below above : Levels) (agrees : Agrees below above) 
   return_agrees around value store over =
       then_do_agrees (tail_into (below around) value around.result store) (tail_into (above around) value around.result store) _ _ (tail_agrees around value around.result store) (λ done later o. refl) over
 
-  into_agrees : (around : Around) (e : ℕ) (form : Option CoreExpr) (path : Path) (store : Store) → IsOver (into_of source below around e form path store) → into_of source above around e form path store ≡ into_of source below around e form path store
-  into_agrees around e (Some (expr.Strict operation operands)) path store over = strict_agrees around operation operands path store over
-  into_agrees around e (Some (expr.Logic op left right)) path store over = logic_agrees around op left right path store over
-  into_agrees around e (Some (expr.If condition then_branch else_branch)) path store over = if_agrees around condition then_branch else_branch path store over
-  into_agrees around e (Some (expr.Assign assigned value)) path store over = assign_agrees around assigned value store over
-  into_agrees around e (Some (expr.Block statements tail)) path store over = block_agrees around statements tail path store over
-  into_agrees around e (Some (expr.Labelled label statements tail)) path store over = labelled_agrees around e label statements tail path store over
-  into_agrees around e (Some (expr.Loop label body)) path store over = loop_agrees around e label body path store over
-  into_agrees around e (Some (expr.Break label value)) path store over = break_agrees around value (target_of label around.targets) store over
-  into_agrees around e (Some (expr.Return value)) path store over = return_agrees around value store over
-  into_agrees around e _ path store over = refl
+  module _ (callees others : Callees) (callees_agree : CalleesAgree callees others) where
+    into_agrees : (around : Around) (e : ℕ) (form : Option CoreExpr) (path : Path) (store : Store) → IsOver (into_of source below callees around e form path store) → into_of source above others around e form path store ≡ into_of source below callees around e form path store
+    into_agrees around e (Some (expr.Strict operation operands)) path store over = strict_agrees around operation operands path store over
+    into_agrees around e (Some (expr.Logic op left right)) path store over = logic_agrees around op left right path store over
+    into_agrees around e (Some (expr.If condition then_branch else_branch)) path store over = if_agrees around condition then_branch else_branch path store over
+    into_agrees around e (Some (expr.Assign assigned value)) path store over = assign_agrees around assigned value store over
+    into_agrees around e (Some (expr.Block statements tail)) path store over = block_agrees around statements tail path store over
+    into_agrees around e (Some (expr.Labelled label statements tail)) path store over = labelled_agrees around e label statements tail path store over
+    into_agrees around e (Some (expr.Loop label body)) path store over = loop_agrees around e label body path store over
+    into_agrees around e (Some (expr.Break label value)) path store over = break_agrees around value (target_of label around.targets) store over
+    into_agrees around e (Some (expr.Return value)) path store over = return_agrees around value store over
+    into_agrees around e (Some (expr.Call callee args)) path store over =
+        then_do_agrees (operands_of source below around args store) (operands_of source above around args store) _ _ (operands_agree around args store) (λ given later o.
+        entered_agrees callees others callees_agree (must_not_return source e) (source_called source callee) (map (operand_bytes later) given) path later o) over
+    into_agrees around e _ path store over = refl
 
-  above_agrees : Agrees (level_above source below) (level_above source above)
-  above_agrees = record {
-    place = λ around e store over. place_agrees around e (unadjusted source e) store over;
-    operand = λ around e store over. operand_agrees around e (unadjusted source e) store over;
-    into = λ around e path store over. into_agrees (marking (never_marks source e) around) e (node source e) (own_path source e path) store over;
-    own = λ around e path store over. into_agrees around e (node source e) path store over;
-  }
+    above_agrees : Agrees (level_above source below callees) (level_above source above others)
+    above_agrees = record {
+      place = λ around e store over. place_agrees around e (unadjusted source e) store over;
+      operand = λ around e store over. operand_agrees around e (unadjusted source e) store over;
+      into = λ around e path store over. into_agrees (marking (never_marks source e) around) e (node source e) (own_path source e path) store over;
+      own = λ around e path store over. into_agrees around e (node source e) path store over;
+    }
 
 no_fuel_agrees : (above : Levels) → Agrees no_fuel above
 no_fuel_agrees above = record {
@@ -199,14 +238,20 @@ no_fuel_agrees above = record {
   own = λ around e path store over. absurd over;
 }
 
+-- where the evaluations of levels agree, so do those of the bodies
+body_agrees : (source : Source) (below above : Levels) → Agrees below above → (store : Store) → IsOver (body_meaning source below store) → body_meaning source above store ≡ body_meaning source below store
+body_agrees source below above agrees store over =
+    let first = at_root (record { cell = Result }) in
+    after_agrees _ _ _ (returned_agrees source ((below first).into (root source) _ _) ((above first).into (root source) _ _) (agrees.into first (root source) _ _)) over
+
 pub more_agrees : (source : Source) (fuel more : ℕ) → fuel ≤ more → Agrees (level_at source fuel) (level_at source more)
 unfolding level_at
 more_agrees source zero more le = no_fuel_agrees (level_at source more)
 more_agrees source (suc fuel) zero le = absurd (omega arith)
-more_agrees source (suc fuel) (suc more) le = above_agrees source (level_at source fuel) (level_at source more) (more_agrees source fuel more (omega arith))
+more_agrees source (suc fuel) (suc more) le =
+    above_agrees source (level_at source fuel) (level_at source more) (more_agrees source fuel more (omega arith)) (callees_at fuel) (callees_at more)
+    (λ callee start over. body_agrees callee (level_at callee fuel) (level_at callee more) (more_agrees callee fuel more (omega arith)) start over)
 
 pub more_fuel : (source : Source) (store : Store) (fuel more : ℕ) → fuel ≤ more → IsOver (meaning_from source store fuel) → meaning_from source store more ≡ meaning_from source store fuel
 unfolding meaning_from
-more_fuel source store fuel more le over =
-    let first = at_root (record { cell = Result }) in
-    after_agrees _ _ _ (returned_agrees source ((level_at source fuel first).into (root source) _ _) ((level_at source more first).into (root source) _ _) ((more_agrees source fuel more le).into first (root source) _ _)) over
+more_fuel source store fuel more le over = body_agrees source (level_at source fuel) (level_at source more) (more_agrees source fuel more le) store over

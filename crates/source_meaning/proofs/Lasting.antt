@@ -1,5 +1,5 @@
 -- With enough fuel an evaluation ends, or enters as many blocks as one likes.
-use Rattle.std.proofs.Common.{◌≡◌, ℕ, zero, suc, ◌<◌, ◌≤◌, ◌+◌, Bool, true, false, List, [], ◌∷◌, ◌++◌, length, ◌==◌, if◌then◌else◌, Option, Some, None, refl, sym, subst, arith}
+use Rattle.std.proofs.Common.{◌≡◌, ℕ, zero, suc, ◌<◌, ◌≤◌, ◌+◌, Bool, true, false, cond, List, [], ◌∷◌, ◌++◌, length, map, slice_get, ◌==◌, if◌then◌else◌, Option, Some, None, refl, sym, subst, arith}
 use Rattle.std.specs.Prelude.{flat_map, Contains}
 use Rattle.std.proofs.lemmas.List.Elements.{Contains-append_left, Contains-append_right}
 use Rattle.world.specs.declared.body.Statement.{Statement}
@@ -10,19 +10,24 @@ use Rattle.types.specs.declared.operators.LogicOp.{LogicOp}
 use Rattle.world.specs.declared.infer.ValueNs.{ValueNs}
 use Rattle.world.specs.declared.infer.ValueNs.TheVariants.{LocalBinding}
 use Rattle.types.specs.declared.ty.Ty.{Ty}
-use Rattle.world.specs.Checked.{IsCheckedBody}
+use Rattle.world.specs.declared.database.BodyRow.{BodyRow}
+use Rattle.world.specs.declared.database.HirDatabase.{HirDatabase}
+use Rattle.world.specs.Checked.{IsChecked, IsCheckedBody}
 use Rattle.world.specs.Nodes.{optional}
 use Rattle.numbers.specs.Operators.{Answer, Computes, Panics, Undefined}
 use Rattle.source_meaning.specs.Around.{Around, Target, at_root, marking, inside, target_of}
+use Rattle.source_meaning.specs.Calls.{source_at, source_called, must_not_return, started}
 use Rattle.source_meaning.specs.Core as expr
 use Rattle.source_meaning.specs.Core.{CoreExpr, Operation}
 use Rattle.source_meaning.specs.Ends.{Cost, plus, turns_alone, End, Go, Jumps, Break, Continue, Return, Faults, Stuck, More, GoesOn, after, then_do}
+use Rattle.source_meaning.specs.Entering.{entering}
 use Rattle.source_meaning.specs.Events.{marked, marked_as_operand, marked_by_statement}
-use Rattle.source_meaning.specs.Meaning.{Levels, constant_cost, put, put_literal, put_answer, literal_operand, literal_bytes, named_place, named_into, bind, place_of, operand_of, operands_of, is_byte, deciding_byte, reading_cost, decided_into, branched, logic_into, tail_into, branch_into, if_into, statement_of, statements_of, block_into, caught, again_into, turn_of, break_to, continue_to, return_into, into_of, level_at, returned, meaning_from}
-use Rattle.source_meaning.specs.Source.{Source, Store, Path, Result, Node, Binding, Operand, Literally, operand_bytes, node, unadjusted, never_marks, own_path, own_type, named_by, pattern, target, root}
+use Rattle.source_meaning.specs.Meaning.{Levels, Callees, constant_cost, put, put_literal, put_answer, literal_operand, literal_bytes, named_place, named_into, bind, place_of, operand_of, operands_of, is_byte, deciding_byte, reading_cost, decided_into, branched, logic_into, tail_into, branch_into, if_into, statement_of, statements_of, block_into, caught, again_into, turn_of, break_to, continue_to, return_into, gone_on, gone_astray, call_ended, entered_from, entered_into, into_of, level_at, returned, body_meaning, callees_at, meaning_from}
+use Rattle.source_meaning.specs.Source.{Source, Store, Path, Result, Node, Binding, Operand, Literally, operand_bytes, zeroed, node, unadjusted, never_marks, own_path, own_type, named_by, pattern, target, root}
 use Rattle.source_meaning.specs.Steps.{parts_of, statement_parts}
+use Rattle.source_meaning.proofs.Calls.{called_row, above_roots, root_is_below}
 use Rattle.source_meaning.proofs.Core.{part_is_below}
-use Rattle.source_meaning.proofs.Parts.{first_is_contained, rest_is_contained, strict_parts, if_parts, block_parts, tail_part}
+use Rattle.source_meaning.proofs.Parts.{first_is_contained, rest_is_contained, strict_parts, if_parts, block_parts, tail_part, call_parts}
 
 -- an end, or a lack of fuel after at least `limit` blocks
 abbrev Lasts : {A : Type 0} → ℕ → End A → Type 0
@@ -148,6 +153,34 @@ module _ (limit : ℕ) where
   bind_lasts (Some id) path store = put_lasts store (record { cell = Binding id.0 }) (store path.cell)
   bind_lasts None path store = tt
 
+  -- a call lasts where its callee does
+  gone_on_lasts : (path : Path) (store : Store) (end : End (List ℕ)) → Lasts limit end → Lasts limit (gone_on path store end)
+  gone_on_lasts path store (Go value left cost) lasts = lasts_after limit cost _ (then_do_lasts (put store path value) _ (put_lasts store path value) (λ done last. tt))
+  gone_on_lasts path store (Jumps to left cost) lasts = tt
+  gone_on_lasts path store (Faults fault cost) lasts = tt
+  gone_on_lasts path store Stuck lasts = tt
+  gone_on_lasts path store (More cost) lasts = lasts
+
+  gone_astray_lasts : (end : End (List ℕ)) → Lasts limit end → Lasts limit (gone_astray end)
+  gone_astray_lasts (Go value left cost) lasts = tt
+  gone_astray_lasts (Jumps to left cost) lasts = tt
+  gone_astray_lasts (Faults fault cost) lasts = tt
+  gone_astray_lasts Stuck lasts = tt
+  gone_astray_lasts (More cost) lasts = lasts
+
+  call_lasts : (diverging : Bool) (path : Path) (store : Store) (end : End (List ℕ)) → Lasts limit end → Lasts limit (call_ended diverging path store end)
+  call_lasts true path store end lasts = gone_astray_lasts end lasts
+  call_lasts false path store end lasts = gone_on_lasts path store end lasts
+
+  entered_from_lasts : (callees : Callees) (diverging : Bool) (callee : Source) (start : Option Store) (path : Path) (store : Store) → ((s : Store) → Lasts limit (callees callee s)) → Lasts limit (entered_from callees diverging callee start path store)
+  entered_from_lasts callees diverging callee (Some start) path store lasts = call_lasts diverging path store (callees callee start) (lasts start)
+  entered_from_lasts callees diverging callee None path store lasts = tt
+
+  entered_lasts : (callees : Callees) (diverging : Bool) (callee : Option Source) (given : List (List ℕ)) (path : Path) (store : Store) → ((called : Source) → callee ≡ Some called → (s : Store) → Lasts limit (callees called s)) → Lasts limit (entered_into callees diverging callee given path store)
+  entered_lasts callees diverging (Some callee) given path store lasts =
+      entered_from_lasts callees diverging callee (started callee (cond diverging (zeroed callee Result) (store path.cell)) given) path store (lasts callee refl)
+  entered_lasts callees diverging None given path store lasts = tt
+
   -- an expression lasts, in each way that it is evaluated, whatever stands around it
   record LastsIn (levels : Levels) (e : ℕ) : Type 0 where
     place : (around : Around) (store : Store) → Lasts limit ((levels around).place e store)
@@ -249,65 +282,52 @@ module _ (limit : ℕ) where
     return_lasts : (around : Around) (value : Option ExprId) (store : Store) → ((child : ℕ) → Contains (optional value) child → LastsIn below child) → Lasts limit (return_into source below around value store)
     return_lasts around value store ends = then_do_lasts (tail_into (below around) value around.result store) _ (tail_lasts around value around.result store ends) (λ done later. tt)
 
-    into_lasts : (around : Around) (e : ℕ) (form : Option CoreExpr) (path : Path) (store : Store) → node source e ≡ form → Repeats below e → ((child : ℕ) → Contains (parts_of form) child → LastsIn below child) → Lasts limit (into_of source below around e form path store)
-    into_lasts around e (Some (expr.Literal literal)) path store is repeats ends = put_literal_lasts source e store path (literal_bytes source e literal)
-    into_lasts around e (Some (expr.Path name)) path store is repeats ends = named_into_lasts (named_by source e) path store
-    into_lasts around e (Some (expr.Strict operation operands)) path store is repeats ends =
+    into_lasts : (callees : Callees) (around : Around) (e : ℕ) (form : Option CoreExpr) (path : Path) (store : Store) → node source e ≡ form → Repeats below e → ((callee : ℕ) (called : Source) → source_called source callee ≡ Some called → (start : Store) → Lasts limit (callees called start)) → ((child : ℕ) → Contains (parts_of form) child → LastsIn below child) → Lasts limit (into_of source below callees around e form path store)
+    into_lasts callees around e (Some (expr.Literal literal)) path store is repeats enters ends = put_literal_lasts source e store path (literal_bytes source e literal)
+    into_lasts callees around e (Some (expr.Path name)) path store is repeats enters ends = named_into_lasts (named_by source e) path store
+    into_lasts callees around e (Some (expr.Strict operation operands)) path store is repeats enters ends =
         then_do_lasts (operands_of source below around operands store) _ (operands_lasts around operands store (λ child within.
         ends child (subst (λ parts. Contains parts child) (sym (strict_parts operation operands)) within))) (λ given later. put_answer_lasts later path _)
-    into_lasts around e (Some (expr.Logic op left right)) path store is repeats ends = logic_lasts around op left right path store ends
-    into_lasts around e (Some (expr.If condition then_branch else_branch)) path store is repeats ends =
+    into_lasts callees around e (Some (expr.Logic op left right)) path store is repeats enters ends = logic_lasts around op left right path store ends
+    into_lasts callees around e (Some (expr.If condition then_branch else_branch)) path store is repeats enters ends =
         if_lasts around condition then_branch else_branch path store (λ child within. ends child (subst (λ parts. Contains parts child) (sym (if_parts condition then_branch else_branch)) within))
-    into_lasts around e (Some (expr.Assign assigned value)) path store is repeats ends =
+    into_lasts callees around e (Some (expr.Assign assigned value)) path store is repeats enters ends =
         let value_ends = ends value (first_is_contained value []) in
         then_do_lasts ((below around).place value store) _ (value_ends.place around store) (λ from later. bind_lasts (target source assigned) from later)
-    into_lasts around e (Some (expr.Block statements tail)) path store is repeats ends =
+    into_lasts callees around e (Some (expr.Block statements tail)) path store is repeats enters ends =
         block_lasts around statements tail path store (λ child within. ends child (subst (λ parts. Contains parts child) (sym (block_parts statements tail)) within))
-    into_lasts around e (Some (expr.Labelled label statements tail)) path store is repeats ends =
+    into_lasts callees around e (Some (expr.Labelled label statements tail)) path store is repeats enters ends =
         repeated_lasts limit e (again_into below around e path) (λ last. Go tt last (turns_alone 1)) _ (repeats around path) (λ many same later. tt)
         (block_lasts (inside e (Some label) path around) statements tail path store (λ child within. ends child (subst (λ parts. Contains parts child) (sym (block_parts statements tail)) within)))
-    into_lasts around e (Some (expr.Loop label body)) path store is repeats ends =
+    into_lasts callees around e (Some (expr.Loop label body)) path store is repeats enters ends =
         repeated_lasts limit e (again_into below around e path) (again_into below around e path) _ (repeats around path) (repeats around path)
         (turn_lasts (inside e label path around) body store (ends body (first_is_contained body [])))
-    into_lasts around e (Some (expr.Break label value)) path store is repeats ends =
+    into_lasts callees around e (Some (expr.Break label value)) path store is repeats enters ends =
         break_lasts around value (target_of label around.targets) store (λ child within. ends child (subst (λ parts. Contains parts child) (sym (tail_part value)) within))
-    into_lasts around e (Some (expr.Continue label)) path store is repeats ends = continue_lasts around (target_of label around.targets) store
-    into_lasts around e (Some (expr.Return value)) path store is repeats ends =
+    into_lasts callees around e (Some (expr.Continue label)) path store is repeats enters ends = continue_lasts around (target_of label around.targets) store
+    into_lasts callees around e (Some (expr.Return value)) path store is repeats enters ends =
         return_lasts around value store (λ child within. ends child (subst (λ parts. Contains parts child) (sym (tail_part value)) within))
-    into_lasts around e None path store is repeats ends = tt
+    into_lasts callees around e (Some (expr.Call callee args)) path store is repeats enters ends =
+        then_do_lasts (operands_of source below around args store) _ (operands_lasts around args store (λ child within.
+        ends child (subst (λ parts. Contains parts child) (sym (call_parts callee args)) within))) (λ given later.
+        entered_lasts callees (must_not_return source e) (source_called source callee) (map (operand_bytes later) given) path later (enters callee))
+    into_lasts callees around e None path store is repeats enters ends = tt
 
--- the fuel with which each expression numbered below `bound` ends, or enters at least `many` blocks
-fuel_for : ℕ → ℕ → ℕ
-fuel_for zero bound = zero
-fuel_for (suc many) zero = zero
-fuel_for (suc many) (suc bound) = suc (suc (suc (fuel_for (suc many) bound + fuel_for many (suc bound))))
+-- The fuel with which each expression numbered below `bound` ends, or enters at least `many` blocks, where the root of each body that a
+-- call can enter is numbered below `top`.
+fuel_for : ℕ → ℕ → ℕ → ℕ
+fuel_for top zero bound = zero
+fuel_for top (suc many) zero = zero
+fuel_for top (suc many) (suc bound) = suc (suc (suc (fuel_for top (suc many) bound + fuel_for top many (suc bound) + fuel_for top many top)))
 
--- an expression evaluated into a path lasts where it does itself
-into_from_own : (limit : ℕ) (source : Source) (fuel e : ℕ) (around : Around) (path : Path) (store : Store) →
-    Lasts limit ((level_at source fuel (marking (never_marks source e) around)).own e (own_path source e path) store) → Lasts limit ((level_at source fuel around).into e path store)
-unfolding level_at
-into_from_own limit source zero e around path store lasts = lasts
-into_from_own limit source (suc fuel) e around path store lasts = lasts
+-- each body of a world is checked, and its root's number is below a bound
+record AreBelow (world : HirDatabase) (top : ℕ) : Type 0 where
+  checked : (i : ℕ) (row : BodyRow) → slice_get world.bodies i ≡ Some row → IsCheckedBody row.body row.infer
+  root : (i : ℕ) (row : BodyRow) → slice_get world.bodies i ≡ Some row → row.body.body_expr.0 < top
 
-own_goes_on : (source : Source) → IsCheckedBody source.body source.infer → (many bound e fuel : ℕ) → e < bound → fuel_for many bound ≤ fuel → (around : Around) (path : Path) (store : Store) → Lasts many ((level_at source fuel around).own e path store)
-unfolding level_at fuel_for
-own_goes_on source checked zero bound e fuel less enough around path store = none_asked _
-own_goes_on source checked (suc many) zero e fuel less enough around path store = absurd (omega arith)
-own_goes_on source checked (suc many) (suc bound) e zero less enough around path store = absurd (omega arith)
-own_goes_on source checked (suc many) (suc bound) e (suc zero) less enough around path store = absurd (omega arith)
-own_goes_on source checked (suc many) (suc bound) e (suc (suc zero)) less enough around path store = absurd (omega arith)
-own_goes_on source checked (suc many) (suc bound) e (suc (suc (suc fuel))) less enough around path store =
-    into_lasts (suc many) source (level_at source (suc (suc fuel))) around e (node source e) path store refl
-    (λ around' path' fewer is later.
-    let same : many ≡ fewer = cc in
-    subst (λ n. Lasts n ((level_at source (suc (suc fuel)) around').own e path' later)) same (own_goes_on source checked many (suc bound) e (suc (suc fuel)) less (omega arith) around' path' later))
-    (λ child within.
-    let below = part_is_below source checked e child within in record {
-      place = λ around' later. place_lasts (suc many) source (level_at source (suc fuel)) around' child (unadjusted source child) later (λ a p l. into_from_own (suc many) source (suc fuel) child a p l (own_goes_on source checked (suc many) bound child (suc fuel) (omega arith) (omega arith) _ _ l));
-      operand = λ around' later. operand_lasts (suc many) source (level_at source (suc fuel)) around' child (unadjusted source child) later (λ last.
-          place_lasts (suc many) source (level_at source fuel) around' child (unadjusted source child) last (λ a p l. into_from_own (suc many) source fuel child a p l (own_goes_on source checked (suc many) bound child fuel (omega arith) (omega arith) _ _ l)));
-      into = λ a p l. into_from_own (suc many) source (suc (suc fuel)) child a p l (own_goes_on source checked (suc many) bound child (suc (suc fuel)) (omega arith) (omega arith) _ _ l);
-    })
+-- what stands around the root of a body
+abbrev first_around : Around
+first_around = at_root (record { cell = Result })
 
 returned_lasts : (source : Source) (limit : ℕ) (end : End (Unit {0})) → Lasts limit end → Lasts limit (returned source end)
 unfolding after
@@ -319,16 +339,64 @@ returned_lasts source limit (Faults fault cost) lasts = tt
 returned_lasts source limit Stuck lasts = tt
 returned_lasts source limit (More cost) lasts = lasts
 
--- what stands around the root of a body
-abbrev first_around : Around
-first_around = at_root (record { cell = Result })
+-- entering a body enters a block
+late_after_entering : (source : Source) (many : ℕ) (rest : Cost) → many ≤ rest.turns → suc many ≤ (plus (entering source) rest).turns
+unfolding plus entering
+late_after_entering source many rest late = omega arith
 
--- a body lasts where its root does
-body_lasts : (source : Source) (store : Store) (limit : ℕ) (fuel : ℕ) → Lasts limit ((level_at source fuel first_around).into (root source) (record { cell = Result }) store) → Lasts limit (meaning_from source store fuel)
+lasts_after_entering : {A : Type 0} (source : Source) (many : ℕ) (end : End A) → Lasts many end → Lasts (suc many) (after (entering source) end)
+unfolding after
+lasts_after_entering source many (Go value store rest) lasts = tt
+lasts_after_entering source many (Jumps to store rest) lasts = tt
+lasts_after_entering source many (Faults fault rest) lasts = tt
+lasts_after_entering source many Stuck lasts = tt
+lasts_after_entering source many (More rest) lasts = late_after_entering source many rest lasts
+
+-- an expression evaluated into a path lasts where it does itself
+into_from_own : (limit : ℕ) (source : Source) (fuel e : ℕ) (around : Around) (path : Path) (store : Store) →
+    Lasts limit ((level_at source fuel (marking (never_marks source e) around)).own e (own_path source e path) store) → Lasts limit ((level_at source fuel around).into e path store)
+unfolding level_at
+into_from_own limit source zero e around path store lasts = lasts
+into_from_own limit source (suc fuel) e around path store lasts = lasts
+
+-- a body lasts for one block more than its root does
+body_lasts : (source : Source) (start : Store) (many fuel : ℕ) → ((around : Around) (path : Path) (store : Store) → Lasts many ((level_at source fuel around).own (root source) path store)) → Lasts (suc many) (body_meaning source (level_at source fuel) start)
+body_lasts source start many fuel lasts =
+    lasts_after_entering source many _ (returned_lasts source many _ (into_from_own many source fuel (root source) first_around _ start (lasts _ _ start)))
+
+own_goes_on : (top : ℕ) (source : Source) → AreBelow source.world top → IsCheckedBody source.body source.infer → (many bound e fuel : ℕ) → e < bound → fuel_for top many bound ≤ fuel →
+    (around : Around) (path : Path) (store : Store) → Lasts many ((level_at source fuel around).own e path store)
+unfolding level_at fuel_for
+own_goes_on top source below checked zero bound e fuel less enough around path store = none_asked _
+own_goes_on top source below checked (suc many) zero e fuel less enough around path store = absurd (omega arith)
+own_goes_on top source below checked (suc many) (suc bound) e zero less enough around path store = absurd (omega arith)
+own_goes_on top source below checked (suc many) (suc bound) e (suc zero) less enough around path store = absurd (omega arith)
+own_goes_on top source below checked (suc many) (suc bound) e (suc (suc zero)) less enough around path store = absurd (omega arith)
+own_goes_on top source below checked (suc many) (suc bound) e (suc (suc (suc fuel))) less enough around path store =
+    into_lasts (suc many) source (level_at source (suc (suc fuel))) (callees_at (suc (suc fuel))) around e (node source e) path store refl
+    (λ around' path' fewer is later.
+    let same : many ≡ fewer = cc in
+    subst (λ n. Lasts n ((level_at source (suc (suc fuel)) around').own e path' later)) same (own_goes_on top source below checked many (suc bound) e (suc (suc fuel)) less (omega arith) around' path' later))
+    (λ callee called is start.
+    let from = called_row source callee called is in
+    subst (λ (s : Source). Lasts (suc many) (body_meaning s (level_at s (suc (suc fuel))) start)) from.3
+    (body_lasts (source_at source.world from.1) start many (suc (suc fuel))
+    (own_goes_on top (source_at source.world from.1) below (below.checked from.0 from.1 from.2) many top (root (source_at source.world from.1)) (suc (suc fuel)) (below.root from.0 from.1 from.2) (omega arith))))
+    (λ child within.
+    let earlier = part_is_below source checked e child within in record {
+      place = λ around' later. place_lasts (suc many) source (level_at source (suc fuel)) around' child (unadjusted source child) later (λ a p l. into_from_own (suc many) source (suc fuel) child a p l (own_goes_on top source below checked (suc many) bound child (suc fuel) (omega arith) (omega arith) _ _ l));
+      operand = λ around' later. operand_lasts (suc many) source (level_at source (suc fuel)) around' child (unadjusted source child) later (λ last.
+          place_lasts (suc many) source (level_at source fuel) around' child (unadjusted source child) last (λ a p l. into_from_own (suc many) source fuel child a p l (own_goes_on top source below checked (suc many) bound child fuel (omega arith) (omega arith) _ _ l)));
+      into = λ a p l. into_from_own (suc many) source (suc (suc fuel)) child a p l (own_goes_on top source below checked (suc many) bound child (suc (suc fuel)) (omega arith) (omega arith) _ _ l);
+    })
+
+fewer_go_on : (many : ℕ) (end : End (List ℕ)) → Lasts (suc many) end → GoesOn many end
+fewer_go_on many end lasts = with_limit many end (fewer_last many end lasts)
+
+pub bodies_go_on : (source : Source) (store : Store) (many : ℕ) → IsChecked source.world → IsCheckedBody source.body source.infer → (fuel : ℕ) × GoesOn many (meaning_from source store fuel)
 unfolding meaning_from
-body_lasts source store limit fuel lasts = lasts_after limit _ _ (returned_lasts source limit _ lasts)
-
-pub bodies_go_on : (source : Source) (store : Store) (many : ℕ) → IsCheckedBody source.body source.infer → (fuel : ℕ) × GoesOn many (meaning_from source store fuel)
-bodies_go_on source store many checked =
-    let fuel = fuel_for many (suc (root source)) in
-    (fuel, with_limit many _ (body_lasts source store many fuel (into_from_own many source fuel (root source) first_around _ _ (own_goes_on source checked many (suc (root source)) (root source) fuel (omega arith) (omega arith) _ _ _))))
+bodies_go_on source store many world checked =
+    let top = above_roots source.world.bodies in
+    let below : AreBelow source.world top = record { checked = world.bodies; root = λ i row is. root_is_below source.world.bodies i row is } in
+    let fuel = fuel_for top many (suc (root source)) in
+    (fuel, fewer_go_on many _ (body_lasts source store many fuel (own_goes_on top source below checked many (suc (root source)) (root source) fuel (omega arith) (omega arith))))

@@ -1,4 +1,5 @@
 pub mod Built
+pub mod Calls
 pub mod Core
 pub mod Costs
 pub mod Defined
@@ -10,6 +11,8 @@ pub mod Marks
 pub mod Never
 mod Operators
 pub mod Parts
+pub mod Reached
 pub mod Runs
 pub mod Sizes
+pub mod Stores
 pub mod Values

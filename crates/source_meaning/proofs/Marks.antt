@@ -11,7 +11,7 @@ use Rattle.types.specs.declared.operators.LogicOp.{LogicOp}
 use Rattle.world.specs.declared.body.Statement.{Statement}
 use Rattle.world.specs.declared.body.Statement.TheVariants as statement
 use Rattle.world.specs.Checked.{IsCheckedBody}
-use Rattle.source_meaning.specs.Core.{CoreExpr, CoreLiteral, Operation, Literal, Path, Strict, Logic, If, Assign, Block, Labelled, Loop, Break, Continue, Return, is_literal, is_path}
+use Rattle.source_meaning.specs.Core.{CoreExpr, CoreLiteral, Operation, Literal, Path, Strict, Logic, If, Assign, Block, Labelled, Loop, Break, Continue, Return, Call, is_literal, is_path}
 use Rattle.source_meaning.specs.Events.{Event, Opens, Marks, Closes, place_events, operand_events, step_events, form_events, events_in, events, events_through, Scopes, after_event, scopes_after, innermost, marks_of, marked, marked_itself, marked_as_place, marked_as_operand, marked_by_statement, marked_by_tail, marked_in_block}
 use Rattle.source_meaning.specs.Laws.{ScopesNest}
 use Rattle.source_meaning.specs.Source.{Source, Cell, Node, Binding, Never, node, unadjusted, diverges, never_marks, pattern, bound_by}
@@ -154,6 +154,7 @@ module _ (source : Source) (below : ℕ → List Event) (closed : (e : ℕ) → 
   form_is_closed (Some (Break label value)) = tail_is_closed value
   form_is_closed (Some (Continue label)) = none_is_closed
   form_is_closed (Some (Return value)) = tail_is_closed value
+  form_is_closed (Some (Call callee args)) = operands_are_closed args
   form_is_closed None = none_is_closed
 
 events_in_are_closed : (source : Source) (depth e : ℕ) → IsClosed (events_in depth source e)
@@ -290,6 +291,9 @@ module _ (source : Source) (checked : IsCheckedBody source.body source.infer) (e
 
   pub strict_marks : (operation : Operation) (operands : List ℕ) → node source e ≡ Some (Strict operation operands) → marked_itself source e ≡ flat_map (marked_as_operand source) operands
   strict_marks operation operands is = form_marks (Some (Strict operation operands)) is ∙ operands_mark source operands
+
+  pub call_marks : (callee : ℕ) (args : List ℕ) → node source e ≡ Some (Call callee args) → marked_itself source e ≡ flat_map (marked_as_operand source) args
+  call_marks callee args is = form_marks (Some (Call callee args)) is ∙ operands_mark source args
 
   pub logic_marks : (op : LogicOp) (left right : ℕ) → node source e ≡ Some (Logic op left right) → marked_itself source e ≡ marked_as_operand source left ++ marked source right
   unfolding marked_as_operand marked

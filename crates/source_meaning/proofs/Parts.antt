@@ -8,7 +8,7 @@ use Rattle.types.specs.declared.ids.ExprId.{ExprId}
 use Rattle.types.specs.declared.operators.LogicOp.{LogicOp}
 use Rattle.world.specs.declared.body.Statement.TheVariants as statement
 use Rattle.world.specs.Nodes.{optional}
-use Rattle.source_meaning.specs.Core.{CoreExpr, Operation, Strict, Logic, If, Block, is_truth}
+use Rattle.source_meaning.specs.Core.{CoreExpr, Operation, Strict, Logic, If, Block, Call, is_truth}
 use Rattle.source_meaning.specs.Source.{Source, unadjusted}
 use Rattle.source_meaning.specs.Steps.{Step, Operand, Place, Into, Bind, Open, Close, statement_steps, tail_steps, block_steps, steps_of, step_part, parts_of, statement_parts}
 use Rattle.source_meaning.specs.Valid.{sized_part, sized_parts}
@@ -51,6 +51,10 @@ operand_parts (e ∷ rest) = ap (λ others. e ∷ others) (operand_parts rest)
 
 pub strict_parts : (operation : Operation) (operands : List ℕ) → parts_of (Some (Strict operation operands)) ≡ operands
 strict_parts operation operands = operand_parts operands
+
+-- a call evaluates its arguments
+pub call_parts : (callee : ℕ) (args : List ℕ) → parts_of (Some (Call callee args)) ≡ args
+call_parts callee args = operand_parts args
 
 pub tail_part : (tail : Option ExprId) → flat_map step_part (tail_steps tail) ≡ optional tail
 tail_part (Some e) = refl

@@ -5,9 +5,10 @@ use Rattle.source_meaning.specs.Ends.{Cost, plus, End, Go, Jumps, Faults, Stuck,
 use Rattle.source_meaning.specs.Entering.{run_cost}
 use Rattle.source_meaning.specs.Meaning.{meaning_from, meaning_of}
 use Rattle.source_meaning.specs.Source.{Source, zeroed}
-use Rattle.source_meaning.specs.Valid.{IsPlain, AreLaidOut}
+use Rattle.source_meaning.specs.Valid.{IsPlainThroughout, AreLaidOutThroughout}
 use Rattle.source_meaning.proofs.Lasting.{bodies_go_on}
-use Rattle.source_meaning.proofs.Sizes.{plain_is_never_stuck, plain_jumps_nowhere, zeroed_is_sized}
+use Rattle.source_meaning.proofs.Sizes.{plain_is_never_stuck, plain_jumps_nowhere}
+use Rattle.source_meaning.proofs.Stores.{zeroed_is_sized}
 
 goes_on_after : (many : ℕ) (cost : Cost) (end : End (List ℕ)) → GoesOn many end → GoesOn many (after cost end)
 unfolding after plus
@@ -35,12 +36,12 @@ jumps_nowhere_after cost (More rest) nowhere = tt
 
 module _ (source : Source) where
   -- it ends with some amount of fuel, or counts at least so many blocks
-  pub run_goes_on : (many : ℕ) → IsCheckedBody source.body source.infer → (fuel : ℕ) × GoesOn many (meaning_of source fuel)
-  run_goes_on many checked =
-      let reached = bodies_go_on source (zeroed source) many checked in
+  pub run_goes_on : (many : ℕ) → IsChecked source.world → IsCheckedBody source.body source.infer → (fuel : ℕ) × GoesOn many (meaning_of source fuel)
+  run_goes_on many world checked =
+      let reached = bodies_go_on source (zeroed source) many world checked in
       (reached.0, goes_on_after many run_cost (meaning_from source (zeroed source) reached.0) reached.1)
 
-  module _ (fuel : ℕ) (checked : IsChecked source.world) (body : IsCheckedBody source.body source.infer) (plain : IsPlain source) (laid_out : AreLaidOut source) where
+  module _ (fuel : ℕ) (checked : IsChecked source.world) (body : IsCheckedBody source.body source.infer) (plain : IsPlainThroughout source) (laid_out : AreLaidOutThroughout source) where
     pub run_is_never_stuck : meaning_of source fuel ≢ Stuck
     run_is_never_stuck stuck =
         plain_is_never_stuck source (zeroed source) fuel checked body plain laid_out (zeroed_is_sized source) (stuck_before run_cost (meaning_from source (zeroed source) fuel) stuck)

@@ -1,6 +1,6 @@
 -- A plain body of a checked world is never stuck, and never ends in a jump: each value has the size of its type.
 use Rattle.std.specs.Prelude.{All, flat_map, Contains}
-use Rattle.std.proofs.Common.{⊎_elim, ◌⊎◌, inl, inr, ◌≡◌, ◌≢◌, ℕ, zero, suc, Bool, true, false, cond, if◌then◌else◌, ◌==◌, List, [], ◌∷◌, ◌++◌, length, map, Option, Some, None, unwrap_or, option_map, option_and_then, ℤ, refl, sym, ap, ◌∙◌, subst, arith, eqb-true, eq-eqb}
+use Rattle.std.proofs.Common.{⊎_elim, ◌⊎◌, inl, inr, ◌≡◌, ◌≢◌, ℕ, zero, suc, Bool, true, false, cond, if◌then◌else◌, ◌==◌, List, [], ◌∷◌, ◌++◌, length, map, Option, Some, None, unwrap_or, option_map, option_and_then, ℤ, refl, sym, ap, ◌∙◌, subst, arith, eq-eqb}
 use Rattle.std.proofs.lemmas.Bool.{false≢true}
 use Rattle.std.proofs.lemmas.List.{length-replicate}
 use Rattle.std.proofs.lemmas.List.Elements.{All-head, All-tail, Contains-append_left, Contains-append_right, Contains-append_cases}
@@ -11,59 +11,35 @@ use Rattle.types.specs.declared.ids.LabelId.{LabelId}
 use Rattle.types.specs.declared.operators.LogicOp.{LogicOp}
 use Rattle.types.specs.declared.ty.Ty.{Ty, Bool as BoolTy, Int as IntType, Uint as UintType}
 use Rattle.world.specs.Checked.{IsChecked, IsCheckedBody}
+use Rattle.world.specs.Lookups.{layout_of}
 use Rattle.world.specs.Nodes.{optional}
 use Rattle.numbers.specs.Bytes.{low_bytes}
 use Rattle.numbers.specs.Operators.{Answer, Computes, Panics, Undefined, kind_of}
 use Rattle.numbers.proofs.Digits.{length-low_bytes}
 use Rattle.source_meaning.specs.Around.{Opened, Target, Around, at_root, marking, entered, inside as inside_of, is_meant, meant, target_of}
+use Rattle.source_meaning.specs.Calls.{must_not_return, parameters}
 use Rattle.source_meaning.specs.Core as expr
 use Rattle.source_meaning.specs.Core.{CoreExpr, CoreLiteral, Truth, Number, Operation, is_truth}
 use Rattle.source_meaning.specs.Ends.{Cost, no_cost, turns_alone, plus, End, Go, Jumps, Jump, Break, Continue, Return, Faults, Stuck, More, JumpsNowhere, after, then_do}
 use Rattle.source_meaning.specs.Entering.{entering}
 use Rattle.source_meaning.specs.Events.{marked, marked_as_operand, marked_by_statement}
-use Rattle.source_meaning.specs.Meaning.{Level, Levels, value_of, answered, truth_byte, literal_bytes, constant_cost, put, put_literal, put_answer, literal_operand, named_place, named_into, bind, operands_of, strict_into, is_byte, deciding_byte, reading_cost, decided_into, branched, logic_into, tail_into, branch_into, if_into, assign_into, statement_of, statements_of, block_into, caught, again_into, labelled_into, turn_of, loop_into, break_to, break_into, continue_to, continue_into, return_into, no_fuel, place_of, operand_of, into_of, level_above, level_at, returned, meaning_from}
-use Rattle.source_meaning.specs.Source.{Source, Store, IsSized, Path, Cell, Result, Node, Binding, Never, Operand, Literally, At, operand_bytes, same_cell, zeroed, with_cell_bytes, node, unadjusted, never_marks, own_path, own_type, node_type, own_layout, pattern, target, root, cell_type, cell_size}
+use Rattle.source_meaning.specs.Meaning.{Level, Levels, Callees, value_of, answered, truth_byte, literal_bytes, constant_cost, put, put_literal, put_answer, literal_operand, named_place, named_into, bind, operands_of, strict_into, is_byte, deciding_byte, reading_cost, decided_into, branched, logic_into, tail_into, branch_into, if_into, assign_into, statement_of, statements_of, block_into, caught, again_into, labelled_into, turn_of, loop_into, break_to, break_into, continue_to, continue_into, return_into, call_ended, entered_from, entered_into, call_into, no_fuel, place_of, operand_of, into_of, level_above, level_at, returned, body_meaning, callees_at, meaning_from}
+use Rattle.source_meaning.specs.Source.{Source, Store, IsSized, Path, Cell, Result, Node, Binding, Operand, Literally, At, operand_bytes, zeroed, node, unadjusted, never_marks, own_path, own_type, node_type, own_layout, pattern, target, root, cell_type, binding_type, cell_size}
 use Rattle.source_meaning.specs.Steps.{parts_of, statement_parts, tail_steps}
 use Rattle.source_meaning.specs.Steps as step
-use Rattle.source_meaning.specs.Valid.{Evaluates, itself, part, IsScalar, IsBool, IsPlainLiteral, HaveTypes, IsPlainLet, IsPlainStatement, IsPlainTail, IsPlainAssign, HasPlainForm, IsPlainNode, EvaluatesIn, itself_in, part_in, opened_in, HasPlainTarget, HasOpenTarget, FitsAround, JumpsFit, IsPlain, IsLaidOut, IsLaidOutNode, sized_parts, NeedsLayout, own, inside, AreLaidOut}
-use Rattle.source_meaning.proofs.Depth.{operand_is_part, logic_operand_is_part, if_part_is_part}
+use Rattle.source_meaning.specs.Valid.{Evaluates, itself, part, IsScalar, IsBool, IsPlainLiteral, HaveTypes, IsPlainLet, IsPlainStatement, IsPlainTail, IsPlainAssign, HasPlainForm, IsPlainNode, EvaluatesIn, itself_in, part_in, opened_in, HasPlainTarget, HasOpenTarget, FitsAround, JumpsFit, IsPlain, AreBound, IsLaidOut, IsLaidOutNode, sized_parts, NeedsLayout, own, inside, AreLaidOut, Calls, through, at_once, IsPlainThroughout, AreLaidOutThroughout}
+use Rattle.source_meaning.proofs.Calls.{called_world, called_by_name, AreFor, started_is_sized}
+use Rattle.source_meaning.proofs.Depth.{evaluates_then, operand_is_part, argument_is_part, logic_operand_is_part, if_part_is_part}
 use Rattle.source_meaning.proofs.Layouts.{scalar_has_length, bool_is_scalar, bool_length_is_one}
 use Rattle.source_meaning.proofs.Never.{undiverted-type, own_path-fits, unadjusted-plain}
 use Rattle.source_meaning.proofs.Operators.{Fits, IsLengthOf}
 use Rattle.source_meaning.proofs.Parts.{first_is_contained, rest_is_contained, operand_is_sized, first_is_sized, right_is_sized, branch_is_sized, sized_part_is_part, sized_block_parts, sized_tail}
+use Rattle.source_meaning.proofs.Stores.{with_bytes_is_sized}
 use Rattle.source_meaning.proofs.Values.{size_at, IsValueOf, AreValues, typed_fits}
 
 -- how many bytes the values of an expression itself have
 abbrev pub size_of : Source → ℕ → ℕ
 size_of source e = size_at source (own_type source e)
-
-pub zeroed_is_sized : (source : Source) → IsSized source (zeroed source)
-zeroed_is_sized source = record { holds_all = λ cell. length-replicate (cell_size source cell) 0 }
-
-pub same_cell_from_test : (cell other : Cell) → same_cell cell other ≡ true → cell ≡ other
-same_cell_from_test Result Result is = refl
-same_cell_from_test Result (Node f) is = absurd (false≢true is)
-same_cell_from_test Result (Binding c) is = absurd (false≢true is)
-same_cell_from_test Result (Never f) is = absurd (false≢true is)
-same_cell_from_test (Node e) Result is = absurd (false≢true is)
-same_cell_from_test (Node e) (Node f) is = ap Node (eqb-true e f is)
-same_cell_from_test (Node e) (Binding c) is = absurd (false≢true is)
-same_cell_from_test (Node e) (Never f) is = absurd (false≢true is)
-same_cell_from_test (Binding b) Result is = absurd (false≢true is)
-same_cell_from_test (Binding b) (Node f) is = absurd (false≢true is)
-same_cell_from_test (Binding b) (Binding c) is = ap Binding (eqb-true b c is)
-same_cell_from_test (Binding b) (Never f) is = absurd (false≢true is)
-same_cell_from_test (Never e) Result is = absurd (false≢true is)
-same_cell_from_test (Never e) (Node f) is = absurd (false≢true is)
-same_cell_from_test (Never e) (Binding c) is = absurd (false≢true is)
-same_cell_from_test (Never e) (Never f) is = ap Never (eqb-true e f is)
-
-written_is_sized : (source : Source) (store : Store) (cell other : Cell) (bytes : List ℕ) (test : Bool) → IsSized source store → length bytes ≡ cell_size source cell → same_cell cell other ≡ test → length (cond test bytes (store other)) ≡ cell_size source other
-written_is_sized source store cell other bytes true sized fits is = fits ∙ ap (cell_size source) (same_cell_from_test cell other is)
-written_is_sized source store cell other bytes false sized fits is = sized.holds_all other
-
-pub with_bytes_is_sized : (source : Source) (store : Store) (cell : Cell) (bytes : List ℕ) → IsSized source store → length bytes ≡ cell_size source cell → IsSized source (with_cell_bytes store cell bytes)
-with_bytes_is_sized source store cell bytes sized fits = record { holds_all = λ other. written_is_sized source store cell other bytes (same_cell cell other) sized fits refl }
 
 -- one of these targets is an expression
 abbrev pub IsNode : List Target → ℕ → Type 0
@@ -116,14 +92,29 @@ put_answer_is_sound source targets store path (Computes bytes) sized fits = put_
 put_answer_is_sound source targets store path (Panics word) sized fits = tt
 put_answer_is_sound source targets store path Undefined sized fits = fits
 
--- an expression all of whose parts are plain, have layouts where they need them, and jump to open blocks
+-- the end of a body that is neither stuck nor a jump; a value has as many bytes as the result's cell
+abbrev pub IsSettled : Source → End (List ℕ) → Type 0
+IsSettled source (Go value store cost) = length value ≡ cell_size source Result
+IsSettled source (Jumps to store cost) = ⊥
+IsSettled source (Faults fault cost) = Unit {0}
+IsSettled source Stuck = ⊥
+IsSettled source (More cost) = Unit {0}
+
+-- the callees of a body end well, from wherever they are entered, and their bindings have layouts
+pub record AreSoundCallees (source : Source) (callees : Callees) : Type 0 where
+  pub settle : (called : Source) → Calls source called → (start : Store) → IsSized called start → IsSettled called (callees called start)
+  pub laid_out : (called : Source) → Calls source called → AreLaidOut called
+
+-- an expression that is evaluated in the body, all of whose parts are plain, have layouts where they need them, and jump to open blocks
 pub record IsFine (source : Source) (outer : List Opened) (e : ℕ) : Type 0 where
+  pub evaluated : Evaluates source (root source) e
   pub jumps : JumpsFit source outer e
   pub plain : (f : ℕ) → Evaluates source e f → IsPlainNode source f
   pub laid_out : (f : ℕ) → NeedsLayout source e f → IsLaidOutNode source f
 
 -- the same of an operand: a truth value needs no layout
 pub record IsFineOperand (source : Source) (outer : List Opened) (e : ℕ) : Type 0 where
+  pub evaluated : Evaluates source (root source) e
   pub jumps : JumpsFit source outer e
   pub plain : (f : ℕ) → Evaluates source e f → IsPlainNode source f
   pub laid_out : (is_truth (unadjusted source e) ≡ true) ⊎ ((f : ℕ) → NeedsLayout source e f → IsLaidOutNode source f)
@@ -157,12 +148,22 @@ module _ (source : Source) (checked : IsChecked source.world) where
   part_is_fine outer e child form is sized fine =
       let needed : Contains (sized_parts source (node source e)) child = subst (λ given. Contains (sized_parts source given) child) (sym is) sized in
       let contained = sized_part_is_part source (node source e) child needed in
-      record { jumps = part_jumps outer e child form is contained fine.jumps; plain = λ f rest. fine.plain f (part contained rest); laid_out = λ f rest. fine.laid_out f (inside needed rest) }
+      record {
+        evaluated = evaluates_then source fine.evaluated (part contained itself);
+        jumps = part_jumps outer e child form is contained fine.jumps;
+        plain = λ f rest. fine.plain f (part contained rest);
+        laid_out = λ f rest. fine.laid_out f (inside needed rest);
+      }
 
   -- a part that is evaluated to an operand: it needs a layout where it is no truth value
   operand_is_fine : (outer : List Opened) (e child : ℕ) (form : Option CoreExpr) → node source e ≡ form → Contains (parts_of (node source e)) child → (is_truth (unadjusted source child) ≡ false → Contains (sized_parts source form) child) → IsFine source outer e → IsFineOperand source (opened_in e form outer) child
   operand_is_fine outer e child form is contained sized fine =
-      record { jumps = part_jumps outer e child form is contained fine.jumps; plain = λ f rest. fine.plain f (part contained rest); laid_out = by_truth (is_truth (unadjusted source child)) refl }
+      record {
+        evaluated = evaluates_then source fine.evaluated (part contained itself);
+        jumps = part_jumps outer e child form is contained fine.jumps;
+        plain = λ f rest. fine.plain f (part contained rest);
+        laid_out = by_truth (is_truth (unadjusted source child)) refl;
+      }
     where
       by_truth : (test : Bool) → is_truth (unadjusted source child) ≡ test → (is_truth (unadjusted source child) ≡ true) ⊎ ((f : ℕ) → NeedsLayout source child f → IsLaidOutNode source f)
       by_truth true truth = inl truth
@@ -171,7 +172,7 @@ module _ (source : Source) (checked : IsChecked source.world) where
 
   -- an operand that is no truth value is as any other expression
   fine_as_place : (outer : List Opened) (e : ℕ) → is_truth (unadjusted source e) ≡ false → IsFineOperand source outer e → IsFine source outer e
-  fine_as_place outer e is fine = record { jumps = fine.jumps; plain = fine.plain; laid_out = ⊎_elim (λ truth. absurd (false≢true (sym is ∙ truth))) (λ laid. laid) fine.laid_out }
+  fine_as_place outer e is fine = record { evaluated = fine.evaluated; jumps = fine.jumps; plain = fine.plain; laid_out = ⊎_elim (λ truth. absurd (false≢true (sym is ∙ truth))) (λ laid. laid) fine.laid_out }
 
   length_of_bool : (ty : Ty) → IsBool ty → IsLengthOf ty 1
   length_of_bool BoolTy is_bool = refl
@@ -230,6 +231,13 @@ module _ (source : Source) (checked : IsChecked source.world) where
   laid_at : (outer : List Opened) (e : ℕ) (ty : Ty) → IsFine source outer e → own_type source e ≡ Some ty → IsLaidOut source (Some ty)
   laid_at outer e ty fine is = let laid = fine.laid_out e own in subst (IsLaidOut source) is laid.of_itself
 
+  -- a source in the same world has types of the same sizes
+  same_size : (called : Source) → called.world ≡ source.world → (ty : Option Ty) → size_at called ty ≡ size_at source ty
+  same_size called same ty = ap (λ world. unwrap_or (option_map (λ layout. layout.size) (option_and_then (layout_of world) ty)) 0) same
+
+  same_layout : (called : Source) → called.world ≡ source.world → (ty : Option Ty) → IsLaidOut called ty → IsLaidOut source ty
+  same_layout called same ty laid = record { layout = laid.layout; found = ap (λ world. option_and_then (layout_of world) ty) (sym same) ∙ laid.found }
+
   -- what an operand's bytes are when the operation runs
   operand_is_value : (e : ℕ) (ty : Ty) (operand : Operand) (store : Store) → IsSized source store → node_type source e ≡ Some ty → OperandFits e operand → IsValueOf source ty (value_of source store operand)
   operand_is_value e ty (Literally given bytes) store sized is fits =
@@ -265,6 +273,58 @@ module _ (source : Source) (checked : IsChecked source.world) where
   operands_are_values (e ∷ rest) (ty ∷ types) [] store sized have fits = absurd fits
   operands_are_values (e ∷ rest) (ty ∷ types) (one ∷ others) store sized have fits =
       (operand_is_value e ty one store sized have.0 fits.0, operands_are_values rest types others store sized have.1 fits.1)
+
+  -- an argument has as many bytes as the cell of a parameter of its type
+  argument_fits : (called : Source) → called.world ≡ source.world → AreLaidOut called → (e b : ℕ) (ty : Ty) (operand : Operand) (store : Store) → IsSized source store → node_type source e ≡ Some ty → binding_type called b ≡ Some ty → OperandFits e operand →
+      length (operand_bytes store operand) ≡ cell_size called (Binding b)
+  argument_fits called same laid_out e b ty operand store sized is is' fits =
+      let value = operand_is_value e ty operand store sized is fits in
+      let size : cell_size called (Binding b) ≡ size_at source (Some ty) = ap (size_at called) is' ∙ same_size called same (Some ty) in
+      let laid = same_layout called same (Some ty) (laid_out.bindings b ty is') in
+      ⊎_elim (λ long. long ∙ sym size)
+      (λ is_bool.
+      let scalar = bool_is_scalar ty is_bool in
+      bool_length_is_one ty (length (operand_bytes store operand)) is_bool (value.long scalar) ∙ sym (bool_length_is_one ty (size_at source (Some ty)) is_bool (scalar_size ty laid scalar)) ∙ sym size)
+      value.size
+
+  arguments_fit : (called : Source) → called.world ≡ source.world → AreLaidOut called → (types : List Ty) (args bound : List ℕ) (given : List Operand) (store : Store) → IsSized source store → HaveTypes source args types → AreBound called bound types → OperandsFit args given →
+      AreFor called bound (map (operand_bytes store) given)
+  arguments_fit called same laid_out [] [] [] [] store sized have bound_have fits = tt
+  arguments_fit called same laid_out [] [] (b ∷ bound) given store sized have bound_have fits = absurd bound_have
+  arguments_fit called same laid_out [] [] [] (one ∷ others) store sized have bound_have fits = absurd fits
+  arguments_fit called same laid_out [] (e ∷ rest) bound given store sized have bound_have fits = absurd have
+  arguments_fit called same laid_out (ty ∷ types) [] bound given store sized have bound_have fits = absurd have
+  arguments_fit called same laid_out (ty ∷ types) (e ∷ rest) [] given store sized have bound_have fits = absurd bound_have
+  arguments_fit called same laid_out (ty ∷ types) (e ∷ rest) (b ∷ bound) [] store sized have bound_have fits = absurd fits
+  arguments_fit called same laid_out (ty ∷ types) (e ∷ rest) (b ∷ bound) (one ∷ others) store sized have bound_have fits =
+      (argument_fits called same laid_out e b ty one store sized have.0 bound_have.0 fits.0, arguments_fit called same laid_out types rest bound others store sized have.1 bound_have.1 fits.1)
+
+  -- a call ends well where its callee does
+  call_is_sound : (targets : List Target) (diverging : Bool) (called : Source) (path : Path) (store : Store) (end : End (List ℕ)) → IsSized source store → cell_size called Result ≡ cell_size source path.cell → IsSettled called end → IsSound source targets Nothing (call_ended diverging path store end)
+  call_is_sound targets true called path store (Go value left cost) sized same settled = tt
+  call_is_sound targets true called path store (Jumps to left cost) sized same settled = settled
+  call_is_sound targets true called path store (Faults fault cost) sized same settled = tt
+  call_is_sound targets true called path store Stuck sized same settled = settled
+  call_is_sound targets true called path store (More cost) sized same settled = tt
+  call_is_sound targets false called path store (Go value left cost) sized same settled =
+      after_is_sound source targets Nothing cost _
+      (then_do_is_sound source targets Nothing Nothing (put store path value) _ (put_is_sound source targets store path value sized (settled ∙ same)) (λ done last sized' is. (sized', tt)))
+  call_is_sound targets false called path store (Jumps to left cost) sized same settled = settled
+  call_is_sound targets false called path store (Faults fault cost) sized same settled = tt
+  call_is_sound targets false called path store Stuck sized same settled = settled
+  call_is_sound targets false called path store (More cost) sized same settled = tt
+
+  -- what the result's cell of a callee holds first
+  result_is_long : (called : Source) (diverging : Bool) (path : Path) (store : Store) → IsSized source store → cell_size called Result ≡ cell_size source path.cell → length (cond diverging (zeroed called Result) (store path.cell)) ≡ cell_size called Result
+  result_is_long called true path store sized same = length-replicate (cell_size called Result) 0
+  result_is_long called false path store sized same = sized.holds_all path.cell ∙ sym same
+
+  entered_is_sound : (targets : List Target) (callees : Callees) (diverging : Bool) (called : Source) (bound : List ℕ) (given : List (List ℕ)) (path : Path) (store : Store) → IsSized source store → cell_size called Result ≡ cell_size source path.cell →
+      parameters called ≡ Some bound → AreFor called bound given → ((start : Store) → IsSized called start → IsSettled called (callees called start)) → IsSound source targets Nothing (entered_into callees diverging (Some called) given path store)
+  entered_is_sound targets callees diverging called bound given path store sized same binds fits settle =
+      let from = started_is_sized called bound (cond diverging (zeroed called Result) (store path.cell)) given binds (result_is_long called diverging path store sized same) fits in
+      subst (λ start. IsSound source targets Nothing (entered_from callees diverging called start path store)) (sym from.1)
+      (call_is_sound targets diverging called path store (callees called from.0) sized same (settle from.0 from.2))
 
   -- a literal has the bytes of its type
   number_has_bytes : (outer : List Opened) (e : ℕ) (z : ℤ) → IsFine source outer e → (bytes : List ℕ) × (option_map (λ layout. low_bytes layout.size z) (own_layout source e) ≡ Some bytes) × (length bytes ≡ size_of source e)
@@ -356,6 +416,7 @@ module _ (source : Source) (checked : IsChecked source.world) where
     operand_is_sound outer around stands e (Some (expr.Continue label)) store is fine sized = as_place_is_sound outer around stands e store (ap is_truth is) fine sized
     operand_is_sound outer around stands e (Some (expr.Break label value)) store is fine sized = as_place_is_sound outer around stands e store (ap is_truth is) fine sized
     operand_is_sound outer around stands e (Some (expr.Return value)) store is fine sized = as_place_is_sound outer around stands e store (ap is_truth is) fine sized
+    operand_is_sound outer around stands e (Some (expr.Call callee args)) store is fine sized = as_place_is_sound outer around stands e store (ap is_truth is) fine sized
     operand_is_sound outer around stands e None store is fine sized = as_place_is_sound outer around stands e store (ap is_truth is) fine sized
 
     operands_are_sound : (outer : List Opened) (around : Around) (stands : Stands outer around) (operands : List ℕ) (store : Store) → ((e : ℕ) → Contains operands e → IsFineOperand source outer e) → IsSized source store → IsSound source around.targets (OperandsFit operands) (operands_of source below around operands store)
@@ -548,41 +609,54 @@ module _ (source : Source) (checked : IsChecked source.world) where
         then_do_is_sound source around.targets Nothing Nothing (tail_into (below around) value around.result store) _ (tail_is_sound outer around stands value form.ty around.result store form.value_has (stands.returns ∙ form.result_has) (λ child contained.
         part_is_fine outer e child (Some (expr.Return value)) is (sized_tail source value child contained) fine) sized) (λ done later sized' is'. (sized', tt))
 
-    into_is_sound : (outer : List Opened) (around : Around) (stands : Stands outer around) (e : ℕ) (form : Option CoreExpr) (path : Path) (store : Store) → node source e ≡ form → IsFine source outer e → IsSized source store → OwnFits e path → IsSound source around.targets Nothing (into_of source below around e form path store)
-    into_is_sound outer around stands e (Some (expr.Literal given)) path store is fine sized fits =
+    -- a callee is entered with arguments that fit its parameters, and gives a value of the call's type
+    call_into_is_sound : (callees : Callees) → AreSoundCallees source callees → (outer : List Opened) (around : Around) (stands : Stands outer around) (e callee : ℕ) (args : List ℕ) (path : Path) (store : Store) → node source e ≡ Some (expr.Call callee args) → IsFine source outer e → IsSized source store → OwnFits e path → IsSound source around.targets Nothing (call_into source below callees around e callee args path store)
+    call_into_is_sound callees callees_are outer around stands e callee args path store is fine sized fits =
+        let plain = fine.plain e itself in
+        let form = form_of e _ is plain in
+        let enters = called_by_name source callee form.id form.called form.names form.has_body in
+        let calls : Calls source form.called = record { e = e; evaluated = fine.evaluated; callee = callee; args = args; is_call = is; enters = enters } in
+        let world = called_world source callee form.called enters in
+        let same : cell_size form.called Result ≡ cell_size source path.cell =
+        ap (size_at form.called) form.body_has ∙ same_size form.called world (Some form.row.sig.ret) ∙ ap (size_at source) (sym (fits ∙ plain.has_type ∙ ap Some form.typed)) in
+        then_do_is_sound source around.targets (OperandsFit args) Nothing (operands_of source below around args store) _ (operands_are_sound outer around stands args store (λ child within.
+        operand_is_fine outer e child (Some (expr.Call callee args)) is (argument_is_part source e callee args child is within) (operand_is_sized source args child within) fine) sized) (λ given later sized' fit.
+        subst (λ found. IsSound source around.targets Nothing (entered_into callees (must_not_return source e) found (map (operand_bytes later) given) path later)) (sym enters)
+        (entered_is_sound around.targets callees (must_not_return source e) form.called form.bound (map (operand_bytes later) given) path later sized' same form.binds
+        (arguments_fit form.called world (callees_are.laid_out form.called calls) form.row.sig.params args form.bound given later sized' form.arguments_have form.parameters_have fit)
+        (callees_are.settle form.called calls)))
+
+    into_is_sound : (callees : Callees) → AreSoundCallees source callees → (outer : List Opened) (around : Around) (stands : Stands outer around) (e : ℕ) (form : Option CoreExpr) (path : Path) (store : Store) → node source e ≡ form → IsFine source outer e → IsSized source store → OwnFits e path → IsSound source around.targets Nothing (into_of source below callees around e form path store)
+    into_is_sound callees callees_are outer around stands e (Some (expr.Literal given)) path store is fine sized fits =
         let plain = fine.plain e itself in
         let bytes = literal_has_size outer e given plain.ty fine plain.has_type (form_of e _ is plain) in
         put_literal_is_sound around.targets e store path (literal_bytes source e given) bytes.0 sized bytes.1 (bytes.2 ∙ ap (size_at source) (sym fits))
-    into_is_sound outer around stands e (Some (expr.Path name)) path store is fine sized fits =
+    into_is_sound callees callees_are outer around stands e (Some (expr.Path name)) path store is fine sized fits =
         let plain = fine.plain e itself in
         let form = form_of e _ is plain in
         subst (λ named. IsSound source around.targets Nothing (named_into named path store)) (sym form.named)
         (put_is_sound source around.targets store path (store (Binding form.binding.0)) sized (sized.holds_all (Binding form.binding.0) ∙ ap (size_at source) (form.binding_has ∙ sym plain.has_type ∙ sym fits)))
-    into_is_sound outer around stands e (Some (expr.Strict operation operands)) path store is fine sized fits = strict_is_sound outer around stands e operation operands path store is fine sized fits
-    into_is_sound outer around stands e (Some (expr.Logic op left right)) path store is fine sized fits = logic_is_sound outer around stands e op left right path store is fine sized fits
-    into_is_sound outer around stands e (Some (expr.If condition then_branch else_branch)) path store is fine sized fits = if_is_sound outer around stands e condition then_branch else_branch path store is fine sized fits
-    into_is_sound outer around stands e (Some (expr.Assign assigned value)) path store is fine sized fits = assign_is_sound outer around stands e assigned value store is fine sized
-    into_is_sound outer around stands e (Some (expr.Block statements tail)) path store is fine sized fits = block_is_sound outer around stands e statements tail path store is fine sized fits
-    into_is_sound outer around stands e (Some (expr.Labelled label statements tail)) path store is fine sized fits = labelled_is_sound outer around stands e label statements tail path store is fine sized fits
-    into_is_sound outer around stands e (Some (expr.Break label value)) path store is fine sized fits = break_is_sound outer around stands e label value store is fine sized
-    into_is_sound outer around stands e (Some (expr.Loop label body)) path store is fine sized fits = loop_is_sound outer around stands e label body path store is fine sized fits
-    into_is_sound outer around stands e (Some (expr.Continue label)) path store is fine sized fits = continue_is_sound outer around stands e label store is fine sized
-    into_is_sound outer around stands e (Some (expr.Return value)) path store is fine sized fits = return_is_sound outer around stands e value store is fine sized
-    into_is_sound outer around stands e None path store is fine sized fits = absurd (form_of e _ is (fine.plain e itself))
+    into_is_sound callees callees_are outer around stands e (Some (expr.Strict operation operands)) path store is fine sized fits = strict_is_sound outer around stands e operation operands path store is fine sized fits
+    into_is_sound callees callees_are outer around stands e (Some (expr.Logic op left right)) path store is fine sized fits = logic_is_sound outer around stands e op left right path store is fine sized fits
+    into_is_sound callees callees_are outer around stands e (Some (expr.If condition then_branch else_branch)) path store is fine sized fits = if_is_sound outer around stands e condition then_branch else_branch path store is fine sized fits
+    into_is_sound callees callees_are outer around stands e (Some (expr.Assign assigned value)) path store is fine sized fits = assign_is_sound outer around stands e assigned value store is fine sized
+    into_is_sound callees callees_are outer around stands e (Some (expr.Block statements tail)) path store is fine sized fits = block_is_sound outer around stands e statements tail path store is fine sized fits
+    into_is_sound callees callees_are outer around stands e (Some (expr.Labelled label statements tail)) path store is fine sized fits = labelled_is_sound outer around stands e label statements tail path store is fine sized fits
+    into_is_sound callees callees_are outer around stands e (Some (expr.Break label value)) path store is fine sized fits = break_is_sound outer around stands e label value store is fine sized
+    into_is_sound callees callees_are outer around stands e (Some (expr.Loop label body)) path store is fine sized fits = loop_is_sound outer around stands e label body path store is fine sized fits
+    into_is_sound callees callees_are outer around stands e (Some (expr.Continue label)) path store is fine sized fits = continue_is_sound outer around stands e label store is fine sized
+    into_is_sound callees callees_are outer around stands e (Some (expr.Return value)) path store is fine sized fits = return_is_sound outer around stands e value store is fine sized
+    into_is_sound callees callees_are outer around stands e (Some (expr.Call callee args)) path store is fine sized fits = call_into_is_sound callees callees_are outer around stands e callee args path store is fine sized fits
+    into_is_sound callees callees_are outer around stands e None path store is fine sized fits = absurd (form_of e _ is (fine.plain e itself))
 
-    above_is_sound : (outer : List Opened) (around : Around) → Stands outer around → IsSoundLevel outer around.targets (level_above source below around)
-    above_is_sound outer around stands = record {
+    above_is_sound : (callees : Callees) → AreSoundCallees source callees → (outer : List Opened) (around : Around) → Stands outer around → IsSoundLevel outer around.targets (level_above source below callees around)
+    above_is_sound callees callees_are outer around stands = record {
       place = λ e store fine sized. place_is_sound outer around stands e (unadjusted source e) store refl fine sized;
       operand = λ e store fine sized. operand_is_sound outer around stands e (unadjusted source e) store refl fine sized;
       into = λ e path store fine sized fits.
-          into_is_sound outer (marking (never_marks source e) around) (marks_stand (never_marks source e) stands) e (node source e) (own_path source e path) store refl fine sized (own_path-fits source e path fits);
-      own = λ e path store fine sized fits. into_is_sound outer around stands e (node source e) path store refl fine sized fits;
+          into_is_sound callees callees_are outer (marking (never_marks source e) around) (marks_stand (never_marks source e) stands) e (node source e) (own_path source e path) store refl fine sized (own_path-fits source e path fits);
+      own = λ e path store fine sized fits. into_is_sound callees callees_are outer around stands e (node source e) path store refl fine sized fits;
     }
-
-  level_is_sound : (fuel : ℕ) (outer : List Opened) (around : Around) → Stands outer around → IsSoundLevel outer around.targets (level_at source fuel around)
-  unfolding level_at
-  level_is_sound zero outer around stands = no_fuel_is_sound outer around
-  level_is_sound (suc fuel) outer around stands = above_is_sound (level_at source fuel) (level_is_sound fuel) outer around stands
 
   root_stands : Stands [] (at_root (record { cell = Result }))
   root_stands = record { opened = refl; fits = λ target contained. absurd (let less = contained.1 in omega arith); returns = refl }
@@ -590,50 +664,73 @@ module _ (source : Source) (checked : IsChecked source.world) where
 no_node : (node : ℕ) → IsNode [] node → ⊥
 no_node node is = let less = is.1.1 in omega arith
 
--- the end of a body that is neither stuck nor a jump
-abbrev IsSettled : End (List ℕ) → Type 0
-IsSettled (Go value store cost) = Unit {0}
-IsSettled (Jumps to store cost) = ⊥
-IsSettled (Faults fault cost) = Unit {0}
-IsSettled Stuck = ⊥
-IsSettled (More cost) = Unit {0}
-
-after_is_settled : (cost : Cost) (end : End (List ℕ)) → IsSettled end → IsSettled (after cost end)
+after_is_settled : (source : Source) (cost : Cost) (end : End (List ℕ)) → IsSettled source end → IsSettled source (after cost end)
 unfolding after
-after_is_settled cost (Go value store rest) settled = tt
-after_is_settled cost (Jumps to store rest) settled = settled
-after_is_settled cost (Faults fault rest) settled = tt
-after_is_settled cost Stuck settled = settled
-after_is_settled cost (More rest) settled = tt
+after_is_settled source cost (Go value store rest) settled = settled
+after_is_settled source cost (Jumps to store rest) settled = settled
+after_is_settled source cost (Faults fault rest) settled = tt
+after_is_settled source cost Stuck settled = settled
+after_is_settled source cost (More rest) settled = tt
 
 -- around a root nothing is open, so the only jump out of it is a `return`, which ends the body well
-returned_is_settled : (source : Source) (end : End (Unit {0})) → IsSound source [] Nothing end → IsSettled (returned source end)
+returned_is_settled : (source : Source) (end : End (Unit {0})) → IsSound source [] Nothing end → IsSettled source (returned source end)
 unfolding after
-returned_is_settled source (Go done store cost) sound = tt
+returned_is_settled source (Go done store cost) sound = sound.0.holds_all Result
 returned_is_settled source (Jumps (Break node) store cost) sound = no_node node sound.1
 returned_is_settled source (Jumps (Continue node) store cost) sound = no_node node sound.1
-returned_is_settled source (Jumps Return store cost) sound = tt
+returned_is_settled source (Jumps Return store cost) sound = sound.0.holds_all Result
 returned_is_settled source (Faults fault cost) sound = tt
 returned_is_settled source Stuck sound = sound
 returned_is_settled source (More cost) sound = tt
 
-meaning_is_settled : (source : Source) (store : Store) (fuel : ℕ) → IsChecked source.world → IsPlain source → AreLaidOut source → IsSized source store → IsSettled (meaning_from source store fuel)
+-- a plain body ends well, where the levels of its expressions do
+body_is_settled : (source : Source) (checked : IsChecked source.world) (levels : Levels) → IsPlain source → AreLaidOut source →
+    ((outer : List Opened) (around : Around) → Stands source checked outer around → IsSoundLevel source checked outer around.targets (levels around)) → (store : Store) → IsSized source store → IsSettled source (body_meaning source levels store)
+body_is_settled source checked levels plain laid_out sound store sized =
+    let first = at_root (record { cell = Result }) in
+    let root_is_fine : IsFine source [] (root source) = record { evaluated = itself; jumps = plain.jumps; plain = plain.nodes; laid_out = laid_out.nodes } in
+    let level = sound [] first (root_stands source checked) in
+    after_is_settled source (entering source) _ (returned_is_settled source ((levels first).into (root source) _ _) (level.into (root source) _ _ root_is_fine sized refl))
+
+-- what is reached from a callee is reached from its caller
+plain_called : (source called : Source) → Calls source called → IsPlainThroughout source → IsPlainThroughout called
+plain_called source called calls plain = record { each = λ reached on. plain.each reached (through calls on) }
+
+laid_out_called : (source called : Source) → Calls source called → AreLaidOutThroughout source → AreLaidOutThroughout called
+laid_out_called source called calls laid_out = record { each = λ reached on. laid_out.each reached (through calls on) }
+
+checked_called : (source called : Source) → Calls source called → IsChecked source.world → IsChecked called.world
+checked_called source called calls checked = subst IsChecked (sym (called_world source calls.callee called calls.enters)) checked
+
+level_is_sound : (fuel : ℕ) (source : Source) (checked : IsChecked source.world) → IsPlainThroughout source → AreLaidOutThroughout source → (outer : List Opened) (around : Around) → Stands source checked outer around → IsSoundLevel source checked outer around.targets (level_at source fuel around)
+unfolding level_at
+level_is_sound zero source checked plain laid_out outer around stands = no_fuel_is_sound source checked outer around
+level_is_sound (suc fuel) source checked plain laid_out outer around stands =
+    above_is_sound source checked (level_at source fuel) (level_is_sound fuel source checked plain laid_out) (callees_at fuel)
+    (record {
+      settle = λ called calls start sized.
+          let checked' = checked_called source called calls checked in
+          let plain' = plain_called source called calls plain in
+          let laid_out' = laid_out_called source called calls laid_out in
+          body_is_settled called checked' (level_at called fuel) (plain'.each called at_once) (laid_out'.each called at_once) (level_is_sound fuel called checked' plain' laid_out') start sized;
+      laid_out = λ called calls. laid_out.each called (through calls at_once);
+    })
+    outer around stands
+
+meaning_is_settled : (source : Source) (store : Store) (fuel : ℕ) → IsChecked source.world → IsPlainThroughout source → AreLaidOutThroughout source → IsSized source store → IsSettled source (meaning_from source store fuel)
 unfolding meaning_from
 meaning_is_settled source store fuel checked plain laid_out sized =
-    let first = at_root (record { cell = Result }) in
-    let root_is_fine : IsFine source [] (root source) = record { jumps = plain.jumps; plain = plain.nodes; laid_out = laid_out.nodes } in
-    let level = level_is_sound source checked fuel [] first (root_stands source checked) in
-    after_is_settled (entering source) _ (returned_is_settled source ((level_at source fuel first).into (root source) _ _) (level.into (root source) _ _ root_is_fine sized refl))
+    body_is_settled source checked (level_at source fuel) (plain.each source at_once) (laid_out.each source at_once) (level_is_sound fuel source checked plain laid_out) store sized
 
-pub plain_is_never_stuck : (source : Source) (store : Store) (fuel : ℕ) → IsChecked source.world → IsCheckedBody source.body source.infer → IsPlain source → AreLaidOut source → IsSized source store → meaning_from source store fuel ≢ Stuck
-plain_is_never_stuck source store fuel checked body plain laid_out sized stuck = subst IsSettled stuck (meaning_is_settled source store fuel checked plain laid_out sized)
+pub plain_is_never_stuck : (source : Source) (store : Store) (fuel : ℕ) → IsChecked source.world → IsCheckedBody source.body source.infer → IsPlainThroughout source → AreLaidOutThroughout source → IsSized source store → meaning_from source store fuel ≢ Stuck
+plain_is_never_stuck source store fuel checked body plain laid_out sized stuck = subst (IsSettled source) stuck (meaning_is_settled source store fuel checked plain laid_out sized)
 
-settled_jumps_nowhere : (end : End (List ℕ)) → IsSettled end → JumpsNowhere end
-settled_jumps_nowhere (Go value store cost) settled = tt
-settled_jumps_nowhere (Jumps to store cost) settled = settled
-settled_jumps_nowhere (Faults fault cost) settled = tt
-settled_jumps_nowhere Stuck settled = tt
-settled_jumps_nowhere (More cost) settled = tt
+settled_jumps_nowhere : (source : Source) (end : End (List ℕ)) → IsSettled source end → JumpsNowhere end
+settled_jumps_nowhere source (Go value store cost) settled = tt
+settled_jumps_nowhere source (Jumps to store cost) settled = settled
+settled_jumps_nowhere source (Faults fault cost) settled = tt
+settled_jumps_nowhere source Stuck settled = tt
+settled_jumps_nowhere source (More cost) settled = tt
 
-pub plain_jumps_nowhere : (source : Source) (store : Store) (fuel : ℕ) → IsChecked source.world → IsCheckedBody source.body source.infer → IsPlain source → AreLaidOut source → IsSized source store → JumpsNowhere (meaning_from source store fuel)
-plain_jumps_nowhere source store fuel checked body plain laid_out sized = settled_jumps_nowhere (meaning_from source store fuel) (meaning_is_settled source store fuel checked plain laid_out sized)
+pub plain_jumps_nowhere : (source : Source) (store : Store) (fuel : ℕ) → IsChecked source.world → IsCheckedBody source.body source.infer → IsPlainThroughout source → AreLaidOutThroughout source → IsSized source store → JumpsNowhere (meaning_from source store fuel)
+plain_jumps_nowhere source store fuel checked body plain laid_out sized = settled_jumps_nowhere source (meaning_from source store fuel) (meaning_is_settled source store fuel checked plain laid_out sized)

@@ -39,7 +39,7 @@ IsBuiltStatement source (statement.Let pat (Some e) None) = BindsBinding source 
 IsBuiltStatement source (statement.Expr e has_semi) = Unit {0}
 IsBuiltStatement source _ = ⊥
 
--- an expression of a form that is built, whatever its parts are
+-- An expression of a form that is built, whatever its parts are. Calls have a meaning, and aren't built yet.
 abbrev pub IsBuiltForm : Source → ℕ → Option CoreExpr → Type 0
 IsBuiltForm source e (Some (expr.Literal l)) = Unit {0}
 IsBuiltForm source e (Some (expr.Path name)) = NamesBinding source e
@@ -53,4 +53,5 @@ IsBuiltForm source e (Some (expr.Loop label body)) = Unit {0}
 IsBuiltForm source e (Some (expr.Break label value)) = Unit {0}
 IsBuiltForm source e (Some (expr.Continue label)) = Unit {0}
 IsBuiltForm source e (Some (expr.Return value)) = Unit {0}
+IsBuiltForm source e (Some (expr.Call callee args)) = ⊥
 IsBuiltForm source e None = ⊥

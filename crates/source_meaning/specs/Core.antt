@@ -31,6 +31,7 @@ use Rattle.world.specs.declared.literal.Literal.{Literal as SomeLiteral}
 use Rattle.world.specs.declared.literal.Literal.TheVariants as literal
 use Rattle.world.specs.declared.pat.Pat.TheVariants as pat
 use Rattle.world.specs.declared.pat.Pat.{Pat}
+use Rattle.world.specs.Nodes.{expr_numbers}
 
 -- a literal with a meaning: a truth value, or a whole number
 pub data CoreLiteral : Type 0 where
@@ -47,7 +48,8 @@ pub data Operation : Type 0 where
 -- computes one operation. `&&` and `||` evaluate their right operand only where the left one doesn't decide, and `if` one of
 -- its branches. An assignment writes a value to what its target names. A `loop` evaluates its body again and again. A `break`
 -- ends a loop or a labelled block around it, with a value or without, and a `continue` starts it again. A `return` ends the
--- body, with a value or without.
+-- body, with a value or without. A call evaluates its arguments from left to right, and then enters the body of the function that
+-- its callee's type names.
 pub data CoreExpr : Type 0 where
   Literal : CoreLiteral → CoreExpr
   Path : (name : List ℕ) → CoreExpr
@@ -61,6 +63,7 @@ pub data CoreExpr : Type 0 where
   Break : (label : Option LabelId) → (value : Option ExprId) → CoreExpr
   Continue : (label : Option LabelId) → CoreExpr
   Return : (value : Option ExprId) → CoreExpr
+  Call : (callee : ℕ) → (args : List ℕ) → CoreExpr
 
 -- a literal of a kind that has a meaning: a truth value or a whole number
 abbrev pub core_literal : SomeLiteral → Option CoreLiteral
@@ -105,6 +108,7 @@ core_of names_item (expr.Loop body label) = Some (Loop label body.0)
 core_of names_item (expr.Break value label) = Some (Break label value)
 core_of names_item (expr.Continue label) = Some (Continue label)
 core_of names_item (expr.Return value) = Some (Return value)
+core_of names_item (expr.Call callee args) = Some (Call callee.0 (expr_numbers args))
 core_of names_item _ = None
 
 -- the type that a step leads to, where it is `NeverToAny`, the one from `!` to any type
@@ -191,3 +195,8 @@ is_truth _ = false
 abbrev pub is_path : Option CoreExpr → Bool
 is_path (Some (Path name)) = true
 is_path _ = false
+
+-- an expression that is no call
+abbrev pub IsNoCall : Option CoreExpr → Type 0
+IsNoCall (Some (Call callee args)) = ⊥
+IsNoCall _ = Unit {0}

@@ -1,5 +1,5 @@
 -- How the evaluation of a part of a source ends, and what it costs.
-use Rattle.std.specs.Prelude.{ℕ, ◌+◌, ◌-◌, ◌≤◌, Bool, true, ◌&&◌, List}
+use Rattle.std.specs.Prelude.{ℕ, suc, ◌+◌, ◌-◌, ◌≤◌, Bool, true, ◌&&◌, List}
 use Rattle.source_meaning.specs.Source.{Store}
 
 -- what an evaluation takes of the limits on a run
@@ -36,6 +36,10 @@ plus first second = record {
   nesting = greater first.nesting second.nesting;
   defined = first.defined && second.defined;
 }
+
+-- what an evaluation costs that takes one more level of nesting while it runs
+abbrev pub one_level_more : Cost → Cost
+one_level_more cost = record cost { nesting = suc cost.nesting }
 
 -- where a jump leads: behind a loop or a labelled block, to a loop's next turn, or out of the body
 pub data Jump : Type 0 where

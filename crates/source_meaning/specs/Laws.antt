@@ -2,39 +2,40 @@
 use Rattle.std.specs.Prelude.{◌≡◌, ◌≢◌, ◌↔◌, true, ℕ, ◌≤◌, List, ◌++◌, ◌∷◌}
 use Rattle.world.specs.Checked.{IsChecked, IsCheckedBody}
 use Rattle.source_meaning.specs.Built.{IsBuiltForm}
+use Rattle.source_meaning.specs.Core.{IsNoCall}
 use Rattle.source_meaning.specs.Ends.{Cost, plus, no_cost, Stuck, IsOver, GoesOn, JumpsNowhere}
 use Rattle.source_meaning.specs.Entering.{is_cost_defined}
 use Rattle.source_meaning.specs.Events.{Event, Scopes, scopes_after, events, marked}
 use Rattle.source_meaning.specs.Meaning.{meaning_from}
 use Rattle.source_meaning.specs.Source.{Source, Cell, Store, IsSized, node}
-use Rattle.source_meaning.specs.Valid.{IsPlain, IsPlainNode, AreLaidOut, HasDefinedCost}
+use Rattle.source_meaning.specs.Valid.{IsPlainNode, IsPlainThroughout, AreLaidOutThroughout, HasDefinedCost}
 
 -- from whatever store a body begins, more fuel changes nothing
 abbrev pub MoreFuelChangesNothing : Type 0
 MoreFuelChangesNothing = (source : Source) (store : Store) (fuel more : ℕ) → fuel ≤ more → IsOver (meaning_from source store fuel) →
     meaning_from source store more ≡ meaning_from source store fuel
 
--- a plain body of a checked world, whose types have layouts, is never stuck, where it begins with as many bytes in each cell as
--- the cell's type has
+-- A body of a checked world that is plain, as are all that it reaches by calls, and whose types have layouts, as have those of all that
+-- it reaches, is never stuck, where it begins with as many bytes in each cell as the cell's type has.
 abbrev pub PlainIsNeverStuck : Type 0
 PlainIsNeverStuck =
-    (source : Source) (store : Store) (fuel : ℕ) → IsChecked source.world → IsCheckedBody source.body source.infer → IsPlain source → AreLaidOut source →
+    (source : Source) (store : Store) (fuel : ℕ) → IsChecked source.world → IsCheckedBody source.body source.infer → IsPlainThroughout source → AreLaidOutThroughout source →
     IsSized source store → meaning_from source store fuel ≢ Stuck
 
 -- and never ends in a jump
 abbrev pub PlainJumpsNowhere : Type 0
 PlainJumpsNowhere =
-    (source : Source) (store : Store) (fuel : ℕ) → IsChecked source.world → IsCheckedBody source.body source.infer → IsPlain source → AreLaidOut source →
+    (source : Source) (store : Store) (fuel : ℕ) → IsChecked source.world → IsCheckedBody source.body source.infer → IsPlainThroughout source → AreLaidOutThroughout source →
     IsSized source store → JumpsNowhere (meaning_from source store fuel)
 
--- From whatever store a checked body begins, and for each number `many`, some amount of fuel gives an end, or has counted at least `many`
--- blocks. So under a limit on blocks it ends or meets the limit.
+-- From whatever store a checked body of a checked world begins, and for each number `many`, some amount of fuel gives an end, or has counted
+-- at least `many` blocks. So under a limit on blocks it ends or meets the limit.
 abbrev pub BodiesGoOn : Type 0
-BodiesGoOn = (source : Source) (store : Store) (many : ℕ) → IsCheckedBody source.body source.infer → (fuel : ℕ) × GoesOn many (meaning_from source store fuel)
+BodiesGoOn = (source : Source) (store : Store) (many : ℕ) → IsChecked source.world → IsCheckedBody source.body source.infer → (fuel : ℕ) × GoesOn many (meaning_from source store fuel)
 
--- a plain expression has a form that is built
+-- A plain expression that is no call has a form that is built. Calls aren't built yet.
 abbrev pub PlainIsBuilt : Type 0
-PlainIsBuilt = (source : Source) (e : ℕ) → IsPlainNode source e → IsBuiltForm source e (node source e)
+PlainIsBuilt = (source : Source) (e : ℕ) → IsPlainNode source e → IsNoCall (node source e) → IsBuiltForm source e (node source e)
 
 -- Costs add up in any grouping, and no cost adds nothing.
 pub record CostsAdd : Type 0 where

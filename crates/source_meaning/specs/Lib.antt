@@ -1,5 +1,6 @@
 pub mod Around
 pub mod Built
+pub mod Calls
 pub mod Core
 pub mod Ends
 pub mod Entering

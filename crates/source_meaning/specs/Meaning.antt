@@ -1,6 +1,6 @@
 -- What a typed body means: its value, or how else it ends, by evaluating its tree of expressions. It knows no
 -- basic blocks. Fuel bounds how deep the evaluation goes.
-use Rattle.std.specs.Prelude.{◌≡◌, ℕ, zero, suc, Bool, true, false, cond, if◌then◌else◌, ◌==◌, List, [], ◌∷◌, ◌++◌, length, map, flat_map, drop, Option, Some, None, option_and_then, option_map}
+use Rattle.std.specs.Prelude.{◌≡◌, ℕ, zero, suc, Bool, true, false, cond, if◌then◌else◌, ◌==◌, List, [], ◌∷◌, ◌++◌, length, map, flat_map, drop, Option, Some, None, option_and_then, option_map, codes}
 use Rattle.types.specs.declared.ids.BindingId.{BindingId}
 use Rattle.types.specs.declared.ids.ExprId.{ExprId}
 use Rattle.types.specs.declared.ids.LabelId.{LabelId}
@@ -14,9 +14,10 @@ use Rattle.world.specs.Lookups.{layout_of}
 use Rattle.numbers.specs.Bytes.{low_bytes}
 use Rattle.numbers.specs.declared.operator.Kind.{Kind}
 use Rattle.numbers.specs.Operators.{Answer, Computes, Panics, Undefined, computed, negated, inverted, kind_of}
+use Rattle.source_meaning.specs.Calls.{source_called, must_not_return, started}
 use Rattle.source_meaning.specs.Core as expr
 use Rattle.source_meaning.specs.Core.{CoreExpr, CoreLiteral, Truth, Number, Operation, Negate, Invert, Combine}
-use Rattle.source_meaning.specs.Ends.{Cost, no_cost, turns_alone, bytes_alone, plus, End, Go, Jumps, Break, Continue, Return, Faults, Panic, Stuck, More, after, then_do, IsOver}
+use Rattle.source_meaning.specs.Ends.{Cost, no_cost, turns_alone, bytes_alone, plus, one_level_more, End, Go, Jumps, Break, Continue, Return, Faults, Panic, Undefined as UndefinedBehavior, Stuck, More, after, then_do, IsOver}
 use Rattle.source_meaning.specs.Entering.{room_of, entering, run_cost}
 use Rattle.source_meaning.specs.Around.{Around, Target, at_root, marking, inside, target_of}
 use Rattle.source_meaning.specs.Events.{marked, marked_as_place, marked_as_operand, marked_by_statement, marked_by_tail, marked_in_block}
@@ -80,6 +81,10 @@ pub record Level : Type 0 where
 -- the same by what an expression stands in
 abbrev pub Levels : Type 0
 Levels = Around → Level
+
+-- what the bodies mean that calls enter, each from a store on: how it ends, with the bytes of its result
+abbrev pub Callees : Type 0
+Callees = Source → Store → End (List ℕ)
 
 -- with no fuel nothing ends
 abbrev pub no_fuel : Levels
@@ -272,35 +277,73 @@ abbrev pub return_into : Source → Levels → Around → Option ExprId → Stor
 return_into source below around value store =
     then_do (tail_into (below around) value around.result store) (λ _ later. Jumps Return later (turns_alone (drops source (around.marks ++ marked_by_tail source value))))
 
--- an expression itself evaluated into a path: the forms that have a meaning so far
-abbrev pub into_of : Source → Levels → Around → ℕ → Option CoreExpr → Path → Store → End (Unit {0})
-into_of source below around e (Some (expr.Literal l)) path store = put_literal source e store path (literal_bytes source e l)
-into_of source below around e (Some (expr.Path name)) path store = named_into (named_by source e) path store
-into_of source below around e (Some (expr.Strict operation operands)) path store = strict_into source below around operation operands path store
-into_of source below around e (Some (expr.Logic op left right)) path store = logic_into source below around op left right path store
-into_of source below around e (Some (expr.If condition then_branch else_branch)) path store = if_into source below around condition then_branch else_branch path store
-into_of source below around e (Some (expr.Assign assigned value)) path store = assign_into source (below around) assigned value store
-into_of source below around e (Some (expr.Block statements tail)) path store = block_into source below around statements tail path store
-into_of source below around e (Some (expr.Labelled label statements tail)) path store = labelled_into source below around e label statements tail path store
-into_of source below around e (Some (expr.Loop label body)) path store = loop_into source below around e label body path store
-into_of source below around e (Some (expr.Break label value)) path store = break_into source below around label value store
-into_of source below around e (Some (expr.Continue label)) path store = continue_into source around label store
-into_of source below around e (Some (expr.Return value)) path store = return_into source below around value store
-into_of source below around e None path store = Stuck
+-- How a call ends whose callee may return: where the callee gives a value, its bytes are put at the destination, and one block is counted,
+-- the target of the call's terminator. A fault of the callee is one of the call. No jump leads out of a body.
+abbrev pub gone_on : Path → Store → End (List ℕ) → End (Unit {0})
+gone_on path store (Go value left cost) = after cost (then_do (put store path value) (λ _ last. Go tt last (turns_alone 1)))
+gone_on path store (Jumps to left cost) = Stuck
+gone_on path store (Faults fault cost) = Faults fault cost
+gone_on path store Stuck = Stuck
+gone_on path store (More cost) = More cost
 
--- The meanings at one more unit of fuel. What is adjusted by `NeverToAny` is itself evaluated into its `!` cell, and the path
--- isn't written.
-abbrev pub level_above : Source → Levels → Levels
-level_above source below around = record {
+-- How a call ends whose callee must not return: its terminator has no target, so that the callee gives a value is undefined behavior. While
+-- the callee runs, it takes one more level of nesting.
+abbrev pub gone_astray : End (List ℕ) → End (Unit {0})
+gone_astray (Go value left cost) = Faults (UndefinedBehavior (codes "Diverging function returned")) (one_level_more cost)
+gone_astray (Jumps to left cost) = Stuck
+gone_astray (Faults fault cost) = Faults fault (one_level_more cost)
+gone_astray Stuck = Stuck
+gone_astray (More cost) = More (one_level_more cost)
+
+-- how a call ends by the end of its callee; `marked`: the callee must not return
+abbrev pub call_ended : (marked : Bool) → Path → Store → End (List ℕ) → End (Unit {0})
+call_ended true path store end = gone_astray end
+call_ended false path store end = gone_on path store end
+
+-- a callee's body is entered, where the arguments fit its parameters
+abbrev pub entered_from : Callees → (marked : Bool) → (callee : Source) → Option Store → Path → Store → End (Unit {0})
+entered_from callees marked callee (Some start) path store = call_ended marked path store (callees callee start)
+entered_from callees marked callee None path store = Stuck
+
+-- The body that a call enters. Its return place is the call's destination, and holds what that holds; where the callee must not return,
+-- it is a new cell of the callee's result type.
+abbrev pub entered_into : Callees → (marked : Bool) → (callee : Option Source) → (given : List (List ℕ)) → Path → Store → End (Unit {0})
+entered_into callees marked (Some callee) given path store =
+    entered_from callees marked callee (started callee (cond marked (zeroed callee Result) (store path.cell)) given) path store
+entered_into callees marked None given path store = Stuck
+
+-- A call: its arguments' operands from left to right, and then its terminator, which reads them all, late, and enters the callee's body.
+abbrev pub call_into : Source → Levels → Callees → Around → ℕ → (callee : ℕ) → (args : List ℕ) → Path → Store → End (Unit {0})
+call_into source below callees around e callee args path store =
+    then_do (operands_of source below around args store) (λ given later.
+    entered_into callees (must_not_return source e) (source_called source callee) (map (operand_bytes later) given) path later)
+
+-- an expression itself evaluated into a path: the forms that have a meaning so far
+abbrev pub into_of : Source → Levels → Callees → Around → ℕ → Option CoreExpr → Path → Store → End (Unit {0})
+into_of source below callees around e (Some (expr.Literal l)) path store = put_literal source e store path (literal_bytes source e l)
+into_of source below callees around e (Some (expr.Path name)) path store = named_into (named_by source e) path store
+into_of source below callees around e (Some (expr.Strict operation operands)) path store = strict_into source below around operation operands path store
+into_of source below callees around e (Some (expr.Logic op left right)) path store = logic_into source below around op left right path store
+into_of source below callees around e (Some (expr.If condition then_branch else_branch)) path store = if_into source below around condition then_branch else_branch path store
+into_of source below callees around e (Some (expr.Assign assigned value)) path store = assign_into source (below around) assigned value store
+into_of source below callees around e (Some (expr.Block statements tail)) path store = block_into source below around statements tail path store
+into_of source below callees around e (Some (expr.Labelled label statements tail)) path store = labelled_into source below around e label statements tail path store
+into_of source below callees around e (Some (expr.Loop label body)) path store = loop_into source below around e label body path store
+into_of source below callees around e (Some (expr.Break label value)) path store = break_into source below around label value store
+into_of source below callees around e (Some (expr.Continue label)) path store = continue_into source around label store
+into_of source below callees around e (Some (expr.Return value)) path store = return_into source below around value store
+into_of source below callees around e (Some (expr.Call callee args)) path store = call_into source below callees around e callee args path store
+into_of source below callees around e None path store = Stuck
+
+-- The meanings at one more unit of fuel, by those at the fuel itself, and by what callees mean at it. What is adjusted by `NeverToAny`
+-- is itself evaluated into its `!` cell, and the path isn't written.
+abbrev pub level_above : Source → Levels → Callees → Levels
+level_above source below callees around = record {
   place = λ e store. place_of source below around e (unadjusted source e) store;
   operand = λ e store. operand_of source below around e (unadjusted source e) store;
-  into = λ e path store. into_of source below (marking (never_marks source e) around) e (node source e) (own_path source e path) store;
-  own = λ e path store. into_of source below around e (node source e) path store;
+  into = λ e path store. into_of source below callees (marking (never_marks source e) around) e (node source e) (own_path source e path) store;
+  own = λ e path store. into_of source below callees around e (node source e) path store;
 }
-
-unfoldable pub level_at : Source → ℕ → Levels
-level_at source zero = no_fuel
-level_at source (suc fuel) = level_above source (level_at source fuel)
 
 -- How a body ends, by the end of its root. Where the root has a value, the body's scope is left; a `return` has left it already.
 -- Both give the bytes of the result's cell. A `break` or a `continue` that nothing caught stays one; a plain body has none.
@@ -313,11 +356,25 @@ returned source (Faults fault cost) = Faults fault cost
 returned source Stuck = Stuck
 returned source (More cost) = More cost
 
--- What a body means from a store on: its root is evaluated into the result's cell, which is also the return path, and the bytes of that
--- cell are the value. No cell is zeroed: the result's keeps its old bytes where nothing is written to it.
+-- What a body means from a store on, by the meanings of its expressions: its root is evaluated into the result's cell, which is also the
+-- return path, and the bytes of that cell are the value. No cell is zeroed: the result's keeps its old bytes where nothing is written to
+-- it.
+abbrev pub body_meaning : Source → Levels → Store → End (List ℕ)
+body_meaning source levels store =
+    after (entering source) (returned source ((levels (at_root (record { cell = Result }))).into (root source) (record { cell = Result }) store))
+
+-- the meanings of a body's expressions at an amount of fuel; a callee has one unit less than its call
+unfoldable pub level_at : Source → ℕ → Levels
+level_at source zero = no_fuel
+level_at source (suc fuel) = level_above source (level_at source fuel) (λ callee store. body_meaning callee (level_at callee fuel) store)
+
+-- what callees mean at an amount of fuel
+abbrev pub callees_at : ℕ → Callees
+callees_at fuel callee store = body_meaning callee (level_at callee fuel) store
+
+-- what a body means from a store on, at an amount of fuel
 unfoldable pub meaning_from : Source → Store → ℕ → End (List ℕ)
-meaning_from source store fuel =
-    after (entering source) (returned source ((level_at source fuel (at_root (record { cell = Result }))).into (root source) (record { cell = Result }) store))
+meaning_from source store fuel = body_meaning source (level_at source fuel) store
 
 -- what a body means that runs by itself: from zeroed cells on
 abbrev pub meaning_of : Source → ℕ → End (List ℕ)

@@ -33,7 +33,7 @@ tail_steps None = []
 abbrev pub block_steps : List Statement → Option ExprId → List Step
 block_steps statements tail = flat_map statement_steps statements ++ tail_steps tail
 
--- the steps of each form, in order of lowering
+-- The steps of each form, in order of lowering. The callee of a call isn't evaluated: it is a path of a function's own type.
 abbrev pub steps_of : CoreExpr → List Step
 steps_of (expr.Literal given) = []
 steps_of (expr.Path name) = []
@@ -47,6 +47,7 @@ steps_of (expr.Loop label body) = Open ∷ Place body ∷ Close ∷ []
 steps_of (expr.Break label value) = tail_steps value
 steps_of (expr.Continue label) = []
 steps_of (expr.Return value) = tail_steps value
+steps_of (expr.Call callee args) = map Operand args
 
 -- the expression that a step evaluates
 abbrev pub step_part : Step → List ℕ

@@ -4,16 +4,19 @@ use Rattle.world.specs.declared.body.Statement.{Statement}
 use Rattle.world.specs.declared.body.Statement.TheVariants as statement
 use Rattle.types.specs.declared.ids.BindingId.{BindingId}
 use Rattle.types.specs.declared.ids.ExprId.{ExprId}
+use Rattle.types.specs.declared.ids.FunctionId.{FunctionId}
 use Rattle.types.specs.declared.ids.LabelId.{LabelId}
 use Rattle.world.specs.declared.infer.ValueNs.TheVariants.{LocalBinding}
+use Rattle.world.specs.declared.items.FunctionRow.{FunctionRow}
 use Rattle.world.specs.declared.layout.Layout.{Layout}
 use Rattle.types.specs.declared.ty.Ty.{Ty, Bool as BoolTy, Int as IntTy, Uint as UintTy, Never as NeverTy}
-use Rattle.world.specs.Lookups.{layout_of}
+use Rattle.world.specs.Lookups.{layout_of, function_row}
 use Rattle.numbers.specs.declared.operator.Operator.{Operator}
 use Rattle.numbers.specs.declared.operator.Operator.TheVariants.{Add, Sub, Mul, Div, Rem, BitXor, BitAnd, BitOr, Shl, Shr, Eq, Ne, Lt, Le, Gt, Ge}
 use Rattle.source_meaning.specs.Around.{Opened, meant}
+use Rattle.source_meaning.specs.Calls.{function_called, source_of, source_called, parameters}
 use Rattle.source_meaning.specs.Core as expr
-use Rattle.source_meaning.specs.Core.{CoreExpr, CoreLiteral, Truth, Number, Operation, Negate, Invert, Combine, is_truth}
+use Rattle.source_meaning.specs.Core.{CoreExpr, CoreLiteral, Truth, Number, Operation, Negate, Invert, Combine, is_path, is_truth, IsNoCall}
 use Rattle.source_meaning.specs.Source.{Source, node, unadjusted, diverges, own_type, node_type, binding_type, pattern, pattern_type, target, named_by, root}
 use Rattle.source_meaning.specs.Steps.{Step, steps_of, step_part, parts_of}
 use Rattle.source_meaning.specs.Steps as step
@@ -152,6 +155,32 @@ pub record HasPlainReturn (source : Source) (value : Option ExprId) : Type 0 whe
   pub result_has : node_type source (root source) ≡ Some ty
   pub value_has : IsPlainTail source value ty
 
+-- bindings of a body have these types, one each
+abbrev pub AreBound : Source → List ℕ → List Ty → Type 0
+AreBound source [] [] = Unit {0}
+AreBound source (b ∷ rest) (ty ∷ others) = (binding_type source b ≡ Some ty) × AreBound source rest others
+AreBound source _ _ = ⊥
+
+-- The callee is a path of the type of a function that has a body and neither generics nor a meaning of its own in the machine, and whose
+-- parameters are plain names. There are as many arguments as parameters, each of its parameter's type, and the call and the callee's
+-- body have the type of the function's result.
+pub record IsPlainCall (source : Source) (callee : ℕ) (args : List ℕ) (ty : Ty) : Type 0 where
+  pub by_path : is_path (node source callee) ≡ true
+  pub id : FunctionId
+  pub names : function_called source callee ≡ Some id
+  pub row : FunctionRow
+  pub found : function_row source.world id ≡ Some row
+  pub no_generics : row.generics ≡ []
+  pub not_special : row.special ≡ None
+  pub called : Source
+  pub has_body : source_of source.world id ≡ Some called
+  pub bound : List ℕ
+  pub binds : parameters called ≡ Some bound
+  pub arguments_have : HaveTypes source args row.sig.params
+  pub parameters_have : AreBound called bound row.sig.params
+  pub typed : ty ≡ row.sig.ret
+  pub body_has : node_type called (root called) ≡ Some row.sig.ret
+
 -- a form that has a meaning, at types that fit it
 abbrev pub HasPlainForm : Source → ℕ → Option CoreExpr → Ty → Type 0
 HasPlainForm source e (Some (expr.Literal l)) ty = IsPlainLiteral l ty
@@ -166,6 +195,7 @@ HasPlainForm source e (Some (expr.Loop label body)) ty = Unit {0}
 HasPlainForm source e (Some (expr.Break label value)) ty = Unit {0}
 HasPlainForm source e (Some (expr.Continue label)) ty = Unit {0}
 HasPlainForm source e (Some (expr.Return value)) ty = HasPlainReturn source value
+HasPlainForm source e (Some (expr.Call callee args)) ty = IsPlainCall source callee args ty
 HasPlainForm source e None ty = ⊥
 
 -- an expression itself has a plain form, at its own type, which is `!` where `NeverToAny` adjusts it
@@ -266,3 +296,29 @@ pub data NeedsLayout (source : Source) : ℕ → ℕ → Type 0 where
 pub record AreLaidOut (source : Source) : Type 0 where
   pub nodes : (e : ℕ) → NeedsLayout source (root source) e → IsLaidOutNode source e
   pub bindings : (b : ℕ) (ty : Ty) → binding_type source b ≡ Some ty → IsLaidOut source (Some ty)
+
+-- an expression that is evaluated in a source is a call of the function whose source is another
+pub record Calls (source called : Source) : Type 0 where
+  pub e : ℕ
+  pub evaluated : Evaluates source (root source) e
+  pub callee : ℕ
+  pub args : List ℕ
+  pub is_call : node source e ≡ Some (expr.Call callee args)
+  pub enters : source_called source callee ≡ Some called
+
+-- `Reaches source reached`: `reached` is `source`, or is called in what `source` reaches
+pub data Reaches : Source → Source → Type 0 where
+  at_once : {source : Source} → Reaches source source
+  through : {source called reached : Source} → Calls source called → Reaches called reached → Reaches source reached
+
+-- each source that is reached is plain
+pub record IsPlainThroughout (source : Source) : Type 0 where
+  pub each : (reached : Source) → Reaches source reached → IsPlain reached
+
+-- each source that is reached has its types laid out
+pub record AreLaidOutThroughout (source : Source) : Type 0 where
+  pub each : (reached : Source) → Reaches source reached → AreLaidOut reached
+
+-- no expression that is evaluated is a call, so that a source reaches itself alone
+abbrev pub HasNoCalls : Source → Type 0
+HasNoCalls source = (e : ℕ) → Evaluates source (root source) e → IsNoCall (node source e)

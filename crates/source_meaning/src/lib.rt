@@ -9,12 +9,12 @@ pub fn more_fuel_changes_nothing()
     ensures { MoreFuelChangesNothing }
 {}
 
-/// A plain body of a checked world, whose types have layouts, always has a meaning.
+/// A body of a checked world that is plain and whose types have layouts, as those that it calls, always has a meaning.
 pub fn plain_is_never_stuck()
     ensures { PlainIsNeverStuck }
 {}
 
-/// A plain body of a checked world, whose types have layouts, never ends in a jump.
+/// A body of a checked world that is plain and whose types have layouts, as those that it calls, never ends in a jump.
 pub fn plain_jumps_nowhere()
     ensures { PlainJumpsNowhere }
 {}
@@ -24,7 +24,7 @@ pub fn bodies_go_on()
     ensures { BodiesGoOn }
 {}
 
-/// A plain expression has a form that is built.
+/// A plain expression that is no call has a form that is built.
 pub fn plain_is_built()
     ensures { PlainIsBuilt }
 {}
