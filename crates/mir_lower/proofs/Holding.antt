@@ -7,14 +7,16 @@ use Rattle.std.proofs.lemmas.Option.{option_and_then_some}
 use Rattle.mir.specs.declared.operand.Place.{Place}
 use Rattle.mir.specs.declared.operand.Rvalue.{Rvalue}
 use Rattle.mir.specs.declared.statement.StatementKind.TheVariants.{Assign}
-use Rattle.mir.specs.Memory.{Interval, Memory, bytes_at, with_bytes}
+use Rattle.mir.specs.declared.address.Interval.{Interval}
+use Rattle.mir.specs.Areas.{with_bytes}
+use Rattle.mir.specs.Memory.{Memory, cell_bytes}
 use Rattle.mir.specs.Run.{Frame, after_statement, copied, rvalue_bytes, bad_write}
 use Rattle.source_meaning.specs.Source.{Source, Cell, Result as Slot, Node, Binding, Never, Store, same_cell, with_cell_bytes}
 use Rattle.mir_lower.specs.Does.{IsFrameOf, Holds}
 use Rattle.mir_lower.specs.Graph.{Shape, local_of}
 use Rattle.mir_lower.specs.Growth.{IsSound}
 use Rattle.mir_lower.specs.Runs.{local_bytes, KeepsOthers}
-use Rattle.mir_lower.proofs.Stack.{length-bytes_at, can_write, read-written, read-apart}
+use Rattle.mir_lower.proofs.Stack.{length-cell_bytes, can_write, read-written, read-apart}
 
 -- one cell or two, and where it is one, `same_cell` says so
 same_cell-refl : (c : Cell) → same_cell c c ≡ true
@@ -51,21 +53,20 @@ cells (Binding b) (Binding c) =
     (λ differ. inr ((λ same. differ (let parts : b ≡ c = cc in parts)), unequal b c differ)) (cases_eq b c)
 
 -- the interval of a local whose bytes are known
-pub interval-of : (frame : Frame) (memory : Memory) (l : ℕ) (bytes : List ℕ) → local_bytes frame memory l ≡ Some bytes → (cell : Interval) × (slice_get frame.cells l ≡ Some cell) × (bytes_at memory cell ≡ Some bytes)
+pub interval-of : (frame : Frame) (memory : Memory) (l : ℕ) (bytes : List ℕ) → local_bytes frame memory l ≡ Some bytes → (cell : Interval) × (slice_get frame.cells l ≡ Some cell) × (cell_bytes memory cell ≡ Some bytes)
 unfolding local_bytes
-interval-of frame memory l bytes h = option_and_then_some (bytes_at memory) (slice_get frame.cells l) bytes h (λ cell found at. (cell, found, at))
+interval-of frame memory l bytes h = option_and_then_some (cell_bytes memory) (slice_get frame.cells l) bytes h (λ cell found at. (cell, found, at))
 
-local_bytes-at : (frame : Frame) (memory : Memory) (l : ℕ) (cell : Interval) → slice_get frame.cells l ≡ Some cell → local_bytes frame memory l ≡ bytes_at memory cell
+local_bytes-at : (frame : Frame) (memory : Memory) (l : ℕ) (cell : Interval) → slice_get frame.cells l ≡ Some cell → local_bytes frame memory l ≡ cell_bytes memory cell
 unfolding local_bytes
-local_bytes-at frame memory l cell found = ap (option_and_then (bytes_at memory)) found
+local_bytes-at frame memory l cell found = ap (option_and_then (cell_bytes memory)) found
 
 -- what reading another local gives after a write to one
-others-stay : (s : Shape) (frame : Frame) → IsFrameOf s frame → (memory later : Memory) (l k : ℕ) (cell : Interval) (bytes old : List ℕ) → l ≢ k → slice_get frame.cells l ≡ Some cell → with_bytes memory cell.address bytes ≡ Some later → length bytes ≡ cell.size → local_bytes frame memory k ≡ Some old → local_bytes frame later k ≡ Some old
+others-stay : (s : Shape) (frame : Frame) → IsFrameOf s frame → (memory later : Memory) (l k : ℕ) (cell : Interval) (bytes old : List ℕ) → l ≢ k → slice_get frame.cells l ≡ Some cell → with_bytes memory cell.addr bytes ≡ Some later → length bytes ≡ cell.size → local_bytes frame memory k ≡ Some old → local_bytes frame later k ≡ Some old
 others-stay s frame is memory later l k cell bytes old differ found written size h =
     let other = interval-of frame memory k old h in
     local_bytes-at frame later k other.0 other.1
-    ∙ read-apart memory later cell other.0 bytes written size (is.apart l k cell other.0 differ found other.1)
-    ∙ other.2
+    ∙ read-apart memory later cell other.0 bytes old written size (is.apart l k cell other.0 differ found other.1) other.2
 
 -- as many bytes as a cell holds can be assigned to its local; memory then holds the store with them, and else is as it was
 pub assigns : (source : Source) (s : Shape) (frame : Frame) → IsSound source s → IsFrameOf s frame → (store : Store) (memory : Memory) → Holds s frame store memory → (c : Cell) (place : Place) (rvalue : Rvalue) (bytes : List ℕ) → local_of s c ≡ Some place.local.0 → rvalue_bytes frame memory rvalue ≡ Ok bytes → length bytes ≡ length (store c) →
@@ -74,7 +75,7 @@ unfolding after_statement copied
 assigns source s frame sound is store memory holds c place rvalue bytes local computed long =
     let at = interval-of frame memory place.local.0 (store c) (holds.shows c place.local.0 local) in
     let can = can_write memory at.0 (store c) bytes at.2 long in
-    let size : length bytes ≡ at.0.size = long ∙ length-bytes_at memory at.0 (store c) at.2 in (
+    let size : length bytes ≡ at.0.size = long ∙ length-cell_bytes memory at.0 (store c) at.2 in (
       can.0,
       ap (λ o. copied memory o (rvalue_bytes frame memory rvalue)) at.1
           ∙ ap (λ r. copied memory (Some at.0) r) computed
@@ -90,5 +91,5 @@ assigns source s frame sound is store memory holds c place rvalue bytes local co
             ∙ ap (λ b. Some (cond b bytes (store d))) (sym two.1))
             (cells c d);
       },
-      λ interval old apart found. read-apart memory can.0 at.0 interval bytes can.1 size (apart place.local.0 at.0 at.1) ∙ found,
+      λ interval old apart found. read-apart memory can.0 at.0 interval bytes old can.1 size (apart place.local.0 at.0 at.1) found,
     )

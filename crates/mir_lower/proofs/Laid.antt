@@ -43,6 +43,7 @@ opened-laid source e (Some (expr.Block statements tail)) outer laid all = all
 opened-laid source e (Some (expr.Break label value)) outer laid all = all
 opened-laid source e (Some (expr.Continue label)) outer laid all = all
 opened-laid source e (Some (expr.Return value)) outer laid all = all
+opened-laid source e (Some (expr.Call callee args)) outer laid all = all
 opened-laid source e None outer laid all = all
 
 -- what is plain where an expression is, is plain where a part of it is

@@ -10,7 +10,7 @@ use Rattle.source_meaning.specs.Around.{Around, Target, inside}
 use Rattle.source_meaning.specs.Core as expr
 use Rattle.source_meaning.specs.Ends.{plus, turns_alone, End, Go, Jumps, Break, Continue, Return, Faults, Stuck, More, after}
 use Rattle.source_meaning.specs.Events.{marked_as_place, marked_in_block}
-use Rattle.source_meaning.specs.Meaning.{level_at, into_of, caught, turn_of, block_into}
+use Rattle.source_meaning.specs.Meaning.{level_at, callees_at, into_of, caught, turn_of, block_into}
 use Rattle.source_meaning.specs.Source.{Source, node, Cell, Store, drops}
 use Rattle.source_meaning.specs.Valid.{own, inside as needed_inside, sized_parts, IsLaidOutNode, NeedsLayout}
 use Rattle.source_meaning.proofs.Marks.{loop_marks, labelled_marks}
@@ -187,7 +187,7 @@ module _ (source : Source) (s0 s1 s2 s3 s4 : Shape) (e : ℕ) (label : Option La
         ))
 
     one-loop : (fuel : ℕ) → ((store : Store) (memory : Memory) → Holds whole frame store memory → Reaches whole lands frame (Entry target.begin_block) (here s4) memory (Nothing whole frame) ((level_at source fuel around).own e (record { cell = c }) store)) →
-        (store : Store) (memory : Memory) → Holds whole frame store memory → Reaches whole lands frame (Entry target.begin_block) (here s4) memory (Nothing whole frame) (into_of source (level_at source fuel) around e (Some (expr.Loop label body)) (record { cell = c }) store)
+        (store : Store) (memory : Memory) → Holds whole frame store memory → Reaches whole lands frame (Entry target.begin_block) (here s4) memory (Nothing whole frame) (into_of source (level_at source fuel) (callees_at fuel) around e (Some (expr.Loop label body)) (record { cell = c }) store)
     one-loop fuel again store memory holds =
         reaches-after whole lands frame (Entry target.begin_block) (start_of target.begin_block) (here s4) memory memory (Nothing whole frame) (turns_alone 1) (enters-block frame memory target.begin_block) _
         (reaches-caught whole frame lands e target.begin_block target.end_block (start_of target.begin_block) (Entry target.begin_block) (here s4) memory _ _ again again
@@ -195,12 +195,12 @@ module _ (source : Source) (s0 s1 s2 s3 s4 : Shape) (e : ℕ) (label : Option La
         (turn_of source (level_at source fuel) (inside e label (record { cell = c }) around) body store) (turn-reaches fuel store memory holds))
 
     -- by induction on the fuel, of which each turn takes some
-    loop-reaches : (fuel : ℕ) (store : Store) (memory : Memory) → Holds whole frame store memory → Reaches whole lands frame (Entry target.begin_block) (here s4) memory (Nothing whole frame) (into_of source (level_at source fuel) around e (Some (expr.Loop label body)) (record { cell = c }) store)
+    loop-reaches : (fuel : ℕ) (store : Store) (memory : Memory) → Holds whole frame store memory → Reaches whole lands frame (Entry target.begin_block) (here s4) memory (Nothing whole frame) (into_of source (level_at source fuel) (callees_at fuel) around e (Some (expr.Loop label body)) (record { cell = c }) store)
     unfolding level_at
     loop-reaches zero = one-loop zero (λ store memory holds. none-entered _)
     loop-reaches (suc fuel) =
         one-loop (suc fuel) (λ store memory holds.
-        subst (λ f. Reaches whole lands frame (Entry target.begin_block) (here s4) memory (Nothing whole frame) (into_of source (level_at source fuel) around e f (record { cell = c }) store)) (sym form) (loop-reaches fuel store memory holds))
+        subst (λ f. Reaches whole lands frame (Entry target.begin_block) (here s4) memory (Nothing whole frame) (into_of source (level_at source fuel) (callees_at fuel) around e f (record { cell = c }) store)) (sym form) (loop-reaches fuel store memory holds))
 
   lays-loop : IsLaidOutNode source e → LaysOut source s4 e
   lays-loop laid plain layouts f own = laid
@@ -265,7 +265,7 @@ module _ (source : Source) (s0 s1 s2 s3 s4 s5 : Shape) (e : ℕ) (label : LabelI
     ends-block store memory holds = (memory, inner-leaves source s0 s1 s3 s4 s5 target.end_block target entered inner spared-inside dropped left gone frame memory, holds, tt)
 
     one-block : (fuel : ℕ) → ((store : Store) (memory : Memory) → Holds whole frame store memory → Reaches whole lands frame (Entry target.begin_block) (here s5) memory (Nothing whole frame) ((level_at source fuel around).own e (record { cell = c }) store)) →
-        (store : Store) (memory : Memory) → Holds whole frame store memory → Reaches whole lands frame (Entry target.begin_block) (here s5) memory (Nothing whole frame) (into_of source (level_at source fuel) around e (Some (expr.Labelled label statements tail)) (record { cell = c }) store)
+        (store : Store) (memory : Memory) → Holds whole frame store memory → Reaches whole lands frame (Entry target.begin_block) (here s5) memory (Nothing whole frame) (into_of source (level_at source fuel) (callees_at fuel) around e (Some (expr.Labelled label statements tail)) (record { cell = c }) store)
     one-block fuel again store memory holds =
         reaches-after whole lands frame (Entry target.begin_block) (start_of target.begin_block) (here s5) memory memory (Nothing whole frame) (turns_alone 1) (enters-block frame memory target.begin_block) _
         (reaches-caught whole frame lands e target.begin_block target.end_block (start_of target.begin_block) (Entry target.end_block) (here s5) memory _ _ again ends-block
@@ -273,12 +273,12 @@ module _ (source : Source) (s0 s1 s2 s3 s4 s5 : Shape) (e : ℕ) (label : LabelI
         (block_into source (level_at source fuel) (inside e (Some label) (record { cell = c }) around) statements tail (record { cell = c }) store) (block-reaches fuel store memory holds))
 
     -- by induction on the fuel, of which each `continue` takes some
-    labelled-reaches : (fuel : ℕ) (store : Store) (memory : Memory) → Holds whole frame store memory → Reaches whole lands frame (Entry target.begin_block) (here s5) memory (Nothing whole frame) (into_of source (level_at source fuel) around e (Some (expr.Labelled label statements tail)) (record { cell = c }) store)
+    labelled-reaches : (fuel : ℕ) (store : Store) (memory : Memory) → Holds whole frame store memory → Reaches whole lands frame (Entry target.begin_block) (here s5) memory (Nothing whole frame) (into_of source (level_at source fuel) (callees_at fuel) around e (Some (expr.Labelled label statements tail)) (record { cell = c }) store)
     unfolding level_at
     labelled-reaches zero = one-block zero (λ store memory holds. none-entered _)
     labelled-reaches (suc fuel) =
         one-block (suc fuel) (λ store memory holds.
-        subst (λ f. Reaches whole lands frame (Entry target.begin_block) (here s5) memory (Nothing whole frame) (into_of source (level_at source fuel) around e f (record { cell = c }) store)) (sym form) (labelled-reaches fuel store memory holds))
+        subst (λ f. Reaches whole lands frame (Entry target.begin_block) (here s5) memory (Nothing whole frame) (into_of source (level_at source fuel) (callees_at fuel) around e f (record { cell = c }) store)) (sym form) (labelled-reaches fuel store memory holds))
 
   pub lowers-labelled : LowersOwn source s0 s5 e c
   lowers-labelled =

@@ -15,7 +15,7 @@ use Rattle.mir.specs.Memory.{Memory}
 use Rattle.mir.specs.Run.{Frame, rvalue_bytes, operand_bytes as mir_bytes, read}
 use Rattle.source_meaning.specs.Around.{Around}
 use Rattle.source_meaning.specs.Events.{marked_itself}
-use Rattle.source_meaning.specs.Meaning.{constant_cost, level_at, put, put_literal, named_into, into_of}
+use Rattle.source_meaning.specs.Meaning.{constant_cost, level_at, callees_at, put, put_literal, named_into, into_of}
 use Rattle.source_meaning.specs.Source.{Source, node, Cell, Binding, Store}
 use Rattle.source_meaning.proofs.Marks.{literal_marks, name_marks}
 use Rattle.mir_lower.specs.Does.{Stands, here, IsFrameOf, Holds, Landings, Reaches, Nothing}
@@ -71,7 +71,7 @@ lowers-literal source s new e l place operand span ready form is same c local =
       does = does-form source s (with_statement st s) e c (Some (expr.Literal l)) form (record { reaches = reaches });
       laid = lays-literal-into source (with_statement st s) e l form;
     }) where
-      reaches : (whole : Shape) (frame : Frame) → Grows (with_statement (assignment place (Use operand) span) s) whole → IsSound source whole → IsFrameOf whole frame → (lands : Landings) (around : Around) → Stands whole s lands around → (fuel : ℕ) (store : Store) (memory : Memory) → Holds whole frame store memory → Reaches whole lands frame (here s) (here (with_statement (assignment place (Use operand) span) s)) memory (Nothing whole frame) (into_of source (level_at source fuel) around e (Some (expr.Literal l)) (record { cell = c }) store)
+      reaches : (whole : Shape) (frame : Frame) → Grows (with_statement (assignment place (Use operand) span) s) whole → IsSound source whole → IsFrameOf whole frame → (lands : Landings) (around : Around) → Stands whole s lands around → (fuel : ℕ) (store : Store) (memory : Memory) → Holds whole frame store memory → Reaches whole lands frame (here s) (here (with_statement (assignment place (Use operand) span) s)) memory (Nothing whole frame) (into_of source (level_at source fuel) (callees_at fuel) around e (Some (expr.Literal l)) (record { cell = c }) store)
       reaches whole frame grows sound frame-is lands around stands fuel store memory holds =
           subst (λ (bytes : Option (List ℕ)). Reaches whole lands frame (here s) (here (with_statement (assignment place (Use operand) span) s)) memory (Nothing whole frame) (put_literal source e store (record { cell = c }) bytes)) (sym is.has_bytes)
           (reaches-after whole lands frame (here s) (here s) (here (with_statement (assignment place (Use operand) span) s)) memory memory (Nothing whole frame) (constant_cost source e) (comes-refl frame (here s) memory) (put store (record { cell = c }) is.bytes)
@@ -87,7 +87,7 @@ lowers-named source s new e name place from operand span ready form named copies
       does = does-form source s (with_statement st s) e c (Some (expr.Path name)) form (record { reaches = reaches });
       laid = lays-name-into source (with_statement st s) e name form;
     }) where
-      reaches : (whole : Shape) (frame : Frame) → Grows (with_statement (assignment place (Use operand) span) s) whole → IsSound source whole → IsFrameOf whole frame → (lands : Landings) (around : Around) → Stands whole s lands around → (fuel : ℕ) (store : Store) (memory : Memory) → Holds whole frame store memory → Reaches whole lands frame (here s) (here (with_statement (assignment place (Use operand) span) s)) memory (Nothing whole frame) (into_of source (level_at source fuel) around e (Some (expr.Path name)) (record { cell = c }) store)
+      reaches : (whole : Shape) (frame : Frame) → Grows (with_statement (assignment place (Use operand) span) s) whole → IsSound source whole → IsFrameOf whole frame → (lands : Landings) (around : Around) → Stands whole s lands around → (fuel : ℕ) (store : Store) (memory : Memory) → Holds whole frame store memory → Reaches whole lands frame (here s) (here (with_statement (assignment place (Use operand) span) s)) memory (Nothing whole frame) (into_of source (level_at source fuel) (callees_at fuel) around e (Some (expr.Path name)) (record { cell = c }) store)
       reaches whole frame grows sound frame-is lands around stands fuel store memory holds =
           subst (λ (n : Option ValueNs). Reaches whole lands frame (here s) (here (with_statement (assignment place (Use operand) span) s)) memory (Nothing whole frame) (named_into n (record { cell = c }) store)) (sym named.named)
           (assigned-bytes source s whole frame place (Use operand) span ready.«open» sound frame-is lands grows c (local-later s whole _ ready.«open» grows c place.local.0 local) store memory holds (store (Binding named.binding.0))

@@ -1,75 +1,30 @@
 -- Where the cells of a frame lie: apart, zeroed, and as large as their types.
-use Rattle.std.proofs.Common.{◌≡◌, ℕ, zero, suc, ◌+◌, ◌-◌, ◌*◌, ◌/◌, ◌<◌, ◌≤◌, ◌⊎◌, inl, inr, Bool, true, false, cond, List, [], ◌∷◌, ◌++◌, length, take, drop, Option, Some, None, Result, Ok, Err, refl, sym, ap, ◌∙◌, subst, arith, rules, length-append, append_assoc, append-nil, leb}
+use Rattle.std.proofs.Common.{◌≡◌, ℕ, zero, suc, ◌<◌, ◌≤◌, ◌⊎◌, inl, inr, Bool, true, false, cond, List, [], ◌∷◌, Option, Some, None, Result, Ok, Err, IsOk, All, get_or, refl, sym, ap, ◌∙◌, subst, arith}
 use Rattle.std.specs.Prelude.{slice_get, replicate, codes}
-use Rattle.std.proofs.lemmas.List.{places, same_lists}
-use borrow.Author.Tests.{le-leb}
+use Rattle.std.specs.List.{AllPairs, AllZip}
+use Rattle.std.proofs.lemmas.Bool.{cases_lt}
+use Rattle.std.proofs.lemmas.List.Elements.{All-nil, All-cons, All-get_or}
+use Rattle.std.proofs.lemmas.Option.{slice_get_within, get_or_from_slice_get}
 use Rattle.world.specs.declared.database.HirDatabase.{HirDatabase}
 use Rattle.world.specs.declared.layout.Layout.{Layout}
 use Rattle.types.specs.declared.ty.Ty.{Ty}
+use Rattle.world.specs.Checked.{IsAlignment}
 use Rattle.world.specs.Lookups.{layout_of}
+use Rattle.mir.specs.declared.address.Address.{Address}
+use Rattle.mir.specs.declared.address.Address.TheVariants.{Stack, Heap, Invalid}
+use Rattle.mir.specs.declared.address.CellSize.{CellSize}
+use Rattle.mir.specs.declared.address.Interval.{Interval}
 use Rattle.mir.specs.declared.body.Local.{Local}
 use Rattle.mir.specs.declared.errors.MirEvalError.{MirEvalError}
 use Rattle.mir.specs.declared.errors.MirEvalError as error
-use Rattle.mir.specs.Memory.{Interval, Memory, bytes_at, aligned, with_cell, placed, cell_before, cells_of}
-use Rattle.mir_lower.specs.Runs.{AreApart}
-
--- an alignment doesn't go back
-aligned-above : (address align : ℕ) → 0 < align → address ≤ aligned address align
-unfolding aligned
-aligned-above address align positive = above (address + (align - 1)) address align positive refl where
-  above : (x address align : ℕ) → 0 < align → x ≡ address + (align - 1) → address ≤ x / align * align
-  above x address align positive is = omega arith
-
-zeroed-end : (stack : List ℕ) (address size : ℕ) → length stack ≤ address → take size (drop address (stack ++ replicate (address + size - length stack) 0)) ≡ replicate size 0
-zeroed-end stack address size above = same_lists _ _ (search (rules, places)) (λ k d h. grind (arith, places))
-
-zeroed-length : (stack : List ℕ) (address size : ℕ) → length stack ≤ address → length (stack ++ replicate (address + size - length stack) 0) ≡ address + size
-zeroed-length stack address size above = grind (arith, places)
-
-longer-read : (stack rest : List ℕ) (address size : ℕ) → address + size ≤ length stack → take size (drop address (stack ++ rest)) ≡ take size (drop address stack)
-longer-read stack rest address size within = same_lists _ _ (search (rules, places)) (λ k d h. grind (arith, places))
-
--- what could be read can still be read where the stack grew
-read-longer : (memory later : Memory) (rest bytes : List ℕ) (cell : Interval) → later.stack ≡ memory.stack ++ rest → cell.address + cell.size ≤ length memory.stack → bytes_at memory cell ≡ Some bytes → bytes_at later cell ≡ Some bytes
-unfolding bytes_at
-read-longer memory later rest bytes cell grown within found =
-    let long : length later.stack ≡ length memory.stack + length rest = ap length grown ∙ length-append memory.stack rest in
-    let fits : leb (cell.address + cell.size) (length later.stack) ≡ true = le-leb _ _ (omega arith) in
-    ap (λ b. cond b (Some (take cell.size (drop cell.address later.stack))) None) fits
-    ∙ ap (λ s. Some (take cell.size (drop cell.address s))) grown
-    ∙ ap Some (longer-read memory.stack rest cell.address cell.size within)
-    ∙ sym (ap (λ b. cond b (Some (take cell.size (drop cell.address memory.stack))) None) (le-leb _ _ within))
-    ∙ found
-
--- a new cell
-module _ (layout : Layout) (memory : Memory) (positive : 0 < layout.align) where
-  new-above : length memory.stack ≤ (with_cell layout memory).0.address
-  unfolding with_cell
-  new-above = aligned-above (length memory.stack) layout.align positive
-
-  new-size : (with_cell layout memory).0.size ≡ layout.size
-  unfolding with_cell
-  new-size = refl
-
-  new-stack : (with_cell layout memory).1.stack ≡ memory.stack ++ replicate ((with_cell layout memory).0.address + layout.size - length memory.stack) 0
-  unfolding with_cell
-  new-stack = refl
-
-  new-end : length (with_cell layout memory).1.stack ≡ (with_cell layout memory).0.address + layout.size
-  new-end = ap length new-stack ∙ zeroed-length memory.stack (with_cell layout memory).0.address layout.size new-above
-
-  new-bytes : bytes_at (with_cell layout memory).1 (with_cell layout memory).0 ≡ Some (replicate layout.size 0)
-  unfolding bytes_at
-  new-bytes =
-      let cell = (with_cell layout memory).0 in
-      let stack = (with_cell layout memory).1.stack in
-      let size : cell.size ≡ layout.size = new-size in
-      let end : length stack ≡ cell.address + layout.size = new-end in
-      let fits : leb (cell.address + cell.size) (length stack) ≡ true = le-leb _ _ (omega arith) in
-      ap (λ b. cond b (Some (take cell.size (drop cell.address stack))) None) fits
-      ∙ ap (λ n. Some (take n (drop cell.address stack))) size
-      ∙ ap (λ s. Some (take layout.size (drop cell.address s))) new-stack
-      ∙ ap Some (zeroed-end memory.stack cell.address layout.size new-above)
+use Rattle.mir.specs.declared.mem_fault.MemFault.{MemFault}
+use Rattle.mir.specs.Areas.{AreApart, AreRangesApart, after_push, reading}
+use Rattle.mir.specs.Memory.{Memory, cell_bytes, cell_size_of, size_before, sizes_of, pushed, cells_of}
+use Rattle.mir_mem.specs.MemoryLaws.{IsNewCell}
+use Rattle.mir_mem.proofs.Growing.{cells_keep, cells_new, cells_apart, cells_apart_from_old}
+use Rattle.mir_mem.proofs.Parts.{reading-some}
+use Rattle.mir_mem.proofs.Writing.{reading-is}
+use Rattle.mir_lower.specs.Runs.{AreCellsApart}
 
 -- a local's cell, in the memory of all
 pub record HasCell (world : HirDatabase) (local : Local) (cells : List Interval) (i : ℕ) (memory : Memory) : Type 0 where
@@ -78,90 +33,147 @@ pub record HasCell (world : HirDatabase) (local : Local) (cells : List Interval)
   pub there : slice_get cells i ≡ Some cell
   pub found : layout_of world local.ty ≡ Some layout
   pub sized : layout.sized ≡ true
-  pub zeroed : bytes_at memory cell ≡ Some (replicate layout.size 0)
+  pub zeroed : cell_bytes memory cell ≡ Some (replicate layout.size 0)
 
--- the cells that were placed from a stack on
+-- The cells that were placed in a memory: one for each local, no two of them with a byte in common. What could be read before is the same
+-- later, and shares no byte with them.
 pub record Placing (world : HirDatabase) (locals : List Local) (memory : Memory) (cells : List Interval) (later : Memory) : Type 0 where
-  pub rest : List ℕ
-  pub longer : later.stack ≡ memory.stack ++ rest
   pub each : (i : ℕ) (local : Local) → slice_get locals i ≡ Some local → HasCell world local cells i later
-  pub above : (i : ℕ) (cell : Interval) → slice_get cells i ≡ Some cell → length memory.stack ≤ cell.address
-  pub apart : AreApart cells
+  pub apart : AreCellsApart cells
+  pub kept : (old : Interval) (bytes : List ℕ) → cell_bytes memory old ≡ Some bytes → cell_bytes later old ≡ Some bytes
+  pub others : (old : Interval) (bytes : List ℕ) → cell_bytes memory old ≡ Some bytes → (i : ℕ) (cell : Interval) → slice_get cells i ≡ Some cell → AreApart cell old
 
 -- layouts have alignments
 abbrev pub AreAligned : HirDatabase → Type 0
-AreAligned world = (ty : Ty) (layout : Layout) → layout_of world ty ≡ Some layout → 0 < layout.align
+AreAligned world = (ty : Ty) (layout : Layout) → layout_of world ty ≡ Some layout → IsAlignment layout.align
 
--- what a first cell leaves for the others
-sized-ok : (layout : Layout) (memory : Memory) (first : Interval × Memory) (e : MirEvalError) (b : Bool) → layout.sized ≡ b → ◌≡◌ {A = Result (Interval × Memory) MirEvalError} (cond b (Ok (with_cell layout memory)) (Err e)) (Ok first) → (layout.sized ≡ true) × (first ≡ with_cell layout memory)
-sized-ok layout memory first e true is h = (is, (let same : with_cell layout memory ≡ first = cc in sym same))
-sized-ok layout memory first e false is h = cc
+-- what is apart is so in either order
+apart-by : (one other : Interval) (first second : Address) → one.addr ≡ first → other.addr ≡ second → AreApart one other → AreApart other one
+unfolding AreApart
+apart-by one other (Stack first) (Stack second) e f apart =
+    let ranges : AreRangesApart first one.size second other.size = rw (e, f) at apart in
+    let back : AreRangesApart second other.size first one.size = λ k from below from' below'. ranges k from' below' from below in
+    rw (e, f) back
+apart-by one other (Heap first) (Heap second) e f apart =
+    let ranges : AreRangesApart first one.size second other.size = rw (e, f) at apart in
+    let back : AreRangesApart second other.size first one.size = λ k from below from' below'. ranges k from' below' from below in
+    rw (e, f) back
+apart-by one other (Stack first) (Heap second) e f apart = rw (e, f) tt
+apart-by one other (Stack first) (Invalid n) e f apart = rw (e, f) tt
+apart-by one other (Heap first) (Stack second) e f apart = rw (e, f) tt
+apart-by one other (Heap first) (Invalid n) e f apart = rw (e, f) tt
+apart-by one other (Invalid m) (Stack second) e f apart = rw (e, f) tt
+apart-by one other (Invalid m) (Heap second) e f apart = rw (e, f) tt
+apart-by one other (Invalid m) (Invalid n) e f apart = rw (e, f) tt
 
-placed-ok : (ty : Ty) (found : Option Layout) (memory : Memory) (first : Interval × Memory) → placed ty found memory ≡ Ok first → (layout : Layout) × (found ≡ Some layout) × (layout.sized ≡ true) × (first ≡ with_cell layout memory)
-unfolding placed
-placed-ok ty None memory first h = cc
-placed-ok ty (Some layout) memory first h = let is = sized-ok layout memory first (error.TypeIsUnsized ty (codes "no unsized local in extending stack")) layout.sized refl h in (layout, refl, is.0, is.1)
+pub apart-sym : (one other : Interval) → AreApart one other → AreApart other one
+apart-sym one other apart = apart-by one other one.addr other.addr refl refl apart
 
+-- two cells of a list by their indices
+apart-before : (cells : List Interval) → AllPairs AreApart cells → (i j : ℕ) (a b : Interval) → i < j → slice_get cells i ≡ Some a → slice_get cells j ≡ Some b → AreApart a b
+apart-before cells pairs i j a b before first second =
+    let apart : AreApart (get_or cells i a) (get_or cells j a) = pairs i j a before (slice_get_within cells j b second) in
+    subst (λ (x : Interval). AreApart x b) (get_or_from_slice_get cells i a a first)
+    (subst (λ (y : Interval). AreApart (get_or cells i a) y) (get_or_from_slice_get cells j b a second) apart)
+
+all-apart : (cells : List Interval) → AllPairs AreApart cells → AreCellsApart cells
+all-apart cells pairs i j a b differ first second = by_order (cases_lt i j) (cases_lt j i)
+  where
+    by_order : (i < j) ⊎ (j ≤ i) → (j < i) ⊎ (i ≤ j) → AreApart a b
+    by_order (inl before) other = apart-before cells pairs i j a b before first second
+    by_order (inr from) (inl before) = apart-sym b a (apart-before cells pairs j i b a before second first)
+    by_order (inr from) (inr from') = absurd (differ (omega arith))
+
+old-apart : (cells : List Interval) (old : Interval) → All (AreApart old) cells → (i : ℕ) (cell : Interval) → slice_get cells i ≡ Some cell → AreApart cell old
+old-apart cells old all i cell found =
+    apart-sym old cell (subst (AreApart old) (get_or_from_slice_get cells i cell cell found) (All-get_or (AreApart old) cells i cell (slice_get_within cells i cell found) all))
+
+-- what gives a result before another, where both do
 pub first-ok : {A B E : Type 0} (r : Result A E) (next : A → Result B E) (all : B) → ◌≡◌ {A = Result B E} (elim r [ Ok a ↦ next a | Err e ↦ Err e ]) (Ok all) → (a : A) × (r ≡ Ok a) × (next a ≡ Ok all)
 first-ok (Ok a) next all h = (a, refl, h)
 first-ok (Err e) next all h = cc
 
-before-ok : (cell : Interval) (rest : Result (List Interval × Memory) MirEvalError) (all : List Interval × Memory) → cell_before cell rest ≡ Ok all → (r : List Interval × Memory) × (rest ≡ Ok r) × ◌≡◌ {A = List Interval × Memory} all (cell ∷ r.0, r.1)
-before-ok cell (Ok r) all h = (r, refl, (let same : ◌≡◌ {A = List Interval × Memory} (cell ∷ r.0, r.1) all = cc in sym same))
-before-ok cell (Err e) all h = cc
+cond-ok : {A E : Type 0} (b : Bool) (x y : A) (e : E) → cond b (Ok x) (Err e) ≡ Ok y → (b ≡ true) × (y ≡ x)
+cond-ok true x y e h = (refl, cc)
+cond-ok false x y e h = cc
+
+before-ok : (size : CellSize) (rest : Result (List CellSize) MirEvalError) (all : List CellSize) → size_before size rest ≡ Ok all → (sizes : List CellSize) × (rest ≡ Ok sizes) × (all ≡ size ∷ sizes)
+before-ok size (Ok sizes) all h = (sizes, refl, cc)
+before-ok size (Err e) all h = cc
+
+pushed-ok : (r : Result (List Interval × Memory) MemFault) (all : List Interval × Memory) → pushed r ≡ Ok all → r ≡ Ok all
+pushed-ok (Ok placed) all h = let same : placed ≡ all = cc in ap Ok same
+pushed-ok (Err fault) all h = cc
+
+-- the size of a cell for values of a layout
+abbrev size_for : Layout → CellSize
+size_for layout = record { size = layout.size; align = layout.align }
+
+-- the size of a local's cell is that of its type's layout
+record IsSizeOf (world : HirDatabase) (local : Local) (size : CellSize) : Type 0 where
+  layout : Layout
+  found : layout_of world local.ty ≡ Some layout
+  sized : layout.sized ≡ true
+  is : size ≡ size_for layout
+
+size-ok : (world : HirDatabase) (local : Local) (size : CellSize) (layout : Option Layout) → layout_of world local.ty ≡ layout → cell_size_of local.ty layout ≡ Ok size → IsSizeOf world local size
+unfolding cell_size_of
+size-ok world local size None found h = cc
+size-ok world local size (Some layout) found h =
+    let made = cond-ok layout.sized (size_for layout) size (error.TypeIsUnsized local.ty (codes "no unsized local in extending stack")) h in
+    record { layout = layout; found = found; sized = made.0; is = made.1 }
+
+sizes-ok : (world : HirDatabase) (locals : List Local) (sizes : List CellSize) → sizes_of world locals ≡ Ok sizes → AllZip (IsSizeOf world) locals sizes
+unfolding sizes_of
+sizes-ok world [] sizes h = let none : [] ≡ sizes = cc in subst (AllZip (IsSizeOf world) []) none tt
+sizes-ok world (local ∷ locals) sizes h =
+    let first = first-ok (cell_size_of local.ty (layout_of world local.ty)) (λ size. size_before size (sizes_of world locals)) sizes h in
+    let rest = before-ok first.0 (sizes_of world locals) sizes first.2 in
+    subst (AllZip (IsSizeOf world) (local ∷ locals)) (sym rest.2) (size-ok world local first.0 (layout_of world local.ty) refl first.1, sizes-ok world locals rest.0 rest.1)
 
 module _ (world : HirDatabase) (are : AreAligned world) where
-  places-first : (local : Local) (locals : List Local) (memory : Memory) (cell : Interval) (cells : List Interval) (layout : Layout) → layout_of world local.ty ≡ Some layout → layout.sized ≡ true → cell ≡ (with_cell layout memory).0 → (last : Memory) → Placing world locals (with_cell layout memory).1 cells last → Placing world (local ∷ locals) memory (cell ∷ cells) last
-  places-first local locals memory cell cells layout found sized is last rest =
-      let positive = are local.ty layout found in
-      let above : length memory.stack ≤ cell.address = subst (λ (c : Interval). length memory.stack ≤ c.address) (sym is) (new-above layout memory positive) in
-      let size : cell.size ≡ layout.size = ap (λ (c : Interval). c.size) is ∙ new-size layout memory positive in
-      let end : length (with_cell layout memory).1.stack ≡ cell.address + layout.size = new-end layout memory positive ∙ ap (λ (c : Interval). c.address + layout.size) (sym is) in
-      let bytes : bytes_at (with_cell layout memory).1 cell ≡ Some (replicate layout.size 0) = ap (bytes_at (with_cell layout memory).1) is ∙ new-bytes layout memory positive in
-      record {
-        rest = replicate ((with_cell layout memory).0.address + layout.size - length memory.stack) 0 ++ rest.rest;
-        longer = rest.longer ∙ ap (λ s. s ++ rest.rest) (new-stack layout memory positive) ∙ append_assoc memory.stack _ rest.rest;
-        each = each-local cell layout size end bytes rest;
-        above = each-above cell above end rest;
-        apart = all-apart cell size end rest;
-      } where
-        each-local : (cell : Interval) (layout' : Layout) → cell.size ≡ layout.size → length (with_cell layout memory).1.stack ≡ cell.address + layout.size → bytes_at (with_cell layout memory).1 cell ≡ Some (replicate layout.size 0) → Placing world locals (with_cell layout memory).1 cells last → (i : ℕ) (l : Local) → slice_get (local ∷ locals) i ≡ Some l → HasCell world l (cell ∷ cells) i last
-        each-local cell layout' size end bytes rest zero l h =
-            let same : local ≡ l = cc in
-            subst (λ (x : Local). HasCell world x (cell ∷ cells) 0 last) same
-            (record {
-              cell = cell;
-              layout = layout;
-              there = refl;
-              found = found;
-              sized = sized;
-              zeroed = read-longer (with_cell layout memory).1 last rest.rest (replicate layout.size 0) cell rest.longer (omega arith) bytes;
-            })
-        each-local cell layout' size end bytes rest (suc i) l h =
-            let other = rest.each i l h in
-            record { cell = other.cell; layout = other.layout; there = other.there; found = other.found; sized = other.sized; zeroed = other.zeroed }
+  sizes-aligned : (locals : List Local) (sizes : List CellSize) → AllZip (IsSizeOf world) locals sizes → All (λ size. IsAlignment size.align) sizes
+  sizes-aligned [] [] of-locals = All-nil (λ size. IsAlignment size.align)
+  sizes-aligned [] (size ∷ sizes) of-locals = absurd of-locals
+  sizes-aligned (local ∷ locals) [] of-locals = absurd of-locals
+  sizes-aligned (local ∷ locals) (size ∷ sizes) of-locals =
+      All-cons (λ size. IsAlignment size.align) size sizes
+      (subst (λ (s : CellSize). IsAlignment s.align) (sym of-locals.0.is) (are local.ty of-locals.0.layout of-locals.0.found))
+      (sizes-aligned locals sizes of-locals.1)
 
-        each-above : (cell : Interval) → length memory.stack ≤ cell.address → length (with_cell layout memory).1.stack ≡ cell.address + layout.size → Placing world locals (with_cell layout memory).1 cells last → (i : ℕ) (c : Interval) → slice_get (cell ∷ cells) i ≡ Some c → length memory.stack ≤ c.address
-        each-above cell above end rest zero c h = let same : cell ≡ c = cc in subst (λ (x : Interval). length memory.stack ≤ x.address) same above
-        each-above cell above end rest (suc i) c h = let later = rest.above i c h in omega arith
-
-        all-apart : (cell : Interval) → cell.size ≡ layout.size → length (with_cell layout memory).1.stack ≡ cell.address + layout.size → Placing world locals (with_cell layout memory).1 cells last → AreApart (cell ∷ cells)
-        all-apart cell size end rest zero zero a b differ h k = absurd (differ refl)
-        all-apart cell size end rest zero (suc j) a b differ h k = let same : cell ≡ a = cc in let later = rest.above j b k in subst (λ (x : Interval). (x.address + x.size ≤ b.address) ⊎ (b.address + b.size ≤ x.address)) same (inl (omega arith))
-        all-apart cell size end rest (suc i) zero a b differ h k = let same : cell ≡ b = cc in let later = rest.above i a h in subst (λ (x : Interval). (a.address + a.size ≤ x.address) ⊎ (x.address + x.size ≤ a.address)) same (inr (omega arith))
-        all-apart cell size end rest (suc i) (suc j) a b differ h k = rest.apart i j a b (λ same. differ (ap suc same)) h k
+  -- each local has a cell where each has a size, and each size a new cell
+  each-cell : (memory later : Memory) (locals : List Local) (sizes : List CellSize) (cells : List Interval) → AllZip (IsSizeOf world) locals sizes → AllZip (IsNewCell memory later) sizes cells → (i : ℕ) (local : Local) → slice_get locals i ≡ Some local → HasCell world local cells i later
+  each-cell memory later [] sizes cells of-locals new i local there = cc
+  each-cell memory later (first ∷ locals) [] cells of-locals new i local there = absurd of-locals
+  each-cell memory later (first ∷ locals) (size ∷ sizes) [] of-locals new i local there = absurd new
+  each-cell memory later (first ∷ locals) (size ∷ sizes) (cell ∷ cells) of-locals new zero local there =
+      let same : first ≡ local = cc in
+      let is = of-locals.0 in
+      subst (λ (l : Local). HasCell world l (cell ∷ cells) 0 later) same
+      (record {
+        cell = cell;
+        layout = is.layout;
+        there = refl;
+        found = is.found;
+        sized = is.sized;
+        zeroed = reading-is later cell.addr cell.size (replicate size.size 0) new.0.zero ∙ ap (λ (s : CellSize). Some (replicate s.size 0)) is.is;
+      })
+  each-cell memory later (first ∷ locals) (size ∷ sizes) (cell ∷ cells) of-locals new (suc i) local there =
+      let other = each-cell memory later locals sizes cells of-locals.1 new.1 i local there in
+      record { cell = other.cell; layout = other.layout; there = other.there; found = other.found; sized = other.sized; zeroed = other.zeroed }
 
   pub places-all : (locals : List Local) (memory : Memory) (all : List Interval × Memory) → cells_of world locals memory ≡ Ok all → Placing world locals memory all.0 all.1
   unfolding cells_of
-  places-all [] memory all h =
-      let same : ◌≡◌ {A = List Interval × Memory} ([], memory) all = cc in
-      subst (λ (a : List Interval × Memory). Placing world [] memory a.0 a.1) same
-      (record { rest = []; longer = sym (append-nil memory.stack); each = λ i l k. cc; above = λ i c k. cc; apart = λ i j a b differ k m. cc })
-  places-all (local ∷ locals) memory all h =
-      let first = first-ok (placed local.ty (layout_of world local.ty) memory) (λ first. cell_before first.0 (cells_of world locals first.1)) all h in
-      let cell = placed-ok local.ty (layout_of world local.ty) memory first.0 first.1 in
-      let next = before-ok first.0.0 (cells_of world locals first.0.1) all first.2 in
-      let rest = places-all locals first.0.1 next.0 next.1 in
-      let rest' : Placing world locals (with_cell cell.0 memory).1 next.0.0 next.0.1 = subst (λ (m : Memory). Placing world locals m next.0.0 next.0.1) (ap (λ (p : Interval × Memory). p.1) cell.3) rest in
-      subst (λ (a : List Interval × Memory). Placing world (local ∷ locals) memory a.0 a.1) (sym next.2)
-      (places-first local locals memory first.0.0 next.0.0 cell.0 cell.1 cell.2 (ap (λ (p : Interval × Memory). p.0) cell.3) next.0.1 rest')
+  places-all locals memory (cells, later) h =
+      let first = first-ok (sizes_of world locals) (λ sizes. pushed (after_push memory sizes)) (cells, later) h in
+      let sizes = first.0 in
+      let push : after_push memory sizes ≡ Ok (cells, later) = pushed-ok (after_push memory sizes) (cells, later) first.2 in
+      let of-locals = sizes-ok world locals sizes first.1 in
+      record {
+        each = each-cell memory later locals sizes cells of-locals (cells_new memory later sizes cells (sizes-aligned locals sizes of-locals) push);
+        apart = all-apart cells (cells_apart memory later sizes cells push);
+        kept = λ old bytes found. reading-is later old.addr old.size bytes (cells_keep memory later sizes cells old bytes push (reading-some memory old.addr old.size bytes found));
+        others = λ old bytes found. old-apart cells old (cells_apart_from_old memory later sizes cells old push (there old bytes found));
+      } where
+        there : (old : Interval) (bytes : List ℕ) → cell_bytes memory old ≡ Some bytes → IsOk (reading memory old.addr old.size)
+        there old bytes found = rw (reading-some memory old.addr old.size bytes found) refl

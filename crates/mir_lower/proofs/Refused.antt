@@ -46,6 +46,10 @@ refuses-unbuilt source e error unbuilt cases =
 pub refuses-unbuilt-form : (source : Source) (e : ℕ) (error : MirLowerError) → HasForm source e form.Unbuilt → (error ≡ refusal.NotSupported (codes "form not built")) ⊎ (error ≡ refusal.NoMemory) → RefusesAt source e error
 refuses-unbuilt-form source e error has cases = refuses-unbuilt source e error (subst (IsUnbuilt source e) (sym has.core) has.cause) cases
 
+-- and that of a call
+pub refuses-call : (source : Source) (e : ℕ) (error : MirLowerError) (callee : ℕ) (args : List ℕ) → node source e ≡ Some (expr.Call callee args) → (error ≡ refusal.NotSupported (codes "form not built")) ⊎ (error ≡ refusal.NoMemory) → RefusesAt source e error
+refuses-call source e error callee args form cases = refuses-unbuilt source e error (subst (IsUnbuilt source e) (sym form) tt) cases
+
 -- a block that has a statement that isn't built, or that binds a binding that the body lacks
 unbuilt-statement : (source : Source) (e : ℕ) (st : Statement) (form : Option CoreExpr) (statements : List Statement) → HasStatements form statements → Contains statements st → IsUnbuiltStatement source st → IsUnbuilt source e form
 unbuilt-statement source e st (Some (expr.Block own tail)) statements same within unbuilt = (st, subst (λ (s : List Statement). Contains s st) (sym same) within, unbuilt)
@@ -60,6 +64,7 @@ unbuilt-statement source e st (Some (expr.Loop label body)) statements same with
 unbuilt-statement source e st (Some (expr.Break label value)) statements same within unbuilt = absurd same
 unbuilt-statement source e st (Some (expr.Continue label)) statements same within unbuilt = absurd same
 unbuilt-statement source e st (Some (expr.Return value)) statements same within unbuilt = absurd same
+unbuilt-statement source e st (Some (expr.Call callee args)) statements same within unbuilt = absurd same
 unbuilt-statement source e st None statements same within unbuilt = absurd same
 
 lacking-statement : (source : Source) (e : ℕ) (st : Statement) (form : Option CoreExpr) (statements : List Statement) → HasStatements form statements → Contains statements st → LetBindsNone source st → LacksLocal source e form
@@ -75,6 +80,7 @@ lacking-statement source e st (Some (expr.Loop label body)) statements same with
 lacking-statement source e st (Some (expr.Break label value)) statements same within lacks = absurd same
 lacking-statement source e st (Some (expr.Continue label)) statements same within lacks = absurd same
 lacking-statement source e st (Some (expr.Return value)) statements same within lacks = absurd same
+lacking-statement source e st (Some (expr.Call callee args)) statements same within lacks = absurd same
 lacking-statement source e st None statements same within lacks = absurd same
 
 -- the refusal of a statement that isn't built
@@ -160,6 +166,7 @@ part-of-block source st child (Some (expr.Loop label body)) statements same with
 part-of-block source st child (Some (expr.Break label value)) statements same within is = absurd same
 part-of-block source st child (Some (expr.Continue label)) statements same within is = absurd same
 part-of-block source st child (Some (expr.Return value)) statements same within is = absurd same
+part-of-block source st child (Some (expr.Call callee args)) statements same within is = absurd same
 part-of-block source st child None statements same within is = absurd same
 
 pub part-of-statement : (source : Source) (e : ℕ) (st : Statement) (child : ℕ) → IsStatementOf source e st → Contains (statement_parts st) child → Contains (parts_of (node source e)) child

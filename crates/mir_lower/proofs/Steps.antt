@@ -14,7 +14,7 @@ use Rattle.mir.specs.Memory.{Memory}
 use Rattle.mir.specs.Run.{Frame, after_statement, copied, rvalue_bytes, answered}
 use Rattle.source_meaning.specs.Around.{Around}
 use Rattle.source_meaning.specs.Ends.{no_cost, End, Go, Stuck}
-use Rattle.source_meaning.specs.Meaning.{level_at, put, put_answer, into_of}
+use Rattle.source_meaning.specs.Meaning.{level_at, callees_at, put, put_answer, into_of}
 use Rattle.source_meaning.specs.Source.{Source, node, Cell, Result as Slot, Node, Binding, Never, Path, Store, with_cell_bytes}
 use Rattle.source_meaning.proofs.Costs.{after-none}
 use Rattle.mir_lower.specs.Does.{Stands, here, IsFrameOf, Holds, Landings, Reaches, Performs, Nothing, DoesOwn}
@@ -78,12 +78,12 @@ reaches-from whole lands frame p q to memory claim comes end reaches =
     (reaches-after whole lands frame p q to memory memory claim no_cost comes end reaches)
 
 -- an expression itself does what its form does with one unit of fuel less
-pub does-form : (source : Source) (old new : Shape) (e : ℕ) (c : Cell) (form : Option CoreExpr) → node source e ≡ form → Performs source old new Nothing (λ around fuel store. into_of source (level_at source fuel) around e form (record { cell = c }) store) → DoesOwn source old new e c
+pub does-form : (source : Source) (old new : Shape) (e : ℕ) (c : Cell) (form : Option CoreExpr) → node source e ≡ form → Performs source old new Nothing (λ around fuel store. into_of source (level_at source fuel) (callees_at fuel) around e form (record { cell = c }) store) → DoesOwn source old new e c
 unfolding level_at
 does-form source old new e c form is performs =
     record { reaches = λ whole frame grows sound frame-is lands around stands fuel store memory holds. by-fuel whole frame grows sound frame-is lands around stands fuel store memory holds } where
       by-fuel : (whole : Shape) (frame : Frame) → Grows new whole → IsSound source whole → IsFrameOf whole frame → (lands : Landings) (around : Around) → Stands whole old lands around → (fuel : ℕ) (store : Store) (memory : Memory) → Holds whole frame store memory → Reaches whole lands frame (here old) (here new) memory (Nothing whole frame) ((level_at source fuel around).own e (record { cell = c }) store)
       by-fuel whole frame grows sound frame-is lands around stands zero store memory holds = none-entered (run_from frame memory (here old))
       by-fuel whole frame grows sound frame-is lands around stands (suc fuel) store memory holds =
-          subst (λ f. Reaches whole lands frame (here old) (here new) memory (Nothing whole frame) (into_of source (level_at source fuel) around e f (record { cell = c }) store)) (sym is)
+          subst (λ f. Reaches whole lands frame (here old) (here new) memory (Nothing whole frame) (into_of source (level_at source fuel) (callees_at fuel) around e f (record { cell = c }) store)) (sym is)
           (performs.reaches whole frame grows sound frame-is lands around stands fuel store memory holds)

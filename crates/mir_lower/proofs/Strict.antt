@@ -17,7 +17,7 @@ use Rattle.numbers.specs.Operators.{computed}
 use Rattle.source_meaning.specs.Around.{Around, marking}
 use Rattle.source_meaning.specs.Ends.{Go, then_do, no_cost}
 use Rattle.source_meaning.specs.Events.{marked_as_operand}
-use Rattle.source_meaning.specs.Meaning.{Levels, Value, level_at, value_of, answered, operands_of, into_of}
+use Rattle.source_meaning.specs.Meaning.{Levels, Value, level_at, callees_at, value_of, answered, operands_of, into_of}
 use Rattle.source_meaning.specs.Source.{Source, node, unadjusted, Cell, Store, Operand, operand_bytes, operand_type}
 use Rattle.source_meaning.specs.Steps.{parts_of}
 use Rattle.source_meaning.specs.Valid.{own, inside, sized_parts, IsLaidOutNode}
@@ -120,7 +120,7 @@ lowers-strict source s0 s1 new e operation es operands rvalue place span ready f
       does = does-form source s0 (with_statement st s1) e c (Some (Strict operation es)) form (record { reaches = reaches });
       laid = lays-strict source s1 (with_statement st s1) e operation es form given.laid last;
     }) where
-      reaches : (whole : Shape) (frame : Frame) → Grows (with_statement (assignment place rvalue span) s1) whole → IsSound source whole → IsFrameOf whole frame → (lands : Landings) (around : Around) → Stands whole s0 lands around → (fuel : ℕ) (store : Store) (memory : Memory) → Holds whole frame store memory → Reaches whole lands frame (here s0) (here (with_statement (assignment place rvalue span) s1)) memory (Nothing whole frame) (into_of source (level_at source fuel) around e (Some (Strict operation es)) (record { cell = c }) store)
+      reaches : (whole : Shape) (frame : Frame) → Grows (with_statement (assignment place rvalue span) s1) whole → IsSound source whole → IsFrameOf whole frame → (lands : Landings) (around : Around) → Stands whole s0 lands around → (fuel : ℕ) (store : Store) (memory : Memory) → Holds whole frame store memory → Reaches whole lands frame (here s0) (here (with_statement (assignment place rvalue span) s1)) memory (Nothing whole frame) (into_of source (level_at source fuel) (callees_at fuel) around e (Some (Strict operation es)) (record { cell = c }) store)
       reaches whole frame grows sound frame-is lands around stands fuel store memory holds =
           let st = assignment place rvalue span in
           let opened = given.keeps.«open» in

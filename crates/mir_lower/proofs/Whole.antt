@@ -9,7 +9,9 @@ use Rattle.mir.specs.declared.body.Local.{Local}
 use Rattle.mir.specs.declared.body.MirBody.{MirBody}
 use Rattle.mir.specs.declared.body.TerminatorKind.TheVariants as kind
 use Rattle.mir.specs.declared.span.MirSpan.{MirSpan}
-use Rattle.mir.specs.Memory.{Interval, Memory, first_memory, bytes_at, cells_of}
+use Rattle.mir.specs.declared.address.Interval.{Interval}
+use Rattle.mir.specs.Areas.{first_areas}
+use Rattle.mir.specs.Memory.{Memory, cell_bytes, cells_of}
 use Rattle.mir.specs.Run.{Program, Frame, Waiting, Ended, Returned, Stops, returned, resumed, after_return, going_on, entering, begun}
 use Rattle.source_meaning.specs.Around.{at_root}
 use Rattle.source_meaning.specs.Ends.{Cost, turns_alone, plus, End, Go, Jumps, Break, Continue, Return, Faults, Stuck, More, after}
@@ -24,7 +26,7 @@ use Rattle.mir_lower.specs.Growth.{Grows, IsSound, count_at}
 use Rattle.mir_lower.specs.Leaving.{Idles}
 use Rattle.mir_lower.specs.Lowered.{HasLayouts, LowersInto}
 use Rattle.mir_lower.specs.Simulates.{EndsAs, RunsAs, Simulates}
-use Rattle.mir_lower.specs.Runs.{Point, Within, Entry, Exit, start_of, run_from, local_bytes, AreApart, Enters, IsReturned, IsFault, EndsAfter, error_of, Comes}
+use Rattle.mir_lower.specs.Runs.{Point, Within, Entry, Exit, start_of, run_from, local_bytes, AreCellsApart, Enters, IsReturned, IsFault, EndsAfter, error_of, Comes}
 use Rattle.mir_lower.proofs.Growing.{grows-refl, grows-trans, with_terminator-grows, with_scope-grows}
 use Rattle.mir_lower.proofs.Leaving.{enters-block, comes-return, here-scope}
 use Rattle.mir_lower.proofs.Lists.{front-of}
@@ -47,7 +49,7 @@ runs-after allotted frame from at memory middle cost comes (More then) does = en
 return-ends : (frame : Frame) (memory : Memory) (bytes : List ℕ) (more : ℕ) → frame.below ≡ [] → local_bytes frame memory 0 ≡ Some bytes → run_from frame memory Exit more ≡ record { ending = Returned bytes; left = more }
 unfolding going_on after_return local_bytes
 return-ends frame memory bytes more alone slot =
-    ap (λ (below : List Waiting). going_on more (elim below [ [] ↦ Stops (returned (option_and_then (bytes_at memory) (slice_get frame.cells 0))) | caller ∷ others ↦ resumed frame.program memory caller others ])) alone
+    ap (λ (below : List Waiting). going_on more (elim below [ [] ↦ Stops (returned (option_and_then (cell_bytes memory) (slice_get frame.cells 0))) | caller ∷ others ↦ resumed frame.program memory caller others ])) alone
     ∙ ap (λ o. record { ending = returned o; left = more }) slot
 
 -- so there a run ends as the meaning does
@@ -110,22 +112,22 @@ unfolding entering_cost
 runs-entered source allotted frame memory block end does = runs-after allotted frame (Entry block) (start_of block) memory memory (entering_cost source) (enters-block frame memory block) end does
 
 -- the frame in which a body begins
-pub begun-cells : (program : Program) (body : MirBody) (start : Frame × Memory) → begun program body ≡ Ok start → (all : List Interval × Memory) × (cells_of program.world body.locals first_memory ≡ Ok all) × ◌≡◌ {A = Frame × Memory} start (record { program = program; body = body; cells = all.0; below = [] }, all.1)
+pub begun-cells : (program : Program) (body : MirBody) (start : Frame × Memory) → begun program body ≡ Ok start → (all : List Interval × Memory) × (cells_of program.world body.locals (first_areas program.bytes) ≡ Ok all) × ◌≡◌ {A = Frame × Memory} start (record { program = program; body = body; cells = all.0; below = [] }, all.1)
 unfolding begun
 begun-cells program body start h =
-    let first = first-ok (cells_of program.world body.locals first_memory) (λ all. Ok (record { program = program; body = body; cells = all.0; below = [] }, all.1)) start h in
+    let first = first-ok (cells_of program.world body.locals (first_areas program.bytes)) (λ all. Ok (record { program = program; body = body; cells = all.0; below = [] }, all.1)) start h in
     (first.0, first.1, (let same : ◌≡◌ {A = Frame × Memory} (record { program = program; body = body; cells = first.0.0; below = [] }, first.0.1) start = cc in sym same))
 
 -- each cell's local is zero at first
-starts-zeroed : (source : Source) (s : Shape) (frame : Frame) (memory : Memory) → IsSound source s → Placing source.world s.locals first_memory frame.cells memory → Holds s frame (zeroed source) memory
+starts-zeroed : (source : Source) (s : Shape) (frame : Frame) (before memory : Memory) → IsSound source s → Placing source.world s.locals before frame.cells memory → Holds s frame (zeroed source) memory
 unfolding local_bytes
-starts-zeroed source s frame memory sound placing =
+starts-zeroed source s frame before memory sound placing =
     record { shows = λ cell l found. shows-cell cell l (sound.allotted.typed cell l found) } where
-      shows-cell : (cell : Cell) (l : ℕ) → (local : Local) × (slice_get s.locals l ≡ Some local) × (cell_type source cell ≡ Some local.ty) → option_and_then (bytes_at memory) (slice_get frame.cells l) ≡ Some (zeroed source cell)
+      shows-cell : (cell : Cell) (l : ℕ) → (local : Local) × (slice_get s.locals l ≡ Some local) × (cell_type source cell ≡ Some local.ty) → option_and_then (cell_bytes memory) (slice_get frame.cells l) ≡ Some (zeroed source cell)
       shows-cell cell l local =
           let placed = placing.each l local.0 local.1 in
           let layout : cell_layout source cell ≡ Some placed.layout = ap (option_and_then (layout_of source.world)) local.2 ∙ placed.found in
-          ap (option_and_then (bytes_at memory)) placed.there ∙ placed.zeroed
+          ap (option_and_then (cell_bytes memory)) placed.there ∙ placed.zeroed
           ∙ ap (λ (o : Option Layout). Some (replicate (unwrap_or (option_map (λ (layout : Layout). layout.size) o) 0) 0)) (sym layout)
 
 -- the point before the first statement of a graph of one empty block
@@ -186,12 +188,12 @@ module _ (source : Source) (s0 s1 s2 : Shape) (span : MirSpan) (begins : here s0
   pub whole-simulates : (body : MirBody) → AreAligned source.world → root source < length source.body.exprs → body.basic_blocks ≡ Whole.blocks → body.locals ≡ Whole.locals → body.start_block.0 ≡ 0 → Simulates source body
   whole-simulates body aligned within blocks locals start =
       let first = slot-there source Whole whole-sound in
-      let frame-of : (frame : Frame) → frame.body ≡ body → AreApart frame.cells → IsFrameOf Whole frame = λ frame same apart. record {
+      let frame-of : (frame : Frame) → frame.body ≡ body → AreCellsApart frame.cells → IsFrameOf Whole frame = λ frame same apart. record {
         blocks = ap (λ (b : MirBody). b.basic_blocks) same ∙ blocks;
         locals = ap (λ (b : MirBody). b.locals) same ∙ locals;
         apart = apart;
       } in
-      let does-from : (fuel : ℕ) (store : Store) (frame : Frame) (memory : Memory) → frame.body ≡ body → AreApart frame.cells → Holds Whole frame store memory → RunsAs (local_of Whole) frame (Entry body.start_block.0) memory (meaning_from source store fuel) =
+      let does-from : (fuel : ℕ) (store : Store) (frame : Frame) (memory : Memory) → frame.body ≡ body → AreCellsApart frame.cells → Holds Whole frame store memory → RunsAs (local_of Whole) frame (Entry body.start_block.0) memory (meaning_from source store fuel) =
       λ fuel store frame memory same apart holds.
       subst (λ (n : ℕ). RunsAs (local_of Whole) frame (Entry n) memory (meaning_from source store fuel)) (sym start) (runs-whole frame store memory (frame-of frame same apart) holds fuel) in
       record {
@@ -214,13 +216,14 @@ module _ (source : Source) (s0 s1 s2 : Shape) (span : MirSpan) (begins : here s0
         runs = λ fuel program begin world h.
             let all = begun-cells program body begin h in
             let frame : Frame = record { program = program; body = body; cells = all.0.0; below = [] } in
-            let placed = ap (λ (w : HirDatabase). cells_of w body.locals first_memory) (sym world) ∙ all.1 in
-            let placing = places-all source.world aligned body.locals first_memory all.0 placed in
-            let placing' : Placing source.world Whole.locals first_memory all.0.0 all.0.1 = subst (λ (l : List Local). Placing source.world l first_memory all.0.0 all.0.1) locals placing in
+            let before : Memory = first_areas program.bytes in
+            let placed = ap (λ (w : HirDatabase). cells_of w body.locals before) (sym world) ∙ all.1 in
+            let placing = places-all source.world aligned body.locals before all.0 placed in
+            let placing' : Placing source.world Whole.locals before all.0.0 all.0.1 = subst (λ (l : List Local). Placing source.world l before all.0.0 all.0.1) locals placing in
             subst (λ (b : Frame × Memory). EndsAs (meaning_of source fuel) (λ budget. entering budget b.0 b.1 body.start_block.0)) (sym all.2)
             (ends-as-run-alone (meaning_from source (zeroed source) fuel) (λ budget. entering budget frame all.0.1 body.start_block.0)
             (ends-as-run (local_of Whole) frame (Entry body.start_block.0) all.0.1 refl (meaning_from source (zeroed source) fuel)
-            (does-from fuel (zeroed source) frame all.0.1 refl placing.apart (starts-zeroed source Whole frame all.0.1 whole-sound placing'))));
+            (does-from fuel (zeroed source) frame all.0.1 refl placing.apart (starts-zeroed source Whole frame before all.0.1 whole-sound placing'))));
       }
 
   -- the locals that there were at first come first

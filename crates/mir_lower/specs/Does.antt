@@ -11,7 +11,7 @@ use Rattle.world.specs.declared.body.Statement.{Statement}
 use Rattle.types.specs.declared.ids.ExprId.{ExprId}
 use Rattle.mir_lower.specs.Graph.{Shape, OpenTarget, local_of}
 use Rattle.mir_lower.specs.Growth.{Grows, IsSound, count_at}
-use Rattle.mir_lower.specs.Runs.{Point, Within, Entry, Exit, run_from, Enters, IsFault, EndsAfter, error_of, AreApart, Comes, Represents}
+use Rattle.mir_lower.specs.Runs.{Point, Within, Entry, Exit, run_from, Enters, IsFault, EndsAfter, error_of, AreCellsApart, Comes, Represents}
 
 -- the point behind the last statement of the current block
 abbrev pub here : Shape → Point
@@ -21,7 +21,7 @@ here s = Within s.current (unwrap_or (count_at s s.current) 0)
 pub record IsFrameOf (s : Shape) (frame : Frame) : Type 0 where
   pub blocks : frame.body.basic_blocks ≡ s.blocks
   pub locals : frame.body.locals ≡ s.locals
-  pub apart : AreApart frame.cells
+  pub apart : AreCellsApart frame.cells
 
 -- each cell's local holds the bytes that the store has there
 abbrev pub Holds : Shape → Frame → Store → Memory → Type 0

@@ -1,9 +1,11 @@
 -- Runs of a frame: from a point of its body to another, or to the end of the run.
-use Rattle.std.specs.Prelude.{◌≡◌, ◌≢◌, ◌⊎◌, ℕ, ◌+◌, ◌<◌, ◌≤◌, List, Option, Some, slice_get, option_and_then}
+use Rattle.std.specs.Prelude.{◌≡◌, ◌≢◌, ℕ, ◌+◌, ◌<◌, List, Option, Some, slice_get, option_and_then}
 use Rattle.mir.specs.declared.errors.MirEvalError.{MirEvalError}
 use Rattle.mir.specs.declared.errors.MirEvalError as error
 use Rattle.mir.specs.declared.errors.TrailEntry.{TrailEntry}
-use Rattle.mir.specs.Memory.{Interval, Memory, bytes_at}
+use Rattle.mir.specs.declared.address.Interval.{Interval}
+use Rattle.mir.specs.Areas.{AreApart}
+use Rattle.mir.specs.Memory.{Memory, cell_bytes}
 use Rattle.mir.specs.Run.{Frame, Ending, Returned, Faulted, Ended, out_of_blocks, after_return, entering, going_on, running}
 use Rattle.source_meaning.specs.Ends.{Fault, Panic, Undefined}
 use Rattle.source_meaning.specs.Source.{Cell, Store}
@@ -54,24 +56,20 @@ error_of (Undefined text) = error.UndefinedBehavior text
 
 -- the bytes of a local
 unfoldable pub local_bytes : Frame → Memory → ℕ → Option (List ℕ)
-local_bytes frame memory local = option_and_then (bytes_at memory) (slice_get frame.cells local)
-
--- two intervals share no byte
-abbrev pub IsApart : Interval → Interval → Type 0
-IsApart a b = (a.address + a.size ≤ b.address) ⊎ (b.address + b.size ≤ a.address)
+local_bytes frame memory local = option_and_then (cell_bytes memory) (slice_get frame.cells local)
 
 -- no two cells of a frame share a byte
-abbrev pub AreApart : List Interval → Type 0
-AreApart cells = (i j : ℕ) (a b : Interval) → i ≢ j → slice_get cells i ≡ Some a → slice_get cells j ≡ Some b → IsApart a b
+abbrev pub AreCellsApart : List Interval → Type 0
+AreCellsApart cells = (i j : ℕ) (a b : Interval) → i ≢ j → slice_get cells i ≡ Some a → slice_get cells j ≡ Some b → AreApart a b
 
 -- an interval shares no byte with any cell of a frame
 abbrev pub LiesApart : Frame → Interval → Type 0
-LiesApart frame interval = (i : ℕ) (cell : Interval) → slice_get frame.cells i ≡ Some cell → IsApart cell interval
+LiesApart frame interval = (i : ℕ) (cell : Interval) → slice_get frame.cells i ≡ Some cell → AreApart cell interval
 
 -- Each interval of the old memory that shares no byte with a local of the frame has the same bytes later. Nothing is said of bytes behind
--- the old end of the stack.
+-- the old end of the stack or of the heap.
 abbrev pub KeepsOthers : Frame → Memory → Memory → Type 0
-KeepsOthers frame memory later = (interval : Interval) (bytes : List ℕ) → LiesApart frame interval → bytes_at memory interval ≡ Some bytes → bytes_at later interval ≡ Some bytes
+KeepsOthers frame memory later = (interval : Interval) (bytes : List ℕ) → LiesApart frame interval → cell_bytes memory interval ≡ Some bytes → cell_bytes later interval ≡ Some bytes
 
 -- The run goes from one point to another, and enters `turns` blocks on the way. Of what was there before it changes only the frame's cells.
 pub record Comes (frame : Frame) (turns : ℕ) (from : Point) (memory : Memory) (to : Point) (later : Memory) : Type 0 where

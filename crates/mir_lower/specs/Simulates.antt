@@ -12,7 +12,7 @@ use Rattle.source_meaning.specs.Source.{Source, Cell, Result, Binding, Store, bi
 use Rattle.source_meaning.specs.Valid.{IsPlain, IsLaidOut, AreLaidOut}
 use Rattle.world.specs.Lookups.{layout_of}
 use Rattle.mir_lower.specs.Growth.{IsUsed}
-use Rattle.mir_lower.specs.Runs.{Point, Entry, Exit, run_from, Enters, IsReturned, IsFault, EndsAfter, error_of, local_bytes, AreApart, Comes, Represents}
+use Rattle.mir_lower.specs.Runs.{Point, Entry, Exit, run_from, Enters, IsReturned, IsFault, EndsAfter, error_of, local_bytes, AreCellsApart, Comes, Represents}
 
 -- A run ends as the meaning does, after exactly as many blocks as that counts. Where the fuel of the meaning ran out, the run
 -- enters as many blocks as were counted up to there. Of the calls that are open at a fault, or when the blocks run out, nothing is
@@ -50,7 +50,7 @@ pub record Simulates (source : Source) (body : MirBody) : Type 0 where
   pub bound : (b : ℕ) (ty : Ty) → binding_type source b ≡ Some ty → (l : ℕ) × (allotted (Binding b) ≡ Some l)
   pub own : (c d : Cell) (l : ℕ) → allotted c ≡ Some l → allotted d ≡ Some l → c ≡ d
   pub typed : (c : Cell) (l : ℕ) → allotted c ≡ Some l → (local : Local) × (slice_get body.locals l ≡ Some local) × (cell_type source c ≡ Some local.ty)
-  pub does : (fuel : ℕ) (store : Store) (frame : Frame) (memory : Memory) → frame.body ≡ body → AreApart frame.cells → Represents allotted frame store memory →
+  pub does : (fuel : ℕ) (store : Store) (frame : Frame) (memory : Memory) → frame.body ≡ body → AreCellsApart frame.cells → Represents allotted frame store memory →
       RunsAs allotted frame (Entry body.start_block.0) memory (meaning_from source store fuel)
   pub slot : (local : Local) × (slice_get body.locals 0 ≡ Some local) × (node_type source (root source) ≡ Some local.ty)
   pub cells : (l : ℕ) (local : Local) → slice_get body.locals l ≡ Some local → (cell : Cell) × IsUsed source cell × (cell_type source cell ≡ Some local.ty) × (allotted cell ≡ Some l)

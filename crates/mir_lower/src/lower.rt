@@ -206,6 +206,7 @@ fn lower_own(
         Form::Break(label, value) => lower_break(context, graph, e, label, value),
         Form::Continue(label) => lower_continue(context, graph, e, label),
         Form::Return(value) => lower_return(context, graph, e, value),
+        Form::Call(_, _) => Err(form_not_built(context.alloc)),
         Form::Incomplete => Err(MirLowerError::IncompleteExpr),
         Form::Unbuilt => Err(form_not_built(context.alloc)),
     }

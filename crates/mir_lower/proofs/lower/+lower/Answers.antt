@@ -30,7 +30,7 @@ use Rattle.mir_lower.proofs.Blocks.{idles-read, lowers-none, lowers-more, lowers
 use Rattle.mir_lower.proofs.Drops.{opened-within, scope-left}
 use Rattle.mir_lower.proofs.Operands.{lowers-literal-operand, lowers-place-operand, lowers-temp, lowers-name}
 use Rattle.mir_lower.proofs.Strict.{lowers-strict, unary-computes, binary-computes, lowers-one, lowers-two, first-part, second-part}
-use Rattle.mir_lower.proofs.Refused.{refuses-here, refuses-no-memory, refuses-part, refuses-unbuilt-form, refuses-statement, without-initializer, with-else, item-is-unbuilt, refuses-pattern, refuses-target, refused-exit, part-below, part-of-statement, refuses-break}
+use Rattle.mir_lower.proofs.Refused.{refuses-here, refuses-no-memory, refuses-part, refuses-unbuilt-form, refuses-call, refuses-statement, without-initializer, with-else, item-is-unbuilt, refuses-pattern, refuses-target, refused-exit, part-below, part-of-statement, refuses-break}
 use Rattle.mir_lower.proofs.Growing.{grows-trans}
 use Rattle.mir_lower.proofs.Steps.{local_of-grows, placed-later}
 use Rattle.mir_lower.proofs.Branches.{reserved-spared, other-reserved, join-reserved}
@@ -136,8 +136,11 @@ lower_into-returns-else-diverges-clause-lowered t c =
 pub lower_own-returns-in-Incomplete-clause-refused : goal.lower_own-returns-in-Incomplete-clause-refused
 lower_own-returns-in-Incomplete-clause-refused t c = refuses-here (source_of c.args.context.now) c.args.e.0 refusal.IncompleteExpr c.in-Incomplete.ensures.cause
 
+pub lower_own-returns-in-Call-clause-refused : goal.lower_own-returns-in-Call-clause-refused
+lower_own-returns-in-Call-clause-refused t c = refuses-call (source_of c.args.context.now) c.args.e.0 c.form_not_built.result _ _ c.in-Call.ensures.core c.form_not_built.ensures
+
 pub lower_own-returns-in-Unbuilt-clause-refused : goal.lower_own-returns-in-Unbuilt-clause-refused
-lower_own-returns-in-Unbuilt-clause-refused t c = refuses-unbuilt-form (source_of c.args.context.now) c.args.e.0 c.form_not_built.result c.in-Unbuilt.ensures c.form_not_built.ensures
+lower_own-returns-in-Unbuilt-clause-refused t c = refuses-unbuilt-form (source_of c.args.context.now) c.args.e.0 c.form_not_built-in-Unbuilt.result c.in-Unbuilt.ensures c.form_not_built-in-Unbuilt.ensures
 
 -- an assignment and a jump write nothing to the place that they are lowered into
 pub lower_own-returns-in-Assign-clause-lowered : goal.lower_own-returns-in-Assign-clause-lowered
