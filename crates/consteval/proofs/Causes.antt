@@ -51,7 +51,6 @@ module _ (before after : Kept) (stays : Stays before after) where
         right = all-right-stay before after stays ran.answers ran.right;
         start = ran.start;
         began = ap (λ world. begun (program_of world limits ran.answers) body) stays.world ∙ ran.began;
-        fits = ran.fits;
         ended = ran.ended;
         entered = ran.entered;
       }
@@ -91,7 +90,6 @@ module _ (before after : Kept) (stays : Stays before after) where
           right = all-right-stay before after stays out.answers out.right;
           start = out.start;
           began = ap (λ world. begun (program_of world limits out.answers) body) stays.world ∙ out.began;
-          fits = out.fits;
           entered = out.entered;
           is = out.is;
         }
@@ -128,12 +126,11 @@ module _ (before after : Kept) (stays : Stays before after) (def : DefWithBodyId
         right = runs.ran.right;
         start = runs.ran.start;
         began = runs.ran.began;
-        fits = runs.ran.fits;
         entered = (let is = runs.ran.entered in omega arith);
         is = refl;
       })))
       (⊎_elim (λ never. inr (inl (record { none = never.none; fault = error.NoMemory; is = refl; refuses = inl refl })))
-      (λ out. inr (inr (record { pointers = out.pointers; nests = out.nests; answers = out.answers; right = out.right; start = out.start; began = out.began; fits = out.fits; entered = out.entered; is = refl }))))
+      (λ out. inr (inr (record { pointers = out.pointers; nests = out.nests; answers = out.answers; right = out.right; start = out.start; began = out.began; entered = out.entered; is = refl }))))
 
   pub cause-out : (answer : Result Const ConstEvalError) → HasCause before def args limits turns answer → HasCause after def args limits turns (Err constant.NoMemory)
   cause-out answer cause =

@@ -4,7 +4,8 @@ use Rattle.std.specs.Prelude.{slice_get, Result, Ok, Err, length, option_and_the
 use Rattle.types.specs.declared.ids.FunctionId.{FunctionId}
 use Rattle.types.specs.declared.ty.GenericArgs.{GenericArgs}
 use Rattle.mir.specs.Answers.{answer_to}
-use Rattle.mir.specs.Memory.{Interval, Memory, bytes_at, within_bytes}
+use Rattle.mir.specs.declared.address.Interval.{Interval}
+use Rattle.mir.specs.Memory.{Memory, cell_bytes}
 use Rattle.mir.specs.Run.{Frame, Waiting, Calling, Ending, Returned, Faulted, Asked, Next, Stops, GoesTo, Asks, operand_bytes, operand_type, function_in, body_query, calling, first_body, returned, resumed, after_return, after_statements, levels_over, called_cells, filled, entered, called, called_by, calls, switched, terminated, next_from, entering, going_on}
 use Rattle.mir.specs.declared.answers.Answer.{Answer}
 use Rattle.mir.specs.declared.answers.Answer.TheVariants as answer
@@ -31,7 +32,7 @@ Begins start (Asks q frame memory call) = first_of frame ≡ first_of start
 module _ (frame : Frame) where
   module _ (memory : Memory) (call : Calling) (id : FunctionId) (body : MirBody) where
     begins-filled : (destination : Option Interval) (placed : List Interval × Memory) (r : Result Memory MirEvalError)
-        → within_bytes frame.program.bytes (called_cells frame.program.world body.locals destination memory) ≡ Ok placed
+        → called_cells frame.program.world body.locals destination memory ≡ Ok placed
         → filled frame placed.0 body.param_locals call.args placed.1 ≡ r
         → Begins frame (entered frame memory call id body destination)
     unfolding entered first_body
@@ -39,14 +40,14 @@ module _ (frame : Frame) where
     begins-filled destination placed (Err e) is then_is = rw (is, then_is, entered) tt
 
     begins-placed : (destination : Option Interval) (r : Result (List Interval × Memory) MirEvalError)
-        → within_bytes frame.program.bytes (called_cells frame.program.world body.locals destination memory) ≡ r
+        → called_cells frame.program.world body.locals destination memory ≡ r
         → Begins frame (entered frame memory call id body destination)
     unfolding entered
     begins-placed destination (Ok placed) is = begins-filled destination placed (filled frame placed.0 body.param_locals call.args placed.1) is refl
     begins-placed destination (Err e) is = rw (is, entered) tt
 
     begins-body : (destination : Option Interval) → Begins frame (entered frame memory call id body destination)
-    begins-body destination = begins-placed destination (within_bytes frame.program.bytes (called_cells frame.program.world body.locals destination memory)) refl
+    begins-body destination = begins-placed destination (called_cells frame.program.world body.locals destination memory) refl
 
     begins-returning : (cell : Option Interval) (block : ℕ) → call.target ≡ Some block → slice_get frame.cells call.destination.local.0 ≡ cell
         → Begins frame (called frame memory call id body)
@@ -106,7 +107,7 @@ module _ (frame : Frame) where
 
   begins-return : (memory : Memory) (below : List Waiting) → frame.below ≡ below → Begins frame (after_return frame memory)
   unfolding after_return
-  begins-return memory [] is = rw (is, after_return) (returned-is-no-question (option_and_then (bytes_at memory) (slice_get frame.cells 0)))
+  begins-return memory [] is = rw (is, after_return) (returned-is-no-question (option_and_then (cell_bytes memory) (slice_get frame.cells 0)))
   begins-return memory (caller ∷ below) is =
       let goes_on : after_return frame memory ≡ resumed frame.program memory caller below = rw (is, after_return) in
       subst (Begins frame) (sym goes_on) (begins-resumed memory caller below caller.next is refl)

@@ -21,6 +21,7 @@ use Rattle.mir.specs.declared.errors.MirLowerError.{MirLowerError}
 use Rattle.mir.specs.declared.errors.MirLowerError.TheVariants as refusal
 use Rattle.mir.specs.Errors.{from_lower_error, from_eval_error}
 use Rattle.mir_lower.specs.Simulates.{Simulates}
+use Rattle.source_meaning.proofs.Reached.{plain_throughout, laid_out_throughout}
 use Rattle.source_meaning.proofs.Runs.{run_goes_on, run_is_never_stuck, run_jumps_nowhere}
 use Rattle.source_meaning.specs.Ends.{Panic, Stuck, JumpsNowhere}
 use Rattle.source_meaning.specs.Meaning.{meaning_of}
@@ -59,13 +60,15 @@ module _ (world : HirDatabase) (checked : IsChecked world) (def : DefWithBodyId)
   -- the source ends, or counts more blocks than a limit
   comes : (limits : Limits) → (fuel : ℕ) × ComesTo Of (suc limits.blocks) (meaning_of Of fuel)
   comes limits =
-      let reached = run_goes_on Of (suc limits.blocks) (checked-body world def row checked valid.body) in
+      let reached = run_goes_on Of (suc limits.blocks) checked (checked-body world def row checked valid.body) in
       (reached.0, record { fuel = reached.0; reached = refl; goes_on = reached.1 })
 
   ends-well : AreLaidOut Of → (fuel : ℕ) → (meaning_of Of fuel ≢ Stuck) × JumpsNowhere (meaning_of Of fuel)
   ends-well laid fuel =
       let body = checked-body world def row checked valid.body in
-      (run_is_never_stuck Of fuel checked body valid.plain laid, run_jumps_nowhere Of fuel checked body valid.plain laid)
+      let plain = plain_throughout Of valid.built valid.plain in
+      let laid_out = laid_out_throughout Of valid.built laid in
+      (run_is_never_stuck Of fuel checked body plain laid_out, run_jumps_nowhere Of fuel checked body plain laid_out)
 
   module _ (kept : Kept) (same : kept.world ≡ world) (limits : Limits) (turns : ℕ) (answer : Result Const ConstEvalError) where
     -- what a run goes by that is told some answers
@@ -76,7 +79,7 @@ module _ (world : HirDatabase) (checked : IsChecked world) (def : DefWithBodyId)
     run-value body lowered runs konst is =
         let simulates = simulated body lowered in
         let ran = runs.ran in
-        let laid = has-layouts Of (ProgramWith ran.answers) body ran.start checked same simulates ran.began valid.plain in
+        let laid = has-layouts Of (ProgramWith ran.answers) body ran.start same simulates ran.began valid.plain in
         let end = comes limits in
         gives-value Of (ProgramWith ran.answers) body same simulates ran.start ran.began limits ran.nests (meaning_of Of end.0) end.1 (ends-well laid end.0) konst
         (ran.ended ∙ ap Some (sym (carried-value runs.outcome konst (sym is ∙ runs.is))))
@@ -85,7 +88,7 @@ module _ (world : HirDatabase) (checked : IsChecked world) (def : DefWithBodyId)
     run-counts body lowered runs konst is =
         let simulates = simulated body lowered in
         let ran = runs.ran in
-        let laid = has-layouts Of (ProgramWith ran.answers) body ran.start checked same simulates ran.began valid.plain in
+        let laid = has-layouts Of (ProgramWith ran.answers) body ran.start same simulates ran.began valid.plain in
         let end = comes limits in
         subst (CountsBlocks Of) (sym ran.entered)
         (counts-value Of (ProgramWith ran.answers) body same simulates ran.start ran.began limits ran.nests (meaning_of Of end.0) end.1 (ends-well laid end.0) konst
@@ -97,7 +100,7 @@ module _ (world : HirDatabase) (checked : IsChecked world) (def : DefWithBodyId)
       by (Ok konst) ran = tt
       by (Err e) ran =
           let simulates = simulated body lowered in
-          let laid = has-layouts Of (ProgramWith ran.answers) body ran.start checked same simulates ran.began valid.plain in
+          let laid = has-layouts Of (ProgramWith ran.answers) body ran.start same simulates ran.began valid.plain in
           let end = comes limits in
           carried-fault Of limits e
           (gives-fault Of (ProgramWith ran.answers) body same simulates ran.start ran.began limits ran.nests (meaning_of Of end.0) end.1 (ends-well laid end.0) e ran.ended)

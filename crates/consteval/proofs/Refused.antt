@@ -1,6 +1,7 @@
 -- What a valid body is refused for: a type without a layout or without a size, or want of memory, and that alone where its cost is defined.
 use Rattle.std.proofs.Common.{◌≡◌, ℕ, ◌<◌, ◌≤◌, ◌⊎◌, ⊎_elim, inl, inr, eqb-true, Bool, true, false, List, [], Option, Some, Err, refl, sym, ap, ◌∙◌, subst, arith, None}
 use Rattle.std.specs.Prelude.{is_some, option_and_then, option_map, not, ◌==◌, ◌||◌}
+use Rattle.std.proofs.lemmas.Bool.{cases_lt}
 use Rattle.source_meaning.specs.Core.{CoreExpr, Number}
 use Rattle.source_meaning.specs.Core as expr
 use Rattle.types.specs.declared.ids.DefWithBodyId.TheVariants.{ConstId, FunctionId, StaticId, VariantId}
@@ -27,7 +28,9 @@ use Rattle.body_forms.specs.Refusals.{IsNumber, RefusesNode, JumpsTo}
 use Rattle.body_forms.proofs.Causes.{built-is-complete, built-is-no-unbuilt, built-has-local, built-is-resolved}
 use Rattle.mir_lower.specs.Simulates.{Simulates}
 use Rattle.source_meaning.proofs.Built.{plain_is_built}
+use Rattle.source_meaning.specs.Entering.{entering}
 use Rattle.source_meaning.proofs.Layouts.{integer_is_width}
+use Rattle.source_meaning.specs.Core.{IsNoCall}
 use Rattle.source_meaning.specs.Source.{Source, node, root}
 use Rattle.source_meaning.specs.Valid.{Evaluates, IsInteger, HasPlainForm, IsPlainNode, HasDefinedCost, FitsAround, JumpsFit}
 use Rattle.consteval.specs.Answers.{EndsEvaluation, EndsLowering, PassesBytes, RefusesRun}
@@ -41,42 +44,35 @@ use Rattle.consteval.specs.Sources.{source_of}
 use Rattle.consteval.specs.Valid.{IsPlainItem, IsValid}
 use Rattle.consteval.proofs.Begins.{begins, begun-never, begun-refusal}
 use Rattle.consteval.proofs.Built.{built-without-args}
-use Rattle.consteval.proofs.Bytes.{taken-within}
-use Rattle.consteval.proofs.Faults.{NeverRunsFor, never-without-level, never-without-room, overflowed, overfull}
+use Rattle.consteval.proofs.Faults.{NeverRunsFor, never-without-level, overflowed}
 
 module _ (world : HirDatabase) (def : DefWithBodyId) (args : GenericArgs) (row : BodyRow) (limits : Limits) (body : MirBody) (e : MirEvalError) (valid : IsValid world def args row) (simulates : Simulates (source_of world row) body) where
-  -- A refusal of a run of a valid body is for the limit on nesting, for a type without a layout or without a size, or for the limit
-  -- on bytes.
-  refusal-cases : {A : Type 0} → RefusesRun world def body limits e → ((e ≡ error.StackOverflow) → (limits.nesting ≡ 0) → A) → ((begun (program_of world limits []) body ≡ Err e) → A) → ((e ≡ error.MemoryLimitExceeded) → PassesBytes (source_of world row) limits.bytes → A) → A
-  refusal-cases refuses by-nesting by-type by-bytes =
+  -- a refusal of a run of a valid body is for the limit on nesting, or for what `begun` is refused for
+  refusal-cases : {A : Type 0} → RefusesRun world def body limits e → ((e ≡ error.StackOverflow) → (limits.nesting ≡ 0) → A) → ((begun (program_of world limits []) body ≡ Err e) → A) → A
+  refusal-cases refuses by-nesting by-cells =
       ⊎_elim (λ none. let is = none.1 in let there = valid.pointers in absurd cc)
       (⊎_elim (λ other. absurd (let is = other.2 in let there = valid.pointers in other.3 cc))
-      (⊎_elim (λ deep. by-nesting deep.0 deep.2)
-      (⊎_elim (λ refused. by-type refused.2) (λ full.
-      let taken = taken-within (source_of world row) (program_of world limits []) body full.3 refl simulates full.4 in
-      let passes = full.5 in
-      by-bytes full.0 (omega arith)))))
+      (⊎_elim (λ deep. by-nesting deep.0 deep.2) (λ refused. by-cells refused.2)))
       refuses
 
   pub run-refusal : RefusesRun world def body limits e → EndsEvaluation (source_of world row) limits e
   run-refusal refuses =
       refusal-cases refuses (λ is none. subst (EndsEvaluation (source_of world row) limits) (sym is) (overflowed (source_of world row) limits (omega arith)))
-      (begun-refusal (source_of world row) (program_of world limits []) limits body e refl simulates)
-      (λ is passes. subst (EndsEvaluation (source_of world row) limits) (sym is) (overfull (source_of world row) limits passes))
+      (begun-refusal (source_of world row) (program_of world limits []) limits body e refl refl simulates)
 
   -- so none begins
   pub run-never : RefusesRun world def body limits e → NeverRunsFor (source_of world row) limits e
   run-never refuses =
       refusal-cases refuses (λ is none. subst (NeverRunsFor (source_of world row) limits) (sym is) (never-without-level (source_of world row) limits none))
-      (begun-never (source_of world row) (program_of world limits []) limits body e refl simulates)
-      (λ is passes. subst (NeverRunsFor (source_of world row) limits) (sym is) (never-without-room (source_of world row) limits passes))
+      (begun-never (source_of world row) (program_of world limits []) limits body e refl refl simulates)
 
   -- a valid body with a defined cost can begin where there is a level of nesting for its run and room for its cells
   pub run-is-refused-by-limits : HasDefinedCost (source_of world row) → RefusesRun world def body limits e → (limits.nesting ≡ 0) ⊎ PassesBytes (source_of world row) limits.bytes
   run-is-refused-by-limits cost refuses =
-      refusal-cases refuses (λ is none. inl none)
-      (λ refused. absurd (let can = begins (source_of world row) (program_of world limits []) body refl simulates cost in let is = can.1 in cc))
-      (λ is passes. inr passes)
+      refusal-cases refuses (λ is none. inl none) (λ refused.
+      ⊎_elim (λ passes. inr passes)
+      (λ within. absurd (let can = begins (source_of world row) (program_of world limits []) body refl simulates cost within in let is = can.1 in cc))
+      (cases_lt limits.bytes (entering (source_of world row)).bytes))
 
 -- `==` is false of a number and a lesser one
 not-by : (size width : ℕ) (b : Bool) → (size == width) ≡ b → width < size → b ≡ false
@@ -132,23 +128,24 @@ named-target source outer label (Some (expr.Block statements tail)) jumps fits l
 named-target source outer label (Some (expr.Labelled own statements tail)) jumps fits lacks = jumps
 named-target source outer label (Some (expr.Loop own body)) jumps fits lacks = jumps
 named-target source outer label (Some (expr.Return value)) jumps fits lacks = jumps
+named-target source outer label (Some (expr.Call callee args)) jumps fits lacks = jumps
 named-target source outer label None jumps fits lacks = jumps
 
--- a plain form is refused for want of memory, or as a number literal whose type has no layout
-refuses-node : (source : Source) (e : ℕ) (error : MirLowerError) → IsChecked source.world → JumpsFit source [] (root source) → IsPlainNode source e → Evaluates source (root source) e → RefusesNode source e error → (error ≡ refusal.NoMemory) ⊎ EndsLowering source error
-refuses-node source e (refusal.LayoutError layout_error) checked fits plain at refuses = inr (e, at, refuses)
-refuses-node source e refusal.IncompleteExpr checked fits plain at refuses = absurd (built-is-complete source e (plain_is_built source e plain) refuses)
-refuses-node source e (refusal.UnresolvedName name) checked fits plain at refuses = absurd (built-is-resolved source e (node source e) name (plain_is_built source e plain) refuses)
-refuses-node source e refusal.InaccessibleLocal checked fits plain at refuses = absurd (built-has-local source e (node source e) (plain_is_built source e plain) refuses)
-refuses-node source e refusal.HasErrors checked fits plain at refuses = absurd refuses
-refuses-node source e refusal.ContinueWithoutLoop checked fits plain at refuses = absurd (open-target source (node source e) refuses.0 (fits [] e refuses.1))
-refuses-node source e refusal.BreakWithoutLoop checked fits plain at refuses = absurd (plain-target source refuses.0 (node source e) refuses.1 (fits [] e refuses.2))
-refuses-node source e refusal.UnresolvedLabel checked fits plain at refuses = absurd (named-target source refuses.2.0 refuses.0 (node source e) refuses.1 (fits refuses.2.0 e refuses.2.1) refuses.2.2)
-refuses-node source e (refusal.TypeError text) checked fits plain at refuses =
+-- a plain form that is no call is refused for want of memory, or as a number literal whose type has no layout
+refuses-node : (source : Source) (e : ℕ) (error : MirLowerError) → IsChecked source.world → JumpsFit source [] (root source) → IsPlainNode source e → IsNoCall (node source e) → Evaluates source (root source) e → RefusesNode source e error → (error ≡ refusal.NoMemory) ⊎ EndsLowering source error
+refuses-node source e (refusal.LayoutError layout_error) checked fits plain no_call at refuses = inr (e, at, refuses)
+refuses-node source e refusal.IncompleteExpr checked fits plain no_call at refuses = absurd (built-is-complete source e (plain_is_built source e plain no_call) refuses)
+refuses-node source e (refusal.UnresolvedName name) checked fits plain no_call at refuses = absurd (built-is-resolved source e (node source e) name (plain_is_built source e plain no_call) refuses)
+refuses-node source e refusal.InaccessibleLocal checked fits plain no_call at refuses = absurd (built-has-local source e (node source e) (plain_is_built source e plain no_call) refuses)
+refuses-node source e refusal.HasErrors checked fits plain no_call at refuses = absurd refuses
+refuses-node source e refusal.ContinueWithoutLoop checked fits plain no_call at refuses = absurd (open-target source (node source e) refuses.0 (fits [] e refuses.1))
+refuses-node source e refusal.BreakWithoutLoop checked fits plain no_call at refuses = absurd (plain-target source refuses.0 (node source e) refuses.1 (fits [] e refuses.2))
+refuses-node source e refusal.UnresolvedLabel checked fits plain no_call at refuses = absurd (named-target source refuses.2.0 refuses.0 (node source e) refuses.1 (fits refuses.2.0 e refuses.2.1) refuses.2.2)
+refuses-node source e (refusal.TypeError text) checked fits plain no_call at refuses =
     let layout : layout_of source.world plain.ty ≡ Some refuses.2 = ap (option_and_then (layout_of source.world)) (sym plain.has_type) ∙ refuses.3 in
     absurd (wide-is-no-width refuses.2.size (integer_is_width source.world plain.ty refuses.2 checked (number-is-integer source e (node source e) plain.ty plain.form refuses.1) layout) refuses.4)
-refuses-node source e (refusal.NotSupported text) checked fits plain at refuses = absurd (built-is-no-unbuilt source e (node source e) (plain_is_built source e plain) refuses.1)
-refuses-node source e refusal.NoMemory checked fits plain at refuses = inl refl
+refuses-node source e (refusal.NotSupported text) checked fits plain no_call at refuses = absurd (built-is-no-unbuilt source e (node source e) (plain_is_built source e plain no_call) refuses.1)
+refuses-node source e refusal.NoMemory checked fits plain no_call at refuses = inl refl
 
 -- where types have sizes, no number literal lacks a layout
 sized-is-lowered : (source : Source) (e : MirLowerError) → HasDefinedCost source → EndsLowering source e → ⊥
@@ -200,7 +197,7 @@ lowering-refusal world def args row e checked valid =
     (⊎_elim (λ none. absurd (let is = none.missing in let there = valid.body in cc)) (λ refused.
     let same : refused.row ≡ row = (let is = refused.found in let there = valid.body in cc) in
     ⊎_elim (λ drops. absurd (valid.dropless drops.1))
-    (λ at. refuses-node (source_of world row) at.0 e checked valid.plain.jumps (valid.plain.nodes at.0 at.1) at.1 at.2)
+    (λ at. refuses-node (source_of world row) at.0 e checked valid.plain.jumps (valid.plain.nodes at.0 at.1) (valid.built at.0 at.1) at.1 at.2)
     (subst (λ (r : BodyRow). RefusesInferred (source_of world r) e) same refused.refuses)))))
 
 -- a valid body with a defined cost is lowered, but for want of memory

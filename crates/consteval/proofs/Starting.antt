@@ -1,7 +1,6 @@
 -- How a run begins, by the state of its machine.
-use Rattle.std.proofs.Common.{◌≡◌, ◌≢◌, ℕ, ◌<◌, ◌≤◌, ◌⊎◌, ⊎_elim, inl, inr, eqb-true, Bool, true, false, cond, if◌then◌else◌, List, [], ◌∷◌, Option, Some, None, Result, Ok, Err, refl, sym, ap, ◌∙◌, subst}
-use Rattle.std.specs.Prelude.{IsSome, codes, nat_le}
-use borrow.Author.Tests.{leb-true, leb-false}
+use Rattle.std.proofs.Common.{◌≡◌, ◌≢◌, ℕ, ◌⊎◌, ⊎_elim, inl, inr, eqb-true, Bool, true, false, if◌then◌else◌, List, [], ◌∷◌, Option, Some, None, Result, Ok, Err, refl, sym, ap, ◌∙◌, subst}
+use Rattle.std.specs.Prelude.{IsSome, codes}
 use Rattle.world.specs.declared.database.HirDatabase.{HirDatabase}
 use Rattle.world.specs.declared.limits.Limits.{Limits}
 use Rattle.types.specs.declared.ids.DefWithBodyId.{DefWithBodyId}
@@ -10,7 +9,7 @@ use Rattle.mir.specs.declared.errors.MirEvalError.{MirEvalError}
 use Rattle.mir.specs.declared.errors.MirEvalError as error
 use Rattle.mir.specs.declared.ids.LocalId.{LocalId}
 use Rattle.mir.specs.Errors.{from_eval_error}
-use Rattle.mir.specs.Memory.{Memory, bytes_taken, within_bytes}
+use Rattle.mir.specs.Memory.{Memory}
 use Rattle.mir.specs.Run.{Frame, begun}
 use Rattle.mir_eval.specs.Machine.{Machine, State, Fresh, Going, Entry as BeforeBlock, on_a_level, pointer_bytes}
 use Rattle.mir_eval.specs.Start.{is_own_width, started, start_of}
@@ -44,28 +43,11 @@ started-going [] (Ok start) block blocks state h = (start, refl, (let same : sta
 started-going (param ∷ params) (Ok start) block blocks state h = absurd cc
 started-going params (Err e) block blocks state h = absurd cc
 
--- what is within a limit on bytes, and what isn't
-within-ok : (bytes : ℕ) (r : Result (Frame × Memory) MirEvalError) (start : Frame × Memory) → within_bytes bytes r ≡ Ok start → (r ≡ Ok start) × (bytes_taken start.1 ≤ bytes)
-within-ok bytes (Ok placed) start h = by (nat_le (bytes_taken placed.1) bytes) refl h where
-  by : (test : Bool) → nat_le (bytes_taken placed.1) bytes ≡ test → ◌≡◌ {A = Result (Frame × Memory) MirEvalError} (cond test (Ok placed) (Err error.MemoryLimitExceeded)) (Ok start) → ◌≡◌ {A = Result (Frame × Memory) MirEvalError} (Ok placed) (Ok start) × (bytes_taken start.1 ≤ bytes)
-  by true is h =
-      let same : placed ≡ start = cc in
-      (ap Ok same, subst (λ (s : Frame × Memory). bytes_taken s.1 ≤ bytes) same (leb-true (bytes_taken placed.1) bytes is))
-  by false is h = absurd cc
-within-ok bytes (Err e) start h = absurd cc
-
-within-refused : (bytes : ℕ) (r : Result (Frame × Memory) MirEvalError) (e : MirEvalError) → within_bytes bytes r ≡ Err e → (r ≡ Err e) ⊎ ((e ≡ error.MemoryLimitExceeded) × (start : Frame × Memory) × (r ≡ Ok start) × (bytes < bytes_taken start.1))
-within-refused bytes (Ok placed) e h = by (nat_le (bytes_taken placed.1) bytes) refl h where
-  by : (test : Bool) → nat_le (bytes_taken placed.1) bytes ≡ test → ◌≡◌ {A = Result (Frame × Memory) MirEvalError} (cond test (Ok placed) (Err error.MemoryLimitExceeded)) (Err e) → (◌≡◌ {A = Result (Frame × Memory) MirEvalError} (Ok placed) (Err e)) ⊎ ((e ≡ error.MemoryLimitExceeded) × (start : Frame × Memory) × ◌≡◌ {A = Result (Frame × Memory) MirEvalError} (Ok placed) (Ok start) × (bytes < bytes_taken start.1))
-  by true is h = absurd cc
-  by false is h = inr ((let same : error.MemoryLimitExceeded ≡ e = cc in sym same), placed, refl, leb-false (bytes_taken placed.1) bytes is)
-within-refused bytes (Err other) e h = inl h
-
 -- what a machine begins with, by the size of a pointer of its owner's crate
 abbrev BeginsBy : Bool → HirDatabase → MirBody → Limits → Result State MirEvalError
 BeginsBy own world body limits =
     if own
-    then on_a_level limits.nesting (started body.param_locals (within_bytes limits.bytes (begun (program_of world limits []) body)) body.start_block.0 limits.blocks)
+    then on_a_level limits.nesting (started body.param_locals (begun (program_of world limits []) body) body.start_block.0 limits.blocks)
     else Err (error.NotSupported (codes "targets with different pointer size from host"))
 
 -- why a machine doesn't begin
@@ -76,10 +58,8 @@ start-refused world def body limits e none there is = by-width (is_own_width (po
   by-width true own h =
       let pointers = own-width (pointer_bytes world def) own in
       ⊎_elim (λ deep. inr (inr (inl (deep.0, pointers, deep.1))))
-      (λ refused.
-      ⊎_elim (λ placed. inr (inr (inr (inl (pointers, refused.0, placed))))) (λ full. inr (inr (inr (inr (full.0, pointers, refused.0, full.1, full.2, full.3)))))
-      (within-refused limits.bytes (begun (program_of world limits []) body) e (started-refused body.param_locals (within_bytes limits.bytes (begun (program_of world limits []) body)) body.start_block.0 limits.blocks e none refused.1)))
-      (refused-on-level limits.nesting (started body.param_locals (within_bytes limits.bytes (begun (program_of world limits []) body)) body.start_block.0 limits.blocks) e h)
+      (λ refused. inr (inr (inr (pointers, refused.0, started-refused body.param_locals (begun (program_of world limits []) body) body.start_block.0 limits.blocks e none refused.1))))
+      (refused-on-level limits.nesting (started body.param_locals (begun (program_of world limits []) body) body.start_block.0 limits.blocks) e h)
   by-width false own h =
       let same : error.NotSupported (codes "targets with different pointer size from host") ≡ e = cc in
       let width = other-width (pointer_bytes world def) own there in
@@ -91,15 +71,13 @@ unfolding start_of
 start-begun world def body limits after is blocks = by-width (is_own_width (pointer_bytes world def)) refl is where
   by-width : (own : Bool) → is_own_width (pointer_bytes world def) ≡ own → BeginsBy own world body limits ≡ Ok after.state → HasBegun world def body limits after
   by-width true own h =
-      let made = made-on-level limits.nesting (started body.param_locals (within_bytes limits.bytes (begun (program_of world limits []) body)) body.start_block.0 limits.blocks) after.state h in
-      let going = started-going body.param_locals (within_bytes limits.bytes (begun (program_of world limits []) body)) body.start_block.0 limits.blocks after.state made.1 in
-      let fits = within-ok limits.bytes (begun (program_of world limits []) body) going.0 going.1 in
+      let made = made-on-level limits.nesting (started body.param_locals (begun (program_of world limits []) body) body.start_block.0 limits.blocks) after.state h in
+      let going = started-going body.param_locals (begun (program_of world limits []) body) body.start_block.0 limits.blocks after.state made.1 in
       record {
         pointers = own-width (pointer_bytes world def) own;
         nests = made.0;
         start = going.0;
-        began = fits.0;
-        fits = fits.1;
+        began = going.1;
         blocks = blocks;
         state = going.2;
       }

@@ -12,7 +12,7 @@ use Rattle.mir.specs.declared.errors.ConstEvalError.{ConstEvalError}
 use Rattle.mir.specs.declared.errors.ConstEvalError.TheVariants as constant
 use Rattle.mir.specs.declared.errors.MirEvalError.{MirEvalError}
 use Rattle.mir.specs.declared.errors.MirEvalError as error
-use Rattle.mir.specs.Memory.{Memory, bytes_taken}
+use Rattle.mir.specs.Memory.{Memory}
 use Rattle.mir.specs.Run.{Program, Frame, Calling, Ending, Returned, Faulted, Asked, Ended, begun}
 use Rattle.mir_eval.specs.declared.evaluator.Turned.TheVariants as turns
 use Rattle.mir_eval.specs.Evaluators.{Goes, IsTold, has_stopped, in_state, is_going, is_over, outcome, turned, wanted_in}
@@ -30,7 +30,6 @@ pub record HasStarted (world : HirDatabase) (def : DefWithBodyId) (body : MirBod
   pub nests : 0 < limits.nesting
   pub start : Frame × Memory
   pub began : begun (program_of world limits []) body ≡ Ok start
-  pub fits : bytes_taken start.1 ≤ limits.bytes
 
 -- a machine's run of a body came to where it goes on
 pub record IsOnItsWay (kept : Kept) (def : DefWithBodyId) (body : MirBody) (limits : Limits) (machine : Machine) : Type 0 where
@@ -71,7 +70,7 @@ begins-on-its-way kept world def body limits machine same has = on (subst (λ w.
   on : HasBegun kept.world def body limits machine → IsOnItsWay kept def body limits machine
   on has =
       record {
-        started = record { pointers = has.pointers; nests = has.nests; start = has.start; began = has.began; fits = has.fits };
+        started = record { pointers = has.pointers; nests = has.nests; start = has.start; began = has.began };
         blocks = has.blocks;
         position = record { frame = has.start.0; memory = has.start.1; point = BeforeBlock body.start_block.0; left = limits.blocks };
         come = comes-first kept body limits has.start has.began;
@@ -105,7 +104,6 @@ module _ (kept : Kept) (def : DefWithBodyId) (body : MirBody) (limits : Limits) 
         right = come.right;
         start = Start;
         began = began-so;
-        fits = started.fits;
         entered = subst (λ (ended : Ended). entered ≤ limits.blocks - ended.left) (sym same-end) fewer;
         is = is;
       }))
@@ -122,7 +120,6 @@ module _ (kept : Kept) (def : DefWithBodyId) (body : MirBody) (limits : Limits) 
           right = come.right;
           start = Start;
           began = began-so;
-          fits = started.fits;
           ended =
               ap (λ (ended : Ended). outcome_of (limits.nesting - 1) body ended.ending) same-end
               ∙ sym (ap (λ (p : Program). outcome_of (p.nesting - 1) body (end_of position).ending) come.program)
@@ -250,7 +247,6 @@ module _ (kept : Kept) (def : DefWithBodyId) (body : MirBody) (limits : Limits) 
               nests = started.nests;
               start = started.start;
               began = ap (λ world. begun (program_of world limits []) body) stays.world ∙ started.began;
-              fits = started.fits;
             };
             blocks = now-blocks;
             position = with_answers goes-on.0 (record { frame = asking.caller; memory = asking.then; point = AtCall asking.block; left = asking.left });
@@ -277,6 +273,5 @@ module _ (kept : Kept) (def : DefWithBodyId) (body : MirBody) (limits : Limits) 
           nests = started.nests;
           start = started.start;
           began = ap (λ world. begun (program_of world limits []) body) stays.world ∙ started.began;
-          fits = started.fits;
         })
         (come-stays kept later stays body limits started.start position asking.come) entered answer (omega arith) is

@@ -22,7 +22,7 @@ use Rattle.mir.specs.Errors.{from_lower_error, from_eval_error, layout_error_of}
 use Rattle.mir.specs.declared.errors.TrailEntry.{TrailEntry}
 use Rattle.mir.specs.declared.answers.Answer.{Answer}
 use Rattle.mir.specs.declared.answers.Query.{Query}
-use Rattle.mir.specs.Memory.{Memory, bytes_taken}
+use Rattle.mir.specs.Memory.{Memory}
 use Rattle.mir.specs.Run.{Frame, begun}
 use Rattle.mir_eval.specs.Evaluators.{crate_or_first}
 use Rattle.mir_eval.specs.Machine.{pointer_bytes}
@@ -220,14 +220,14 @@ pub record RunsTo (kept : Kept) (def : DefWithBodyId) (body : MirBody) (limits :
   pub is : answer ≡ carried outcome
 
 -- A body could not begin: the size of the crate's pointers isn't known, or it is another than 8 bytes, or else there is no
--- level of nesting for the run, or else a local can have no cell, or else the cells take more bytes than the limit.
+-- level of nesting for the run, or else a local's type has no layout or no size, or else the cells take more bytes than the limit. `begun`
+-- tells of the last two which it is.
 abbrev pub RefusesRun : HirDatabase → DefWithBodyId → MirBody → Limits → MirEvalError → Type 0
 RefusesRun world def body limits e =
     ((e ≡ error.TargetDataLayoutNotAvailable (crate_or_first world def)) × (pointer_bytes world def ≡ None))
     ⊎ ((e ≡ error.NotSupported (codes "targets with different pointer size from host")) × (width : ℕ) × (pointer_bytes world def ≡ Some width) × (width ≢ 8))
     ⊎ ((e ≡ error.StackOverflow) × (pointer_bytes world def ≡ Some 8) × (limits.nesting ≡ 0))
     ⊎ ((pointer_bytes world def ≡ Some 8) × (0 < limits.nesting) × (begun (program_of world limits []) body ≡ Err e))
-    ⊎ ((e ≡ error.MemoryLimitExceeded) × (pointer_bytes world def ≡ Some 8) × (0 < limits.nesting) × (start : Frame × Memory) × (begun (program_of world limits []) body ≡ Ok start) × (limits.bytes < bytes_taken start.1))
 
 -- no run of a body began, for want of memory or for a cause that the answer names
 pub record NeverBegins (world : HirDatabase) (def : DefWithBodyId) (body : MirBody) (limits : Limits) (turns : ℕ) (answer : Result Const ConstEvalError) : Type 0 where
@@ -245,7 +245,6 @@ pub record RunsOut (kept : Kept) (def : DefWithBodyId) (body : MirBody) (limits 
   pub right : AreRightAnswers kept answers
   pub start : Frame × Memory
   pub began : begun (program_of kept.world limits answers) body ≡ Ok start
-  pub fits : bytes_taken start.1 ≤ limits.bytes
   pub entered : turns ≤ limits.blocks - (run_of body start limits.blocks).left
   pub is : answer ≡ Err constant.NoMemory
 

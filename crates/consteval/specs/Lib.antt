@@ -1,6 +1,7 @@
 pub mod Answers
 pub mod Built
 pub mod Kept
+pub mod Machines
 pub mod Questions
 pub mod Refusals
 pub mod Sources

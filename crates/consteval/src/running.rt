@@ -4,16 +4,19 @@ ghost use Rattle.std.specs.Prelude.{◌≡◌, ◌⊎◌, ◌≤◌, [], Err, If
 ghost use Rattle.mir.specs.declared.answers.Query.TheVariants as query;
 ghost use Rattle.mir.specs.declared.errors.ConstEvalError.TheVariants as constant;
 ghost use Rattle.mir.specs.declared.errors.MirEvalError as error;
-ghost use Rattle.mir_eval.specs.Evaluators.{in_state, is_over, machine_of};
+ghost use Rattle.mir_eval.specs.Evaluators.{in_state, is_over};
 ghost use Rattle.mir_eval.specs.Machine.{blocks_left, turns_of};
+ghost use Rattle.world.specs.Checked.{IsChecked};
 ghost use Rattle.world.specs.Limits.{IsWithin};
 ghost use Rattle.consteval.specs.Answers.{AnswersBody, RefusesRun, carried};
 ghost use Rattle.consteval.specs.Kept.{HasBegun, IsRightAnswer, IsSound, Stays};
+ghost use Rattle.consteval.specs.Machines.{machine_of};
 ghost use Rattle.consteval.specs.Questions.{AsksForBody, IsCarried, IsToldRightly};
 
 use crate::{Evaluated, Evaluations};
 use mir::{Answer, ConstEvalError, MirBody, MirEvalError, MirLowerError, Query};
 use mir_eval::{Evaluator, Limits, MirOutput, Turned};
+use mir_mem::FlatMemory;
 use std::alloc::Global;
 use std::rc::Rc;
 use world::{Const, DefWithBodyId, GenericArgs, HirDatabase, NoMemory};
@@ -46,8 +49,9 @@ fn begun<'a>(
     def: DefWithBodyId,
     body: Rc<MirBody>,
     limits: &Limits,
-) -> Result<Evaluator<'a>, MirEvalError>
+) -> Result<Evaluator<'a, FlatMemory>, MirEvalError>
     requires limits { IsWithin limits.now }
+    requires checked { IsChecked db.now }
     requires no_params { body.value.param_locals ≡ [] }
     ensures began { IfOk result (λ evaluator. HasBegun db.now def body.value limits.now (machine_of evaluator)) }
     ensures refused { IfErr result (λ e. (e ≡ error.NoMemory) ⊎ RefusesRun db.now def body.value limits.now e) }
@@ -63,7 +67,7 @@ fn begun<'a>(
 }
 
 /// The answer of a run that is over.
-fn ended(evaluator: Evaluator<'_>) -> Evaluated
+fn ended(evaluator: Evaluator<'_, FlatMemory>) -> Evaluated
     requires { IsTrue (is_over (machine_of evaluator).state) }
     ensures printed { result.output ≡ ([], []) }
     ensures carries { IsCarried (machine_of evaluator.entry).state result.result }
@@ -79,7 +83,7 @@ fn ended(evaluator: Evaluator<'_>) -> Evaluated
 }
 
 /// The answer of a run for which memory ran out while it was to be told what it asked for.
-fn exhausted(alloc: Global, evaluator: &Evaluator<'_>) -> Evaluated
+fn exhausted(alloc: Global, evaluator: &Evaluator<'_, FlatMemory>) -> Evaluated
     ensures { result ≡ record { result = Err constant.NoMemory; output = ([], []); turns = turns_of (machine_of evaluator.now) } }
 {
     Evaluated {
@@ -109,7 +113,7 @@ impl<'w> Evaluations<'w> {
 
     /// Tells a machine the body that it asks for, or why that can't be lowered. Without memory for
     /// either the machine has as many blocks left as before.
-    fn tell_body(&mut self, evaluator: &mut Evaluator<'_>) -> Result<(), NoMemory>
+    fn tell_body(&mut self, evaluator: &mut Evaluator<'_, FlatMemory>) -> Result<(), NoMemory>
         requires { AsksForBody (machine_of evaluator.old).state }
         ensures told { OnOk result (IsToldRightly self.new (machine_of evaluator.old).state (machine_of evaluator.new).state) }
         ensures left { OnErr result (blocks_left 0 (machine_of evaluator.new).state ≡ blocks_left 0 (machine_of evaluator.old).state) }

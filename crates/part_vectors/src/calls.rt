@@ -2,6 +2,7 @@
 ghost use Rattle.std.specs.Prelude.{IfOk, IsTrue, OnOk};
 ghost use Rattle.mir.specs.Answers.{answers_kind};
 ghost use Rattle.mir_eval.specs.Evaluators.{is_going, is_over, machine_of};
+ghost use Rattle.mir_mem.specs.Flat.{areas_of};
 ghost use Rattle.world.specs.Limits.{IsWithin};
 
 use crate::graphs::{
@@ -13,6 +14,7 @@ use mir::{
     Operand, Place, Query, Rvalue, StatementKind, TerminatorKind,
 };
 use mir_eval::{Evaluator, Limits};
+use mir_mem::FlatMemory;
 use report_text::goal_text;
 use std::alloc::Global;
 use std::rc::Rc;
@@ -338,10 +340,10 @@ fn answer_to(alloc: Global, query: &Query, functions: &[Function]) -> Result<Ans
 /// Tells a run the body that it asks for.
 fn tell_body(
     alloc: Global,
-    evaluator: &mut Evaluator<'_>,
+    evaluator: &mut Evaluator<'_, FlatMemory>,
     functions: &[Function],
 ) -> Result<(), Fail>
-    ensures { OnOk result (IsTrue (is_going (machine_of evaluator.new).state)) }
+    ensures { OnOk result (IsTrue (is_going (machine_of areas_of evaluator.new).state)) }
 {
     let answer = match evaluator.wanted() {
         Some(query) => answer_to(alloc, query, functions)?,
@@ -354,11 +356,11 @@ fn tell_body(
 /// Runs to the end, and returns how many bodies were asked for on the way.
 fn run_to_end(
     alloc: Global,
-    evaluator: &mut Evaluator<'_>,
+    evaluator: &mut Evaluator<'_, FlatMemory>,
     functions: &[Function],
 ) -> Result<u32, Fail>
-    requires { IsTrue (is_going (machine_of evaluator.old).state) }
-    ensures { OnOk result (IsTrue (is_over (machine_of evaluator.new).state)) }
+    requires { IsTrue (is_going (machine_of areas_of evaluator.old).state) }
+    ensures { OnOk result (IsTrue (is_over (machine_of areas_of evaluator.new).state)) }
 {
     for asked in 0..3u32 {
         evaluator.run();
@@ -385,8 +387,12 @@ fn limits_of(row: &Row) -> Result<Limits, Fail>
 }
 
 /// The report on a goal whose run is over.
-fn lines_of(alloc: Global, db: &HirDatabase, evaluator: Evaluator<'_>) -> Result<Bytes, NoMemory>
-    requires { IsTrue (is_over (machine_of evaluator).state) }
+fn lines_of(
+    alloc: Global,
+    db: &HirDatabase,
+    evaluator: Evaluator<'_, FlatMemory>,
+) -> Result<Bytes, NoMemory>
+    requires { IsTrue (is_over (machine_of areas_of evaluator).state) }
 {
     let turns = evaluator.turns();
     let (ended, output) = evaluator.finish();
@@ -399,12 +405,13 @@ fn lines_of(alloc: Global, db: &HirDatabase, evaluator: Evaluator<'_>) -> Result
 
 /// How often the row's run asks for a body, and the report on a goal that ends so.
 fn report_of(alloc: Global, row: &Row) -> Result<(u32, Bytes), Fail> {
-    let db = world_of_one(alloc)?;
+    let world = world_of_one(alloc)?;
+    let db = world.db();
     let limits = limits_of(row)?;
     let body = Rc::new(alloc, root(alloc, row)?)?;
-    let mut evaluator = begun(alloc, &db, body, &limits)?;
+    let mut evaluator = begun(alloc, db, body, &limits)?;
     let asked = run_to_end(alloc, &mut evaluator, row.functions)?;
-    let lines = lines_of(alloc, &db, evaluator)?;
+    let lines = lines_of(alloc, db, evaluator)?;
     Ok((asked, lines))
 }
 

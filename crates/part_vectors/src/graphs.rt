@@ -5,10 +5,12 @@ use mir::{
     Terminator, TerminatorKind,
 };
 use std::alloc::Global;
+use std::test::Fail;
 use world::{
     Bytes, Const, ConstId, ConstRow, Crate, CrateRow, DefWithBodyId, HirDatabase, Layout, List,
     MemoryMap, NoMemory, Ty, UintTy, ValueConst, Variants,
 };
+use world_check::CheckedWorld;
 
 /// The constant whose body a run begins in.
 pub(crate) const OWNER: DefWithBodyId = DefWithBodyId::ConstId(ConstId(0));
@@ -20,8 +22,8 @@ fn u64_type() -> Ty {
     Ty::Uint(UintTy::U64)
 }
 
-/// A world of one constant of the type `u64`.
-pub(crate) fn world_of_one(alloc: Global) -> Result<HirDatabase, NoMemory> {
+/// The tables of a world of one constant of the type `u64`.
+fn tables_of_one(alloc: Global) -> Result<HirDatabase, NoMemory> {
     let mut db = HirDatabase::new(alloc);
     db.crates.push(CrateRow {
         pointer_bytes: Some(8),
@@ -42,6 +44,14 @@ pub(crate) fn world_of_one(alloc: Global) -> Result<HirDatabase, NoMemory> {
     };
     db.layouts.push((u64_type(), layout))?;
     Ok(db)
+}
+
+/// A world of one constant of the type `u64`.
+pub(crate) fn world_of_one(alloc: Global) -> Result<CheckedWorld, Fail> {
+    match CheckedWorld::new(alloc, tables_of_one(alloc)?) {
+        Ok(world) => Ok(world),
+        Err(_) => Err(Fail::new("the world of one constant is refused")),
+    }
 }
 
 /// A constant of this type with these bytes, as an operand.

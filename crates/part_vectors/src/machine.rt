@@ -1,6 +1,8 @@
 //! The machine by itself, without a source.
 ghost use Rattle.std.specs.Prelude.{IfOk, IsTrue};
 ghost use Rattle.mir_eval.specs.Evaluators.{is_going, machine_of};
+ghost use Rattle.mir_mem.specs.Flat.{areas_of};
+ghost use Rattle.world.specs.Checked.{IsChecked};
 ghost use Rattle.world.specs.Limits.{IsWithin};
 
 use crate::graphs::{OWNER, SLOT, block, locals, number, statement, world_of_one};
@@ -9,6 +11,7 @@ use mir::{
     TerminatorKind,
 };
 use mir_eval::{Evaluator, Limits, Turned};
+use mir_mem::FlatMemory;
 use std::alloc::Global;
 use std::rc::Rc;
 use std::test::Fail;
@@ -49,15 +52,16 @@ fn switching_blocks(alloc: Global, discr: u8) -> Result<List<BasicBlock>, NoMemo
     Ok(blocks)
 }
 
-/// A machine that is about to enter the first block of a body.
+/// A machine over a flat memory that is about to enter the first block of a body.
 pub(crate) fn begun<'a>(
     alloc: Global,
     db: &'a HirDatabase,
     body: Rc<MirBody>,
     limits: &Limits,
-) -> Result<Evaluator<'a>, MirEvalError>
-    requires { IsWithin limits.now }
-    ensures { IfOk result (λ evaluator. IsTrue (is_going (machine_of evaluator).state)) }
+) -> Result<Evaluator<'a, FlatMemory>, MirEvalError>
+    requires limits { IsWithin limits.now }
+    requires checked { IsChecked db.now }
+    ensures { IfOk result (λ evaluator. IsTrue (is_going (machine_of areas_of evaluator).state)) }
 {
     let mut evaluator = match Evaluator::new(alloc, db, OWNER, false, limits) {
         Ok(evaluator) => evaluator,
@@ -71,9 +75,9 @@ pub(crate) fn begun<'a>(
 
 /// How a run of these blocks turned out, and its turns.
 fn run_of(alloc: Global, blocks: List<BasicBlock>) -> Result<(Turned, u64), Fail> {
-    let db = world_of_one(alloc)?;
+    let world = world_of_one(alloc)?;
     let body = Rc::new(alloc, body_of(alloc, blocks)?)?;
-    let mut evaluator = begun(alloc, &db, body, &Limits::default_limits())?;
+    let mut evaluator = begun(alloc, world.db(), body, &Limits::default_limits())?;
     let turned = evaluator.run();
     Ok((turned, evaluator.turns()))
 }
@@ -105,9 +109,9 @@ fn every_other_number_leads_to_the_last_target(rt: HostRuntime) -> Result<(), Fa
 #[test]
 fn a_run_holds_a_level_until_it_ends_in_a_value(rt: HostRuntime) -> Result<(), Fail> {
     let alloc = rt.alloc();
-    let db = world_of_one(alloc)?;
+    let world = world_of_one(alloc)?;
     let body = Rc::new(alloc, body_of(alloc, sum_blocks(alloc)?)?)?;
-    let mut evaluator = begun(alloc, &db, body, &Limits::default_limits())?;
+    let mut evaluator = begun(alloc, world.db(), body, &Limits::default_limits())?;
     assert_eq!(rt; evaluator.nesting_left(), 99);
     evaluator.run();
     assert_eq!(rt; evaluator.nesting_left(), 100);

@@ -1,8 +1,8 @@
 -- A machine that began, and why it didn't.
 use Rattle.std.proofs.Common.{◌≡◌, ⊎_elim, inl, inr, Ok, Err, refl, ap, ◌∙◌, subst}
-use Rattle.mir_eval.specs.Evaluators.{machine_of}
 use Rattle.mir_eval.specs.Machine.{Machine}
 use Rattle.mir_eval.specs.Start.{start_of}
+use Rattle.consteval.specs.Machines.{machine_of}
 use Rattle.consteval.proofs.Starting.{start-refused, start-begun}
 use Rattle.consteval.proofs.running.begun.Goals as goal
 

@@ -1,9 +1,9 @@
 -- What the run of a body comes to that is told what it asks.
 use Rattle.std.proofs.Common.{◌<◌, ◌∙◌, Err, sym, ap, subst}
 use Rattle.mir.specs.declared.errors.ConstEvalError.{ConstEvalError}
-use Rattle.mir_eval.specs.Evaluators.{machine_of}
 use Rattle.mir_eval.specs.Machine.{blocks_left}
 use Rattle.consteval.specs.Answers.{AnswersBody}
+use Rattle.consteval.specs.Machines.{machine_of}
 use Rattle.consteval.specs.declared.evaluated.Evaluated.{Evaluated}
 use Rattle.consteval.proofs.Keeping.{stays, stays-then}
 use Rattle.consteval.proofs.Starting.{never-begins}

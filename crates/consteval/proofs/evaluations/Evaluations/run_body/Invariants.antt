@@ -1,7 +1,7 @@
 -- A run that is told what it asks is on its way between its questions, and takes a block before each.
-use Rattle.mir_eval.specs.Evaluators.{machine_of}
 use Rattle.mir_eval.specs.Machine.{blocks_left}
 use Rattle.consteval.specs.Kept.{IsSound, Stays}
+use Rattle.consteval.specs.Machines.{machine_of}
 use Rattle.consteval.proofs.Turning.{IsOnItsWay}
 use Rattle.consteval.proofs.evaluations.Evaluations.run_body.Given as goal
 
