@@ -1,14 +1,12 @@
--- The sizes of the cells of locals, one after another, and the cells of a called body.
-use Rattle.std.proofs.Common.{◌≡◌, ℕ, suc, drop, drop-cons, get_or, ◌+◌, ◌<◌, ◌≤◌, List, [], ◌∷◌, ◌++◌, length, Option, Some, None, Result, Ok, Err, refl, sym, ap, ◌∙◌, arith, append-nil, append_assoc}
+-- The sizes of the cells of locals, one after another.
+use Rattle.std.proofs.Common.{◌≡◌, ℕ, suc, drop, drop-cons, get_or, ◌+◌, ◌<◌, ◌≤◌, List, [], ◌∷◌, ◌++◌, length, Result, Ok, Err, refl, sym, ap, ◌∙◌, arith, append-nil, append_assoc}
 use Rattle.std.proofs.lemmas.List.{drop_all}
 use Rattle.world.specs.declared.database.HirDatabase.{HirDatabase}
 use Rattle.world.specs.Lookups.{layout_of}
 use Rattle.mir.specs.declared.address.CellSize.{CellSize}
-use Rattle.mir.specs.declared.address.Interval.{Interval}
 use Rattle.mir.specs.declared.body.Local.{Local}
 use Rattle.mir.specs.declared.errors.MirEvalError.{MirEvalError}
-use Rattle.mir.specs.Memory.{Memory, cell_before, cell_size_of, cells_of, size_before, sizes_of}
-use Rattle.mir.specs.Run.{called_cells}
+use Rattle.mir.specs.Memory.{cell_size_of, size_before, sizes_of}
 
 -- sizes before others
 abbrev pub sizes_with : List CellSize → Result (List CellSize) MirEvalError → Result (List CellSize) MirEvalError
@@ -23,12 +21,6 @@ with-one done size (Err e) = refl
 -- the sizes so far before those of the locals that are left at a place are all sizes
 abbrev pub Sized : HirDatabase → (all : List Local) → (done : List CellSize) → (i : ℕ) → Type 0
 Sized world all done i = sizes_with done (sizes_of world (drop i all)) ≡ sizes_of world all
-
-pub sized-first : (world : HirDatabase) (all : List Local) → Sized world all [] 0
-sized-first world all = before-none (sizes_of world all) where
-  before-none : (r : Result (List CellSize) MirEvalError) → sizes_with [] r ≡ r
-  before-none (Ok sizes) = refl
-  before-none (Err e) = refl
 
 module _ (world : HirDatabase) (all : List Local) (done : List CellSize) (i : ℕ) where
   split : (local : Local) → i < length all → local ≡ get_or all i local → drop i all ≡ local ∷ drop (i + 1) all
@@ -60,18 +52,3 @@ module _ (world : HirDatabase) (all : List Local) (done : List CellSize) (i : �
   unfolding sizes_of
   sized-last none sized =
       sym sized ∙ ap (λ (rest : List Local). sizes_with done (sizes_of world rest)) (drop_all i all none) ∙ ap Ok (append-nil done)
-
--- the cells of a called body behind its return slot, which is the destination
-pub cells-behind : (world : HirDatabase) (locals : List Local) (slot : Interval) (memory : Memory) → 0 < length locals →
-    called_cells world locals (Some slot) memory ≡ cell_before slot (cells_of world (drop 1 locals) memory)
-cells-behind world [] slot memory some = absurd (omega arith)
-cells-behind world (local ∷ locals) slot memory some = refl
-
--- without a destination all cells are new, and so they are where there are no locals
-pub cells-new : (world : HirDatabase) (locals : List Local) (memory : Memory) → called_cells world locals None memory ≡ cells_of world locals memory
-cells-new world [] memory = refl
-cells-new world (local ∷ locals) memory = refl
-
-pub cells-none : (world : HirDatabase) (locals : List Local) (destination : Option Interval) (memory : Memory) → locals ≡ [] → called_cells world locals destination memory ≡ cells_of world locals memory
-cells-none world locals destination memory none =
-    ap (λ (l : List Local). called_cells world l destination memory) none ∙ ap (λ (l : List Local). cells_of world l memory) (sym none)
