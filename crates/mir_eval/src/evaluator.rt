@@ -82,9 +82,9 @@ impl<'a, M: Memory + Drop> Evaluator<'a, M> {
     ghost use Rattle.mir_eval.specs.Start.{start_of};
     ghost use Rattle.mir_eval.specs.Evaluators.{machine_of, crate_or_first, is_fresh, is_going, is_over, has_stopped, wanted_in, in_state, turned, outcome, Goes, IsTold};
 
-    /// A machine for a body that belongs to `owner`. It takes no memory. The refusal is
-    /// `TargetDataLayoutNotAvailable`, exactly where the size of a pointer of the owner's crate isn't
-    /// known.
+    /// A machine for a body that belongs to `owner`, in a world that passed the check. It takes no memory: the memory of its
+    /// run is made by `begin`. The refusal is `TargetDataLayoutNotAvailable`, exactly where the size of a pointer of the owner's
+    /// crate isn't known.
     #[tactic(auto, using(crate::proofs::Alignments::has_alignments))]
     pub fn new(
         alloc: Global,
@@ -119,8 +119,8 @@ impl<'a, M: Memory + Drop> Evaluator<'a, M> {
     /// `StackOverflow` where the limit on nesting is 0; `LayoutError` or `TypeIsUnsized` for the first
     /// local whose type has no layout or no size; `MemoryLimitExceeded` where the stack with the cells of
     /// all locals would have more bytes, the one at its start aside, than the limit on bytes; `InternalError` where the
-    /// body has parameters. `NoMemory`, for want of memory alone, may come in place of any of them and of a run. The
-    /// stack is taken once it is known to be within the limit. After a refusal nothing was begun.
+    /// body has parameters. `NoMemory`, for want of memory alone, may come in place of any of them and of a run. After a
+    /// refusal nothing was begun.
     #[tactic(auto, unfolding(crate::specs::Start::start_of))]
     pub fn begin(&mut self, body: Rc<MirBody>) -> Result<(), MirEvalError>
         requires { IsTrue (is_fresh (machine_of M.areas self.old).state) }
