@@ -1,5 +1,5 @@
 -- What the code of a graph does: from a point of it to another, or to the end of the run.
-use Rattle.std.specs.Prelude.{◌≡◌, ℕ, List, ◌∷◌, [], Option, Some, unwrap_or}
+use Rattle.std.specs.Prelude.{◌≡◌, ◌⊎◌, ℕ, List, ◌∷◌, [], Option, Some, unwrap_or}
 use Rattle.mir.specs.declared.operand.OperandKind.{OperandKind}
 use Rattle.mir.specs.Memory.{Memory}
 use Rattle.mir.specs.Run.{Frame, operand_bytes as mir_bytes, operand_type as mir_type}
@@ -11,6 +11,8 @@ use Rattle.world.specs.declared.body.Statement.{Statement}
 use Rattle.types.specs.declared.ids.ExprId.{ExprId}
 use Rattle.mir_lower.specs.Graph.{Shape, OpenTarget, local_of}
 use Rattle.mir_lower.specs.Growth.{Grows, IsSound, count_at}
+use Rattle.mir_lower.specs.Callees.{Serves}
+use Rattle.mir_lower.specs.Stops.{StopsWithin, turns_of}
 use Rattle.mir_lower.specs.Runs.{Point, Within, Entry, Exit, run_from, Enters, IsFault, EndsAfter, error_of, AreCellsApart, Comes, Represents}
 
 -- the point behind the last statement of the current block
@@ -44,13 +46,17 @@ Lands whole frame from memory store turns (AtPoint point) = (later : Memory) × 
 -- From a point the run does what an end says, over exactly as many blocks as that counts: it reaches another point with a
 -- memory that holds the store, and the claim on the value holds; or it reaches where a jump lands; or it ends. Where the fuel
 -- ran out, the run enters as many blocks as were counted up to there.
-abbrev pub Reaches : {A : Type 0} → Shape → Landings → Frame → Point → Point → Memory → (A → Type 0) → End A → Type 0
-Reaches whole lands frame from to memory claim (Go value store cost) =
+abbrev pub Goes : {A : Type 0} → Shape → Landings → Frame → Point → Point → Memory → (A → Type 0) → End A → Type 0
+Goes whole lands frame from to memory claim (Go value store cost) =
     (later : Memory) × Comes frame cost.turns from memory to later × Holds whole frame store later × claim value
-Reaches whole lands frame from to memory claim (Jumps jump store cost) = Lands whole frame from memory store cost.turns (lands jump)
-Reaches whole lands frame from to memory claim (Faults fault cost) = EndsAfter cost.turns (IsFault (error_of fault)) (run_from frame memory from)
-Reaches whole lands frame from to memory claim Stuck = Unit {0}
-Reaches whole lands frame from to memory claim (More cost) = Enters cost.turns (run_from frame memory from)
+Goes whole lands frame from to memory claim (Jumps jump store cost) = Lands whole frame from memory store cost.turns (lands jump)
+Goes whole lands frame from to memory claim (Faults fault cost) = EndsAfter cost.turns (IsFault (error_of fault)) (run_from frame memory from)
+Goes whole lands frame from to memory claim Stuck = Unit {0}
+Goes whole lands frame from to memory claim (More cost) = Enters cost.turns (run_from frame memory from)
+
+-- the run does so, or it stops at a call, after no more blocks than the end counts
+abbrev pub Reaches : {A : Type 0} → Source → Shape → Landings → Frame → Point → Point → Memory → (A → Type 0) → End A → Type 0
+Reaches source whole lands frame from to memory claim end = StopsWithin source frame.program (turns_of end) (run_from frame memory from) ⊎ Goes whole lands frame from to memory claim end
 
 -- A loop or a labelled block of the meaning is one of the graph: its value goes to the cell of the graph's local, as many cells
 -- were in use when it was entered, and jumps to it land before the graph's blocks.
@@ -76,12 +82,13 @@ pub record Stands (whole old : Shape) (lands : Landings) (around : Around) : Typ
   pub targets : FrontAll whole lands old.targets around.targets
 
 -- What code does: in each finished graph that extends the new one, where jumps land in the blocks of the loops and labelled blocks
--- that the old graph has open, where the cells in use are those that it has, and from each memory that holds the store, the
--- code between the two graphs' points does what an end says, at each amount of fuel, and what is claimed of its value holds.
+-- that the old graph has open, where the cells in use are those that it has, where the bodies that the run is told do what their sources
+-- mean, at less fuel, and from each memory that holds the store, the code between the two graphs' points does what an end says, at each
+-- amount of fuel, and what is claimed of its value holds; or the run stops at a call.
 pub record Performs (source : Source) (old new : Shape) {A : Type 0} (claim : Shape → Frame → A → Type 0) (meaning : Around → ℕ → Store → End A) : Type 0 where
   pub reaches : (whole : Shape) (frame : Frame) → Grows new whole → IsSound source whole → IsFrameOf whole frame → (lands : Landings) → (around : Around) → Stands whole old lands around →
-      (fuel : ℕ) (store : Store) (memory : Memory) → Holds whole frame store memory →
-      Reaches whole lands frame (here old) (here new) memory (claim whole frame) (meaning around fuel store)
+      (fuel : ℕ) → Serves fuel source frame.program → (store : Store) (memory : Memory) → Holds whole frame store memory →
+      Reaches source whole lands frame (here old) (here new) memory (claim whole frame) (meaning around fuel store)
 
 -- nothing is claimed
 abbrev pub Nothing : Shape → Frame → Unit {0} → Type 0

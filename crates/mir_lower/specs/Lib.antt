@@ -10,3 +10,5 @@ pub mod Runs
 pub mod Simulates
 pub mod Branches
 pub mod Built
+pub mod Callees
+pub mod Stops

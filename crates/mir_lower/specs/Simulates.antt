@@ -1,5 +1,5 @@
 -- A graph does what a typed body means.
-use Rattle.std.specs.Prelude.{◌≡◌, ℕ, ◌≤◌, List, map, sum, Option, Some, Ok, slice_get}
+use Rattle.std.specs.Prelude.{◌≡◌, ◌⊎◌, ℕ, ◌≤◌, List, map, sum, Option, Some, Ok, slice_get}
 use Rattle.types.specs.declared.ty.Ty.{Ty}
 use Rattle.mir.specs.declared.body.Local.{Local}
 use Rattle.mir.specs.declared.body.MirBody.{MirBody}
@@ -11,37 +11,32 @@ use Rattle.source_meaning.specs.Meaning.{meaning_from, meaning_of}
 use Rattle.source_meaning.specs.Source.{Source, Cell, Result, Binding, Store, binding_type, cell_type, node_type, root}
 use Rattle.source_meaning.specs.Valid.{IsPlain, IsLaidOut, AreLaidOut}
 use Rattle.world.specs.Lookups.{layout_of}
+use Rattle.mir_lower.specs.Callees.{HasParameters, RunsAs, Serves}
 use Rattle.mir_lower.specs.Growth.{IsUsed}
-use Rattle.mir_lower.specs.Runs.{Point, Entry, Exit, run_from, Enters, IsReturned, IsFault, EndsAfter, error_of, local_bytes, AreCellsApart, Comes, Represents}
+use Rattle.mir_lower.specs.Runs.{Entry, Enters, IsReturned, IsFault, EndsAfter, error_of, AreCellsApart, Represents}
+use Rattle.mir_lower.specs.Stops.{StopsWithin, turns_of}
 
 -- A run ends as the meaning does, after exactly as many blocks as that counts. Where the fuel of the meaning ran out, the run
 -- enters as many blocks as were counted up to there. Of the calls that are open at a fault, or when the blocks run out, nothing is
 -- said. Of a meaning that ends in a jump nothing is said: that of a plain body doesn't.
-abbrev pub EndsAs : End (List ℕ) → (ℕ → Ended) → Type 0
-EndsAs (Go bytes store cost) run = EndsAfter cost.turns (IsReturned bytes) run
-EndsAs (Jumps to store cost) run = Unit {0}
-EndsAs (Faults fault cost) run = EndsAfter cost.turns (IsFault (error_of fault)) run
-EndsAs Stuck run = Unit {0}
-EndsAs (More cost) run = Enters cost.turns run
+abbrev pub EndsOn : End (List ℕ) → (ℕ → Ended) → Type 0
+EndsOn (Go bytes store cost) run = EndsAfter cost.turns (IsReturned bytes) run
+EndsOn (Jumps to store cost) run = Unit {0}
+EndsOn (Faults fault cost) run = EndsAfter cost.turns (IsFault (error_of fault)) run
+EndsOn Stuck run = Unit {0}
+EndsOn (More cost) run = Enters cost.turns run
 
--- From a point on, the run of a body does what its meaning says, over exactly as many blocks as that counts: it comes to where the
--- body returns, with a memory that represents the store, and with the value's bytes in the return slot; or it ends in a fault. Where the
--- fuel of the meaning ran out, the run enters as many blocks as were counted up to there. Of a meaning that is stuck or ends in a jump
--- nothing is said: that of a plain body of a checked world, from a store with as many bytes in each cell as its type has, is neither.
-abbrev pub RunsAs : (Cell → Option ℕ) → Frame → Point → Memory → End (List ℕ) → Type 0
-RunsAs allotted frame from memory (Go bytes store cost) =
-    (later : Memory) × Comes frame cost.turns from memory Exit later × Represents allotted frame store later × (local_bytes frame later 0 ≡ Some bytes)
-RunsAs allotted frame from memory (Jumps to store cost) = Unit {0}
-RunsAs allotted frame from memory (Faults fault cost) = EndsAfter cost.turns (IsFault (error_of fault)) (run_from frame memory from)
-RunsAs allotted frame from memory Stuck = Unit {0}
-RunsAs allotted frame from memory (More cost) = Enters cost.turns (run_from frame memory from)
+-- the run ends so, or it stops at a call, after no more blocks than the meaning counts
+abbrev pub EndsAs : Source → Program → End (List ℕ) → (ℕ → Ended) → Type 0
+EndsAs source program end run = StopsWithin source program (turns_of end) run ⊎ EndsOn end run
 
 -- A MIR body does what a typed body means. A cell is where the source keeps a value: the result, a variable, a temporary of an expression;
 -- a store gives each cell's bytes. `allotted` says which local stands for a cell, if any does: the return slot for the result, one for each
 -- binding that no closure owns, no local for two cells, and for each cell one of its type; each local stands for a cell that is used.
--- `does`: entered at its start block, in a frame whose locals share no byte and hold the store's bytes, whatever the run goes by and whatever
--- callers are suspended below it, the body runs as its meaning from that store says. `runs`: so it does alone, from zeroed locals in the
--- source's world, where that can begin, whatever limits and answers the run goes by. All locals together take no more bytes than the source
+-- `params`: the locals of the parameters are those of the bindings that these are the plain names of. `does`: entered at its start block, in a
+-- frame whose locals share no byte and hold the store's bytes, whatever callers are suspended below it, and whatever limits and answers
+-- the run goes by, where each body among these does at less fuel what its function's source means, the body runs as its meaning from that
+-- store says, or stops at a call. `runs`: so it does alone, from zeroed locals in the source's world, where that can begin. All locals together take no more bytes than the source
 -- counts for its cells (`room`). Where the source is plain and each local's type has a layout, so have the types of all that is evaluated
 -- (`laid_out`).
 pub record Simulates (source : Source) (body : MirBody) : Type 0 where
@@ -50,11 +45,12 @@ pub record Simulates (source : Source) (body : MirBody) : Type 0 where
   pub bound : (b : ℕ) (ty : Ty) → binding_type source b ≡ Some ty → (l : ℕ) × (allotted (Binding b) ≡ Some l)
   pub own : (c d : Cell) (l : ℕ) → allotted c ≡ Some l → allotted d ≡ Some l → c ≡ d
   pub typed : (c : Cell) (l : ℕ) → allotted c ≡ Some l → (local : Local) × (slice_get body.locals l ≡ Some local) × (cell_type source c ≡ Some local.ty)
-  pub does : (fuel : ℕ) (store : Store) (frame : Frame) (memory : Memory) → frame.body ≡ body → AreCellsApart frame.cells → Represents allotted frame store memory →
-      RunsAs allotted frame (Entry body.start_block.0) memory (meaning_from source store fuel)
+  pub params : HasParameters source body allotted
+  pub does : (fuel : ℕ) (store : Store) (frame : Frame) (memory : Memory) → frame.body ≡ body → Serves fuel source frame.program → AreCellsApart frame.cells → Represents allotted frame store memory →
+      RunsAs source allotted frame (Entry body.start_block.0) memory (meaning_from source store fuel)
   pub slot : (local : Local) × (slice_get body.locals 0 ≡ Some local) × (node_type source (root source) ≡ Some local.ty)
   pub cells : (l : ℕ) (local : Local) → slice_get body.locals l ≡ Some local → (cell : Cell) × IsUsed source cell × (cell_type source cell ≡ Some local.ty) × (allotted cell ≡ Some l)
   pub room : sum (map (λ local. room_of (layout_of source.world local.ty)) body.locals) ≤ body_room source
   pub laid_out : IsPlain source → ((l : ℕ) (local : Local) → slice_get body.locals l ≡ Some local → IsLaidOut source (Some local.ty)) → AreLaidOut source
-  pub runs : (fuel : ℕ) (program : Program) (start : Frame × Memory) → program.world ≡ source.world → begun program body ≡ Ok start →
-      EndsAs (meaning_of source fuel) (λ budget. entering budget start.0 start.1 body.start_block.0)
+  pub runs : (fuel : ℕ) (program : Program) (start : Frame × Memory) → Serves fuel source program → begun program body ≡ Ok start →
+      EndsAs source program (meaning_of source fuel) (λ budget. entering budget start.0 start.1 body.start_block.0)

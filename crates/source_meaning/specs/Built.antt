@@ -1,14 +1,17 @@
 -- Which expressions have a form that is built: each has a meaning, its paths name bindings of the body, and its statements
 -- bind names of the body.
-use Rattle.std.specs.Prelude.{◌≡◌, ℕ, All, Option, Some, None}
+use Rattle.std.specs.Prelude.{◌≡◌, ℕ, All, Option, Some, None, option_and_then}
 use Rattle.source_meaning.specs.Core.{CoreExpr}
 use Rattle.source_meaning.specs.Core as expr
 use Rattle.source_meaning.specs.Source.{Source, binding_type, named_by, pattern, target}
 use Rattle.types.specs.declared.ids.BindingId.{BindingId}
+use Rattle.types.specs.declared.ids.FunctionId.{FunctionId}
 use Rattle.types.specs.declared.ty.Ty.{Ty}
 use Rattle.world.specs.declared.body.Statement.{Statement}
 use Rattle.world.specs.declared.body.Statement.TheVariants as statement
 use Rattle.world.specs.declared.infer.ValueNs.TheVariants.{LocalBinding}
+use Rattle.world.specs.Lookups.{function_row}
+use Rattle.source_meaning.specs.Calls.{function_called}
 
 -- a binding of the body
 pub record IsBinding (source : Source) (binding : BindingId) : Type 0 where
@@ -39,7 +42,14 @@ IsBuiltStatement source (statement.Let pat (Some e) None) = BindsBinding source 
 IsBuiltStatement source (statement.Expr e has_semi) = Unit {0}
 IsBuiltStatement source _ = ⊥
 
--- An expression of a form that is built, whatever its parts are. Calls have a meaning, and aren't built yet.
+-- A call that is built: by its type, its callee is a function that is given no generic arguments, and that has no meaning of its own in the
+-- machine, as an intrinsic has.
+pub record CallsFunction (source : Source) (callee : ℕ) : Type 0 where
+  pub id : FunctionId
+  pub names : function_called source callee ≡ Some id
+  pub not_special : option_and_then (λ row. row.special) (function_row source.world id) ≡ None
+
+-- An expression of a form that is built, whatever its parts are.
 abbrev pub IsBuiltForm : Source → ℕ → Option CoreExpr → Type 0
 IsBuiltForm source e (Some (expr.Literal l)) = Unit {0}
 IsBuiltForm source e (Some (expr.Path name)) = NamesBinding source e
@@ -53,5 +63,5 @@ IsBuiltForm source e (Some (expr.Loop label body)) = Unit {0}
 IsBuiltForm source e (Some (expr.Break label value)) = Unit {0}
 IsBuiltForm source e (Some (expr.Continue label)) = Unit {0}
 IsBuiltForm source e (Some (expr.Return value)) = Unit {0}
-IsBuiltForm source e (Some (expr.Call callee args)) = ⊥
+IsBuiltForm source e (Some (expr.Call callee args)) = CallsFunction source callee
 IsBuiltForm source e None = ⊥

@@ -1,5 +1,5 @@
 -- Which function a call enters, and what its body starts from.
-use Rattle.std.specs.Prelude.{◌==◌, ◌++◌, ℕ, Bool, List, [], ◌∷◌, length, Option, Some, None, option_map, option_and_then, if◌then◌else◌}
+use Rattle.std.specs.Prelude.{◌==◌, ◌++◌, ℕ, Bool, List, [], ◌∷◌, length, Option, Some, None, option_map, option_and_then, if◌then◌else◌, flat_map}
 use Rattle.std.specs.List.{list_any}
 use Rattle.types.specs.declared.ids.BindingId.{BindingId}
 use Rattle.types.specs.declared.ids.CallableDefId.TheVariants.{FunctionId as CalledFunction}
@@ -20,7 +20,7 @@ use Rattle.types.specs.declared.ty.ValueConst.{ValueConst}
 use Rattle.world.specs.declared.database.BodyRow.{BodyRow}
 use Rattle.world.specs.declared.database.HirDatabase.{HirDatabase}
 use Rattle.world.specs.Lookups.{body_row}
-use Rattle.source_meaning.specs.Source.{Source, Store, Result, Binding, own_type, pattern, cell_size, zeroed, with_cell_bytes}
+use Rattle.source_meaning.specs.Source.{Source, Store, Cell, Result, Binding, bound_by, own_type, pattern, cell_size, zeroed, with_cell_bytes}
 
 -- a type's variant
 abbrev TyLayer : Type 0
@@ -76,6 +76,11 @@ self_bound None = []
 -- the binding's own, so the argument lies in the binding's cell; where one is any other pattern there is no answer.
 unfoldable pub parameters : Source → Option (List ℕ)
 parameters source = option_map (λ named. self_bound source.body.self_param ++ named) (names_bound source source.body.params)
+
+-- The cells that the parameters' patterns bind, in order, that of `self` first. They are in use from the body's start on, in the body's own
+-- scope, so leaving the body drops those whose type isn't `Copy`.
+unfoldable pub parameter_cells : Source → List Cell
+parameter_cells source = bound_by source.body.self_param ++ flat_map (λ (pat : PatId). bound_by (pattern source pat.0)) source.body.params
 
 -- The store after each parameter's cell took the bytes of an argument, in order, where they are as many, and each has the size of its
 -- cell.

@@ -2,7 +2,6 @@
 use Rattle.std.specs.Prelude.{◌≡◌, ◌≢◌, ◌↔◌, true, ℕ, ◌≤◌, List, ◌++◌, ◌∷◌}
 use Rattle.world.specs.Checked.{IsChecked, IsCheckedBody}
 use Rattle.source_meaning.specs.Built.{IsBuiltForm}
-use Rattle.source_meaning.specs.Core.{IsNoCall}
 use Rattle.source_meaning.specs.Ends.{Cost, plus, no_cost, Stuck, IsOver, GoesOn, JumpsNowhere}
 use Rattle.source_meaning.specs.Entering.{is_cost_defined}
 use Rattle.source_meaning.specs.Events.{Event, Scopes, scopes_after, events, marked}
@@ -33,9 +32,9 @@ PlainJumpsNowhere =
 abbrev pub BodiesGoOn : Type 0
 BodiesGoOn = (source : Source) (store : Store) (many : ℕ) → IsChecked source.world → IsCheckedBody source.body source.infer → (fuel : ℕ) × GoesOn many (meaning_from source store fuel)
 
--- A plain expression that is no call has a form that is built. Calls aren't built yet.
+-- A plain expression has a form that is built.
 abbrev pub PlainIsBuilt : Type 0
-PlainIsBuilt = (source : Source) (e : ℕ) → IsPlainNode source e → IsNoCall (node source e) → IsBuiltForm source e (node source e)
+PlainIsBuilt = (source : Source) (e : ℕ) → IsPlainNode source e → IsBuiltForm source e (node source e)
 
 -- Costs add up in any grouping, and no cost adds nothing.
 pub record CostsAdd : Type 0 where

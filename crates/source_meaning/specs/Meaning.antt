@@ -14,7 +14,7 @@ use Rattle.world.specs.Lookups.{layout_of}
 use Rattle.numbers.specs.Bytes.{low_bytes}
 use Rattle.numbers.specs.declared.operator.Kind.{Kind}
 use Rattle.numbers.specs.Operators.{Answer, Computes, Panics, Undefined, computed, negated, inverted, kind_of}
-use Rattle.source_meaning.specs.Calls.{source_called, must_not_return, started}
+use Rattle.source_meaning.specs.Calls.{source_called, must_not_return, parameter_cells, started}
 use Rattle.source_meaning.specs.Core as expr
 use Rattle.source_meaning.specs.Core.{CoreExpr, CoreLiteral, Truth, Number, Operation, Negate, Invert, Combine}
 use Rattle.source_meaning.specs.Ends.{Cost, no_cost, turns_alone, bytes_alone, plus, one_level_more, End, Go, Jumps, Break, Continue, Return, Faults, Panic, Undefined as UndefinedBehavior, Stuck, More, after, then_do, IsOver}
@@ -348,7 +348,7 @@ level_above source below callees around = record {
 -- How a body ends, by the end of its root. Where the root has a value, the body's scope is left; a `return` has left it already.
 -- Both give the bytes of the result's cell. A `break` or a `continue` that nothing caught stays one; a plain body has none.
 abbrev pub returned : Source → End (Unit {0}) → End (List ℕ)
-returned source (Go done store cost) = after cost (Go (store Result) store (turns_alone (drops source (marked source (root source)))))
+returned source (Go done store cost) = after cost (Go (store Result) store (turns_alone (drops source (parameter_cells source ++ marked source (root source)))))
 returned source (Jumps Return store cost) = Go (store Result) store cost
 returned source (Jumps (Break node) store cost) = Jumps (Break node) store cost
 returned source (Jumps (Continue node) store cost) = Jumps (Continue node) store cost
@@ -357,11 +357,11 @@ returned source Stuck = Stuck
 returned source (More cost) = More cost
 
 -- What a body means from a store on, by the meanings of its expressions: its root is evaluated into the result's cell, which is also the
--- return path, and the bytes of that cell are the value. No cell is zeroed: the result's keeps its old bytes where nothing is written to
+-- return path, and the bytes of that cell are the value. The parameters' cells are in use from the start on. No cell is zeroed: the result's keeps its old bytes where nothing is written to
 -- it.
 abbrev pub body_meaning : Source → Levels → Store → End (List ℕ)
 body_meaning source levels store =
-    after (entering source) (returned source ((levels (at_root (record { cell = Result }))).into (root source) (record { cell = Result }) store))
+    after (entering source) (returned source ((levels (marking (parameter_cells source) (at_root (record { cell = Result })))).into (root source) (record { cell = Result }) store))
 
 -- the meanings of a body's expressions at an amount of fuel; a callee has one unit less than its call
 unfoldable pub level_at : Source → ℕ → Levels
