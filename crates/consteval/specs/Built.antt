@@ -1,6 +1,5 @@
 -- Which definitions can be lowered so far.
-use Rattle.std.specs.Prelude.{Bool, true, false, not, List, [], ◌∷◌, ◌||◌, Option, Some, None, is_some, option_map, slice_get}
-use Rattle.world.specs.declared.body.Body.{Body}
+use Rattle.std.specs.Prelude.{Bool, true, false, not, List, [], ◌∷◌, ◌||◌, Option, Some, None, option_map, slice_get}
 use Rattle.world.specs.declared.items.ConstRow.{ConstRow}
 use Rattle.world.specs.declared.items.FunctionRow.{FunctionRow}
 use Rattle.world.specs.declared.database.HirDatabase.{HirDatabase}
@@ -19,26 +18,17 @@ abbrev pub has_generics : Option ConstRow → Bool
 has_generics (Some row) = not (is_empty row.generics)
 has_generics None = false
 
--- whether a function has generic or value parameters
-abbrev pub is_unbuilt_function : Option FunctionRow → Bool
-is_unbuilt_function (Some row) = not (is_empty row.generics) || not (is_empty row.sig.params)
-is_unbuilt_function None = false
+-- whether a function has generic parameters
+abbrev pub is_generic_function : Option FunctionRow → Bool
+is_generic_function (Some row) = not (is_empty row.generics)
+is_generic_function None = false
 
--- whether a definition's kind isn't built yet: a static, a variant, a constant with generic parameters, or a function with
--- generic or value parameters
-abbrev pub is_unbuilt_item : HirDatabase → DefWithBodyId → Bool
-is_unbuilt_item world (ConstId id) = has_generics (slice_get world.consts id.0)
-is_unbuilt_item world (FunctionId id) = is_unbuilt_function (function_row world id)
-is_unbuilt_item world _ = true
-
--- whether a body has parameters, or a `self`
-abbrev pub has_params : Option Body → Bool
-has_params (Some body) = not (is_empty body.params) || is_some body.self_param
-has_params None = false
-
--- whether a definition isn't built yet, whatever arguments it is given: it is of a kind that isn't, or its body has parameters
+-- whether a definition isn't built yet, whatever arguments it is given: a static, a variant, or a constant or a function with generic
+-- parameters
 abbrev pub is_unbuilt_definition : HirDatabase → DefWithBodyId → Bool
-is_unbuilt_definition world def = is_unbuilt_item world def || has_params (option_map (λ row. row.body) (body_row world def))
+is_unbuilt_definition world (ConstId id) = has_generics (slice_get world.consts id.0)
+is_unbuilt_definition world (FunctionId id) = is_generic_function (function_row world id)
+is_unbuilt_definition world _ = true
 
 -- whether a definition isn't built yet: it was given arguments, or it isn't whatever it is given
 abbrev pub is_unbuilt : HirDatabase → DefWithBodyId → GenericArgs → Bool

@@ -67,8 +67,8 @@ pub record Stays (before after : Kept) : Type 0 where
   pub entries : after.entries ≡ before.entries ++ more
 
 -- A body that is kept for a definition is what lowering makes of its row: the definition is built, inference met no error in its body, each
--- expression that is evaluated has a form that is built, none of the graph's locals needs a drop function, none is a parameter's, the
--- locals stand in the order of lowering, and the graph simulates the row.
+-- expression that is evaluated has a form that is built, none of the graph's locals needs a drop function, the locals stand in the order of
+-- lowering, and the graph simulates the row.
 pub record IsLowered (world : HirDatabase) (def : DefWithBodyId) (body : MirBody) : Type 0 where
   pub no_errors : is_erroneous world def ≡ false
   pub built : is_unbuilt_definition world def ≡ false
@@ -76,7 +76,6 @@ pub record IsLowered (world : HirDatabase) (def : DefWithBodyId) (body : MirBody
   pub found : body_row world def ≡ Some row
   pub forms : IsBuilt (source_of world row) (root (source_of world row))
   pub dropless : needs_drops (source_of world row) body.locals ≡ false
-  pub params : body.param_locals ≡ []
   pub order : AreInOrder (source_of world row) body.locals
   pub owner : body.owner ≡ def
   pub simulates : Simulates (source_of world row) body

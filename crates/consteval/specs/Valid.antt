@@ -12,8 +12,8 @@ use Rattle.types.specs.declared.ty.GenericArgs.{GenericArgs}
 use Rattle.types.specs.declared.ty.Ty.{Ty}
 use Rattle.world.specs.Lookups.{body_row, function_row}
 use Rattle.mir_eval.specs.Machine.{pointer_bytes}
-use Rattle.source_meaning.specs.Source.{node_type, root}
-use Rattle.source_meaning.specs.Valid.{IsPlain, HasNoCalls}
+use Rattle.source_meaning.specs.Source.{Source, node_type, root}
+use Rattle.source_meaning.specs.Valid.{IsPlainThroughout, AreLaidOut, Calls, Reaches}
 use Rattle.mir_lower.specs.Refusals.{HasDrops}
 use Rattle.consteval.specs.Sources.{source_of}
 
@@ -40,8 +40,9 @@ IsPlainItem world (Function id) ty = IsPlainFunction world id ty
 IsPlainItem world _ ty = ⊥
 
 -- A definition and its arguments are valid: it is a constant without generic parameters, or a function without generic and value
--- parameters, has a plain body of its type without parameters and typing errors, which evaluates no call, and no value of which may
--- need a drop function, no arguments, and its crate has pointers of 8 bytes.
+-- parameters, has a body of its type without parameters and typing errors, and no value of which may need a drop function, no
+-- arguments, and its crate has pointers of 8 bytes. Its body is plain, and so is each body that it reaches by calls. The types of each body
+-- that is called have layouts.
 pub record IsValid (world : HirDatabase) (def : DefWithBodyId) (args : GenericArgs) (row : BodyRow) : Type 0 where
   pub ty : Ty
   pub item : IsPlainItem world def ty
@@ -51,9 +52,8 @@ pub record IsValid (world : HirDatabase) (def : DefWithBodyId) (args : GenericAr
   pub no_self : row.body.self_param ≡ None
   pub inferred : row.infer.erroneous ≡ false
   pub fitting : row.infer.mismatches ≡ []
-  pub plain : IsPlain (source_of world row)
-  -- calls have a meaning, and aren't lowered yet
-  pub built : HasNoCalls (source_of world row)
+  pub plain : IsPlainThroughout (source_of world row)
+  pub laid_out : (called reached : Source) → Calls (source_of world row) called → Reaches called reached → AreLaidOut reached
   pub dropless : ¬ HasDrops (source_of world row)
   pub typed : node_type (source_of world row) (root (source_of world row)) ≡ Some ty
   pub pointers : pointer_bytes world def ≡ Some 8

@@ -4,7 +4,7 @@ ghost use Rattle.std.specs.Prelude.{◌≡◌, ◌⊎◌, [], IsTrue, IfOk, IfEr
 ghost use Rattle.mir.specs.declared.errors.MirLowerError.TheVariants as refusal;
 ghost use Rattle.std.specs.Option.{option_copied};
 ghost use Rattle.consteval.specs.Refusals.{RefusesBody};
-ghost use Rattle.consteval.specs.Built.{has_errors, has_generics, has_params, is_unbuilt, is_unbuilt_definition, is_unbuilt_function, is_unbuilt_item};
+ghost use Rattle.consteval.specs.Built.{has_errors, has_generics, is_generic_function, is_unbuilt, is_unbuilt_definition};
 ghost use Rattle.consteval.specs.Kept.{IsLowered};
 
 use body_forms::form_not_built;
@@ -12,7 +12,7 @@ use mir::{MirBody, MirLowerError};
 use mir_lower::lower_to_mir;
 use std::alloc::Global;
 use world::{
-    Body, ConstRow, DefWithBodyId, FunctionRow, GenericArgs, HirDatabase, InferenceResult,
+    ConstRow, DefWithBodyId, FunctionRow, GenericArgs, HirDatabase, InferenceResult,
 };
 use world_check::CheckedWorld;
 
@@ -34,46 +34,26 @@ fn has_generics(row: Option<&ConstRow>) -> bool
     }
 }
 
-/// Whether a function has generic or value parameters.
-fn is_unbuilt_function(row: Option<&FunctionRow>) -> bool
-    ensures { result ≡ is_unbuilt_function (option_copied row.entry) }
+/// Whether a function has generic parameters.
+fn is_generic_function(row: Option<&FunctionRow>) -> bool
+    ensures { result ≡ is_generic_function (option_copied row.entry) }
 {
     match row {
-        Some(row) => {
-            !row.generics.as_slice().is_empty() || !row.sig.params.as_slice().is_empty()
-        }
+        Some(row) => !row.generics.as_slice().is_empty(),
         None => false,
     }
 }
 
-/// Whether a definition's kind isn't built yet: a static, a variant, a constant with generic parameters,
-/// or a function with generic or value parameters.
-fn is_unbuilt_item(db: &HirDatabase, def: DefWithBodyId) -> bool
-    ensures { result ≡ is_unbuilt_item db.now def }
-{
-    match def {
-        DefWithBodyId::ConstId(id) => has_generics(db.consts.get(id.0 as u64)),
-        DefWithBodyId::FunctionId(id) => is_unbuilt_function(db.functions.get(id.0 as u64)),
-        _ => true,
-    }
-}
-
-/// Whether a body has parameters, or a `self`.
-fn has_params(body: Option<&Body>) -> bool
-    ensures { result ≡ has_params (option_copied body.entry) }
-{
-    match body {
-        Some(body) => !body.params.as_slice().is_empty() || body.self_param.is_some(),
-        None => false,
-    }
-}
-
-/// Whether a definition isn't built yet, whatever arguments it is given: it is of a kind that isn't, or
-/// its body has parameters.
+/// Whether a definition isn't built yet, whatever arguments it is given: a static, a variant, or a
+/// constant or a function with generic parameters.
 fn is_unbuilt_definition(db: &HirDatabase, def: DefWithBodyId) -> bool
     ensures { result ≡ is_unbuilt_definition db.now def }
 {
-    is_unbuilt_item(db, def) || has_params(db.body(def))
+    match def {
+        DefWithBodyId::ConstId(id) => has_generics(db.consts.get(id.0 as u64)),
+        DefWithBodyId::FunctionId(id) => is_generic_function(db.functions.get(id.0 as u64)),
+        _ => true,
+    }
 }
 
 /// Whether a definition isn't built yet: it was given arguments, or it isn't whatever it is given.
@@ -94,8 +74,8 @@ fn has_errors(infer: Option<&InferenceResult>) -> bool
 }
 
 /// The lowered body of a definition. The refusals, in this order: `HasErrors` where inference met an
-/// error in its body, `NotSupported` where there are arguments, the definition's kind isn't built yet or
-/// its body has parameters, `IncompleteExpr` where there is no body, and those of its expressions.
+/// error in its body, `NotSupported` where there are arguments or the definition's kind isn't built yet,
+/// `IncompleteExpr` where there is no body, and those of its expressions.
 /// `NoMemory` may come in place of any of them.
 pub(crate) fn lower(
     alloc: Global,

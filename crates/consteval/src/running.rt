@@ -42,7 +42,7 @@ fn carried(outcome: Result<Const, MirEvalError>) -> Result<Const, ConstEvalError
     }
 }
 
-/// A machine that is about to enter the first block of a body without parameters.
+/// A machine that is about to enter the first block of a body; one with parameters is refused, since it has no arguments.
 fn begun<'a>(
     alloc: Global,
     db: &'a HirDatabase,
@@ -52,7 +52,6 @@ fn begun<'a>(
 ) -> Result<Evaluator<'a, FlatMemory>, MirEvalError>
     requires limits { IsWithin limits.now }
     requires checked { IsChecked db.now }
-    requires no_params { body.value.param_locals ≡ [] }
     ensures began { IfOk result (λ evaluator. HasBegun db.now def body.value limits.now (machine_of evaluator)) }
     ensures refused { IfErr result (λ e. (e ≡ error.NoMemory) ⊎ RefusesRun db.now def body.value limits.now e) }
 {
@@ -128,7 +127,7 @@ impl<'w> Evaluations<'w> {
         evaluator.tell(answer)
     }
 
-    /// Runs a body without parameters to its end. Each body that the run asks for is lowered and kept
+    /// Runs a body that nothing calls to its end. Each body that the run asks for is lowered and kept
     /// first, where none is kept.
     pub(crate) fn run_body(
         &mut self,
@@ -137,7 +136,6 @@ impl<'w> Evaluations<'w> {
         limits: &Limits,
     ) -> Evaluated
         requires limits { IsWithin limits.now }
-        requires no_params { body.value.param_locals ≡ [] }
         ensures printed { result.output ≡ ([], []) }
         ensures answered { AnswersBody self.new def body.value limits.now result.turns result.result }
         ensures turns { result.turns ≤ limits.now.blocks }

@@ -1,5 +1,5 @@
 -- Why a typed body can't be lowered.
-use Rattle.std.specs.Prelude.{◌≡◌, ◌≢◌, ℕ, Bool, true, false, not, ◌&&◌, IsTrue, List, [], ◌⊎◌, Some, None, codes, is_some}
+use Rattle.std.specs.Prelude.{◌≡◌, ◌≢◌, ℕ, Bool, true, false, not, ◌&&◌, IsTrue, List, [], ◌⊎◌, Contains, Some, None, codes, is_some}
 use Rattle.std.specs.List.{list_any}
 use Rattle.mir.specs.declared.body.Local.{Local}
 use Rattle.types.specs.declared.ty.Ty.{Ty}
@@ -8,7 +8,9 @@ use Rattle.mir_lower.specs.Growth.{IsUsed}
 use Rattle.world.specs.declared.infer.InferenceResult.{InferenceResult}
 use Rattle.mir.specs.declared.errors.MirLowerError.{MirLowerError}
 use Rattle.mir.specs.declared.errors.MirLowerError.TheVariants as refusal
-use Rattle.source_meaning.specs.Source.{Source, Cell, cell_type, pattern, target_path, pattern_named_by, root}
+use Rattle.types.specs.declared.ids.BindingId.{BindingId}
+use Rattle.source_meaning.specs.Calls.{parameters, parameter_cells}
+use Rattle.source_meaning.specs.Source.{Source, Cell, Binding, binding_type, cell_type, pattern, target_path, pattern_named_by, root}
 use Rattle.source_meaning.specs.Valid.{Evaluates}
 use Rattle.body_forms.specs.Refusals.{AssignsNone, BindsNone, IsUnbuiltTarget, RefusesNode}
 
@@ -53,9 +55,17 @@ pub record HasDrops (source : Source) : Type 0 where
   pub typed : cell_type source cell ≡ Some ty
   pub no_copy : is_copy source.infer ty ≡ false
 
--- a body without typing errors is refused for one of its expressions, or for what may need a drop function
+-- the refusal of a body's parameters: one isn't a name by value, or the body lacks its binding
+abbrev pub RefusesParameters : Source → MirLowerError → Type 0
+RefusesParameters source (refusal.NotSupported text) = (text ≡ codes "form not built") × (parameters source ≡ None)
+RefusesParameters source refusal.InaccessibleLocal = (binding : BindingId) × Contains (parameter_cells source) (Binding binding.0) × (binding_type source binding.0 ≡ None)
+RefusesParameters source refusal.NoMemory = Unit {0}
+RefusesParameters source _ = ⊥
+
+-- a body without typing errors is refused for its parameters, for one of its expressions, or for what may need a drop function
 abbrev pub RefusesInferred : Source → MirLowerError → Type 0
-RefusesInferred source error = ((error ≡ refusal.NotSupported (codes "form not built")) × HasDrops source) ⊎ RefusesAt source (root source) error
+RefusesInferred source error =
+    ((error ≡ refusal.NotSupported (codes "form not built")) × HasDrops source) ⊎ RefusesParameters source error ⊎ RefusesAt source (root source) error
 
 -- a body's refusal is that of its typing errors, or that of the body without them
 abbrev pub Refuses : Source → MirLowerError → Type 0
