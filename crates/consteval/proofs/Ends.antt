@@ -2,6 +2,7 @@
 use Rattle.std.proofs.Common.{◌≡◌, ◌≢◌, ℕ, suc, ◌+◌, ◌-◌, ◌<◌, ◌≤◌, ◌⊎◌, ⊎_elim, inl, inr, List, [], Option, Some, None, Result, Ok, Err, refl, sym, ap, ◌∙◌, subst, arith}
 use Rattle.std.specs.Prelude.{slice_get}
 use Rattle.std.proofs.lemmas.Bool.{cases_lt}
+use Rattle.std.proofs.lemmas.Option.{none-some}
 use Rattle.types.specs.declared.ty.Const.{Const}
 use Rattle.types.specs.declared.ty.Ty.{Ty}
 use Rattle.world.specs.declared.limits.Limits.{Limits}
@@ -11,17 +12,20 @@ use Rattle.mir.specs.declared.errors.MirEvalError.{MirEvalError}
 use Rattle.mir.specs.declared.errors.MirEvalError as error
 use Rattle.mir.specs.declared.errors.TrailEntry.{TrailEntry}
 use Rattle.mir.specs.Memory.{Memory}
-use Rattle.mir.specs.Run.{Program, Frame, Ending, Returned, Faulted, Ended, bad_read, begun}
+use Rattle.mir.specs.Run.{Program, Frame, Ending, Returned, Faulted, Asked, Ended, bad_read, begun}
 use Rattle.mir_eval.specs.Machine.{on_a_level, outcome_of, wrapped}
-use Rattle.mir_lower.specs.Simulates.{EndsAs, Simulates}
+use Rattle.mir_lower.specs.Callees.{Serves}
+use Rattle.mir_lower.specs.Simulates.{EndsAs, EndsOn, Simulates}
+use Rattle.mir_lower.specs.Stops.{IsCut, LacksRoom, StopsWithin, WasRefused, turns_of}
 use Rattle.mir_lower.specs.Runs.{EndsAfter, IsFault, IsOutOfBlocks, IsReturned, error_of}
 use Rattle.source_meaning.specs.Ends.{Cost, End, Go, Jumps, Faults, Stuck, More, Fault, Panic, Undefined, GoesOn, IsOver, JumpsNowhere}
 use Rattle.source_meaning.specs.Meaning.{Gives, meaning_of}
 use Rattle.source_meaning.specs.Source.{Source, Store, node_type, root}
+use Rattle.source_meaning.specs.Valid.{HasNoCalls}
 use Rattle.consteval.specs.Kept.{run_of}
-use Rattle.consteval.proofs.Faults.{framed, overflowed}
+use Rattle.consteval.proofs.Faults.{ends-in-panic, framed, overflowed, word-lacks-room, word-of-frame, word-past-blocks}
 use Rattle.consteval.proofs.Nesting.{fault-on-level, has-level, value-nests, value-on-level}
-use Rattle.consteval.specs.Answers.{EndsEvaluation, EndsFrame, GivesValue, CountsBlocks, IsWithinLimits, constant_of, cost_in}
+use Rattle.consteval.specs.Answers.{EndsEvaluation, EndsFrame, GivesPanic, GivesValue, CountsBlocks, IsWithinLimits, constant_of, cost_in, panic_word}
 
 -- with as many blocks as it enters, a run reaches its end
 runs-with : (turns : ℕ) (ends : Ending → Type 0) (run : ℕ → Ended) → EndsAfter turns ends run → (blocks : ℕ) → turns ≤ blocks → ends (run blocks).ending
@@ -52,6 +56,11 @@ faulted-outcome : (levels : ℕ) (body : MirBody) (e : MirEvalError) (trail : Li
 unfolding outcome_of
 faulted-outcome levels body e trail = refl
 
+-- a fault says the word of a panic as it is handed out, or none
+wrapped-word : (e : MirEvalError) (trail : List TrailEntry) (word : List ℕ) → panic_word (wrapped e trail) ≡ Some word → panic_word e ≡ Some word
+wrapped-word error.NoMemory trail word says = says
+wrapped-word e trail word says = sym (word-of-frame e trail) ∙ says
+
 -- a fault that a source means is handed out in a frame
 wrapped-fault : (fault : Fault) (trail : List TrailEntry) → wrapped (error_of fault) trail ≡ error.InFunction (error_of fault) trail
 wrapped-fault (Panic word) trail = refl
@@ -67,6 +76,25 @@ same-fault e other h = cc
 pub same-outcome : (one other : Result Const MirEvalError) → ◌≡◌ {A = Option (Result Const MirEvalError)} (Some one) (Some other) → one ≡ other
 same-outcome one other h = cc
 
+-- a run that ended at a call hands out no value
+cut-gives-no-value : (program : Program) (levels : ℕ) (body : MirBody) (ending : Ending) (konst : Const) → IsCut program ending → outcome_of levels body ending ≡ Some (Ok konst) → ⊥
+unfolding outcome_of
+cut-gives-no-value program levels body (Returned bytes) konst cut h = cut
+cut-gives-no-value program levels body (Faulted e trail) konst cut h = value-is-no-fault konst (wrapped e trail) (sym h)
+cut-gives-no-value program levels body (Asked q frame memory call) konst cut h = cc
+
+-- and no panic, where no refusal that it was told says the word of one
+cut-gives-no-panic : (program : Program) (levels : ℕ) (body : MirBody) (ending : Ending) (e : MirEvalError) (word : List ℕ) →
+    ((refusal : MirEvalError) → WasRefused program refusal → panic_word refusal ≡ None) → IsCut program ending → outcome_of levels body ending ≡ Some (Err e) → panic_word e ≡ Some word → ⊥
+unfolding outcome_of
+cut-gives-no-panic program levels body (Returned bytes) e word silent cut h says = cut
+cut-gives-no-panic program levels body (Faulted fault trail) e word silent cut h says =
+    let same = same-fault (wrapped fault trail) e h in
+    let said = wrapped-word fault trail word (ap panic_word same ∙ says) in
+    let none : panic_word fault ≡ None = ⊎_elim (silent fault) (word-lacks-room fault) cut in
+    none-some word (sym none ∙ said)
+cut-gives-no-panic program levels body (Asked q frame memory call) e word silent cut h says = cc
+
 -- an end that has a meaning, and is no jump
 abbrev EndsWell : End (List ℕ) → Type 0
 EndsWell end = (end ≢ Stuck) × JumpsNowhere end
@@ -77,7 +105,7 @@ pub record ComesTo (source : Source) (many : ℕ) (end : End (List ℕ)) : Type 
   pub reached : meaning_of source fuel ≡ end
   pub goes_on : GoesOn many end
 
-module _ (source : Source) (program : Program) (body : MirBody) (same : program.world ≡ source.world) (simulates : Simulates source body) (start : Frame × Memory) (began : begun program body ≡ Ok start) (limits : Limits) (nests : 0 < limits.nesting) where
+module _ (source : Source) (program : Program) (body : MirBody) (serves : (fuel : ℕ) → Serves fuel source program) (simulates : Simulates source body) (start : Frame × Memory) (began : begun program body ≡ Ok start) (limits : Limits) (nests : 0 < limits.nesting) where
   abbrev Run : ℕ → Ended
   Run = run_of body start
 
@@ -111,13 +139,38 @@ module _ (source : Source) (program : Program) (body : MirBody) (same : program.
   Comes end = ComesTo source (suc limits.blocks) end
 
   -- where that is no end, the run is out of blocks
-  more-blocks : (cost : Cost) → Comes (More cost) → EndsAs (More cost) Run → (limits.blocks < cost.turns) × IsOutOfBlocks (Run limits.blocks)
+  more-blocks : (cost : Cost) → Comes (More cost) → EndsOn (More cost) Run → (limits.blocks < cost.turns) × IsOutOfBlocks (Run limits.blocks)
   more-blocks cost comes ends =
       let many = comes.goes_on in
       let less : limits.blocks < cost.turns = omega arith in
       (less, ends limits.blocks less)
 
-  value-of-end : (end : End (List ℕ)) → Comes end → EndsAs end Run → EndsWell end → (konst : Const) → Outcome ≡ Some (Ok konst) → GivesValue source konst
+  -- a run that stops at a call, or is out of blocks before
+  stops-or-out : {A : Type 0} (turns : ℕ) → StopsWithin source program turns Run → (IsOutOfBlocks (Run limits.blocks) → A) → (IsCut program (Run limits.blocks).ending → A) → A
+  stops-or-out turns stops by-blocks by-cut = ⊎_elim (λ out. by-blocks out.1) by-cut (runs-under stops.blocks (IsCut program) Run stops.ends limits.blocks)
+
+  -- a run that stops at a call hands out no value
+  stops-without-value : {A : Type 0} (turns : ℕ) → StopsWithin source program turns Run → (konst : Const) → Outcome ≡ Some (Ok konst) → A
+  stops-without-value turns stops konst h =
+      stops-or-out turns stops (λ out. no-fault konst error.ExecutionLimitExceeded h (out-of-blocks out))
+      (λ cut. absurd (cut-gives-no-value program Levels body (Run limits.blocks).ending konst cut h))
+
+  -- and no panic
+  stops-without-panic : {A : Type 0} (turns : ℕ) → StopsWithin source program turns Run → ((refusal : MirEvalError) → WasRefused program refusal → panic_word refusal ≡ None) →
+      (e : MirEvalError) (word : List ℕ) → Outcome ≡ Some (Err e) → panic_word e ≡ Some word → A
+  stops-without-panic turns stops silent e word h says =
+      stops-or-out turns stops
+      (λ out.
+      let handed_out = out-of-blocks out in
+      let is = same-fault e _ (sym h ∙ handed_out.1) in
+      absurd (none-some word (sym (word-past-blocks handed_out.0) ∙ sym (ap panic_word is) ∙ says)))
+      (λ cut. absurd (cut-gives-no-panic program Levels body (Run limits.blocks).ending e word silent cut h says))
+
+  -- without calls no run stops at one
+  ends-on : (end : End (List ℕ)) → HasNoCalls source → EndsAs source program end Run → EndsOn end Run
+  ends-on end none ends = ⊎_elim (λ stops. absurd (let call = stops.call in call.is_call (none call.e call.evaluated))) (λ on. on) ends
+
+  value-of-end : (end : End (List ℕ)) → Comes end → EndsOn end Run → EndsWell end → (konst : Const) → Outcome ≡ Some (Ok konst) → GivesValue source konst
   value-of-end (Go bytes store cost) comes ends well konst h =
       ⊎_elim (λ out. no-fault konst error.ExecutionLimitExceeded h (out-of-blocks out.1))
       (λ is. record {
@@ -138,7 +191,7 @@ module _ (source : Source) (program : Program) (body : MirBody) (same : program.
   value-of-end (More cost) comes ends well konst h = no-fault konst error.ExecutionLimitExceeded h (out-of-blocks (more-blocks cost comes ends).1)
 
   -- a run that handed out a value entered as many blocks as the source counts
-  counts-of-end : (end : End (List ℕ)) → Comes end → EndsAs end Run → EndsWell end → (konst : Const) → Outcome ≡ Some (Ok konst) → CountsBlocks source (limits.blocks - (Run limits.blocks).left)
+  counts-of-end : (end : End (List ℕ)) → Comes end → EndsOn end Run → EndsWell end → (konst : Const) → Outcome ≡ Some (Ok konst) → CountsBlocks source (limits.blocks - (Run limits.blocks).left)
   counts-of-end (Go bytes store cost) comes ends well konst h =
       ⊎_elim (λ less. no-fault konst error.ExecutionLimitExceeded h (out-of-blocks (ends.with_fewer limits.blocks less)))
       (λ le. record { bytes = bytes; store = store; cost = cost; gives = record { fuel = comes.fuel; reached = comes.reached; over = tt }; same = entered-with cost.turns (IsReturned bytes) Run ends limits.blocks le })
@@ -170,7 +223,7 @@ module _ (source : Source) (program : Program) (body : MirBody) (same : program.
   frame-of (Panic word) cost gives = record { cost = cost; gives = gives }
   frame-of (Undefined text) cost gives = record { cost = cost; gives = gives }
 
-  fault-of-end : (end : End (List ℕ)) → Comes end → EndsAs end Run → EndsWell end → (e : MirEvalError) → Outcome ≡ Some (Err e) → EndsEvaluation source limits e
+  fault-of-end : (end : End (List ℕ)) → Comes end → EndsOn end Run → EndsWell end → (e : MirEvalError) → Outcome ≡ Some (Err e) → EndsEvaluation source limits e
   fault-of-end (Go bytes store cost) comes ends well e h =
       ⊎_elim (λ out. passes (Go bytes store cost) e comes out.0 out.1 h) (λ is. too-deep (constant_of simulates.slot.0.ty bytes) e (same-outcome _ _ (sym h ∙ returned bytes is)))
       (runs-under cost.turns (IsReturned bytes) Run ends limits.blocks)
@@ -186,44 +239,56 @@ module _ (source : Source) (program : Program) (body : MirBody) (same : program.
   fault-of-end (More cost) comes ends well e h = let out = more-blocks cost comes ends in passes (More cost) e comes out.0 out.1 h
 
   -- where the source has no end, the run is out of blocks
-  endless-of-end : (end : End (List ℕ)) → Comes end → EndsAs end Run → ¬ IsOver end → FaultsWith error.ExecutionLimitExceeded
+  endless-of-end : (end : End (List ℕ)) → Comes end → EndsOn end Run → ¬ IsOver end → FaultsWith error.ExecutionLimitExceeded
   endless-of-end (Go bytes store cost) comes ends none = absurd (none tt)
   endless-of-end (Jumps to store cost) comes ends none = absurd (none tt)
   endless-of-end (Faults fault cost) comes ends none = absurd (none tt)
   endless-of-end Stuck comes ends none = absurd (none tt)
   endless-of-end (More cost) comes ends none = out-of-blocks (more-blocks cost comes ends).1
 
-  -- the run ends as the meaning of the source at some amount of fuel does
-  ends-as : (end : End (List ℕ)) (fuel : ℕ) → meaning_of source fuel ≡ end → EndsAs end Run
-  ends-as end fuel reached = subst (λ e. EndsAs e Run) reached (simulates.runs fuel program start same began)
-
-  -- a value that is within the limits is handed out
-  pub completes-value : (ty : Ty) (bytes : List ℕ) (store : Store) (cost : Cost) → node_type source (root source) ≡ Some ty → Gives source (Go bytes store cost) → IsWithinLimits cost limits → Outcome ≡ Some (Ok (constant_of ty bytes))
-  completes-value ty bytes store cost typed gives within =
-      let of_type : simulates.slot.0.ty ≡ ty = (let slot = simulates.slot.2 in cc) in
-      let deep = value-nests source bytes store cost gives in
-      let bound = within.nesting in
-      returned bytes (runs-with cost.turns (IsReturned bytes) Run (ends-as (Go bytes store cost) gives.fuel gives.reached) limits.blocks within.turns)
-      ∙ ap Some (has-level Levels (Ok (constant_of simulates.slot.0.ty bytes)) (omega arith))
-      ∙ ap (λ t. Some (Ok (constant_of t bytes))) of_type
-
-  -- a panic that is within the limits is handed out
-  pub completes-panic : (word : List ℕ) (cost : Cost) → Gives source (Faults (Panic word) cost) → IsWithinLimits cost limits → FaultsWith (error.Panic word)
-  completes-panic word cost gives within =
-      faulted (Panic word) (runs-with cost.turns (IsFault (error.Panic word)) Run (ends-as (Faults (Panic word) cost) gives.fuel gives.reached) limits.blocks within.turns)
+  -- the run ends as the meaning of the source at some amount of fuel does, or stops at a call
+  ends-as : (end : End (List ℕ)) (fuel : ℕ) → meaning_of source fuel ≡ end → EndsAs source program end Run
+  ends-as end fuel reached = subst (λ e. EndsAs source program e Run) reached (simulates.runs fuel program start (serves fuel) began)
 
   -- a value that was handed out is what the source means
   pub gives-value : (end : End (List ℕ)) → Comes end → EndsWell end → (konst : Const) → Outcome ≡ Some (Ok konst) → GivesValue source konst
-  gives-value end comes well konst h = value-of-end end comes (ends-as end comes.fuel comes.reached) well konst h
+  gives-value end comes well konst h =
+      ⊎_elim (λ stops. stops-without-value (turns_of end) stops konst h) (λ on. value-of-end end comes on well konst h) (ends-as end comes.fuel comes.reached)
 
   -- over exactly as many blocks as that counts
   pub counts-value : (end : End (List ℕ)) → Comes end → EndsWell end → (konst : Const) → Outcome ≡ Some (Ok konst) → CountsBlocks source (limits.blocks - (Run limits.blocks).left)
-  counts-value end comes well konst h = counts-of-end end comes (ends-as end comes.fuel comes.reached) well konst h
+  counts-value end comes well konst h =
+      ⊎_elim (λ stops. stops-without-value (turns_of end) stops konst h) (λ on. counts-of-end end comes on well konst h) (ends-as end comes.fuel comes.reached)
 
-  -- a fault that was handed out is one that the source means, or the limit that it passes
-  pub gives-fault : (end : End (List ℕ)) → Comes end → EndsWell end → (e : MirEvalError) → Outcome ≡ Some (Err e) → EndsEvaluation source limits e
-  gives-fault end comes well e h = fault-of-end end comes (ends-as end comes.fuel comes.reached) well e h
+  -- a panic that was handed out is one that the source means, where no refusal that the run was told says the word of one
+  pub gives-panic : (end : End (List ℕ)) → Comes end → EndsWell end → ((refusal : MirEvalError) → WasRefused program refusal → panic_word refusal ≡ None) →
+      (e : MirEvalError) (word : List ℕ) → Outcome ≡ Some (Err e) → panic_word e ≡ Some word → GivesPanic source word
+  gives-panic end comes well silent e word h says =
+      ⊎_elim (λ stops. stops-without-panic (turns_of end) stops silent e word h says)
+      (λ on. ends-in-panic source limits e word (fault-of-end end comes on well e h) says) (ends-as end comes.fuel comes.reached)
 
-  -- a source without an end passes the limit on blocks
-  pub gives-no-end : (end : End (List ℕ)) → Comes end → ¬ IsOver end → FaultsWith error.ExecutionLimitExceeded
-  gives-no-end end comes none = endless-of-end end comes (ends-as end comes.fuel comes.reached) none
+  module _ (none : HasNoCalls source) where
+    -- a value that is within the limits is handed out
+    pub completes-value : (ty : Ty) (bytes : List ℕ) (store : Store) (cost : Cost) → node_type source (root source) ≡ Some ty → Gives source (Go bytes store cost) → IsWithinLimits cost limits → Outcome ≡ Some (Ok (constant_of ty bytes))
+    completes-value ty bytes store cost typed gives within =
+        let of_type : simulates.slot.0.ty ≡ ty = (let slot = simulates.slot.2 in cc) in
+        let deep = value-nests source bytes store cost gives in
+        let bound = within.nesting in
+        let ends : EndsOn (Go bytes store cost) Run = ends-on (Go bytes store cost) none (ends-as (Go bytes store cost) gives.fuel gives.reached) in
+        returned bytes (runs-with cost.turns (IsReturned bytes) Run ends limits.blocks within.turns)
+        ∙ ap Some (has-level Levels (Ok (constant_of simulates.slot.0.ty bytes)) (omega arith))
+        ∙ ap (λ t. Some (Ok (constant_of t bytes))) of_type
+
+    -- a panic that is within the limits is handed out
+    pub completes-panic : (word : List ℕ) (cost : Cost) → Gives source (Faults (Panic word) cost) → IsWithinLimits cost limits → FaultsWith (error.Panic word)
+    completes-panic word cost gives within =
+        let ends : EndsOn (Faults (Panic word) cost) Run = ends-on (Faults (Panic word) cost) none (ends-as (Faults (Panic word) cost) gives.fuel gives.reached) in
+        faulted (Panic word) (runs-with cost.turns (IsFault (error.Panic word)) Run ends limits.blocks within.turns)
+
+    -- a fault that was handed out is one that the source means, or the limit that it passes
+    pub gives-fault : (end : End (List ℕ)) → Comes end → EndsWell end → (e : MirEvalError) → Outcome ≡ Some (Err e) → EndsEvaluation source limits e
+    gives-fault end comes well e h = fault-of-end end comes (ends-on end none (ends-as end comes.fuel comes.reached)) well e h
+
+    -- a source without an end passes the limit on blocks
+    pub gives-no-end : (end : End (List ℕ)) → Comes end → ¬ IsOver end → FaultsWith error.ExecutionLimitExceeded
+    gives-no-end end comes endless = endless-of-end end comes (ends-on end none (ends-as end comes.fuel comes.reached)) endless

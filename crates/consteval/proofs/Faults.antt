@@ -1,16 +1,21 @@
 -- The faults that a valid definition can end in, and the words of panics among them.
-use Rattle.std.proofs.Common.{◌≡◌, ℕ, ◌<◌, List, Option, Some, None, refl, sym, ap, ◌∙◌, subst}
+use Rattle.std.proofs.Common.{◌≡◌, ℕ, ◌<◌, List, Option, Some, None, Result, Err, refl, sym, ap, ◌∙◌, subst}
 use Rattle.std.proofs.lemmas.Option.{none-some}
+use Rattle.types.specs.declared.ids.FunctionId.{FunctionId}
+use Rattle.types.specs.declared.ty.Const.{Const}
 use Rattle.types.specs.declared.ty.Ty.{Ty}
 use Rattle.world.specs.declared.limits.Limits.{Limits}
+use Rattle.mir.specs.declared.errors.ConstEvalError.{ConstEvalError}
+use Rattle.mir.specs.declared.errors.ConstEvalError.TheVariants as constant
 use Rattle.mir.specs.declared.errors.MirEvalError.{MirEvalError, MirEvalError-F, fold-roll-MirEvalError, map-MirEvalError, out-MirEvalError}
 use Rattle.mir.specs.declared.errors.MirEvalError.TheOpen as layer
 use Rattle.mir.specs.declared.errors.MirEvalError.TheViews.{out-roll-MirEvalError, roll-out-MirEvalError}
-use Rattle.mir.specs.declared.errors.MirEvalError.TheVariants.{rolls-InFunction, rolls-NoMemory, rolls-LayoutError, rolls-TypeIsUnsized, rolls-Panic, rolls-UndefinedBehavior, rolls-ExecutionLimitExceeded, rolls-MemoryLimitExceeded, rolls-StackOverflow}
+use Rattle.mir.specs.declared.errors.MirEvalError.TheVariants.{rolls-InFunction, rolls-NoMemory, rolls-LayoutError, rolls-TypeIsUnsized, rolls-Panic, rolls-UndefinedBehavior, rolls-ExecutionLimitExceeded, rolls-MemoryLimitExceeded, rolls-StackOverflow, rolls-MirLowerError}
 use Rattle.mir.specs.declared.errors.MirEvalError as error
 use Rattle.mir.specs.declared.errors.MirLowerError.{MirLowerError}
 use Rattle.mir.specs.declared.errors.MirLowerError.TheVariants as refusal
 use Rattle.mir.specs.declared.errors.TrailEntry.{TrailEntry}
+use Rattle.mir_lower.specs.Stops.{LacksRoom}
 use Rattle.mir.specs.Errors.{from_eval_error, from_lower_error, layout_error_of}
 use Rattle.source_meaning.specs.Source.{Source}
 use Rattle.consteval.specs.Answers.{NeverRuns, NeverRunsLayer, EndsEvaluation, EndsFrame, EndsIn, EndsLayer, EndsLowering, GivesPanic, LacksLayout, LacksSize, PassesBytes, panic_layer, panic_word}
@@ -72,6 +77,19 @@ module _ (source : Source) (limits : Limits) where
   carried-unlowered refusal.NoMemory ends = absurd ends
   carried-unlowered _ ends = ends
 
+-- a fault that is carried is the one that was handed out
+pub carried-as : (fault e : MirEvalError) → ◌≡◌ {A = Result Const ConstEvalError} (Err (constant.MirEvalError e)) (Err (from_eval_error fault)) → fault ≡ e
+carried-as error.NoMemory e h = absurd cc
+carried-as fault e h = cc
+
+pub carried-is-no-want : (e : MirEvalError) → ◌≡◌ {A = Result Const ConstEvalError} (Err (constant.MirEvalError e)) (Err constant.NoMemory) → ⊥
+carried-is-no-want e h = cc
+
+-- a refusal to lower is no fault
+pub unlowered-is-no-fault : (refused : MirLowerError) (e : MirEvalError) → ◌≡◌ {A = Result Const ConstEvalError} (Err (from_lower_error refused)) (Err (constant.MirEvalError e)) → ⊥
+unlowered-is-no-fault refusal.NoMemory e h = cc
+unlowered-is-no-fault _ e h = cc
+
 -- faults and refusals, as they are carried
 pub carried-fault : (source : Source) (limits : Limits) (e : MirEvalError) → EndsEvaluation source limits e → EndsIn source limits (from_eval_error e)
 carried-fault source limits error.NoMemory ends = tt
@@ -107,6 +125,29 @@ frame-panic source limits _ word ends says = absurd ends
 word-by-layer : (e : MirEvalError) → panic_word e ≡ panic_layer (map-MirEvalError MirEvalError (Option (List ℕ)) panic_word (out-MirEvalError e))
 unfolding panic_word
 word-by-layer e = ap panic_word (sym (roll-out-MirEvalError e)) ∙ fold-roll-MirEvalError (Option (List ℕ)) panic_layer (out-MirEvalError e)
+
+-- a frame's error says the word of the one in it
+pub word-of-frame : (e : MirEvalError) (trail : List TrailEntry) → panic_word (error.InFunction e trail) ≡ panic_word e
+unfolding panic_word
+word-of-frame e trail = ap panic_word (sym (rolls-InFunction e trail)) ∙ fold-roll-MirEvalError (Option (List ℕ)) panic_layer (layer.InFunction e trail)
+
+-- a run that is out of blocks says none
+pub word-past-blocks : (trail : List TrailEntry) → panic_word (error.InFunction error.ExecutionLimitExceeded trail) ≡ None
+word-past-blocks trail = word-of-frame error.ExecutionLimitExceeded trail ∙ word-limit
+
+-- and neither does the error of a call whose callee's cells aren't placed, or that nests too deep
+pub word-lacks-room : (e : MirEvalError) → LacksRoom e → panic_word e ≡ None
+unfolding panic_word
+word-lacks-room (error.LayoutError cause ty) lacks = ap panic_word (sym (rolls-LayoutError cause ty)) ∙ fold-roll-MirEvalError (Option (List ℕ)) panic_layer (layer.LayoutError cause ty)
+word-lacks-room (error.TypeIsUnsized ty text) lacks = ap panic_word (sym (rolls-TypeIsUnsized ty text)) ∙ fold-roll-MirEvalError (Option (List ℕ)) panic_layer (layer.TypeIsUnsized ty text)
+word-lacks-room error.MemoryLimitExceeded lacks = ap panic_word (sym rolls-MemoryLimitExceeded) ∙ fold-roll-MirEvalError (Option (List ℕ)) panic_layer layer.MemoryLimitExceeded
+word-lacks-room error.StackOverflow lacks = ap panic_word (sym rolls-StackOverflow) ∙ fold-roll-MirEvalError (Option (List ℕ)) panic_layer layer.StackOverflow
+word-lacks-room _ lacks = absurd lacks
+
+-- or the error of a call whose callee's body is refused
+pub word-unlowered : (id : FunctionId) (e : MirLowerError) → panic_word (error.MirLowerError id e) ≡ None
+unfolding panic_word
+word-unlowered id e = ap panic_word (sym (rolls-MirLowerError id e)) ∙ fold-roll-MirEvalError (Option (List ℕ)) panic_layer (layer.MirLowerError id e)
 
 pub ends-in-panic : (source : Source) (limits : Limits) (e : MirEvalError) (word : List ℕ) → EndsEvaluation source limits e → panic_word e ≡ Some word → GivesPanic source word
 ends-in-panic source limits e word ends says = by (out-MirEvalError e) ends (sym (word-by-layer e) ∙ says) where

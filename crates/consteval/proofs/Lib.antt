@@ -15,5 +15,6 @@ pub mod Nesting
 pub mod Refused
 pub mod Right
 pub mod Rows
+pub mod Serving
 pub mod Starting
 pub mod Turning

@@ -1,6 +1,6 @@
 -- What a valid body is refused for: a type without a layout or without a size, or want of memory, and that alone where its cost is defined.
-use Rattle.std.proofs.Common.{◌≡◌, ℕ, ◌<◌, ◌≤◌, ◌⊎◌, ⊎_elim, inl, inr, eqb-true, Bool, true, false, List, [], Option, Some, Err, refl, sym, ap, ◌∙◌, subst, arith, None}
-use Rattle.std.specs.Prelude.{is_some, option_and_then, option_map, not, ◌==◌, ◌||◌}
+use Rattle.std.proofs.Common.{◌≡◌, ℕ, ◌<◌, ◌≤◌, ◌⊎◌, ⊎_elim, inl, inr, eqb-true, Bool, true, false, List, [], ◌∷◌, ◌++◌, Option, Some, Err, refl, sym, ap, ◌∙◌, subst, arith, None}
+use Rattle.std.specs.Prelude.{Contains, flat_map, option_and_then, option_map, not, ◌==◌, ◌||◌}
 use Rattle.std.proofs.lemmas.Bool.{cases_lt}
 use Rattle.source_meaning.specs.Core.{CoreExpr, Number}
 use Rattle.source_meaning.specs.Core as expr
@@ -23,19 +23,21 @@ use Rattle.mir.specs.declared.errors.MirEvalError as error
 use Rattle.mir.specs.declared.errors.MirLowerError.{MirLowerError}
 use Rattle.mir.specs.declared.errors.MirLowerError.TheVariants as refusal
 use Rattle.mir.specs.Run.{begun}
-use Rattle.mir_lower.specs.Refusals.{RefusesInferred}
+use Rattle.mir.specs.declared.ids.LocalId.{LocalId}
+use Rattle.mir_lower.specs.Callees.{AreLocalsOf}
+use Rattle.mir_lower.specs.Refusals.{RefusesInferred, RefusesParameters}
 use Rattle.body_forms.specs.Refusals.{IsNumber, RefusesNode, JumpsTo}
 use Rattle.body_forms.proofs.Causes.{built-is-complete, built-is-no-unbuilt, built-has-local, built-is-resolved}
 use Rattle.mir_lower.specs.Simulates.{Simulates}
 use Rattle.source_meaning.proofs.Built.{plain_is_built}
 use Rattle.source_meaning.specs.Entering.{entering}
 use Rattle.source_meaning.proofs.Layouts.{integer_is_width}
-use Rattle.source_meaning.specs.Core.{IsNoCall}
-use Rattle.source_meaning.specs.Source.{Source, node, root}
-use Rattle.source_meaning.specs.Valid.{Evaluates, IsInteger, HasPlainForm, IsPlainNode, HasDefinedCost, FitsAround, JumpsFit}
+use Rattle.source_meaning.specs.Calls.{names_bound, parameters, parameter_cells, self_bound}
+use Rattle.source_meaning.specs.Source.{Source, Cell, Binding, bound_by, node, pattern, root}
+use Rattle.source_meaning.specs.Valid.{Evaluates, at_once, IsInteger, HasPlainForm, IsPlainNode, HasDefinedCost, FitsAround, JumpsFit}
 use Rattle.consteval.specs.Answers.{EndsEvaluation, EndsLowering, PassesBytes, RefusesRun}
 use Rattle.consteval.specs.Refusals.{RefusesBody}
-use Rattle.consteval.specs.Built.{has_errors, has_generics, has_params, is_empty, is_erroneous, is_unbuilt, is_unbuilt_function, is_unbuilt_item}
+use Rattle.consteval.specs.Built.{has_errors, has_generics, is_empty, is_erroneous, is_generic_function, is_unbuilt, is_unbuilt_definition}
 use Rattle.source_meaning.specs.Around.{Opened, meant}
 use Rattle.types.specs.declared.ids.LabelId.{LabelId}
 use Rattle.types.specs.declared.ids.ExprId.{ExprId}
@@ -46,13 +48,51 @@ use Rattle.consteval.proofs.Begins.{begins, begun-never, begun-refusal}
 use Rattle.consteval.proofs.Built.{built-without-args}
 use Rattle.consteval.proofs.Faults.{NeverRunsFor, never-without-level, overflowed}
 
+-- a body without parameters has none
+no-parameters : (source : Source) → source.body.params ≡ [] → source.body.self_param ≡ None → parameters source ≡ Some []
+unfolding parameters names_bound
+no-parameters source no_params no_self =
+    ap (λ (params : List PatId). option_map (λ named. self_bound source.body.self_param ++ named) (names_bound source params)) no_params
+    ∙ ap (λ (own : Option BindingId). Some (self_bound own ++ [])) no_self
+
+same-bound : (one other : List ℕ) → Some one ≡ Some other → one ≡ other
+same-bound one other h = cc
+
+no-locals : (allotted : Cell → Option ℕ) (locals : List LocalId) → AreLocalsOf allotted [] locals → locals ≡ []
+no-locals allotted [] are = refl
+no-locals allotted (local ∷ locals) are = absurd are
+
+-- so none of its cells is one's
+no-parameter-cells : (source : Source) → source.body.params ≡ [] → source.body.self_param ≡ None → parameter_cells source ≡ []
+unfolding parameter_cells
+no-parameter-cells source no_params no_self =
+    ap (λ (params : List PatId). bound_by source.body.self_param ++ flat_map (λ (pat : PatId). bound_by (pattern source pat.0)) params) no_params
+    ∙ ap (λ (own : Option BindingId). bound_by own ++ []) no_self
+
+none-contained : (cells : List Cell) (cell : Cell) → cells ≡ [] → Contains cells cell → ⊥
+none-contained cells cell none there = let here = subst (λ (all : List Cell). Contains all cell) none there in let below = here.1 in omega arith
+
+-- and it isn't refused for them, but for want of memory
+refuses-no-parameters : (source : Source) (e : MirLowerError) → source.body.params ≡ [] → source.body.self_param ≡ None → RefusesParameters source e → e ≡ refusal.NoMemory
+refuses-no-parameters source (refusal.NotSupported text) no_params no_self refuses = absurd (let there = no-parameters source no_params no_self in let none = refuses.1 in cc)
+refuses-no-parameters source refusal.InaccessibleLocal no_params no_self refuses = absurd (none-contained (parameter_cells source) (Binding refuses.0.0) (no-parameter-cells source no_params no_self) refuses.1)
+refuses-no-parameters source refusal.NoMemory no_params no_self refuses = refl
+refuses-no-parameters source _ no_params no_self refuses = absurd refuses
+
 module _ (world : HirDatabase) (def : DefWithBodyId) (args : GenericArgs) (row : BodyRow) (limits : Limits) (body : MirBody) (e : MirEvalError) (valid : IsValid world def args row) (simulates : Simulates (source_of world row) body) where
+  -- a valid body has no parameters, so its graph has no parameters' locals
+  without-params : body.param_locals ≡ []
+  without-params =
+      let same : simulates.params.bound ≡ [] = same-bound _ _ (sym simulates.params.binds ∙ no-parameters (source_of world row) valid.no_params valid.no_self) in
+      no-locals simulates.allotted body.param_locals (subst (λ (bound : List ℕ). AreLocalsOf simulates.allotted bound body.param_locals) same simulates.params.locals)
+
   -- a refusal of a run of a valid body is for the limit on nesting, or for what `begun` is refused for
   refusal-cases : {A : Type 0} → RefusesRun world def body limits e → ((e ≡ error.StackOverflow) → (limits.nesting ≡ 0) → A) → ((begun (program_of world limits []) body ≡ Err e) → A) → A
   refusal-cases refuses by-nesting by-cells =
       ⊎_elim (λ none. let is = none.1 in let there = valid.pointers in absurd cc)
       (⊎_elim (λ other. absurd (let is = other.2 in let there = valid.pointers in other.3 cc))
-      (⊎_elim (λ deep. by-nesting deep.0 deep.2) (λ refused. by-cells refused.2)))
+      (⊎_elim (λ deep. by-nesting deep.0 deep.2)
+      (⊎_elim (λ refused. by-cells refused.2) (λ lacking. absurd (lacking.3 without-params)))))
       refuses
 
   pub run-refusal : RefusesRun world def body limits e → EndsEvaluation (source_of world row) limits e
@@ -131,21 +171,21 @@ named-target source outer label (Some (expr.Return value)) jumps fits lacks = ju
 named-target source outer label (Some (expr.Call callee args)) jumps fits lacks = jumps
 named-target source outer label None jumps fits lacks = jumps
 
--- a plain form that is no call is refused for want of memory, or as a number literal whose type has no layout
-refuses-node : (source : Source) (e : ℕ) (error : MirLowerError) → IsChecked source.world → JumpsFit source [] (root source) → IsPlainNode source e → IsNoCall (node source e) → Evaluates source (root source) e → RefusesNode source e error → (error ≡ refusal.NoMemory) ⊎ EndsLowering source error
-refuses-node source e (refusal.LayoutError layout_error) checked fits plain no_call at refuses = inr (e, at, refuses)
-refuses-node source e refusal.IncompleteExpr checked fits plain no_call at refuses = absurd (built-is-complete source e (plain_is_built source e plain no_call) refuses)
-refuses-node source e (refusal.UnresolvedName name) checked fits plain no_call at refuses = absurd (built-is-resolved source e (node source e) name (plain_is_built source e plain no_call) refuses)
-refuses-node source e refusal.InaccessibleLocal checked fits plain no_call at refuses = absurd (built-has-local source e (node source e) (plain_is_built source e plain no_call) refuses)
-refuses-node source e refusal.HasErrors checked fits plain no_call at refuses = absurd refuses
-refuses-node source e refusal.ContinueWithoutLoop checked fits plain no_call at refuses = absurd (open-target source (node source e) refuses.0 (fits [] e refuses.1))
-refuses-node source e refusal.BreakWithoutLoop checked fits plain no_call at refuses = absurd (plain-target source refuses.0 (node source e) refuses.1 (fits [] e refuses.2))
-refuses-node source e refusal.UnresolvedLabel checked fits plain no_call at refuses = absurd (named-target source refuses.2.0 refuses.0 (node source e) refuses.1 (fits refuses.2.0 e refuses.2.1) refuses.2.2)
-refuses-node source e (refusal.TypeError text) checked fits plain no_call at refuses =
+-- a plain form is refused for want of memory, or as a number literal whose type has no layout
+refuses-node : (source : Source) (e : ℕ) (error : MirLowerError) → IsChecked source.world → JumpsFit source [] (root source) → IsPlainNode source e → Evaluates source (root source) e → RefusesNode source e error → (error ≡ refusal.NoMemory) ⊎ EndsLowering source error
+refuses-node source e (refusal.LayoutError layout_error) checked fits plain at refuses = inr (e, at, refuses)
+refuses-node source e refusal.IncompleteExpr checked fits plain at refuses = absurd (built-is-complete source e (plain_is_built source e plain) refuses)
+refuses-node source e (refusal.UnresolvedName name) checked fits plain at refuses = absurd (built-is-resolved source e (node source e) name (plain_is_built source e plain) refuses)
+refuses-node source e refusal.InaccessibleLocal checked fits plain at refuses = absurd (built-has-local source e (node source e) (plain_is_built source e plain) refuses)
+refuses-node source e refusal.HasErrors checked fits plain at refuses = absurd refuses
+refuses-node source e refusal.ContinueWithoutLoop checked fits plain at refuses = absurd (open-target source (node source e) refuses.0 (fits [] e refuses.1))
+refuses-node source e refusal.BreakWithoutLoop checked fits plain at refuses = absurd (plain-target source refuses.0 (node source e) refuses.1 (fits [] e refuses.2))
+refuses-node source e refusal.UnresolvedLabel checked fits plain at refuses = absurd (named-target source refuses.2.0 refuses.0 (node source e) refuses.1 (fits refuses.2.0 e refuses.2.1) refuses.2.2)
+refuses-node source e (refusal.TypeError text) checked fits plain at refuses =
     let layout : layout_of source.world plain.ty ≡ Some refuses.2 = ap (option_and_then (layout_of source.world)) (sym plain.has_type) ∙ refuses.3 in
     absurd (wide-is-no-width refuses.2.size (integer_is_width source.world plain.ty refuses.2 checked (number-is-integer source e (node source e) plain.ty plain.form refuses.1) layout) refuses.4)
-refuses-node source e (refusal.NotSupported text) checked fits plain no_call at refuses = absurd (built-is-no-unbuilt source e (node source e) (plain_is_built source e plain no_call) refuses.1)
-refuses-node source e refusal.NoMemory checked fits plain no_call at refuses = inl refl
+refuses-node source e (refusal.NotSupported text) checked fits plain at refuses = absurd (built-is-no-unbuilt source e (node source e) (plain_is_built source e plain) refuses.1)
+refuses-node source e refusal.NoMemory checked fits plain at refuses = inl refl
 
 -- where types have sizes, no number literal lacks a layout
 sized-is-lowered : (source : Source) (e : MirLowerError) → HasDefinedCost source → EndsLowering source e → ⊥
@@ -161,43 +201,31 @@ valid-has-no-errors world def args row valid errors =
     cc
 
 -- a constant or a function that is evaluated by a run of its own body is of a kind that is built
-valid-item-is-built : (world : HirDatabase) (def : DefWithBodyId) (ty : Ty) → IsPlainItem world def ty → is_unbuilt_item world def ≡ false
+valid-item-is-built : (world : HirDatabase) (def : DefWithBodyId) (ty : Ty) → IsPlainItem world def ty → is_unbuilt_definition world def ≡ false
 valid-item-is-built world (ConstId id) ty item =
     ap has_generics item.found ∙ ap (λ (generics : List GenericParamId). not (is_empty generics)) item.no_generics
 valid-item-is-built world (FunctionId id) ty item =
-    ap is_unbuilt_function item.found
-    ∙ ap (λ (generics : List GenericParamId). not (is_empty generics) || not (is_empty item.row.sig.params)) item.no_generics
-    ∙ ap (λ (params : List Ty). not (is_empty params)) item.no_params
+    ap is_generic_function item.found ∙ ap (λ (generics : List GenericParamId). not (is_empty generics)) item.no_generics
 valid-item-is-built world (StaticId id) ty item = absurd item
 valid-item-is-built world (VariantId id) ty item = absurd item
 
--- whether a definition's body has parameters
-abbrev has_body_params : HirDatabase → DefWithBodyId → Bool
-has_body_params world def = has_params (option_map (λ row. row.body) (body_row world def))
-
--- a valid body has no parameters
-valid-has-no-params : (world : HirDatabase) (def : DefWithBodyId) (args : GenericArgs) (row : BodyRow) → IsValid world def args row → has_body_params world def ≡ false
-valid-has-no-params world def args row valid =
-    ap (λ (found : Option BodyRow). has_params (option_map (λ r. r.body) found)) valid.body
-    ∙ ap (λ (params : List PatId). not (is_empty params) || is_some row.body.self_param) valid.no_params
-    ∙ ap (λ (own : Option BindingId). is_some own) valid.no_self
-
 valid-is-built : (world : HirDatabase) (def : DefWithBodyId) (args : GenericArgs) (row : BodyRow) → IsValid world def args row → is_unbuilt world def args ≡ true → ⊥
 valid-is-built world def args row valid unbuilt =
-    let built = built-without-args world def args valid.no_args
-    (ap (λ (item : Bool). item || has_body_params world def) (valid-item-is-built world def valid.ty valid.item) ∙ valid-has-no-params world def args row valid) in
+    let built = built-without-args world def args valid.no_args (valid-item-is-built world def valid.ty valid.item) in
     cc
 
 -- a valid body is lowered, but for want of memory and for number literals whose types have no layout
 pub lowering-refusal : (world : HirDatabase) (def : DefWithBodyId) (args : GenericArgs) (row : BodyRow) (e : MirLowerError) → IsChecked world → IsValid world def args row → (e ≡ refusal.NoMemory) ⊎ RefusesBody world def args e → (e ≡ refusal.NoMemory) ⊎ EndsLowering (source_of world row) e
 lowering-refusal world def args row e checked valid =
+    let plain = valid.plain.each (source_of world row) at_once in
     ⊎_elim inl
     (⊎_elim (λ errors. absurd (valid-has-no-errors world def args row valid errors.errors))
     (⊎_elim (λ unbuilt. absurd (valid-is-built world def args row valid unbuilt.unbuilt))
     (⊎_elim (λ none. absurd (let is = none.missing in let there = valid.body in cc)) (λ refused.
     let same : refused.row ≡ row = (let is = refused.found in let there = valid.body in cc) in
     ⊎_elim (λ drops. absurd (valid.dropless drops.1))
-    (λ at. refuses-node (source_of world row) at.0 e checked valid.plain.jumps (valid.plain.nodes at.0 at.1) (valid.built at.0 at.1) at.1 at.2)
+    (⊎_elim (λ of_parameters. inl (refuses-no-parameters (source_of world row) e valid.no_params valid.no_self of_parameters))
+    (λ at. refuses-node (source_of world row) at.0 e checked plain.jumps (plain.nodes at.0 at.1) at.1 at.2))
     (subst (λ (r : BodyRow). RefusesInferred (source_of world r) e) same refused.refuses)))))
 
 -- a valid body with a defined cost is lowered, but for want of memory

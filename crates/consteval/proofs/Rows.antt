@@ -46,9 +46,9 @@ module _ (world : HirDatabase) (def : DefWithBodyId) (body : Body) (infer : Infe
 
   -- what lowering makes of the body is lowered from its row, where the definition is built and has no typing error
   pub row-lowers : (result : Result MirBody MirLowerError) → is_erroneous world def ≡ false → is_unbuilt_definition world def ≡ false →
-      IfOk result (Simulates Of) → IfOk result (λ lowered. AreInOrder Of lowered.locals) → IfOk result (λ lowered. lowered.owner ≡ def) → IfOk result (λ lowered. lowered.param_locals ≡ []) → IfOk result (λ lowered. needs_drops Of lowered.locals ≡ false) → OnOk result (IsBuilt Of body.body_expr.0) →
+      IfOk result (Simulates Of) → IfOk result (λ lowered. AreInOrder Of lowered.locals) → IfOk result (λ lowered. lowered.owner ≡ def) → IfOk result (λ lowered. needs_drops Of lowered.locals ≡ false) → OnOk result (IsBuilt Of body.body_expr.0) →
       IfOk result (IsLowered world def)
-  row-lowers (Ok lowered) no_errors built simulates order owner params dropless forms =
+  row-lowers (Ok lowered) no_errors built simulates order owner dropless forms =
       record {
         no_errors = no_errors;
         built = built;
@@ -56,12 +56,11 @@ module _ (world : HirDatabase) (def : DefWithBodyId) (body : Body) (infer : Infe
         found = row.there;
         forms = subst (λ (r : BodyRow). IsBuilt (source_of world r) (root (source_of world r))) (sym row.is) forms;
         dropless = subst (λ (r : BodyRow). needs_drops (source_of world r) lowered.locals ≡ false) (sym row.is) dropless;
-        params = params;
         order = subst (λ (r : BodyRow). AreInOrder (source_of world r) lowered.locals) (sym row.is) order;
         owner = owner;
         simulates = subst (λ (r : BodyRow). Simulates (source_of world r) lowered) (sym row.is) simulates;
       }
-  row-lowers (Err e) no_errors built simulates order owner params dropless forms = tt
+  row-lowers (Err e) no_errors built simulates order owner dropless forms = tt
 
 -- where inference met no error there is no typing error
 no-typing-errors : (erroneous : Bool) (mismatches : List ExprId) → (erroneous || not (is_empty mismatches)) ≡ false → IsTrue erroneous ⊎ (mismatches ≢ []) → ⊥

@@ -29,10 +29,12 @@ other-width : (width : Option ℕ) → is_own_width width ≡ false → IsSome w
 other-width (Some bytes) own there = (bytes, refl, (λ is. let both : true ≡ false = sym (ap (λ n. is_own_width (Some n)) is) ∙ own in cc))
 other-width None own there = absurd cc
 
-started-refused : (params : List LocalId) (r : Result (Frame × Memory) MirEvalError) (block blocks : ℕ) (e : MirEvalError) → params ≡ [] → started params r block blocks ≡ Err e → r ≡ Err e
-started-refused [] (Ok start) block blocks e none h = cc
-started-refused (param ∷ params) (Ok start) block blocks e none h = absurd cc
-started-refused params (Err e') block blocks e none h = let same : e' ≡ e = cc in ap Err same
+-- no start, or a start of a body with parameters
+started-refused : (params : List LocalId) (r : Result (Frame × Memory) MirEvalError) (block blocks : ℕ) (e : MirEvalError) → started params r block blocks ≡ Err e →
+    (r ≡ Err e) ⊎ ((e ≡ error.InternalError (codes "too few arguments")) × (params ≢ []))
+started-refused [] (Ok start) block blocks e h = absurd cc
+started-refused (param ∷ params) (Ok start) block blocks e h = inr ((let same : error.InternalError (codes "too few arguments") ≡ e = cc in sym same), (λ none. cc))
+started-refused params (Err e') block blocks e h = inl (let same : e' ≡ e = cc in ap Err same)
 
 -- where a run stands that is about to enter a block
 abbrev standing : Frame × Memory → ℕ → ℕ → State
@@ -51,14 +53,15 @@ BeginsBy own world body limits =
     else Err (error.NotSupported (codes "targets with different pointer size from host"))
 
 -- why a machine doesn't begin
-pub start-refused : (world : HirDatabase) (def : DefWithBodyId) (body : MirBody) (limits : Limits) (e : MirEvalError) → body.param_locals ≡ [] → IsSome (pointer_bytes world def) → start_of (fresh world def limits) body ≡ Err e → RefusesRun world def body limits e
+pub start-refused : (world : HirDatabase) (def : DefWithBodyId) (body : MirBody) (limits : Limits) (e : MirEvalError) → IsSome (pointer_bytes world def) → start_of (fresh world def limits) body ≡ Err e → RefusesRun world def body limits e
 unfolding start_of
-start-refused world def body limits e none there is = by-width (is_own_width (pointer_bytes world def)) refl is where
+start-refused world def body limits e there is = by-width (is_own_width (pointer_bytes world def)) refl is where
   by-width : (own : Bool) → is_own_width (pointer_bytes world def) ≡ own → BeginsBy own world body limits ≡ Err e → RefusesRun world def body limits e
   by-width true own h =
       let pointers = own-width (pointer_bytes world def) own in
       ⊎_elim (λ deep. inr (inr (inl (deep.0, pointers, deep.1))))
-      (λ refused. inr (inr (inr (pointers, refused.0, started-refused body.param_locals (begun (program_of world limits []) body) body.start_block.0 limits.blocks e none refused.1))))
+      (λ refused. ⊎_elim (λ unplaced. inr (inr (inr (inl (pointers, refused.0, unplaced))))) (λ lacking. inr (inr (inr (inr (lacking.0, pointers, refused.0, lacking.1)))))
+      (started-refused body.param_locals (begun (program_of world limits []) body) body.start_block.0 limits.blocks e refused.1))
       (refused-on-level limits.nesting (started body.param_locals (begun (program_of world limits []) body) body.start_block.0 limits.blocks) e h)
   by-width false own h =
       let same : error.NotSupported (codes "targets with different pointer size from host") ≡ e = cc in

@@ -11,9 +11,7 @@ use body_forms::form_not_built;
 use mir::{MirBody, MirLowerError};
 use mir_lower::lower_to_mir;
 use std::alloc::Global;
-use world::{
-    ConstRow, DefWithBodyId, FunctionRow, GenericArgs, HirDatabase, InferenceResult,
-};
+use world::{ConstRow, DefWithBodyId, FunctionRow, GenericArgs, HirDatabase, InferenceResult};
 use world_check::CheckedWorld;
 
 /// Whether there are no arguments.

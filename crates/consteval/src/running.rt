@@ -42,7 +42,8 @@ fn carried(outcome: Result<Const, MirEvalError>) -> Result<Const, ConstEvalError
     }
 }
 
-/// A machine that is about to enter the first block of a body; one with parameters is refused, since it has no arguments.
+/// A machine that is about to enter the first block of a body. A body with parameters is refused, since
+/// there are no arguments for it.
 fn begun<'a>(
     alloc: Global,
     db: &'a HirDatabase,

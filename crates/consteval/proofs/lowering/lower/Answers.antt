@@ -26,7 +26,7 @@ returns-clause-lowered c =
     let lowers = c.lower_to_mir.ensures in
     IfOk-weaker c.lower_to_mir.result _ _
     (λ lowered is. subst (λ (world : HirDatabase). IsLowered world c.args.def lowered) c.db-db.ensures.same is)
-    (row-lowers db c.args.def c.in-Some.body.now c.in-Some-infer.infer.now found c.lower_to_mir.result erroneous (built-by-itself db c.args.def c.args.args.now built) lowers.simulates lowers.order lowers.owner lowers.params lowers.dropless lowers.built)
+    (row-lowers db c.args.def c.in-Some.body.now c.in-Some-infer.infer.now found c.lower_to_mir.result erroneous (built-by-itself db c.args.def c.args.args.now built) lowers.simulates lowers.order lowers.owner lowers.dropless lowers.built)
 
 pub returns-clause-refused : goal.returns-clause-refused
 returns-clause-refused c =

@@ -15,5 +15,5 @@ returns-in-Ok-begin-clause-began c =
 pub returns-clause-refused : goal.returns-clause-refused
 returns-clause-refused c =
     ⊎_elim inl
-    (λ is. inr (start-refused c.args.db.now c.args.def c.args.body.value c.args.limits.now c.in-Err-begin.error c.requires.no_params (c.in-Ok.ensures.variant.0 refl) (subst (λ (m : Machine). start_of m c.args.body.value ≡ Err c.in-Err-begin.error) c.in-Ok.ensures.made is)))
+    (λ is. inr (start-refused c.args.db.now c.args.def c.args.body.value c.args.limits.now c.in-Err-begin.error (c.in-Ok.ensures.variant.0 refl) (subst (λ (m : Machine). start_of m c.args.body.value ≡ Err c.in-Err-begin.error) c.in-Ok.ensures.made is)))
     c.in-Err-begin.ensures.refused

@@ -5,7 +5,7 @@ use Rattle.consteval.specs.Answers.{HasCause}
 use Rattle.consteval.specs.declared.evaluated.Evaluated.{Evaluated}
 use Rattle.consteval.specs.Kept.{Lowered}
 use Rattle.consteval.proofs.Causes.{cause-refused, cause-answered}
-use Rattle.consteval.proofs.Keeping.{contains-stays, kept-body-lowered, stays-then}
+use Rattle.consteval.proofs.Keeping.{contains-stays, stays-then}
 use Rattle.consteval.proofs.evaluations.Evaluations.answer.Goals as goal
 
 pub returns-in-Err-clause-cause : goal.returns-in-Err-clause-cause
@@ -13,11 +13,6 @@ returns-in-Err-clause-cause c =
     subst (λ (answer : Evaluated). HasCause c.body_of.new.self c.args.def c.args.args.now c.args.limits.now answer.turns answer.result) (sym c.refused.ensures)
     (subst (λ (e : ConstEvalError). HasCause c.body_of.new.self c.args.def c.args.args.now c.args.limits.now 0 (Err e)) (sym c.from.ensures)
     (cause-refused c.body_of.new.self _ c.args.def c.args.args.now c.args.limits.now c.in-Err.error c.body_of.ensures.stays.world c.in-Err.ensures.refused))
-
-pub run_body-requires-clause-no_params : goal.run_body-requires-clause-no_params
-run_body-requires-clause-no_params c =
-    let lowered = kept-body-lowered c.body_of.new.self c.body_of.ensures.sound c.args.def c.in-Ok.body.value c.in-Ok.ensures.found in
-    lowered.params
 
 pub returns-clause-cause : goal.returns-clause-cause
 returns-clause-cause c =

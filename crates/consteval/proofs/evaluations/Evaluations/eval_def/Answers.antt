@@ -15,43 +15,43 @@ pub returns-in-Ok-clause-value : goal.returns-in-Ok-clause-value
 returns-in-Ok-clause-value c row konst valid is =
     let evaluated = c.answer-evaluated.ensures in
     let answer = c.answer-evaluated.result in
-    answer-value c.args.self.now.world (subst IsChecked evaluated.stays.world evaluated.checked) c.args.def c.args.args.now row valid c.answer-evaluated.new.self evaluated.stays.world c.args.limits.now answer.turns answer.result
-    evaluated.sound evaluated.cause konst is
+    answer-value c.args.self.now.world (subst IsChecked evaluated.stays.world evaluated.checked) c.args.def c.args.args.now row valid c.answer-evaluated.new.self evaluated.stays.world evaluated.sound c.args.limits.now answer.turns answer.result
+    evaluated.cause konst is
 
 pub returns-in-Ok-clause-counts : goal.returns-in-Ok-clause-counts
 returns-in-Ok-clause-counts c row konst valid is =
     let evaluated = c.answer-evaluated.ensures in
     let answer = c.answer-evaluated.result in
-    answer-counts c.args.self.now.world (subst IsChecked evaluated.stays.world evaluated.checked) c.args.def c.args.args.now row valid c.answer-evaluated.new.self evaluated.stays.world c.args.limits.now answer.turns answer.result
-    evaluated.sound evaluated.cause konst is
+    answer-counts c.args.self.now.world (subst IsChecked evaluated.stays.world evaluated.checked) c.args.def c.args.args.now row valid c.answer-evaluated.new.self evaluated.stays.world evaluated.sound c.args.limits.now answer.turns answer.result
+    evaluated.cause konst is
 
 pub returns-in-Ok-clause-panic : goal.returns-in-Ok-clause-panic
 returns-in-Ok-clause-panic c row e word valid is says =
     let evaluated = c.answer-evaluated.ensures in
     let answer = c.answer-evaluated.result in
-    answer-panic c.args.self.now.world (subst IsChecked evaluated.stays.world evaluated.checked) c.args.def c.args.args.now row valid c.answer-evaluated.new.self evaluated.stays.world c.args.limits.now answer.turns answer.result
-    evaluated.sound evaluated.cause e word is says
+    answer-panic c.args.self.now.world (subst IsChecked evaluated.stays.world evaluated.checked) c.args.def c.args.args.now row valid c.answer-evaluated.new.self evaluated.stays.world evaluated.sound c.args.limits.now answer.turns answer.result
+    evaluated.cause e word is says
 
 pub returns-in-Ok-clause-closed : goal.returns-in-Ok-clause-closed
-returns-in-Ok-clause-closed c row valid =
+returns-in-Ok-clause-closed c row valid no_calls =
     let evaluated = c.answer-evaluated.ensures in
     let answer = c.answer-evaluated.result in
-    answer-closed c.args.self.now.world (subst IsChecked evaluated.stays.world evaluated.checked) c.args.def c.args.args.now row valid c.answer-evaluated.new.self evaluated.stays.world c.args.limits.now answer.turns answer.result
-    evaluated.sound evaluated.cause
+    answer-closed c.args.self.now.world (subst IsChecked evaluated.stays.world evaluated.checked) c.args.def c.args.args.now row valid c.answer-evaluated.new.self evaluated.stays.world evaluated.sound c.args.limits.now answer.turns answer.result
+    no_calls evaluated.cause
 
 pub returns-in-Ok-clause-complete : goal.returns-in-Ok-clause-complete
-returns-in-Ok-clause-complete c row valid cost =
+returns-in-Ok-clause-complete c row valid no_calls cost =
     let evaluated = c.answer-evaluated.ensures in
     let answer = c.answer-evaluated.result in
-    answer-completes c.args.self.now.world (subst IsChecked evaluated.stays.world evaluated.checked) c.args.def c.args.args.now row valid c.answer-evaluated.new.self evaluated.stays.world c.args.limits.now answer.turns answer.result
-    evaluated.sound cost evaluated.cause
+    answer-completes c.args.self.now.world (subst IsChecked evaluated.stays.world evaluated.checked) c.args.def c.args.args.now row valid c.answer-evaluated.new.self evaluated.stays.world evaluated.sound c.args.limits.now answer.turns answer.result
+    no_calls cost evaluated.cause
 
 pub returns-in-Ok-clause-endless : goal.returns-in-Ok-clause-endless
-returns-in-Ok-clause-endless c row valid none =
+returns-in-Ok-clause-endless c row valid no_calls none =
     let evaluated = c.answer-evaluated.ensures in
     let answer = c.answer-evaluated.result in
-    answer-endless c.args.self.now.world (subst IsChecked evaluated.stays.world evaluated.checked) c.args.def c.args.args.now row valid c.answer-evaluated.new.self evaluated.stays.world c.args.limits.now answer.turns answer.result
-    evaluated.sound none evaluated.cause
+    answer-endless c.args.self.now.world (subst IsChecked evaluated.stays.world evaluated.checked) c.args.def c.args.args.now row valid c.answer-evaluated.new.self evaluated.stays.world evaluated.sound c.args.limits.now answer.turns answer.result
+    no_calls none evaluated.cause
 
 pub returns-in-Ok-clause-cause : goal.returns-in-Ok-clause-cause
 returns-in-Ok-clause-cause c =
