@@ -29,6 +29,7 @@ pub mod Reserving
 pub mod Returning
 pub mod Room
 pub mod Running
+pub mod Serving
 pub mod Sound
 pub mod Sparing
 pub mod Stack
