@@ -1,5 +1,7 @@
 -- Calls: the arguments' operands from left to right, and then the call.
-use Rattle.std.proofs.Common.{◌≡◌, ℕ, suc, Bool, true, false, cond, List, [], ◌∷◌, ◌++◌, length, map, flat_map, Contains, Option, Some, None, refl, sym, ap, ◌∙◌, subst, append_assoc, append-nil}
+use Rattle.std.proofs.Common.{◌≡◌, ℕ, zero, suc, ◌+◌, ◌<◌, Bool, true, false, cond, List, [], ◌∷◌, ◌++◌, length, get_or, drop, map, flat_map, Contains, Option, Some, None, refl, sym, ap, ◌∙◌, subst, append_assoc, append-nil, drop-cons, arith}
+use Rattle.std.specs.Prelude.{All}
+use Rattle.std.proofs.lemmas.List.Elements.{All-nil, All-cons, All-head, All-tail}
 use Rattle.std.proofs.Math.ListN.{length-set}
 use Rattle.types.specs.declared.ids.ExprId.{ExprId}
 use Rattle.mir.specs.declared.body.Terminator.{Terminator}
@@ -21,7 +23,9 @@ use Rattle.source_meaning.specs.Source.{Source, node, unadjusted, Cell, Store, O
 use Rattle.source_meaning.specs.Valid.{own, inside, sized_parts, IsLaidOutNode}
 use Rattle.source_meaning.proofs.Depth.{argument_is_part}
 use Rattle.source_meaning.proofs.Marks.{call_marks}
-use Rattle.source_meaning.proofs.Parts.{sized_operand}
+use Rattle.source_meaning.proofs.Parts.{first_is_contained, rest_is_contained, sized_operand}
+use Rattle.world.specs.Nodes.{expr_numbers}
+use Rattle.mir_lower.specs.Built.{IsBuilt}
 use Rattle.mir_lower.specs.Callees.{Serves}
 use Rattle.mir_lower.specs.Calling.{call_terminator, call_of, target_of_call, HasCalled}
 use Rattle.mir_lower.specs.Does.{Stands, here, IsFrameOf, Holds, Landings, Reaches, Nothing, FitAll}
@@ -68,6 +72,25 @@ collects-more source s0 s1 s2 es e rest operands operand collects lowers =
 pub collects-all : (source : Source) (s0 s : Shape) (es : List ℕ) (operands : List OperandKind) → Collects source s0 s es [] operands → LowersOperands source s0 s es operands
 collects-all source s0 s es operands collects =
     subst (λ (all : List OperandKind). LowersOperands source s0 s es all) (append-nil operands) (collects.rest_to s [] (lowers-no-operand source s collects.sound collects.«open»))
+
+-- an argument is one of the arguments
+pub argument-in : (args : List ExprId) (i : ℕ) (d : ExprId) → i < length args → Contains (expr_numbers args) (get_or args i d).0
+argument-in [] i d less = absurd (omega arith)
+argument-in (first ∷ rest) zero d less = first_is_contained first.0 (expr_numbers rest)
+argument-in (first ∷ rest) (suc i) d less = rest_is_contained first.0 (expr_numbers rest) (get_or rest i d).0 (argument-in rest i d (omega arith))
+
+-- the arguments from one on
+pub arguments-from : (args : List ExprId) (i : ℕ) (d : ExprId) → i < length args → expr_numbers (drop i args) ≡ (get_or args i d).0 ∷ expr_numbers (drop (i + 1) args)
+arguments-from args i d less =
+    let next : suc i ≡ i + 1 = omega arith in
+    ap expr_numbers (drop-cons args i d less) ∙ ap (λ (n : ℕ). (get_or args i d).0 ∷ expr_numbers (drop n args)) next
+
+-- arguments that are built one by one
+pub built-arguments : (source : Source) (args : List ExprId) → All (λ (arg : ExprId). IsBuilt source arg.0) args → All (IsBuilt source) (expr_numbers args)
+built-arguments source [] all = All-nil (IsBuilt source)
+built-arguments source (first ∷ rest) all =
+    All-cons (IsBuilt source) first.0 (expr_numbers rest) (All-head (λ (arg : ExprId). IsBuilt source arg.0) first rest all)
+    (built-arguments source rest (All-tail (λ (arg : ExprId). IsBuilt source arg.0) first rest all))
 
 -- what the terminator of a call does
 call-leads : (frame : Frame) (memory : Memory) (e : ExprId) (func : MirOperand) (args : List MirOperand) (destination : Place) (target : Option BasicBlockId) → terminated frame memory (Some (call_terminator e func args destination target)) ≡ calls frame memory (call_of e func args destination target)

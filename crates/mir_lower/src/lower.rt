@@ -517,7 +517,8 @@ fn lower_operands(
 {
     let mut operands = List::new(context.alloc);
     for arg in args {
-        operands.push(lower_operand(context, graph, *arg)?)?;
+        let operand = lower_operand(context, graph, *arg)?;
+        operands.push(operand)?;
     }
     Ok(operands)
 }
