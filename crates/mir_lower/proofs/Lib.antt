@@ -21,6 +21,7 @@ pub mod Loops
 pub mod Needed
 pub mod Operands
 pub mod Operations
+pub mod Params
 pub mod Placing
 pub mod Reaching
 pub mod Ready

@@ -12,3 +12,4 @@ pub mod Branches
 pub mod Built
 pub mod Callees
 pub mod Stops
+pub mod Params
