@@ -79,13 +79,21 @@ reaches-from source whole lands frame p q to memory claim comes end reaches =
     subst (Reaches source whole lands frame p to memory claim) (after-none end)
     (reaches-after source whole lands frame p q to memory memory claim no_cost comes end reaches)
 
--- an expression itself does what its form does with one unit of fuel less
-pub does-form : (source : Source) (old new : Shape) (e : ℕ) (c : Cell) (form : Option CoreExpr) → node source e ≡ form → Performs source old new Nothing (λ around fuel store. into_of source (level_at source fuel) (callees_at fuel) around e form (record { cell = c }) store) → DoesOwn source old new e c
+-- an expression itself does what its form does with one unit of fuel less, and so do the bodies that calls enter
+pub does-with-callees : (source : Source) (old new : Shape) (e : ℕ) (c : Cell) (form : Option CoreExpr) → node source e ≡ form →
+    ((whole : Shape) (frame : Frame) → Grows new whole → IsSound source whole → IsFrameOf whole frame → (lands : Landings) (around : Around) → Stands whole old lands around → (fuel : ℕ) → Serves (suc fuel) source frame.program → (store : Store) (memory : Memory) → Holds whole frame store memory →
+    Reaches source whole lands frame (here old) (here new) memory (Nothing whole frame) (into_of source (level_at source fuel) (callees_at fuel) around e form (record { cell = c }) store)) → DoesOwn source old new e c
 unfolding level_at
-does-form source old new e c form is performs =
+does-with-callees source old new e c form is performs =
     record { reaches = λ whole frame grows sound frame-is lands around stands fuel serves store memory holds. by-fuel whole frame grows sound frame-is lands around stands fuel serves store memory holds } where
       by-fuel : (whole : Shape) (frame : Frame) → Grows new whole → IsSound source whole → IsFrameOf whole frame → (lands : Landings) (around : Around) → Stands whole old lands around → (fuel : ℕ) → Serves fuel source frame.program → (store : Store) (memory : Memory) → Holds whole frame store memory → Reaches source whole lands frame (here old) (here new) memory (Nothing whole frame) ((level_at source fuel around).own e (record { cell = c }) store)
       by-fuel whole frame grows sound frame-is lands around stands zero serves store memory holds = inr (none-entered (run_from frame memory (here old)))
       by-fuel whole frame grows sound frame-is lands around stands (suc fuel) serves store memory holds =
           subst (λ f. Reaches source whole lands frame (here old) (here new) memory (Nothing whole frame) (into_of source (level_at source fuel) (callees_at fuel) around e f (record { cell = c }) store)) (sym is)
-          (performs.reaches whole frame grows sound frame-is lands around stands fuel (serves-less fuel source frame.program serves) store memory holds)
+          (performs whole frame grows sound frame-is lands around stands fuel serves store memory holds)
+
+pub does-form : (source : Source) (old new : Shape) (e : ℕ) (c : Cell) (form : Option CoreExpr) → node source e ≡ form → Performs source old new Nothing (λ around fuel store. into_of source (level_at source fuel) (callees_at fuel) around e form (record { cell = c }) store) → DoesOwn source old new e c
+does-form source old new e c form is performs =
+    does-with-callees source old new e c form is
+    (λ whole frame grows sound frame-is lands around stands fuel serves store memory holds.
+    performs.reaches whole frame grows sound frame-is lands around stands fuel (serves-less fuel source frame.program serves) store memory holds)
