@@ -5,7 +5,6 @@ use Rattle.std.proofs.lemmas.Bool.{cases_lt}
 use Rattle.std.proofs.lemmas.Option.{option_and_then_some}
 use Rattle.std.proofs.Math.ListN.{length-replicate}
 use Rattle.types.specs.declared.ty.Ty.{Ty}
-use Rattle.mir.specs.declared.body.BasicBlock.{BasicBlock}
 use Rattle.mir.specs.declared.body.Local.{Local}
 use Rattle.mir.specs.declared.ids.LocalId.{LocalId}
 use Rattle.mir_lower.specs.declared.graph.Temps.{Temps}

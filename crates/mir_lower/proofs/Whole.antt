@@ -8,7 +8,6 @@ use Rattle.mir.specs.declared.body.BasicBlock.{BasicBlock}
 use Rattle.mir.specs.declared.body.Local.{Local}
 use Rattle.mir.specs.declared.body.MirBody.{MirBody}
 use Rattle.mir.specs.declared.body.TerminatorKind.TheVariants as kind
-use Rattle.mir.specs.declared.ids.LocalId.{LocalId}
 use Rattle.mir.specs.declared.span.MirSpan.{MirSpan}
 use Rattle.mir.specs.declared.address.Interval.{Interval}
 use Rattle.mir.specs.Areas.{first_areas}
@@ -28,9 +27,8 @@ use Rattle.mir_lower.specs.Graph.{OpenTarget, Shape, no_statements, local_of, lo
 use Rattle.mir_lower.specs.Growth.{Grows, IsSound, count_at}
 use Rattle.mir_lower.specs.Leaving.{Idles}
 use Rattle.mir_lower.specs.Lowered.{HasLayouts, LowersInto}
-use Rattle.mir_lower.specs.Params.{LowersParameters}
 use Rattle.mir_lower.specs.Simulates.{EndsOn, EndsAs, Simulates}
-use Rattle.mir_lower.specs.Stops.{IsCut, StopsWithin, turns_of}
+use Rattle.mir_lower.specs.Stops.{StopsWithin, turns_of}
 use Rattle.mir_lower.specs.Runs.{Point, Within, Entry, Exit, start_of, run_from, local_bytes, AreCellsApart, Enters, IsReturned, IsFault, EndsAfter, error_of, Comes}
 use Rattle.mir_lower.proofs.Growing.{grows-refl, grows-trans, with_terminator-grows, with_scope-grows}
 use Rattle.mir_lower.proofs.Leaving.{enters-block, comes-return, here-scope}

@@ -1,5 +1,5 @@
 -- From the first graph through the parameters, the root, the scope that is left, and the return.
-use Rattle.std.proofs.Common.{◌≡◌, ◌⊎◌, ◌++◌, [], List, length, refl, sym, ap, ◌∙◌, subst, inr}
+use Rattle.std.proofs.Common.{◌⊎◌, ◌++◌, [], List, refl, sym, ap, ◌∙◌, subst, inr}
 use Rattle.mir.specs.declared.body.Local.{Local}
 use Rattle.mir.specs.declared.errors.MirLowerError.{MirLowerError}
 use Rattle.mir.specs.declared.ids.LocalId.{LocalId}
