@@ -33,7 +33,7 @@ locals-carried first second (b ∷ bound) [] carries all = absurd all
 
 -- no binding was marked, and one more
 pub marks-none : (s : Shape) → MarksBindings s s [] []
-marks-none s = record { marked = ap (λ (scope : List Cell). with_scope scope s) (sym (append-nil s.scope)); locals = tt }
+marks-none s = record { marked = ap (λ (scope : List Cell). with_scope scope s) (sym (append-nil s.scope)); told = tt }
 
 pub marks-more : (old at new : Shape) (bound : List ℕ) (locals : List LocalId) (b : ℕ) (local : LocalId) → MarksBindings old at bound locals → binding_local at b ≡ Some local.0 → new ≡ with_mark (Binding b) at → MarksBindings old new (bound ++ b ∷ []) (locals ++ local ∷ [])
 unfolding binding_local
@@ -41,7 +41,7 @@ marks-more old at new bound locals b local marks found marked =
     record {
       marked = marked ∙ ap (with_mark (Binding b)) marks.marked
           ∙ ap (λ (scope : List Cell). with_scope scope old) (append_assoc old.scope (map Binding bound) (Binding b ∷ []) ∙ ap (λ (cells : List Cell). old.scope ++ cells) (sym (map-append Binding bound (b ∷ []))));
-      locals = locals-more (local_of old) bound locals b local marks.locals (sym (ap (λ (s : Shape). binding_local s b) marks.marked) ∙ found);
+      told = locals-more (local_of old) bound locals b local marks.told (sym (ap (λ (s : Shape). binding_local s b) marks.marked) ∙ found);
     }
 
 -- patterns were marked, behind `self`
@@ -123,7 +123,7 @@ parameters-lowered source old new locals i all done =
       marked = done.marks.marked ∙ ap (λ (marked : List Cell). with_scope (old.scope ++ marked) old) cells;
       bound = own ++ done.named;
       binds = ap (option_map (λ named. own ++ named)) names;
-      locals = locals-carried (local_of old) (local_of new) (own ++ done.named) locals (λ b l found. ap (λ (s : Shape). binding_local s b) done.marks.marked ∙ found) done.marks.locals;
+      told = locals-carried (local_of old) (local_of new) (own ++ done.named) locals (λ b l found. ap (λ (s : Shape). binding_local s b) done.marks.marked ∙ found) done.marks.told;
     }
 
 -- a parameter that isn't a name by value

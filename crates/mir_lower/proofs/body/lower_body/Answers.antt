@@ -91,7 +91,7 @@ returns c =
     let span = ExprId c.args.context.now.body.now.body_expr in
     let body = c.into_body.result in
     let locals = c.into_body.ensures.locals ∙ ap (λ (s : Shape). s.locals) c.set_terminator.ensures in
-    let told : AreLocalsOf (local_of s1) params.bound body.param_locals = subst (λ (ls : List LocalId). AreLocalsOf (local_of s1) params.bound ls) (sym c.into_body.ensures.params) params.locals in
+    let told : AreLocalsOf (local_of s1) params.bound body.param_locals = subst (λ (ls : List LocalId). AreLocalsOf (local_of s1) params.bound ls) (sym c.into_body.ensures.params) params.told in
     let front = whole-front source s1 s2 s3 span begins begun.scope begun.targets into left body.locals locals in
     record {
       simulates = whole-simulates source s1 s2 s3 span begins begun.scope begun.targets into left body (are-aligned source.world c.requires.world) c.requires.checked.root
