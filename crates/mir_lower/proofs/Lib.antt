@@ -23,7 +23,7 @@ pub mod Loops
 pub mod Needed
 pub mod Operands
 pub mod Operations
-pub mod Params
+pub mod Parameters
 pub mod Placing
 pub mod Reaching
 pub mod Ready

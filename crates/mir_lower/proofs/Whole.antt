@@ -35,7 +35,7 @@ use Rattle.mir_lower.proofs.Leaving.{enters-block, comes-return, here-scope}
 use Rattle.mir_lower.proofs.Lists.{front-of}
 use Rattle.mir_lower.proofs.Placing.{AreAligned, Placing, places-all, first-ok}
 use Rattle.mir_lower.proofs.Reaching.{comes-on, comes-trans, enters-both, ends-after, stops-after, stops-within}
-use Rattle.mir_lower.proofs.Params.{locals-carried}
+use Rattle.mir_lower.proofs.Parameters.{locals-carried}
 use Rattle.mir_lower.proofs.Room.{fits-room}
 use Rattle.mir_lower.proofs.Sound.{with_terminator-sound, slot-there, binding-there, stored-is-used}
 use Rattle.mir_lower.proofs.Steps.{local_of-grows}

@@ -13,4 +13,4 @@ pub mod Built
 pub mod Callees
 pub mod Calling
 pub mod Stops
-pub mod Params
+pub mod Parameters

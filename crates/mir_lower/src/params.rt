@@ -8,7 +8,7 @@ ghost use Rattle.source_meaning.specs.Source.{Binding, pattern};
 ghost use Rattle.body_forms.specs.Contexts.{source_of};
 ghost use Rattle.mir_lower.specs.Graph.{shape, binding_local, with_mark};
 ghost use Rattle.mir_lower.specs.Growth.{IsSound};
-ghost use Rattle.mir_lower.specs.Params.{MarksBindings, LowersParameters};
+ghost use Rattle.mir_lower.specs.Parameters.{MarksBindings, LowersParameters};
 ghost use Rattle.mir_lower.specs.Refusals.{RefusesPattern, RefusesParameters};
 
 use crate::graph::{Graph, Held};

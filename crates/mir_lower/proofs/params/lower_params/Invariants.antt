@@ -2,7 +2,7 @@
 use Rattle.std.proofs.Common.{take}
 use Rattle.body_forms.specs.Contexts.{source_of}
 use Rattle.mir_lower.specs.Graph.{shape}
-use Rattle.mir_lower.proofs.Params.{MarksNames}
+use Rattle.mir_lower.proofs.Parameters.{MarksNames}
 use Rattle.mir_lower.proofs.params.lower_params.Given as goal
 
 abbrev pub invariant-loop-pat : goal.invariant-loop-pat

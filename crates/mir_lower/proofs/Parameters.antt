@@ -13,7 +13,7 @@ use Rattle.source_meaning.specs.Source.{Source, Cell, Binding, bound_by, pattern
 use Rattle.mir_lower.specs.Callees.{AreLocalsOf}
 use Rattle.mir_lower.specs.Graph.{Shape, binding_local, local_of, with_mark, with_scope}
 use Rattle.mir_lower.specs.Growth.{IsSound}
-use Rattle.mir_lower.specs.Params.{MarksBindings, LowersParameters}
+use Rattle.mir_lower.specs.Parameters.{MarksBindings, LowersParameters}
 use Rattle.mir_lower.specs.Refusals.{RefusesPattern, RefusesParameters}
 use Rattle.mir_lower.proofs.InUse.{lacks-binding}
 use Rattle.mir_lower.proofs.Lists.{take-next}
