@@ -1,5 +1,5 @@
 -- The parameters of a body: the local of each is marked, one after another.
-use Rattle.std.proofs.Common.{◌≡◌, ℕ, zero, suc, ◌+◌, ◌≤◌, ◌⊎◌, ⊎_elim, List, [], ◌∷◌, ◌++◌, length, Option, Some, None, map, take, Contains, refl, sym, ap, ◌∙◌, subst, arith, append_assoc, append-nil}
+use Rattle.std.proofs.Common.{◌≡◌, ℕ, zero, suc, ◌+◌, ◌<◌, ◌≤◌, ◌⊎◌, ⊎_elim, List, [], ◌∷◌, ◌++◌, length, Option, Some, None, map, take, Contains, get_or, refl, sym, ap, ◌∙◌, subst, arith, append_assoc, append-nil}
 use Rattle.std.specs.Prelude.{flat_map, option_and_then, option_map, slice_get}
 use Rattle.std.proofs.lemmas.List.{map-append, take_all}
 use Rattle.std.proofs.lemmas.List.Elements.{Contains-append_left, Contains-append_right}
@@ -17,6 +17,7 @@ use Rattle.mir_lower.specs.Parameters.{MarksBindings, LowersParameters}
 use Rattle.mir_lower.specs.Refusals.{RefusesPattern, RefusesParameters}
 use Rattle.mir_lower.proofs.InUse.{lacks-binding}
 use Rattle.mir_lower.proofs.Lists.{take-next}
+use Rattle.mir_lower.proofs.Sound.{with_scope-sound}
 
 -- the locals of bindings, with one more, and where each is another table's too
 locals-more : (allotted : Cell → Option ℕ) (bound : List ℕ) (locals : List LocalId) (b : ℕ) (local : LocalId) → AreLocalsOf allotted bound locals → allotted (Binding b) ≡ Some local.0 → AreLocalsOf allotted (bound ++ b ∷ []) (locals ++ local ∷ [])
@@ -31,6 +32,12 @@ locals-carried first second (b ∷ bound) (local ∷ locals) carries all = (carr
 locals-carried first second [] (local ∷ locals) carries all = absurd all
 locals-carried first second (b ∷ bound) [] carries all = absurd all
 
+-- the pattern of a parameter
+pub param-there : (pats : List PatId) (i : ℕ) (other : PatId) → i < length pats → slice_get pats i ≡ Some (get_or pats i other)
+param-there [] i other within = absurd (omega arith)
+param-there (first ∷ rest) zero other within = refl
+param-there (first ∷ rest) (suc i) other within = param-there rest i other (omega arith)
+
 -- no binding was marked, and one more
 pub marks-none : (s : Shape) → MarksBindings s s [] []
 marks-none s = record { marked = ap (λ (scope : List Cell). with_scope scope s) (sym (append-nil s.scope)); told = tt }
@@ -43,6 +50,10 @@ marks-more old at new bound locals b local marks found marked =
           ∙ ap (λ (scope : List Cell). with_scope scope old) (append_assoc old.scope (map Binding bound) (Binding b ∷ []) ∙ ap (λ (cells : List Cell). old.scope ++ cells) (sym (map-append Binding bound (b ∷ []))));
       told = locals-more (local_of old) bound locals b local marks.told (sym (ap (λ (s : Shape). binding_local s b) marks.marked) ∙ found);
     }
+
+-- the graph can be lowered into as before
+pub marked-sound : (source : Source) (old new : Shape) (bound : List ℕ) (locals : List LocalId) → IsSound source old → MarksBindings old new bound locals → IsSound source new
+marked-sound source old new bound locals sound marks = subst (IsSound source) (sym marks.marked) (with_scope-sound source (old.scope ++ map Binding bound) old sound)
 
 -- patterns were marked, behind `self`
 pub record MarksNames (source : Source) (old new : Shape) (pats : List PatId) (locals : List LocalId) : Type 0 where
@@ -111,11 +122,11 @@ named-cells source (first ∷ rest) named names =
     ∙ ap (λ (b : Option BindingId). bound_by b ++ flat_map (λ (pat : PatId). bound_by (pattern source pat.0)) rest) (sym one.is)
 
 -- all were marked
-pub parameters-lowered : (source : Source) (old new : Shape) (locals : List LocalId) (i : ℕ) → length source.body.params ≤ i → MarksNames source old new (take i source.body.params) locals → LowersParameters source old new locals
+pub parameters-lowered : (source : Source) (old new : Shape) (locals : List LocalId) (pats : List PatId) (i : ℕ) → pats ≡ source.body.params → length pats ≤ i → MarksNames source old new (take i pats) locals → LowersParameters source old new locals
 unfolding parameters parameter_cells binding_local
-parameters-lowered source old new locals i all done =
+parameters-lowered source old new locals pats i same all done =
     let own : List ℕ = self_bound source.body.self_param in
-    let names : names_bound source source.body.params ≡ Some done.named = ap (names_bound source) (sym (take_all i source.body.params all)) ∙ done.names in
+    let names : names_bound source source.body.params ≡ Some done.named = ap (names_bound source) (sym same ∙ sym (take_all i pats all)) ∙ done.names in
     let cells : map Binding (own ++ done.named) ≡ parameter_cells source =
     map-append Binding own done.named ∙ ap (λ (first : List Cell). first ++ map Binding done.named) (self-cells source.body.self_param)
     ∙ ap (λ (later : List Cell). bound_by source.body.self_param ++ later) (named-cells source source.body.params done.named names) in

@@ -243,7 +243,7 @@ module _ (source : Source) (s0 s1 s2 : Shape) (span : MirSpan) (begins : here s0
         apart = apart;
       } in
       let does-from : (fuel : ℕ) (store : Store) (frame : Frame) (memory : Memory) → frame.body ≡ body → Serves fuel source frame.program → AreCellsApart frame.cells → Holds Whole frame store memory →
-          RunsAs source (local_of Whole) frame (Entry body.start_block.0) memory (meaning_from source store fuel) =
+      RunsAs source (local_of Whole) frame (Entry body.start_block.0) memory (meaning_from source store fuel) =
       λ fuel store frame memory same serves apart holds.
       subst (λ (n : ℕ). RunsAs source (local_of Whole) frame (Entry n) memory (meaning_from source store fuel)) (sym start) (runs-whole frame store memory (frame-of frame same apart) holds fuel serves) in
       let all-grow : Grows s0 Whole = grows-trans s0 s1 Whole into.keeps.grows first-grows in
