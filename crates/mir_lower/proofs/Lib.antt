@@ -23,6 +23,7 @@ pub mod Loops
 pub mod Needed
 pub mod Operands
 pub mod Operations
+pub mod Parameters
 pub mod Placing
 pub mod Reaching
 pub mod Ready
