@@ -1,5 +1,6 @@
 pub mod Adjusting
 pub mod Aligned
+pub mod Arguments
 pub mod Assignments
 pub mod Beginning
 pub mod Blocks
@@ -8,6 +9,7 @@ pub mod Branching
 pub mod Building
 pub mod Conditions
 pub mod Drops
+pub mod Entering
 pub mod Forking
 pub mod Growing
 pub mod Holding
