@@ -1,5 +1,6 @@
 pub mod Adjusting
 pub mod Aligned
+pub mod Arguments
 pub mod Assignments
 pub mod Beginning
 pub mod Blocks
