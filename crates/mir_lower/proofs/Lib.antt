@@ -1,13 +1,16 @@
 pub mod Adjusting
 pub mod Aligned
+pub mod Arguments
 pub mod Assignments
 pub mod Beginning
 pub mod Blocks
 pub mod Branches
 pub mod Branching
 pub mod Building
+pub mod Calls
 pub mod Conditions
 pub mod Drops
+pub mod Entering
 pub mod Forking
 pub mod Growing
 pub mod Holding
@@ -21,6 +24,7 @@ pub mod Loops
 pub mod Needed
 pub mod Operands
 pub mod Operations
+pub mod Parameters
 pub mod Placing
 pub mod Reaching
 pub mod Ready
@@ -29,6 +33,7 @@ pub mod Reserving
 pub mod Returning
 pub mod Room
 pub mod Running
+pub mod Serving
 pub mod Sound
 pub mod Sparing
 pub mod Stack
