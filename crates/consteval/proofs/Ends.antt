@@ -16,7 +16,7 @@ use Rattle.mir.specs.Run.{Program, Frame, Ending, Returned, Faulted, Asked, Ende
 use Rattle.mir_eval.specs.Machine.{on_a_level, outcome_of, wrapped}
 use Rattle.mir_lower.specs.Callees.{Serves}
 use Rattle.mir_lower.specs.Simulates.{EndsAs, EndsOn, Simulates}
-use Rattle.mir_lower.specs.Stops.{IsCut, LacksRoom, StopsWithin, WasRefused, turns_of}
+use Rattle.mir_lower.specs.Stops.{IsCut, StopsWithin, WasRefused, turns_of}
 use Rattle.mir_lower.specs.Runs.{EndsAfter, IsFault, IsOutOfBlocks, IsReturned, error_of}
 use Rattle.source_meaning.specs.Ends.{Cost, End, Go, Jumps, Faults, Stuck, More, Fault, Panic, Undefined, GoesOn, IsOver, JumpsNowhere}
 use Rattle.source_meaning.specs.Meaning.{Gives, meaning_of}

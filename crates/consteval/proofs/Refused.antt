@@ -14,7 +14,7 @@ use Rattle.world.specs.declared.limits.Limits.{Limits}
 use Rattle.types.specs.declared.ids.DefWithBodyId.{DefWithBodyId}
 use Rattle.types.specs.declared.ty.GenericArgs.{GenericArgs}
 use Rattle.types.specs.declared.ty.Ty.{Ty}
-use Rattle.world.specs.Lookups.{body_row, layout_of}
+use Rattle.world.specs.Lookups.{layout_of}
 use Rattle.world.specs.Checked.{IsChecked}
 use Rattle.numbers.specs.Bytes.{is_width}
 use Rattle.mir.specs.declared.body.MirBody.{MirBody}
