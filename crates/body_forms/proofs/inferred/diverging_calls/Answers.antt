@@ -10,4 +10,5 @@ use Rattle.body_forms.proofs.Diverging.{one-more}
 use Rattle.body_forms.proofs.inferred.diverging_calls.Goals as goal
 
 pub loop-call-preserved : goal.loop-call-preserved
-loop-call-preserved c = λ e. ?
+loop-call-preserved c = λ e.
+    let h = c.loop-call in let g = c.in_ok-insert in ?
