@@ -67,13 +67,14 @@ stops-now source program turns run ending makes cut ends =
       };
     }
 
+by_test : {A : Type 0} (fits not : A) (b : Bool) → (cond b fits not ≡ fits) ⊎ (cond b fits not ≡ not)
+by_test fits not true = inl refl
+by_test fits not false = inr refl
+
 -- a write's bytes fit their cell, or the write is stuck
 put-fits : (store : Store) (path : Path) (bytes : List ℕ) → (put store path bytes ≡ Go tt (with_cell_bytes store path.cell bytes) no_cost) ⊎ (put store path bytes ≡ Stuck)
 unfolding put
-put-fits store path bytes = by_test (eqb (length bytes) (length (store path.cell))) where
-  by_test : (b : Bool) → (cond b (Go tt (with_cell_bytes store path.cell bytes) no_cost) Stuck ≡ Go tt (with_cell_bytes store path.cell bytes) no_cost) ⊎ (cond b (Go tt (with_cell_bytes store path.cell bytes) no_cost) Stuck ≡ Stuck)
-  by_test true = inl refl
-  by_test false = inr refl
+put-fits store path bytes = by_test (Go tt (with_cell_bytes store path.cell bytes) no_cost) Stuck (eqb (length bytes) (length (store path.cell)))
 
 -- the source of a function stands in its world
 source-world : (world : HirDatabase) (id : FunctionId) (called : Source) → source_of world id ≡ Some called → called.world ≡ world
@@ -282,7 +283,7 @@ module _ (source : Source) (whole : Shape) (frame : Frame) (lands : Landings) (f
           }
 
     gives-value : (value : List ℕ) (left : Store) (cost : Cost) → RunsAs called into.allotted Inner (Entry into.body.start_block.0) into.now (Go value left cost) → Returns (gone_on (record { cell = c }) store (Go value left cost))
-    unfolding gone_on after then_do plus
+    unfolding after then_do plus
     gives-value value left cost does = by_put (put-fits store (record { cell = c }) value) does where
       by_put : (put store (record { cell = c }) value ≡ Go tt (with_cell_bytes store c value) no_cost) ⊎ (put store (record { cell = c }) value ≡ Stuck) → RunsAs called into.allotted Inner (Entry into.body.start_block.0) into.now (Go value left cost) → Returns (after cost (then_do (put store (record { cell = c }) value) (λ _ last. Go tt last (turns_alone 1))))
       by_put (inl fits) (inl stops) =
@@ -295,7 +296,6 @@ module _ (source : Source) (whole : Shape) (frame : Frame) (lands : Landings) (f
           subst (λ (written : End (Unit {0})). Returns (after cost (then_do written (λ _ last. Go tt last (turns_alone 1))))) (sym stuck) (inr tt)
 
     gives-back : (end : End (List ℕ)) → RunsAs called into.allotted Inner (Entry into.body.start_block.0) into.now end → Returns (gone_on (record { cell = c }) store end)
-    unfolding gone_on
     gives-back (Go value left cost) does = gives-value value left cost does
     gives-back (Jumps to left cost) does = inr tt
     gives-back Stuck does = inr tt
@@ -319,7 +319,6 @@ module _ (source : Source) (whole : Shape) (frame : Frame) (lands : Landings) (f
     stops-astray turns stops = stops-same source called frame.program turns turns (run_from frame memory from) (run_from Own into.now (Entry into.body.start_block.0)) makes into.same (omega arith) stops
 
     gives-astray : (end : End (List ℕ)) → RunsAs called into.allotted Own (Entry into.body.start_block.0) into.now end → Strays (gone_astray end)
-    unfolding gone_astray
     gives-astray (Jumps jump left cost) does = inr tt
     gives-astray Stuck does = inr tt
     gives-astray (Go value left cost) (inl stops) = inl (stops-astray cost.turns stops)
