@@ -1,7 +1,6 @@
 -- The cells of a called body, and its arguments in them.
 use Rattle.std.proofs.Common.{◌≡◌, ◌≢◌, ℕ, zero, suc, ◌⊎◌, ⊎_elim, Bool, true, false, cond, List, [], ◌∷◌, length, Option, Some, None, Result, Ok, Err, refl, sym, ap, ◌∙◌, subst, eqb}
 use Rattle.std.specs.Prelude.{slice_get, map, replicate, unwrap_or, option_map, option_and_then, codes}
-use Rattle.std.proofs.lemmas.List.{length-replicate}
 use borrow.Author.Tests.{eqb-true}
 use Rattle.types.specs.declared.ids.CallableDefId.TheVariants.{FunctionId as CalledFunction, StructId, EnumVariantId}
 use Rattle.types.specs.declared.ids.FunctionId.{FunctionId}
@@ -31,7 +30,7 @@ use Rattle.mir.specs.Errors.{layout_error_of}
 use Rattle.mir.specs.Memory.{Memory, cell_bytes, cell_before, cell_size_of, size_before, sizes_of, pushed, cells_of}
 use Rattle.mir.specs.Run.{Frame, operand_bytes as mir_bytes, bad_write, read, copied, filled as mir_filled, called_cells, function_of as mir_function_of, function_in as mir_function_in}
 use Rattle.source_meaning.specs.Calls.{without_generics, function_of, function_in, function_called, filled}
-use Rattle.source_meaning.specs.Source.{Source, Cell, Result as Slot, Node, Binding, Never, Store, Operand, operand_bytes, own_type, cell_type, cell_layout, cell_size, same_cell, zeroed, with_cell_bytes}
+use Rattle.source_meaning.specs.Source.{Source, Cell, Result as Slot, Binding, Store, Operand, operand_bytes, own_type, cell_type, cell_layout, cell_size, zeroed, with_cell_bytes}
 use Rattle.mir_lower.specs.Callees.{AreLocalsOf, without_arguments}
 use Rattle.mir_lower.specs.Does.{Holds, FitAll}
 use Rattle.mir_lower.specs.Graph.{Shape, local_of}
@@ -118,9 +117,11 @@ bytes-at frame memory l cell found = ap (option_and_then (cell_bytes memory)) fo
 pub represents-later : (allotted : Cell → Option ℕ) (frame : Frame) (store : Store) (before memory : Memory) → Represents allotted frame store before →
     ((old : Interval) (bytes : List ℕ) → cell_bytes before old ≡ Some bytes → cell_bytes memory old ≡ Some bytes) → Represents allotted frame store memory
 represents-later allotted frame store before memory holds kept =
-    record { shows = λ c l local.
-        let at = interval-of frame before l (store c) (holds.shows c l local) in
-        bytes-at frame memory l at.0 at.1 ∙ kept at.0 (store c) at.2 }
+    record {
+      shows = λ c l local.
+          let at = interval-of frame before l (store c) (holds.shows c l local) in
+          bytes-at frame memory l at.0 at.1 ∙ kept at.0 (store c) at.2;
+    }
 
 -- bytes that are written to the local of a cell, in a frame whose cells lie apart
 module _ (allotted : Cell → Option ℕ) (own : (c d : Cell) (l : ℕ) → allotted c ≡ Some l → allotted d ≡ Some l → c ≡ d) (frame : Frame) (apart : AreCellsApart frame.cells) (store : Store) (memory : Memory) (holds : Represents allotted frame store memory) (c : Cell) (l : ℕ) (local : allotted c ≡ Some l) (bytes : List ℕ) (long : length bytes ≡ length (store c)) where

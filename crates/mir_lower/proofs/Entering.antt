@@ -2,7 +2,6 @@
 use Rattle.std.proofs.Common.{◌≡◌, ℕ, suc, ◌+◌, ◌≤◌, ◌⊎◌, ⊎_elim, inl, inr, Bool, true, false, cond, List, ◌∷◌, length, map, Option, Some, None, Result, Ok, Err, refl, sym, ap, ◌∙◌, subst, arith, eqb}
 use Rattle.std.specs.Prelude.{slice_get, nat_le, if◌then◌else◌, option_map, option_and_then, codes}
 use Rattle.std.proofs.lemmas.List.{length-replicate}
-use borrow.Author.Tests.{eqb-true}
 use Rattle.types.specs.declared.ids.FunctionId.{FunctionId}
 use Rattle.types.specs.declared.ty.GenericArgs.{GenericArgs}
 use Rattle.types.specs.declared.ty.Ty.{Ty}
@@ -19,17 +18,17 @@ use Rattle.mir.specs.declared.errors.MirEvalError.{MirEvalError}
 use Rattle.mir.specs.declared.errors.MirEvalError as error
 use Rattle.mir.specs.declared.operand.Operand.{Operand as MirOperand}
 use Rattle.mir.specs.Memory.{Memory, cell_bytes}
-use Rattle.mir.specs.Run.{Program, Frame, Calling, Next, GoesTo, Ending, Faulted, Asked, Ended, operand_type as mir_type, function_in as mir_function_in, filled as mir_filled, body_query, bad_write, trail_of, faults, levels_over, waiting, entry_of, callee_error, called_cells, called as mir_called, called_by, calls, entered, resumed, after_return, entering, going_on}
+use Rattle.mir.specs.Run.{Program, Frame, Calling, GoesTo, Ending, Faulted, Asked, Ended, operand_type as mir_type, function_in as mir_function_in, filled as mir_filled, body_query, bad_write, trail_of, faults, levels_over, waiting, entry_of, callee_error, called_cells, called as mir_called, called_by, calls, entered, resumed, after_return, going_on}
 use Rattle.source_meaning.specs.Calls.{function_called, source_at, source_of, source_called, filled, started}
-use Rattle.source_meaning.specs.Ends.{Cost, no_cost, turns_alone, one_level_more, plus, End, Go, Jumps, Faults, Undefined, Stuck, More, after, then_do}
+use Rattle.source_meaning.specs.Ends.{Cost, no_cost, turns_alone, plus, End, Go, Jumps, Faults, Stuck, More, after, then_do}
 use Rattle.source_meaning.specs.Meaning.{put, gone_on, gone_astray, entered_from, entered_into, callees_at, meaning_from}
 use Rattle.source_meaning.specs.Source.{Source, own_type, Cell, Result as Slot, Binding, cell_size, Path, Store, Operand, operand_bytes, zeroed, with_cell_bytes}
-use Rattle.mir_lower.specs.Callees.{RunsOn, RunsAs, DoesBelow, Serves, without_arguments}
+use Rattle.mir_lower.specs.Callees.{RunsAs, DoesBelow, Serves, without_arguments}
 use Rattle.mir_lower.specs.Does.{IsFrameOf, Holds, Landings, Reaches, Nothing, FitAll}
 use Rattle.mir_lower.specs.Graph.{Shape, local_of}
 use Rattle.mir_lower.specs.Growth.{IsSound}
-use Rattle.mir_lower.specs.Runs.{Point, Entry, Exit, start_of, run_from, local_bytes, Enters, IsFault, EndsAfter, error_of, LiesApart, Comes, Represents}
-use Rattle.mir_lower.specs.Stops.{MakesCall, IsCut, LacksRoom, StopsWithin, turns_of}
+use Rattle.mir_lower.specs.Runs.{Point, Entry, Exit, start_of, run_from, local_bytes, Enters, IsFault, EndsAfter, error_of, LiesApart, Comes}
+use Rattle.mir_lower.specs.Stops.{MakesCall, IsCut, StopsWithin, turns_of}
 use Rattle.mir_lower.proofs.Aligned.{are-aligned}
 use Rattle.mir_lower.proofs.Arguments.{names-callee, called-lacks, bytes-at, Spares, Shows, ArePlaced, called-places, fills}
 use Rattle.mir_lower.proofs.Holding.{cells, interval-of}
