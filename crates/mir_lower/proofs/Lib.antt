@@ -7,6 +7,7 @@ pub mod Blocks
 pub mod Branches
 pub mod Branching
 pub mod Building
+pub mod Calls
 pub mod Conditions
 pub mod Drops
 pub mod Entering
@@ -23,6 +24,7 @@ pub mod Loops
 pub mod Needed
 pub mod Operands
 pub mod Operations
+pub mod Parameters
 pub mod Placing
 pub mod Reaching
 pub mod Ready
@@ -31,6 +33,7 @@ pub mod Reserving
 pub mod Returning
 pub mod Room
 pub mod Running
+pub mod Serving
 pub mod Sound
 pub mod Sparing
 pub mod Stack

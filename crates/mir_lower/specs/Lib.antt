@@ -11,4 +11,6 @@ pub mod Simulates
 pub mod Branches
 pub mod Built
 pub mod Callees
+pub mod Calling
 pub mod Stops
+pub mod Parameters

@@ -3,11 +3,13 @@
 
 mod body;
 mod branch;
+mod call;
 mod first;
 mod graph;
 mod jump;
 mod leave;
 mod locals;
 mod lower;
+mod params;
 
 pub use body::lower_to_mir;
