@@ -1,5 +1,5 @@
 -- The cells of a called body, and its arguments in them.
-use Rattle.std.proofs.Common.{◌≡◌, ◌≢◌, ℕ, zero, suc, ◌⊎◌, ⊎_elim, Bool, true, false, cond, List, [], ◌∷◌, length, Option, Some, None, Result, Ok, Err, refl, sym, ap, ◌∙◌, subst, eqb}
+use Rattle.std.proofs.Common.{◌≡◌, ◌≢◌, ℕ, zero, suc, ⊎_elim, Bool, true, false, cond, List, [], ◌∷◌, length, Option, Some, None, Result, Ok, Err, refl, sym, ap, ◌∙◌, subst, eqb}
 use Rattle.std.specs.Prelude.{slice_get, map, replicate, unwrap_or, option_map, option_and_then, codes}
 use borrow.Author.Tests.{eqb-true}
 use Rattle.types.specs.declared.ids.CallableDefId.TheVariants.{FunctionId as CalledFunction, StructId, EnumVariantId}
