@@ -3,11 +3,11 @@
 evaluates the trees of the world's bodies, and counts blocks, bytes and levels of nesting. It knows no graph, and takes nothing from
 the program.
 
-usage: call_costs.py           compares the cases that are made of sources, and those whose values come from here, with it
+usage: call_costs.py           compares all cases that have a report with it
        call_costs.py WORLD     prints the report of an input
 
-It knows the forms that are evaluated, with the refusals of definitions, calls, parameters and forms that aren't built. A world with
-another fault, as a type without a layout, is skipped in a comparison. The exit code is 1 where something differs.
+It knows the forms that are evaluated, with their faults and refusals, of which the first in the order of lowering is the answer. A world
+in which it meets something else is skipped in a comparison. The exit code is 1 where something differs.
 """
 
 import json
@@ -28,6 +28,24 @@ class Unknown(Exception):
     """A world in which something stands that isn't known here."""
 
 
+def has_param(tree):
+    """Whether a type holds a parameter."""
+    if isinstance(tree, dict):
+        return "Param" in tree or any(has_param(part) for part in tree.values())
+    return isinstance(tree, list) and any(has_param(part) for part in tree)
+
+
+def no_layout(ty):
+    """Why a type has no layout."""
+    return "HasPlaceholder" if has_param(ty) else "Unknown"
+
+
+def quoted(text):
+    """A text in quotes."""
+    shown = text.replace("\\", "\\\\").replace('"', '\\"').replace("\n", "\\n")
+    return f'"{shown}"'
+
+
 class Refusal(Exception):
     """Why a body can't be lowered."""
 
@@ -45,6 +63,10 @@ class Fault(Exception):
             call, around = around
             calls.append(call)
         return f"InFunction({self.text}, [{', '.join(calls)}])"
+
+
+class NoPlace(Exception):
+    """Why cells can't be placed."""
 
 
 class Jump(Exception):
@@ -179,6 +201,7 @@ class Reading:
                          "pat_variant_res", "pat_adjustments", "binding_modes")
         }
         self.rows["diverging"] = set(found.get("diverging", []))
+        self.layouts = {key(ty): layout for ty, layout in world.get("layouts", [])}
         self.copies = {key(ty) for ty in found.get("copy_types", [])}
         self.marks, self.open, self.temps = [], [], []
 
@@ -244,7 +267,7 @@ class Reading:
         """The cell of the binding that a path names."""
         found = rows.get(place)
         if found is None:
-            raise Refusal(f'UnresolvedName("{name}")')
+            raise Refusal(f"UnresolvedName({quoted(name)})")
         if variant(found)[0] != "LocalBinding":
             raise Refusal(NOT_BUILT)
         return self.bound(found["LocalBinding"])
@@ -283,8 +306,15 @@ class Reading:
         raise Refusal("IncompleteExpr")
 
     def own_literal(self, e, part):
-        if variant(part)[0] not in ("Bool", "Int", "Uint"):
+        name, _ = variant(part)
+        if name not in ("Bool", "Int", "Uint"):
             raise Refusal(NOT_BUILT)
+        ty = self.body.infer["expr_types"][e]
+        layout = self.layouts.get(key(ty))
+        if name != "Bool" and layout is None:
+            raise Refusal(f"LayoutError({no_layout(ty)})")
+        if name != "Bool" and layout["size"] > 16:
+            raise Refusal('TypeError("number literal of more than 16 bytes")')
 
     def own_path(self, e, part):
         if e in self.rows["assoc_res"] or e in self.rows["variant_res"]:
@@ -454,9 +484,12 @@ class Run:
     # Cells.
 
     def layout(self, ty):
+        """The layout of a local's type."""
         found = self.layouts.get(key(ty))
-        if found is None or not found.get("sized"):
-            raise Unknown(f"{ty} has no size")
+        if found is None:
+            raise NoPlace(f"LayoutError({no_layout(ty)}, {shown_type(ty)})")
+        if not found.get("sized"):
+            raise NoPlace(f'TypeIsUnsized({shown_type(ty)}, "no unsized local in extending stack")')
         return found
 
     def type_of(self, body, cell):
@@ -467,14 +500,13 @@ class Run:
         return steps[0]["target"] if steps else body.infer["expr_types"][e]
 
     def place_cells(self, body, cells):
-        """Places cells at the end of the stack; the answer has the bytes of each, or nothing where they pass the limit."""
+        """Places cells at the end of the stack. The answer has the bytes of each."""
         end, placed = self.stack, {}
-        for cell in cells:
-            layout = self.layout(self.type_of(body, cell))
+        for cell, layout in [(cell, self.layout(self.type_of(body, cell))) for cell in cells]:
             end = -(-end // layout["align"]) * layout["align"] + layout["size"]
-            placed[cell] = bytes(layout["size"])
+            placed[cell] = bytes(layout["size"]) if end - 1 <= self.limits["bytes"] else b""
         if end - 1 > self.limits["bytes"]:
-            return None
+            raise NoPlace("MemoryLimitExceeded")
         self.stack = end
         return placed
 
@@ -504,9 +536,10 @@ class Run:
             return 'error eval NotSupported("targets with different pointer size from host")'
         if self.limits["nesting"] == 0:
             return "error eval StackOverflow"
-        cells = self.place_cells(body, body.locals)
-        if cells is None:
-            return "error eval MemoryLimitExceeded"
+        try:
+            cells = self.place_cells(body, body.locals)
+        except NoPlace as cause:
+            return f"error eval {cause}"
         if body.params:
             return 'error eval InternalError("too few arguments")'
         self.levels = self.most_levels = 1
@@ -546,7 +579,7 @@ class Run:
         name, part = variant(self.form(frame, e)[1])
         if name == "Bool":
             return bytes([part])
-        return low_bytes(self.layout(frame.body.infer["expr_types"][e])["size"], int(part[0]))
+        return low_bytes(self.layouts[key(frame.body.infer["expr_types"][e])]["size"], int(part[0]))
 
     def place(self, frame, e):
         """The cell that an expression is evaluated to."""
@@ -715,9 +748,10 @@ class Run:
             raise Fault(f"MirLowerError(fn#{function}, {refusal})", trail) from None
         if marked and self.levels == self.limits["nesting"]:
             raise Fault("StackOverflow", frame.trail)
-        cells = self.place_cells(callee, callee.locals if marked else callee.locals[1:])
-        if cells is None:
-            raise Fault("MemoryLimitExceeded", frame.trail)
+        try:
+            cells = self.place_cells(callee, callee.locals if marked else callee.locals[1:])
+        except NoPlace as cause:
+            raise Fault(str(cause), frame.trail) from None
         if not marked:
             cells[RESULT] = frame.cells[cell]
         if len(given) != len(callee.params):
@@ -769,18 +803,19 @@ def faults_of_cases():
 
     compared_rows, skipped, faults = 0, 0, []
     for topic, row in all_rows():
-        if "source" not in row and row.get("from") != ORIGIN:
+        status, wanted, _ = end_of(row)
+        if status > 1 or not wanted:
             continue
         try:
             found = report(json.loads(input_of(row)()))
         except Unknown as cause:
-            if row.get("from") == ORIGIN:
-                faults.append(f"{topic}, {row['name']}: {cause}")
             skipped += 1
+            if row["from"] == ORIGIN:
+                faults.append(f"{topic}, {row['name']}: {cause}")
             continue
         compared_rows += 1
-        if found != end_of(row)[1]:
-            faults.append(f"{topic}, {row['name']}: {found!r}, and not {end_of(row)[1]!r}")
+        if found != wanted:
+            faults.append(f"{topic}, {row['name']}: {found!r}, and not {wanted!r}")
     return faults, compared_rows, skipped
 
 
