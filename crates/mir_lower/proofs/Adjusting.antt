@@ -43,13 +43,13 @@ does-into : (source : Source) (s0 s1 s2 : Shape) (e : ℕ) (c own : Cell) → ow
     ((whole : Shape) (frame : Frame) → Grows s1 whole → IsFrameOf whole frame → (memory : Memory) → Comes frame 0 (here s0) memory (here s1) memory) → Grows s1 s2 → DoesOwn source s1 s2 e own → Does source s0 s2 e c
 does-into source s0 s1 s2 e c own path marks targets comes grown does =
     record {
-      reaches = λ whole frame grows sound is lands around stands fuel store memory holds.
+      reaches = λ whole frame grows sound is lands around stands fuel serves store memory holds.
           let behind : Around = marking (never_marks source e) around in
           let end : End (Unit {0}) = (level_at source fuel behind).own e (record { cell = own }) store in
           let same : (level_at source fuel around).into e (record { cell = c }) store ≡ end =
           into-own source fuel around e (record { cell = c }) store ∙ ap (λ (p : Path). (level_at source fuel behind).own e p store) path in
-          subst (Reaches whole lands frame (here s0) (here s2) memory (Nothing whole frame)) (sym same)
-          (reaches-from whole lands frame (here s0) (here s1) (here s2) memory (Nothing whole frame) (comes whole frame (grows-trans s1 s2 whole grown grows) is memory) end
+          subst (Reaches source whole lands frame (here s0) (here s2) memory (Nothing whole frame)) (sym same)
+          (reaches-from source whole lands frame (here s0) (here s1) (here s2) memory (Nothing whole frame) (comes whole frame (grows-trans s1 s2 whole grown grows) is memory) end
           (does.reaches whole frame grows sound is lands behind
           (record {
             marks = ap (λ (scope : List Cell). scope ++ never_marks source e) stands.marks ∙ sym marks;
@@ -57,7 +57,7 @@ does-into source s0 s1 s2 e c own path marks targets comes grown does =
             returns = stands.returns;
             targets = subst (λ (open_targets : List OpenTarget). FrontAll whole lands open_targets around.targets) (sym targets) stands.targets;
           })
-          fuel store memory holds));
+          fuel serves store memory holds));
     }
 
 -- without an adjustment

@@ -49,10 +49,10 @@ assigns-target source s new assigned place from operand span sound opened target
     (record {
       keeps = keeps-assigned source s st sound opened;
       does = record {
-        reaches = λ whole frame grows whole-sound is lands around stands fuel store memory holds.
+        reaches = λ whole frame grows whole-sound is lands around stands fuel serves store memory holds.
             let to = local-later s whole st opened grows b place.local.0 targeted.found in
             let at = local-later s whole st opened grows c from.local.0 found in
-            subst (λ (p : Option BindingId). Reaches whole lands frame (here s) (here (with_statement st s)) memory (Nothing whole frame) (bind p (record { cell = c }) store)) (sym targeted.names)
+            subst (λ (p : Option BindingId). Reaches source whole lands frame (here s) (here (with_statement st s)) memory (Nothing whole frame) (bind p (record { cell = c }) store)) (sym targeted.names)
             (assigned-bytes source s whole frame place (Use operand) span opened whole-sound is lands grows b to store memory holds (store c)
             (name-computes source whole frame c from operand copies whole-sound is at store memory holds));
       };
@@ -83,14 +83,14 @@ lowers-assign source s0 s1 s2 s3 e assigned value local c ready form place idles
             ∙ ap (λ m. s0.scope ++ m) (sym (assign_marks source ready.checked e ready.within assigned value form));
       };
       does = does-form source s0 s3 e c (Some (expr.Assign assigned value)) form (record {
-        reaches = λ whole frame grows sound is lands around stands fuel store memory holds.
+        reaches = λ whole frame grows sound is lands around stands fuel serves store memory holds.
             let grown : Grows s2 whole = grows-trans s2 s3 whole assigns.keeps.grows grows in
-            reaches-then whole lands frame (here s0) (here s1) (here s3) memory (LeadsTo from whole frame) (Nothing whole frame) ((level_at source fuel around).place value store) _
-            (place.does.does.reaches whole frame (grows-trans s1 s2 whole idles.grows grown) sound is lands around stands fuel store memory holds)
+            reaches-then source whole lands frame (here s0) (here s1) (here s3) memory (LeadsTo from whole frame) (Nothing whole frame) ((level_at source fuel around).place value store) _
+            (place.does.does.reaches whole frame (grows-trans s1 s2 whole idles.grows grown) sound is lands around stands fuel serves store memory holds)
             (λ path store1 memory1 claims.
-            subst (λ (p : Path). Reaches whole lands frame (here s1) (here s3) memory1 (Nothing whole frame) (bind (target source assigned) p store1)) (sym claims.1)
-            (reaches-from whole lands frame (here s1) (here s2) (here s3) memory1 (Nothing whole frame) (idles.comes whole frame grown is memory1) _
-            (assigns.does.reaches whole frame grows sound is lands (record around { marks = s2.scope }) (stands-with (idles.spares.targets ∙ place.keeps.spares.targets) stands) fuel store1 memory1 claims.0)));
+            subst (λ (p : Path). Reaches source whole lands frame (here s1) (here s3) memory1 (Nothing whole frame) (bind (target source assigned) p store1)) (sym claims.1)
+            (reaches-from source whole lands frame (here s1) (here s2) (here s3) memory1 (Nothing whole frame) (idles.comes whole frame grown is memory1) _
+            (assigns.does.reaches whole frame grows sound is lands (record around { marks = s2.scope }) (stands-with (idles.spares.targets ∙ place.keeps.spares.targets) stands) fuel serves store1 memory1 claims.0)));
       });
       laid = lays-assign source s0 s1 s3 e assigned value local form place later;
     }

@@ -1,5 +1,5 @@
 -- Blocks: names that are bound, statements in order, and a tail, in a scope of their own.
-use Rattle.std.proofs.Common.{◌≡◌, ℕ, ⊎_elim, List, [], ◌∷◌, ◌++◌, flat_map, Contains, Option, Some, None, Ok, refl, sym, ap, ◌∙◌, subst, arith, append_assoc, append-nil}
+use Rattle.std.proofs.Common.{◌≡◌, ℕ, ⊎_elim, List, [], ◌∷◌, ◌++◌, flat_map, Contains, Option, Some, None, Ok, refl, sym, ap, ◌∙◌, subst, arith, append_assoc, append-nil, inr}
 use Rattle.std.proofs.lemmas.Grind.{flat_map-append}
 use Rattle.std.proofs.lemmas.List.Elements.{Contains-append_cases}
 use Rattle.source_meaning.specs.Core as expr
@@ -81,12 +81,12 @@ binds-name source s0 s1 new pat id place from operand span binds given copies sa
         scope = with_statement-scope st s1 opened ∙ given.keeps.scope ∙ ap (λ p. s0.scope ++ bound_by p) (sym binds);
       };
       does = record {
-        reaches = λ whole frame grows sound is lands around stands fuel store memory holds.
+        reaches = λ whole frame grows sound is lands around stands fuel serves store memory holds.
             let grown : Grows s1 whole = grows-trans s1 (with_statement st s1) whole last grows in
             let to = local_of-grows s1 whole grown (Binding id.0) place.local.0 given.found in
             let at = local_of-grows s0 whole (grows-trans s0 s1 whole given.keeps.grows grown) c from.local.0 found in
-            subst (λ (p : Option BindingId). Reaches whole lands frame (here s0) (here (with_statement st s1)) memory (Nothing whole frame) (bind p (record { cell = c }) store)) (sym binds)
-            (reaches-from whole lands frame (here s0) (here s1) (here (with_statement st s1)) memory (Nothing whole frame) (given.comes whole frame grown is memory) (put store (record { cell = Binding id.0 }) (store c))
+            subst (λ (p : Option BindingId). Reaches source whole lands frame (here s0) (here (with_statement st s1)) memory (Nothing whole frame) (bind p (record { cell = c }) store)) (sym binds)
+            (reaches-from source whole lands frame (here s0) (here s1) (here (with_statement st s1)) memory (Nothing whole frame) (given.comes whole frame grown is memory) (put store (record { cell = Binding id.0 }) (store c))
             (assigned-bytes source s1 whole frame place (Use operand) span opened sound is lands grows (Binding id.0) to store memory holds (store c)
             (name-computes source whole frame c from operand copies sound is at store memory holds)));
       };
@@ -123,9 +123,9 @@ lowers-none source s sound opened =
     record {
       keeps = record { grows = grows-refl s; spares = spares-refl s; sound = sound; «open» = opened; scope = sym (append-nil s.scope) };
       does = record {
-        reaches = λ whole frame grows whole-sound is lands around stands fuel store memory holds.
-            subst (Reaches whole lands frame (here s) (here s) memory (Nothing whole frame)) (sym (no-statements source (level_at source fuel) around store))
-            (memory, comes-refl frame (here s) memory, holds, tt);
+        reaches = λ whole frame grows whole-sound is lands around stands fuel serves store memory holds.
+            subst (Reaches source whole lands frame (here s) (here s) memory (Nothing whole frame)) (sym (no-statements source (level_at source fuel) around store))
+            (inr (memory, comes-refl frame (here s) memory, holds, tt));
       };
       laid = λ child within. absurd (let below = within.1 in omega arith);
     }
@@ -134,13 +134,13 @@ lowers-none source s sound opened =
 one-statement : (source : Source) (old new : Shape) (st : Statement) → Performs source old new Nothing (λ around fuel store. statement_of source (level_at source fuel around) st store) → DoesStatements source old new (st ∷ [])
 one-statement source old new st performs =
     record {
-      reaches = λ whole frame grows sound is lands around stands fuel store memory holds.
-          subst (Reaches whole lands frame (here old) (here new) memory (Nothing whole frame)) (sym (first-statement source (level_at source fuel) around st [] store))
-          (reaches-then whole lands frame (here old) (here new) (here new) memory (Nothing whole frame) (Nothing whole frame) (statement_of source (level_at source fuel around) st store) _
-          (performs.reaches whole frame grows sound is lands around stands fuel store memory holds)
+      reaches = λ whole frame grows sound is lands around stands fuel serves store memory holds.
+          subst (Reaches source whole lands frame (here old) (here new) memory (Nothing whole frame)) (sym (first-statement source (level_at source fuel) around st [] store))
+          (reaches-then source whole lands frame (here old) (here new) (here new) memory (Nothing whole frame) (Nothing whole frame) (statement_of source (level_at source fuel around) st store) _
+          (performs.reaches whole frame grows sound is lands around stands fuel serves store memory holds)
           (λ value store1 memory1 claims.
-          subst (Reaches whole lands frame (here new) (here new) memory1 (Nothing whole frame)) (sym (no-statements source (level_at source fuel) (marking (marked_by_statement source st) around) store1))
-          (memory1, comes-refl frame (here new) memory1, claims.0, claims.1)));
+          subst (Reaches source whole lands frame (here new) (here new) memory1 (Nothing whole frame)) (sym (no-statements source (level_at source fuel) (marking (marked_by_statement source st) around) store1))
+          (inr (memory1, comes-refl frame (here new) memory1, claims.0, claims.1))));
     }
 
 -- statements, and then others
@@ -158,11 +158,11 @@ lowers-more source s0 s1 s2 xs ys first second =
             ∙ ap (λ m. s0.scope ++ m) (sym (flat_map-append (marked_by_statement source) xs ys));
       };
       does = record {
-        reaches = λ whole frame grows sound is lands around stands fuel store memory holds.
-            subst (Reaches whole lands frame (here s0) (here s2) memory (Nothing whole frame)) (sym (statements-append source (level_at source fuel) around xs ys store))
-            (reaches-then whole lands frame (here s0) (here s1) (here s2) memory (Nothing whole frame) (Nothing whole frame) (statements_of source (level_at source fuel) around xs store) _
-            (first.does.reaches whole frame (grows-trans s1 s2 whole second.keeps.grows grows) sound is lands around stands fuel store memory holds)
-            (λ value store1 memory1 claims. second.does.reaches whole frame grows sound is lands (marking (flat_map (marked_by_statement source) xs) around) (marking-fits first.keeps around stands) fuel store1 memory1 claims.0));
+        reaches = λ whole frame grows sound is lands around stands fuel serves store memory holds.
+            subst (Reaches source whole lands frame (here s0) (here s2) memory (Nothing whole frame)) (sym (statements-append source (level_at source fuel) around xs ys store))
+            (reaches-then source whole lands frame (here s0) (here s1) (here s2) memory (Nothing whole frame) (Nothing whole frame) (statements_of source (level_at source fuel) around xs store) _
+            (first.does.reaches whole frame (grows-trans s1 s2 whole second.keeps.grows grows) sound is lands around stands fuel serves store memory holds)
+            (λ value store1 memory1 claims. second.does.reaches whole frame grows sound is lands (marking (flat_map (marked_by_statement source) xs) around) (marking-fits first.keeps around stands) fuel serves store1 memory1 claims.0));
       };
       laid = λ child within plain layouts. ⊎_elim
           (λ one. first.laid child one plain (layouts-before source s1 s2 second.keeps.grows layouts))
@@ -188,14 +188,14 @@ lowers-let source s0 s1 s2 s3 pat e local place idles binding =
             ∙ ap (λ m. s0.scope ++ m) (sym (append-nil (marked_by_statement source (statement.Let pat (Some e) None)) ∙ let_marks source pat e));
       };
       does = one-statement source s0 s3 (statement.Let pat (Some e) None) (record {
-        reaches = λ whole frame grows sound is lands around stands fuel store memory holds.
+        reaches = λ whole frame grows sound is lands around stands fuel serves store memory holds.
             let grown : Grows s2 whole = grows-trans s2 s3 whole binds.keeps.grows grows in
-            reaches-then whole lands frame (here s0) (here s1) (here s3) memory (LeadsTo c whole frame) (Nothing whole frame) ((level_at source fuel around).place e.0 store) _
-            (place.does.does.reaches whole frame (grows-trans s1 s2 whole idles.grows grown) sound is lands around stands fuel store memory holds)
+            reaches-then source whole lands frame (here s0) (here s1) (here s3) memory (LeadsTo c whole frame) (Nothing whole frame) ((level_at source fuel around).place e.0 store) _
+            (place.does.does.reaches whole frame (grows-trans s1 s2 whole idles.grows grown) sound is lands around stands fuel serves store memory holds)
             (λ path store1 memory1 claims.
-            subst (λ (p : Path). Reaches whole lands frame (here s1) (here s3) memory1 (Nothing whole frame) (bind (pattern source pat.0) p store1)) (sym claims.1)
-            (reaches-from whole lands frame (here s1) (here s2) (here s3) memory1 (Nothing whole frame) (idles.comes whole frame grown is memory1) _
-            (binds.does.reaches whole frame grows sound is lands (record around { marks = s2.scope }) (stands-with (idles.spares.targets ∙ place.keeps.spares.targets) stands) fuel store1 memory1 claims.0)));
+            subst (λ (p : Path). Reaches source whole lands frame (here s1) (here s3) memory1 (Nothing whole frame) (bind (pattern source pat.0) p store1)) (sym claims.1)
+            (reaches-from source whole lands frame (here s1) (here s2) (here s3) memory1 (Nothing whole frame) (idles.comes whole frame grown is memory1) _
+            (binds.does.reaches whole frame grows sound is lands (record around { marks = s2.scope }) (stands-with (idles.spares.targets ∙ place.keeps.spares.targets) stands) fuel serves store1 memory1 claims.0)));
       });
       laid = λ child within plain layouts f needs.
           let same : e.0 ≡ child = one-of e.0 child within in
@@ -221,11 +221,11 @@ lowers-expr-statement source s0 s1 s2 s3 e has_semi local place read left =
         scope = left.scope ∙ sym (append-nil s0.scope) ∙ ap (λ m. s0.scope ++ m) (sym (append-nil (marked_by_statement source (statement.Expr e has_semi)) ∙ expression_marks source e has_semi));
       };
       does = one-statement source s0 s3 (statement.Expr e has_semi) (record {
-        reaches = λ whole frame grows sound is lands around stands fuel store memory holds.
+        reaches = λ whole frame grows sound is lands around stands fuel serves store memory holds.
             let grown2 : Grows s2 whole = grows-trans s2 (with_scope s0.scope s2) whole (with_scope-grows s0.scope s2) (grows-trans (with_scope s0.scope s2) s3 whole left.grows grows) in
-            reaches-then whole lands frame (here s0) (here s1) (here s3) memory (LeadsTo place.does.cell whole frame) (Nothing whole frame) ((level_at source fuel around).place e.0 store) _
-            (place.does.does.reaches whole frame (grows-trans s1 s2 whole read.grows grown2) sound is lands around stands fuel store memory holds)
-            (λ path store1 memory1 claims. (
+            reaches-then source whole lands frame (here s0) (here s1) (here s3) memory (LeadsTo place.does.cell whole frame) (Nothing whole frame) ((level_at source fuel around).place e.0 store) _
+            (place.does.does.reaches whole frame (grows-trans s1 s2 whole read.grows grown2) sound is lands around stands fuel serves store memory holds)
+            (λ path store1 memory1 claims. inr (
               memory1,
               comes-from frame turns (here s1) (here s2) (here s3) memory1 memory1 memory1 (read.comes whole frame grown2 is memory1) (scope-idles s2 s0.scope source s3 turns left whole frame grows is memory1),
               claims.0,
@@ -250,7 +250,7 @@ pub lowers-no-tail : (source : Source) (s : Shape) (c : Cell) → IsSound source
 lowers-no-tail source s c sound opened =
     record {
       keeps = record { grows = grows-refl s; spares = spares-refl s; sound = sound; «open» = opened; scope = sym (ap (λ m. s.scope ++ m) (no_tail_marks source) ∙ append-nil s.scope) };
-      does = record { reaches = λ whole frame grows whole-sound is lands around stands fuel store memory holds. (memory, comes-refl frame (here s) memory, holds, tt) };
+      does = record { reaches = λ whole frame grows whole-sound is lands around stands fuel serves store memory holds. inr (memory, comes-refl frame (here s) memory, holds, tt) };
       laid = λ e same. absurd cc;
     }
 
@@ -288,16 +288,16 @@ does-block source s0 s1 s2 s3 statements tail c first last left =
     let into2 : Grows s2 s3 = grows-trans s2 (with_scope s0.scope s2) s3 (with_scope-grows s0.scope s2) left.grows in
     let turns = drops source (marked_in_block source statements tail) in
     record {
-      reaches = λ whole frame grows sound is lands around stands fuel store memory holds.
+      reaches = λ whole frame grows sound is lands around stands fuel serves store memory holds.
           let grown2 : Grows s2 whole = grows-trans s2 s3 whole into2 grows in
           let below = level_at source fuel in
           let behind : Around = marking (flat_map (marked_by_statement source) statements) around in
-          reaches-then whole lands frame (here s0) (here s1) (here s3) memory (Nothing whole frame) (Nothing whole frame) (statements_of source below around statements store) _
-          (first.does.reaches whole frame (grows-trans s1 s2 whole last.keeps.grows grown2) sound is lands around stands fuel store memory holds)
+          reaches-then source whole lands frame (here s0) (here s1) (here s3) memory (Nothing whole frame) (Nothing whole frame) (statements_of source below around statements store) _
+          (first.does.reaches whole frame (grows-trans s1 s2 whole last.keeps.grows grown2) sound is lands around stands fuel serves store memory holds)
           (λ value store1 memory1 claims1.
-          reaches-then whole lands frame (here s1) (here s2) (here s3) memory1 (Nothing whole frame) (Nothing whole frame) (tail_into (below behind) tail (record { cell = c }) store1) _
-          (last.does.reaches whole frame grown2 sound is lands behind (marking-fits first.keeps around stands) fuel store1 memory1 claims1.0)
-          (λ value store2 memory2 claims2. (memory2, scope-idles s2 s0.scope source s3 turns left whole frame grows is memory2, claims2.0, tt)));
+          reaches-then source whole lands frame (here s1) (here s2) (here s3) memory1 (Nothing whole frame) (Nothing whole frame) (tail_into (below behind) tail (record { cell = c }) store1) _
+          (last.does.reaches whole frame grown2 sound is lands behind (marking-fits first.keeps around stands) fuel serves store1 memory1 claims1.0)
+          (λ value store2 memory2 claims2. inr (memory2, scope-idles s2 s0.scope source s3 turns left whole frame grows is memory2, claims2.0, tt)));
     }
 
 -- a block without a label

@@ -1,5 +1,5 @@
 -- Code that parts into two branches and joins again: what it does, and which layouts its parts need.
-use Rattle.std.proofs.Common.{◌≡◌, ℕ, Bool, true, false, List, [], ◌∷◌, Contains, Option, Some, None, refl, sym, ◌∙◌, subst, arith, eqb}
+use Rattle.std.proofs.Common.{◌≡◌, ℕ, Bool, true, false, List, [], ◌∷◌, Contains, Option, Some, None, refl, sym, ◌∙◌, subst, arith, eqb, inr}
 use Rattle.std.proofs.lemmas.Bool.{eqb-true, eqb-false}
 use Rattle.std.proofs.lemmas.List.Elements.{Contains-append_left}
 use Rattle.mir.specs.declared.operand.OperandKind.{OperandKind}
@@ -29,28 +29,28 @@ one-byte byte = omega arith
 
 module _ {source : Source} {s0 s1 s2 s3 s4 s5 s6 : Shape} {operand : OperandKind} {number other join : ℕ} {tested first second : List Cell} (parts : IsBranched source s0 s1 s2 s3 s4 s5 s6 operand number other join tested first second) (whole : Shape) (frame : Frame) (grows : Grows s6 whole) (is : IsFrameOf whole frame) (lands : Landings) (memory : Memory) where
   -- what a branch does, and a block on the way to it and one on the way to the join
-  one-branch : (from to : Shape) (end : End (Unit {0})) → Comes frame 1 (here s1) memory (here from) memory → ((later : Memory) → Comes frame 1 (here to) later (here s6) later) → Reaches whole lands frame (here from) (here to) memory (Nothing whole frame) end → Reaches whole lands frame (here s1) (here s6) memory (Nothing whole frame) (branched end)
+  one-branch : (from to : Shape) (end : End (Unit {0})) → Comes frame 1 (here s1) memory (here from) memory → ((later : Memory) → Comes frame 1 (here to) later (here s6) later) → Reaches source whole lands frame (here from) (here to) memory (Nothing whole frame) end → Reaches source whole lands frame (here s1) (here s6) memory (Nothing whole frame) (branched end)
   one-branch from to end enters leaves does =
-      reaches-after whole lands frame (here s1) (here from) (here s6) memory memory (Nothing whole frame) (turns_alone 1) enters (then_do end (λ _ last. Go tt last (turns_alone 1)))
-      (reaches-then whole lands frame (here from) (here to) (here s6) memory (Nothing whole frame) (Nothing whole frame) end (λ _ last. Go tt last (turns_alone 1)) does
-      (λ value store later claims. (later, leaves later, claims.0, claims.1)))
+      reaches-after source whole lands frame (here s1) (here from) (here s6) memory memory (Nothing whole frame) (turns_alone 1) enters (then_do end (λ _ last. Go tt last (turns_alone 1)))
+      (reaches-then source whole lands frame (here from) (here to) (here s6) memory (Nothing whole frame) (Nothing whole frame) end (λ _ last. Go tt last (turns_alone 1)) does
+      (λ value store later claims. inr (later, leaves later, claims.0, claims.1)))
 
-  stuck-branch : Reaches whole lands frame (here s1) (here s6) memory (Nothing whole frame) (branched Stuck)
+  stuck-branch : Reaches source whole lands frame (here s1) (here s6) memory (Nothing whole frame) (branched Stuck)
   unfolding after then_do
-  stuck-branch = tt
+  stuck-branch = inr tt
 
-  module _ (branch : Option Bool → End (Unit {0})) (stuck : branch None ≡ Stuck) (one : Reaches whole lands frame (here s2) (here s3) memory (Nothing whole frame) (branch (Some true))) (two : Reaches whole lands frame (here s4) (here s5) memory (Nothing whole frame) (branch (Some false))) where
-    by-test : (byte : ℕ) → mir_bytes frame memory operand ≡ Some (byte ∷ []) → (test : Bool) → eqb byte number ≡ test → Reaches whole lands frame (here s1) (here s6) memory (Nothing whole frame) (branched (branch (Some test)))
+  module _ (branch : Option Bool → End (Unit {0})) (stuck : branch None ≡ Stuck) (one : Reaches source whole lands frame (here s2) (here s3) memory (Nothing whole frame) (branch (Some true))) (two : Reaches source whole lands frame (here s4) (here s5) memory (Nothing whole frame) (branch (Some false))) where
+    by-test : (byte : ℕ) → mir_bytes frame memory operand ≡ Some (byte ∷ []) → (test : Bool) → eqb byte number ≡ test → Reaches source whole lands frame (here s1) (here s6) memory (Nothing whole frame) (branched (branch (Some test)))
     by-test byte has true same =
         one-branch s2 s3 (branch (Some true)) (comes-first parts whole frame grows is memory (byte ∷ []) has (omega arith) (one-byte byte ∙ eqb-true byte number same)) (λ later. first-joins parts whole frame grows is later) one
     by-test byte has false differs =
         one-branch s4 s5 (branch (Some false)) (comes-second parts whole frame grows is memory (byte ∷ []) has (omega arith) (λ same. eqb-false byte number differs (sym (one-byte byte) ∙ same))) (λ later. second-joins parts whole frame grows is later) two
 
-    without : Reaches whole lands frame (here s1) (here s6) memory (Nothing whole frame) (branched (branch None))
-    without = subst (λ (end : End (Unit {0})). Reaches whole lands frame (here s1) (here s6) memory (Nothing whole frame) (branched end)) (sym stuck) stuck-branch
+    without : Reaches source whole lands frame (here s1) (here s6) memory (Nothing whole frame) (branched (branch None))
+    without = subst (λ (end : End (Unit {0})). Reaches source whole lands frame (here s1) (here s6) memory (Nothing whole frame) (branched end)) (sym stuck) stuck-branch
 
     -- by the operand's byte one of the branches is taken; other bytes than one have no meaning
-    pub reaches-branched : (bytes : List ℕ) → mir_bytes frame memory operand ≡ Some bytes → Reaches whole lands frame (here s1) (here s6) memory (Nothing whole frame) (branched (branch (is_byte number bytes)))
+    pub reaches-branched : (bytes : List ℕ) → mir_bytes frame memory operand ≡ Some bytes → Reaches source whole lands frame (here s1) (here s6) memory (Nothing whole frame) (branched (branch (is_byte number bytes)))
     reaches-branched [] has = without
     reaches-branched (byte ∷ []) has = by-test byte has (eqb byte number) refl
     reaches-branched (byte ∷ more ∷ rest) has = without

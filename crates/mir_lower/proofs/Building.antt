@@ -4,13 +4,13 @@ use Rattle.std.specs.Prelude.{All, flat_map, if◌then◌else◌, option_map}
 use Rattle.std.proofs.lemmas.List.Elements.{All-nil, All-cons, All-append, All-contains, All-weaker, All-head, All-tail}
 use Rattle.mir.specs.declared.ids.LocalId.{LocalId}
 use Rattle.source_meaning.specs.Around.{is_meant, meant}
-use Rattle.source_meaning.specs.Built.{IsBinding, NamesBinding, AssignsBinding, IsBuiltStatement}
+use Rattle.source_meaning.specs.Built.{IsBinding, NamesBinding, AssignsBinding, CallsFunction, IsBuiltStatement}
 use Rattle.source_meaning.specs.Core.{CoreExpr, CoreLiteral, Operation}
 use Rattle.source_meaning.specs.Core as expr
 use Rattle.source_meaning.specs.Source.{Source, Binding, node}
 use Rattle.source_meaning.specs.Steps.{parts_of, statement_parts}
 use Rattle.source_meaning.specs.Valid.{Evaluates, itself, part}
-use Rattle.source_meaning.proofs.Parts.{strict_parts, if_parts, block_parts, tail_part}
+use Rattle.source_meaning.proofs.Parts.{strict_parts, call_parts, if_parts, block_parts, tail_part}
 use Rattle.types.specs.declared.ids.BindingId.{BindingId}
 use Rattle.types.specs.declared.ids.ExprId.{ExprId}
 use Rattle.types.specs.declared.ids.LabelId.{LabelId}
@@ -54,6 +54,10 @@ one-built source e built = All-cons (IsBuilt source) e [] built (All-nil (IsBuil
 pub built-strict : (source : Source) (e : ℕ) (operation : Operation) (operands : List ℕ) → node source e ≡ Some (expr.Strict operation operands) → All (IsBuilt source) operands → IsBuilt source e
 built-strict source e operation operands is built =
     built-node source e (Some (expr.Strict operation operands)) is tt (subst (All (IsBuilt source)) (sym (strict_parts operation operands)) built)
+
+pub built-call : (source : Source) (e callee : ℕ) (args : List ℕ) → node source e ≡ Some (expr.Call callee args) → CallsFunction source callee → All (IsBuilt source) args → IsBuilt source e
+built-call source e callee args is calls built =
+    built-node source e (Some (expr.Call callee args)) is calls (subst (All (IsBuilt source)) (sym (call_parts callee args)) built)
 
 pub two-built : (source : Source) (lhs rhs : ℕ) → IsBuilt source lhs → IsBuilt source rhs → All (IsBuilt source) (lhs ∷ rhs ∷ [])
 two-built source lhs rhs left right = All-cons (IsBuilt source) lhs (rhs ∷ []) left (one-built source rhs right)

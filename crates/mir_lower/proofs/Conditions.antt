@@ -89,7 +89,7 @@ module _ (source : Source) (s0 s1 s2 s3 s4 s5 s6 : Shape) (e condition then_bran
       record {
         keeps = subst (λ (m : List Cell). Keeps source s0 s6 m) (sym (if_marks source ready.checked e ready.within condition then_branch else_branch form)) (branched-keeps parts);
         does = does-form source s0 s6 e c (Some (expr.If condition then_branch else_branch)) form (record {
-          reaches = λ whole frame grows sound is lands around stands fuel store memory holds.
+          reaches = λ whole frame grows sound is lands around stands fuel serves store memory holds.
               let below = level_at source fuel in
               let grown3 : Grows s3 whole = grows-trans s3 s6 whole (grows3 parts) grows in
               let grown5 : Grows s5 whole = grows-trans s5 s6 whole (grows5 parts) grows in
@@ -98,13 +98,13 @@ module _ (source : Source) (s0 s1 s2 s3 s4 s5 s6 : Shape) (e condition then_bran
               let stands1 : Stands whole s2 lands around1 = stands-in parts.forked.scope parts.forked.spares.targets (marking-fits parts.test around stands) in
               let around2 : Around = marking (marked source then_branch) around1 in
               let stands2 : Stands whole s4 lands around2 = stands-in parts.one_ended.scope parts.one_ended.targets (marking-fits parts.one around1 stands1) in
-              reaches-then whole lands frame (here s0) (here s1) (here s6) memory (Fits source operand whole frame) (Nothing whole frame) ((below around).operand condition store) _
-              (tested.does.reaches whole frame grown1 sound is lands around stands fuel store memory holds)
+              reaches-then source whole lands frame (here s0) (here s1) (here s6) memory (Fits source operand whole frame) (Nothing whole frame) ((below around).operand condition store) _
+              (tested.does.reaches whole frame grown1 sound is lands around stands fuel serves store memory holds)
               (λ given store1 memory1 claims.
               reaches-branched parts whole frame grows is lands memory1
               (λ test. branch_into source below around1 then_branch else_branch test (record { cell = c }) store1) refl
-              (first.does.reaches whole frame grown3 sound is lands around1 stands1 fuel store1 memory1 claims.0)
-              (second.does.reaches whole frame grown5 sound is lands around2 stands2 fuel store1 memory1 claims.0)
+              (first.does.reaches whole frame grown3 sound is lands around1 stands1 fuel serves store1 memory1 claims.0)
+              (second.does.reaches whole frame grown5 sound is lands around2 stands2 fuel serves store1 memory1 claims.0)
               (operand_bytes store1 given) (claims.1.bytes store1 memory1 claims.0));
         });
         laid = lays-if;
@@ -126,13 +126,13 @@ module _ (source : Source) (s new : Shape) (operand : MirOperand) (place : Place
   pub keeps-decided : IsSound source s → Keeps source s new []
   keeps-decided sound = subst (λ (n : Shape). Keeps source s n []) (sym same) (keeps-assigned source s (assignment place (Use operand) span) sound opened)
 
-  reaches-decided : (whole : Shape) (lands : Landings) (frame : Frame) (c : Cell) (given : Operand) (store : Store) (memory : Memory) → Grows new whole → IsSound source whole → IsFrameOf whole frame → local_of whole c ≡ Some place.local.0 → Holds whole frame store memory → Fits source operand.kind whole frame given → Reaches whole lands frame (here s) (here new) memory (Nothing whole frame) (after (reading_cost source given) (put store (record { cell = c }) (operand_bytes store given)))
+  reaches-decided : (whole : Shape) (lands : Landings) (frame : Frame) (c : Cell) (given : Operand) (store : Store) (memory : Memory) → Grows new whole → IsSound source whole → IsFrameOf whole frame → local_of whole c ≡ Some place.local.0 → Holds whole frame store memory → Fits source operand.kind whole frame given → Reaches source whole lands frame (here s) (here new) memory (Nothing whole frame) (after (reading_cost source given) (put store (record { cell = c }) (operand_bytes store given)))
   reaches-decided whole lands frame c given store memory grows sound is local holds fits =
       let grown = subst (λ (n : Shape). Grows n whole) same grows in
       let reads : Comes frame (reading_cost source given).turns (here s) memory (here s) memory =
       subst (λ (n : ℕ). Comes frame n (here s) memory (here s) memory) (sym (reading-enters-none source given)) (comes-refl frame (here s) memory) in
-      subst (λ (n : Shape). Reaches whole lands frame (here s) (here n) memory (Nothing whole frame) (after (reading_cost source given) (put store (record { cell = c }) (operand_bytes store given)))) (sym same)
-      (reaches-after whole lands frame (here s) (here s) (here (with_statement (assignment place (Use operand) span) s)) memory memory (Nothing whole frame) (reading_cost source given) reads (put store (record { cell = c }) (operand_bytes store given))
+      subst (λ (n : Shape). Reaches source whole lands frame (here s) (here n) memory (Nothing whole frame) (after (reading_cost source given) (put store (record { cell = c }) (operand_bytes store given)))) (sym same)
+      (reaches-after source whole lands frame (here s) (here s) (here (with_statement (assignment place (Use operand) span) s)) memory memory (Nothing whole frame) (reading_cost source given) reads (put store (record { cell = c }) (operand_bytes store given))
       (assigned-bytes source s whole frame place (Use operand) span opened sound is lands grown c local store memory holds (operand_bytes store given) (decided-computes source whole frame operand given store memory holds fits)))
 
 module _ (source : Source) (s0 s1 s2 s3 s4 s5 s6 : Shape) (e : ℕ) (op : LogicOp) (left right : ℕ) (operand : MirOperand) (place : Place) (span : MirSpan) (other join : ℕ) (c : Cell) (form : node source e ≡ Some (expr.Logic op left right)) (tested : LowersOperand source s0 s1 left operand.kind) (same : s3 ≡ with_statement (assignment place (Use operand) span) s2) (second : LowersInto source s4 s5 right c) (parts : IsBranched source s0 s1 s2 s3 s4 s5 s6 operand.kind (deciding_byte op) other join (marked_as_operand source left) [] (marked source right)) where
@@ -153,7 +153,7 @@ module _ (source : Source) (s0 s1 s2 s3 s4 s5 s6 : Shape) (e : ℕ) (op : LogicO
       record {
         keeps = subst (λ (m : List Cell). Keeps source s0 s6 m) (sym (logic_marks source ready.checked e ready.within op left right form)) (branched-keeps parts);
         does = does-form source s0 s6 e c (Some (expr.Logic op left right)) form (record {
-          reaches = λ whole frame grows sound is lands around stands fuel store memory holds.
+          reaches = λ whole frame grows sound is lands around stands fuel serves store memory holds.
               let below = level_at source fuel in
               let grown3 : Grows s3 whole = grows-trans s3 s6 whole (grows3 parts) grows in
               let grown5 : Grows s5 whole = grows-trans s5 s6 whole (grows5 parts) grows in
@@ -161,13 +161,13 @@ module _ (source : Source) (s0 s1 s2 s3 s4 s5 s6 : Shape) (e : ℕ) (op : LogicO
               let found = local_of-grows s0 whole (grows-trans s0 s1 whole tested.keeps.grows grown1) c place.local.0 local in
               let around1 : Around = marking (marked_as_operand source left) around in
               let stands1 : Stands whole s4 lands around1 = stands-in (parts.one_ended.scope ∙ parts.one.scope ∙ append-nil s2.scope ∙ parts.forked.scope) (parts.one_ended.targets ∙ parts.one.spares.targets ∙ parts.forked.spares.targets) (marking-fits parts.test around stands) in
-              reaches-then whole lands frame (here s0) (here s1) (here s6) memory (Fits source operand.kind whole frame) (Nothing whole frame) ((below around).operand left store) _
-              (tested.does.reaches whole frame grown1 sound is lands around stands fuel store memory holds)
+              reaches-then source whole lands frame (here s0) (here s1) (here s6) memory (Fits source operand.kind whole frame) (Nothing whole frame) ((below around).operand left store) _
+              (tested.does.reaches whole frame grown1 sound is lands around stands fuel serves store memory holds)
               (λ given store1 memory1 claims.
               reaches-branched parts whole frame grows is lands memory1
               (λ test. decided_into source (below around1) given right test (record { cell = c }) store1) refl
               (reaches-decided source s2 s3 operand place span parts.forked.«open» same whole lands frame c given store1 memory1 grown3 sound is found claims.0 claims.1)
-              (second.does.reaches whole frame grown5 sound is lands around1 stands1 fuel store1 memory1 claims.0)
+              (second.does.reaches whole frame grown5 sound is lands around1 stands1 fuel serves store1 memory1 claims.0)
               (operand_bytes store1 given) (claims.1.bytes store1 memory1 claims.0));
         });
         laid = lays-logic;

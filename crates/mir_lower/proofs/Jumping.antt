@@ -1,5 +1,5 @@
 -- `break` and `continue`: where they lead, and what they leave.
-use Rattle.std.proofs.Common.{◌≡◌, ℕ, Bool, true, false, List, [], ◌∷◌, ◌++◌, Contains, Option, Some, None, refl, sym, ap, ◌∙◌, subst, arith, append-nil, drop}
+use Rattle.std.proofs.Common.{◌≡◌, ℕ, Bool, true, false, List, [], ◌∷◌, ◌++◌, Contains, Option, Some, None, refl, sym, ap, ◌∙◌, subst, arith, append-nil, drop, inr}
 use Rattle.std.specs.Prelude.{All, if◌then◌else◌, flat_map, IfSome}
 use Rattle.std.proofs.lemmas.List.Elements.{All-head, All-tail}
 use Rattle.types.specs.declared.ids.ExprId.{ExprId}
@@ -27,6 +27,7 @@ use Rattle.mir_lower.proofs.Laid.{layouts-before, plain-part, alone, one-of}
 use Rattle.mir_lower.proofs.Reaching.{reaches-then}
 use Rattle.mir_lower.proofs.Sparing.{spares-trans}
 use Rattle.mir_lower.proofs.Steps.{local_of-grows, does-form}
+use Rattle.mir_lower.specs.Callees.{Serves}
 
 -- the value of a `break` is a part of it
 pub break-part : (source : Source) (e : ℕ) (label : Option LabelId) (value : Option ExprId) → node source e ≡ Some (expr.Break label value) → IfSome value (λ one. Contains (parts_of (node source e)) one.0)
@@ -84,8 +85,8 @@ module _ (source : Source) (s0 s1 s2 : Shape) (e : ℕ) (label : Option LabelId)
   abbrev tail : LowersTail source s0 s1 value cell
   tail = lowers-value cell around-it.placed.found
 
-  break-reaches : (whole : Shape) (frame : Frame) → Grows s2 whole → IsSound source whole → IsFrameOf whole frame → (lands : Landings) (around : Around) → Stands whole s0 lands around → (fuel : ℕ) (store : Store) (memory : Memory) → Holds whole frame store memory → Reaches whole lands frame (here s0) (here s2) memory (Nothing whole frame) (break_to source (level_at source fuel) around value (target_of label around.targets) store)
-  break-reaches whole frame grows sound is lands around stands fuel store memory holds =
+  break-reaches : (whole : Shape) (frame : Frame) → Grows s2 whole → IsSound source whole → IsFrameOf whole frame → (lands : Landings) (around : Around) → Stands whole s0 lands around → (fuel : ℕ) → Serves fuel source frame.program → (store : Store) (memory : Memory) → Holds whole frame store memory → Reaches source whole lands frame (here s0) (here s2) memory (Nothing whole frame) (break_to source (level_at source fuel) around value (target_of label around.targets) store)
+  break-reaches whole frame grows sound is lands around stands fuel serves store memory holds =
       let grown1 : Grows s1 whole = grows-trans s1 s2 whole jumped.grows grows in
       let grown0 : Grows s0 whole = grows-trans s0 s1 whole tail.keeps.grows grown1 in
       let found = fronts-meant whole lands label s0.targets around.targets target stands.targets meant-is in
@@ -99,13 +100,13 @@ module _ (source : Source) (s0 s1 s2 : Shape) (e : ℕ) (label : Option LabelId)
       ap (λ (marks : List Cell). drops source (drop front.kept (marks ++ marked_by_tail source value))) stands.marks
       ∙ ap (λ (n : ℕ). drops source (drop n (s0.scope ++ marked_by_tail source value))) fronts.kept
       ∙ ap (λ (scope : List Cell). drops source (drop target.kept scope)) (sym tail.keeps.scope) in
-      subst (λ (t : Option Target). Reaches whole lands frame (here s0) (here s2) memory (Nothing whole frame) (break_to source (level_at source fuel) around value t store)) (sym found.1)
-      (reaches-then whole lands frame (here s0) (here s1) (here s2) memory (Nothing whole frame) (Nothing whole frame) (tail_into (level_at source fuel around) value front.path store) (λ _ later. Jumps (Break front.opened.node) later (turns_alone (leaving source around value front)))
-      (subst (λ (p : Path). Reaches whole lands frame (here s0) (here s1) memory (Nothing whole frame) (tail_into (level_at source fuel around) value p store)) same-path
-      (tail.does.reaches whole frame grown1 sound is lands around stands fuel store memory holds))
+      subst (λ (t : Option Target). Reaches source whole lands frame (here s0) (here s2) memory (Nothing whole frame) (break_to source (level_at source fuel) around value t store)) (sym found.1)
+      (reaches-then source whole lands frame (here s0) (here s1) (here s2) memory (Nothing whole frame) (Nothing whole frame) (tail_into (level_at source fuel around) value front.path store) (λ _ later. Jumps (Break front.opened.node) later (turns_alone (leaving source around value front)))
+      (subst (λ (p : Path). Reaches source whole lands frame (here s0) (here s1) memory (Nothing whole frame) (tail_into (level_at source fuel around) value p store)) same-path
+      (tail.does.reaches whole frame grown1 sound is lands around stands fuel serves store memory holds))
       (λ done store1 memory1 claims.
-      subst (Lands whole frame (here s1) memory1 store1 (leaving source around value front)) (sym landing)
-      (memory1, subst (λ (n : ℕ). Comes frame n (here s1) memory1 (Entry target.end_block) memory1) (sym counted) (jumped.heads whole frame grows is memory1), claims.0)))
+      inr (subst (Lands whole frame (here s1) memory1 store1 (leaving source around value front)) (sym landing)
+      (memory1, subst (λ (n : ℕ). Comes frame n (here s1) memory1 (Entry target.end_block) memory1) (sym counted) (jumped.heads whole frame grows is memory1), claims.0))))
 
   lays-value : (child : ℕ) (given : Option ExprId) → value ≡ given → Contains (flat_map (sized_part source) (tail_steps given)) child → IsLaidOutNode source e → IsPlainWithin source e → IsPlainWithin source child → HasLayouts source s2 → (f : ℕ) → NeedsLayout source child f → IsLaidOutNode source f
   lays-value child None is within laid plain below layouts f needs = absurd (let bound = within.1 in omega arith)
@@ -137,8 +138,8 @@ module _ (source : Source) (s0 s1 s2 : Shape) (e : ℕ) (label : Option LabelId)
 
 -- A `continue`: a jump to the block where its target begins was added.
 module _ (source : Source) (s0 s1 : Shape) (e : ℕ) (label : Option LabelId) (target : OpenTarget) (form : node source e ≡ Some (expr.Continue label)) (ready : IsReady source s0 e) (meant-is : meant_target label s0.targets ≡ Some target) (jumped : HasJumped source s0 s1 target.begin_block (drops source (drop target.kept s0.scope))) where
-  continue-reaches : (whole : Shape) (frame : Frame) → Grows s1 whole → IsSound source whole → IsFrameOf whole frame → (lands : Landings) (around : Around) → Stands whole s0 lands around → (fuel : ℕ) (store : Store) (memory : Memory) → Holds whole frame store memory → Reaches whole lands frame (here s0) (here s1) memory (Nothing whole frame) (continue_to source around (target_of label around.targets) store)
-  continue-reaches whole frame grows sound is lands around stands fuel store memory holds =
+  continue-reaches : (whole : Shape) (frame : Frame) → Grows s1 whole → IsSound source whole → IsFrameOf whole frame → (lands : Landings) (around : Around) → Stands whole s0 lands around → (fuel : ℕ) → Serves fuel source frame.program → (store : Store) (memory : Memory) → Holds whole frame store memory → Reaches source whole lands frame (here s0) (here s1) memory (Nothing whole frame) (continue_to source around (target_of label around.targets) store)
+  continue-reaches whole frame grows sound is lands around stands fuel serves store memory holds =
       let found = fronts-meant whole lands label s0.targets around.targets target stands.targets meant-is in
       let front = found.0 in
       let fronts = found.2 in
@@ -148,9 +149,9 @@ module _ (source : Source) (s0 s1 : Shape) (e : ℕ) (label : Option LabelId) (t
       ∙ ap (λ (n : ℕ). drops source (drop n (s0.scope ++ marked_by_tail source None))) fronts.kept
       ∙ ap (λ (more : List Cell). drops source (drop target.kept (s0.scope ++ more))) (no_tail_marks source)
       ∙ ap (λ (scope : List Cell). drops source (drop target.kept scope)) (append-nil s0.scope) in
-      subst (λ (t : Option Target). Reaches whole lands frame (here s0) (here s1) memory (Nothing whole frame) (continue_to source around t store)) (sym found.1)
-      (subst (Lands whole frame (here s0) memory store (leaving source around None front)) (sym landing)
-      (memory, subst (λ (n : ℕ). Comes frame n (here s0) memory (Entry target.begin_block) memory) (sym counted) (jumped.heads whole frame grows is memory), holds))
+      subst (λ (t : Option Target). Reaches source whole lands frame (here s0) (here s1) memory (Nothing whole frame) (continue_to source around t store)) (sym found.1)
+      (inr (subst (Lands whole frame (here s0) memory store (leaving source around None front)) (sym landing)
+      (memory, subst (λ (n : ℕ). Comes frame n (here s0) memory (Entry target.begin_block) memory) (sym counted) (jumped.heads whole frame grows is memory), holds)))
 
   pub lowers-continue : (c : Cell) → LowersOwn source s0 s1 e c
   lowers-continue c =

@@ -6,8 +6,10 @@ pub mod Blocks
 pub mod Branches
 pub mod Branching
 pub mod Building
+pub mod Calls
 pub mod Conditions
 pub mod Drops
+pub mod Entering
 pub mod Forking
 pub mod Growing
 pub mod Holding
@@ -29,6 +31,7 @@ pub mod Reserving
 pub mod Returning
 pub mod Room
 pub mod Running
+pub mod Serving
 pub mod Sound
 pub mod Sparing
 pub mod Stack

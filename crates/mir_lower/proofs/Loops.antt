@@ -1,5 +1,5 @@
 -- Loops and labelled blocks: what stands inside is evaluated again and again, until a jump leaves it or a labelled block ends.
-use Rattle.std.proofs.Common.{◌≡◌, ℕ, zero, suc, ◌<◌, Bool, true, false, List, [], ◌∷◌, ◌++◌, length, Contains, Option, Some, None, refl, sym, ap, ◌∙◌, subst, arith, append-nil}
+use Rattle.std.proofs.Common.{◌≡◌, ℕ, zero, suc, ◌<◌, Bool, true, false, List, [], ◌∷◌, ◌++◌, length, Contains, Option, Some, None, refl, sym, ap, ◌∙◌, subst, arith, append-nil, inl, inr, ◌⊎◌, ◌+◌}
 use Rattle.std.specs.Prelude.{All, ◌==◌, if◌then◌else◌, flat_map, IfSome}
 use Rattle.std.proofs.lemmas.Bool.Decides.{nat_tests}
 use Rattle.std.proofs.lemmas.List.Elements.{All-head, All-tail, Contains-append_right}
@@ -22,19 +22,22 @@ use Rattle.mir_lower.specs.Growth.{Grows, Spares, IsInside, IsSound, IsReady}
 use Rattle.mir_lower.specs.Jumps.{IsEntered}
 use Rattle.mir_lower.specs.Leaving.{Idles}
 use Rattle.mir_lower.specs.Lowered.{IsPlainWithin, LaysOut, LowersOwn, LowersPlace, LowersStatements, LowersTail}
-use Rattle.mir_lower.specs.Runs.{Point, Entry, start_of, Comes}
+use Rattle.mir_lower.specs.Runs.{Point, Entry, start_of, run_from, Comes}
 use Rattle.mir_lower.proofs.Blocks.{scope-idles, does-block, lays-block}
 use Rattle.mir_lower.proofs.Growing.{grows-trans, with_scope-grows}
 use Rattle.mir_lower.proofs.Jumps.{with_targets-grows, here-targets, spares-retargeted}
 use Rattle.mir_lower.proofs.Branches.{spares-gone}
 use Rattle.mir_lower.proofs.Laid.{layouts-before, plain-part, one-of}
 use Rattle.mir_lower.proofs.Leaving.{enters-block}
-use Rattle.mir_lower.proofs.Reaching.{none-entered, comes-on, comes-trans, reaches-after, reaches-then}
+use Rattle.mir_lower.proofs.Reaching.{none-entered, comes-on, comes-trans, stops-within, stopped-before, reaches-after, reaches-then}
 use Rattle.mir_lower.proofs.Sparing.{spares-trans, scoped-spares}
 use Rattle.mir_lower.proofs.Steps.{local_of-grows, reaches-from, does-form}
 use Rattle.source_meaning.specs.Steps.{parts_of, statement_parts}
 use Rattle.world.specs.declared.body.Statement.{Statement}
 use Rattle.types.specs.declared.ids.ExprId.{ExprId}
+use Rattle.mir_lower.specs.Callees.{Serves}
+use Rattle.mir_lower.proofs.Serving.{serves-less}
+use Rattle.mir_lower.specs.Stops.{StopsWithin}
 
 -- what a loop or a labelled block evaluates is a part of it
 pub body-part : (source : Source) (e : ℕ) (label : Option LabelId) (body : ℕ) → node source e ≡ Some (expr.Loop label body) → Contains (parts_of (node source e)) body
@@ -52,34 +55,40 @@ lands_inside e begin end lands (Break target) = if target == e then AtPoint (Ent
 lands_inside e begin end lands (Continue target) = if target == e then AtPoint (Entry begin) else lands (Continue target)
 lands_inside e begin end lands Return = lands Return
 
-module _ (whole : Shape) (frame : Frame) (lands : Landings) (e begin end : ℕ) (from at to : Point) (memory : Memory) where
+module _ (source : Source) (whole : Shape) (frame : Frame) (lands : Landings) (e begin end : ℕ) (from at to : Point) (memory : Memory) where
   -- what a loop or a labelled block catches leads behind it or to its beginning
-  pub reaches-caught : (again ended : Store → End (Unit {0})) → ((store : Store) (later : Memory) → Holds whole frame store later → Reaches whole lands frame (Entry begin) to later (Nothing whole frame) (again store)) →
-      ((store : Store) (later : Memory) → Holds whole frame store later → Reaches whole lands frame at to later (Nothing whole frame) (ended store)) → ((later : Memory) → Comes frame 1 (Entry end) later to later) →
-      (turn : End (Unit {0})) → Reaches whole (lands_inside e begin end lands) frame from at memory (Nothing whole frame) turn → Reaches whole lands frame from to memory (Nothing whole frame) (caught e again ended turn)
+  pub reaches-caught : (again ended : Store → End (Unit {0})) → ((store : Store) (later : Memory) → Holds whole frame store later → Reaches source whole lands frame (Entry begin) to later (Nothing whole frame) (again store)) →
+      ((store : Store) (later : Memory) → Holds whole frame store later → Reaches source whole lands frame at to later (Nothing whole frame) (ended store)) → ((later : Memory) → Comes frame 1 (Entry end) later to later) →
+      (turn : End (Unit {0})) → Reaches source whole (lands_inside e begin end lands) frame from at memory (Nothing whole frame) turn → Reaches source whole lands frame from to memory (Nothing whole frame) (caught e again ended turn)
   unfolding plus
-  reaches-caught again ended again-does ended-does leaves (Go done store cost) does =
-      reaches-after whole lands frame from at to memory does.0 (Nothing whole frame) cost does.1 (ended store) (ended-does store does.0 does.2)
+  reaches-caught again ended again-does ended-does leaves (Go done store cost) (inl stops) = stopped-before source whole lands frame from to memory (Nothing whole frame) cost stops (ended store)
+  reaches-caught again ended again-does ended-does leaves (Go done store cost) (inr does) =
+      reaches-after source whole lands frame from at to memory does.0 (Nothing whole frame) cost does.1 (ended store) (ended-does store does.0 does.2)
   reaches-caught again ended again-does ended-does leaves (Jumps (Break target) store cost) does = by-test (target == e) does where
-    by-test : (test : Bool) → Lands whole frame from memory store cost.turns (if test then AtPoint (Entry end) else lands (Break target)) → Reaches whole lands frame from to memory (Nothing whole frame) (if test then Go tt store (plus cost (turns_alone 1)) else Jumps (Break target) store cost)
-    by-test true lands-there = (lands-there.0, comes-trans frame cost.turns 1 from (Entry end) memory lands-there.0 lands-there.1 to lands-there.0 (leaves lands-there.0), lands-there.2, tt)
-    by-test false lands-there = lands-there
+    by-test : (test : Bool) → StopsWithin source frame.program cost.turns (run_from frame memory from) ⊎ Lands whole frame from memory store cost.turns (if test then AtPoint (Entry end) else lands (Break target)) → Reaches source whole lands frame from to memory (Nothing whole frame) (if test then Go tt store (plus cost (turns_alone 1)) else Jumps (Break target) store cost)
+    by-test true (inl stops) = inl (stops-within source frame.program cost.turns (cost.turns + 1) (run_from frame memory from) (omega arith) stops)
+    by-test true (inr lands-there) = inr (lands-there.0, comes-trans frame cost.turns 1 from (Entry end) memory lands-there.0 lands-there.1 to lands-there.0 (leaves lands-there.0), lands-there.2, tt)
+    by-test false (inl stops) = inl stops
+    by-test false (inr lands-there) = inr lands-there
   reaches-caught again ended again-does ended-does leaves (Jumps (Continue target) store cost) does = by-test (target == e) does where
-    by-test : (test : Bool) → Lands whole frame from memory store cost.turns (if test then AtPoint (Entry begin) else lands (Continue target)) → Reaches whole lands frame from to memory (Nothing whole frame) (if test then after cost (again store) else Jumps (Continue target) store cost)
-    by-test true lands-there = reaches-after whole lands frame from (Entry begin) to memory lands-there.0 (Nothing whole frame) cost lands-there.1 (again store) (again-does store lands-there.0 lands-there.2)
-    by-test false lands-there = lands-there
+    by-test : (test : Bool) → StopsWithin source frame.program cost.turns (run_from frame memory from) ⊎ Lands whole frame from memory store cost.turns (if test then AtPoint (Entry begin) else lands (Continue target)) → Reaches source whole lands frame from to memory (Nothing whole frame) (if test then after cost (again store) else Jumps (Continue target) store cost)
+    by-test true (inl stops) = stopped-before source whole lands frame from to memory (Nothing whole frame) cost stops (again store)
+    by-test true (inr lands-there) = reaches-after source whole lands frame from (Entry begin) to memory lands-there.0 (Nothing whole frame) cost lands-there.1 (again store) (again-does store lands-there.0 lands-there.2)
+    by-test false (inl stops) = inl stops
+    by-test false (inr lands-there) = inr lands-there
   reaches-caught again ended again-does ended-does leaves (Jumps Return store cost) does = does
   reaches-caught again ended again-does ended-does leaves (Faults fault cost) does = does
-  reaches-caught again ended again-does ended-does leaves Stuck does = tt
+  reaches-caught again ended again-does ended-does leaves Stuck does = inr tt
   reaches-caught again ended again-does ended-does leaves (More cost) does = does
 
 -- a point that leads on over no block, where the evaluation ends with a value
-reaches-on : (whole : Shape) (lands : Landings) (frame : Frame) (from at to : Point) (memory : Memory) (claim : Unit {0} → Type 0) → ((later : Memory) → Comes frame 0 at later to later) → (end : End (Unit {0})) → Reaches whole lands frame from at memory claim end → Reaches whole lands frame from to memory claim end
-reaches-on whole lands frame from at to memory claim on (Go value store cost) does = (does.0, comes-on frame cost.turns from at to memory does.0 does.0 does.1 (on does.0), does.2, does.3)
-reaches-on whole lands frame from at to memory claim on (Jumps jump store cost) does = does
-reaches-on whole lands frame from at to memory claim on (Faults fault cost) does = does
-reaches-on whole lands frame from at to memory claim on Stuck does = tt
-reaches-on whole lands frame from at to memory claim on (More cost) does = does
+reaches-on : (source : Source) (whole : Shape) (lands : Landings) (frame : Frame) (from at to : Point) (memory : Memory) (claim : Unit {0} → Type 0) → ((later : Memory) → Comes frame 0 at later to later) → (end : End (Unit {0})) → Reaches source whole lands frame from at memory claim end → Reaches source whole lands frame from to memory claim end
+reaches-on source whole lands frame from at to memory claim on (Go value store cost) (inl stops) = inl stops
+reaches-on source whole lands frame from at to memory claim on (Go value store cost) (inr does) = inr (does.0, comes-on frame cost.turns from at to memory does.0 does.0 does.1 (on does.0), does.2, does.3)
+reaches-on source whole lands frame from at to memory claim on (Jumps jump store cost) does = does
+reaches-on source whole lands frame from at to memory claim on (Faults fault cost) does = does
+reaches-on source whole lands frame from at to memory claim on Stuck does = inr tt
+reaches-on source whole lands frame from at to memory claim on (More cost) does = does
 
 same-number : (n : ℕ) → (n == n) ≡ true
 same-number n = grind (arith, nat_tests)
@@ -167,17 +176,17 @@ module _ (source : Source) (s0 s1 s2 s3 s4 : Shape) (e : ℕ) (label : Option La
     within = lands_inside e target.begin_block target.end_block lands
 
     -- one turn, from the first block on to where it leads to the beginning
-    turn-reaches : (fuel : ℕ) (store : Store) (memory : Memory) → Holds whole frame store memory → Reaches whole within frame (start_of target.begin_block) (Entry target.begin_block) memory (Nothing whole frame) (turn_of source (level_at source fuel) (inside e label (record { cell = c }) around) body store)
-    turn-reaches fuel store memory holds =
+    turn-reaches : (fuel : ℕ) → Serves fuel source frame.program → (store : Store) (memory : Memory) → Holds whole frame store memory → Reaches source whole within frame (start_of target.begin_block) (Entry target.begin_block) memory (Nothing whole frame) (turn_of source (level_at source fuel) (inside e label (record { cell = c }) around) body store)
+    turn-reaches fuel serves store memory holds =
         let around' : Around = inside e label (record { cell = c }) around in
         let grown2 : Grows s2 whole = grows-trans s2 s4 whole (inner-grows2 source s0 s1 s2 s3 s4 target.begin_block target entered place.keeps.grows place.keeps.spares turns left gone) grows in
         let grown0 : Grows s0 whole = grows-trans s0 s4 whole (inner-grows0 source s0 s1 s2 s3 s4 target.begin_block target entered place.keeps.grows place.keeps.spares turns left gone) grows in
         let grown3 : Grows s3 whole = grows-trans s3 s4 whole (inner-grows source s0 s1 s2 s3 s4 target.begin_block target entered place.keeps.grows place.keeps.spares turns left gone) grows in
         let stands' = stands-inside source s0 s1 whole lands around e label target c ready entered opened (local_of-grows s0 whole grown0 c target.local found) stands in
-        reaches-then whole within frame (start_of target.begin_block) (here s2) (Entry target.begin_block) memory (LeadsTo place.does.cell whole frame) (Nothing whole frame) ((level_at source fuel around').place body store) (λ _ later. Go tt later (turns_alone turns))
-        (subst (λ (p : Point). Reaches whole within frame p (here s2) memory (LeadsTo place.does.cell whole frame) ((level_at source fuel around').place body store)) entered.begins
-        (place.does.does.reaches whole frame grown2 sound is within around' stands' fuel store memory holds))
-        (λ path store1 memory1 claims. (
+        reaches-then source whole within frame (start_of target.begin_block) (here s2) (Entry target.begin_block) memory (LeadsTo place.does.cell whole frame) (Nothing whole frame) ((level_at source fuel around').place body store) (λ _ later. Go tt later (turns_alone turns))
+        (subst (λ (p : Point). Reaches source whole within frame p (here s2) memory (LeadsTo place.does.cell whole frame) ((level_at source fuel around').place body store)) entered.begins
+        (place.does.does.reaches whole frame grown2 sound is within around' stands' fuel serves store memory holds))
+        (λ path store1 memory1 claims. inr (
           memory1,
           comes-on frame turns (here s2) (here s3) (Entry target.begin_block) memory1 memory1 memory1
               (scope-idles s2 s1.scope source s3 turns left whole frame grown3 is memory1)
@@ -186,21 +195,21 @@ module _ (source : Source) (s0 s1 s2 s3 s4 : Shape) (e : ℕ) (label : Option La
           tt,
         ))
 
-    one-loop : (fuel : ℕ) → ((store : Store) (memory : Memory) → Holds whole frame store memory → Reaches whole lands frame (Entry target.begin_block) (here s4) memory (Nothing whole frame) ((level_at source fuel around).own e (record { cell = c }) store)) →
-        (store : Store) (memory : Memory) → Holds whole frame store memory → Reaches whole lands frame (Entry target.begin_block) (here s4) memory (Nothing whole frame) (into_of source (level_at source fuel) (callees_at fuel) around e (Some (expr.Loop label body)) (record { cell = c }) store)
-    one-loop fuel again store memory holds =
-        reaches-after whole lands frame (Entry target.begin_block) (start_of target.begin_block) (here s4) memory memory (Nothing whole frame) (turns_alone 1) (enters-block frame memory target.begin_block) _
-        (reaches-caught whole frame lands e target.begin_block target.end_block (start_of target.begin_block) (Entry target.begin_block) (here s4) memory _ _ again again
+    one-loop : (fuel : ℕ) → Serves fuel source frame.program → ((store : Store) (memory : Memory) → Holds whole frame store memory → Reaches source whole lands frame (Entry target.begin_block) (here s4) memory (Nothing whole frame) ((level_at source fuel around).own e (record { cell = c }) store)) →
+        (store : Store) (memory : Memory) → Holds whole frame store memory → Reaches source whole lands frame (Entry target.begin_block) (here s4) memory (Nothing whole frame) (into_of source (level_at source fuel) (callees_at fuel) around e (Some (expr.Loop label body)) (record { cell = c }) store)
+    one-loop fuel serves again store memory holds =
+        reaches-after source whole lands frame (Entry target.begin_block) (start_of target.begin_block) (here s4) memory memory (Nothing whole frame) (turns_alone 1) (enters-block frame memory target.begin_block) _
+        (reaches-caught source whole frame lands e target.begin_block target.end_block (start_of target.begin_block) (Entry target.begin_block) (here s4) memory _ _ again again
         (λ later. inner-leaves source s0 s1 s2 s3 s4 target.begin_block target entered place.keeps.grows place.keeps.spares turns left gone frame later)
-        (turn_of source (level_at source fuel) (inside e label (record { cell = c }) around) body store) (turn-reaches fuel store memory holds))
+        (turn_of source (level_at source fuel) (inside e label (record { cell = c }) around) body store) (turn-reaches fuel serves store memory holds))
 
     -- by induction on the fuel, of which each turn takes some
-    loop-reaches : (fuel : ℕ) (store : Store) (memory : Memory) → Holds whole frame store memory → Reaches whole lands frame (Entry target.begin_block) (here s4) memory (Nothing whole frame) (into_of source (level_at source fuel) (callees_at fuel) around e (Some (expr.Loop label body)) (record { cell = c }) store)
+    loop-reaches : (fuel : ℕ) → Serves fuel source frame.program → (store : Store) (memory : Memory) → Holds whole frame store memory → Reaches source whole lands frame (Entry target.begin_block) (here s4) memory (Nothing whole frame) (into_of source (level_at source fuel) (callees_at fuel) around e (Some (expr.Loop label body)) (record { cell = c }) store)
     unfolding level_at
-    loop-reaches zero = one-loop zero (λ store memory holds. none-entered _)
-    loop-reaches (suc fuel) =
-        one-loop (suc fuel) (λ store memory holds.
-        subst (λ f. Reaches whole lands frame (Entry target.begin_block) (here s4) memory (Nothing whole frame) (into_of source (level_at source fuel) (callees_at fuel) around e f (record { cell = c }) store)) (sym form) (loop-reaches fuel store memory holds))
+    loop-reaches zero serves = one-loop zero serves (λ store memory holds. inr (none-entered _))
+    loop-reaches (suc fuel) serves =
+        one-loop (suc fuel) serves (λ store memory holds.
+        subst (λ f. Reaches source whole lands frame (Entry target.begin_block) (here s4) memory (Nothing whole frame) (into_of source (level_at source fuel) (callees_at fuel) around e f (record { cell = c }) store)) (sym form) (loop-reaches fuel (serves-less fuel source frame.program serves) store memory holds))
 
   lays-loop : IsLaidOutNode source e → LaysOut source s4 e
   lays-loop laid plain layouts f own = laid
@@ -222,10 +231,10 @@ module _ (source : Source) (s0 s1 s2 s3 s4 : Shape) (e : ℕ) (label : Option La
               ∙ sym (append-nil s0.scope) ∙ ap (λ m. s0.scope ++ m) (sym (loop_marks source ready.checked e ready.within label body form));
         };
         does = does-form source s0 s4 e c (Some (expr.Loop label body)) form (record {
-          reaches = λ whole frame grows sound is lands around stands fuel store memory holds.
+          reaches = λ whole frame grows sound is lands around stands fuel serves store memory holds.
               let grown1 : Grows s1 whole = grows-trans s1 s2 whole place.keeps.grows (grows-trans s2 s4 whole (inner-grows2 source s0 s1 s2 s3 s4 target.begin_block target entered place.keeps.grows place.keeps.spares turns left gone) grows) in
-              reaches-from whole lands frame (here s0) (Entry target.begin_block) (here s4) memory (Nothing whole frame) (entered.heads whole frame grown1 is memory) _
-              (loop-reaches whole frame grows sound is lands around stands fuel store memory holds);
+              reaches-from source whole lands frame (here s0) (Entry target.begin_block) (here s4) memory (Nothing whole frame) (entered.heads whole frame grown1 is memory) _
+              (loop-reaches whole frame grows sound is lands around stands fuel serves store memory holds);
         });
         laid = lays-loop;
       }
@@ -249,36 +258,36 @@ module _ (source : Source) (s0 s1 s2 s3 s4 s5 : Shape) (e : ℕ) (label : LabelI
     lands-within = lands_inside e target.begin_block target.end_block lands
 
     -- the block, from its first statement on to where it leads behind it
-    block-reaches : (fuel : ℕ) (store : Store) (memory : Memory) → Holds whole frame store memory → Reaches whole lands-within frame (start_of target.begin_block) (Entry target.end_block) memory (Nothing whole frame) (block_into source (level_at source fuel) (inside e (Some label) (record { cell = c }) around) statements tail (record { cell = c }) store)
-    block-reaches fuel store memory holds =
+    block-reaches : (fuel : ℕ) → Serves fuel source frame.program → (store : Store) (memory : Memory) → Holds whole frame store memory → Reaches source whole lands-within frame (start_of target.begin_block) (Entry target.end_block) memory (Nothing whole frame) (block_into source (level_at source fuel) (inside e (Some label) (record { cell = c }) around) statements tail (record { cell = c }) store)
+    block-reaches fuel serves store memory holds =
         let grown0 : Grows s0 whole = grows-trans s0 s5 whole (inner-grows0 source s0 s1 s3 s4 s5 target.end_block target entered inner spared-inside dropped left gone) grows in
         let grown4 : Grows s4 whole = grows-trans s4 s5 whole (inner-grows source s0 s1 s3 s4 s5 target.end_block target entered inner spared-inside dropped left gone) grows in
         let stands' = stands-inside source s0 s1 whole lands around e (Some label) target c ready entered opened (local_of-grows s0 whole grown0 c target.local found) stands in
         let around' : Around = inside e (Some label) (record { cell = c }) around in
         let block : End (Unit {0}) = block_into source (level_at source fuel) around' statements tail (record { cell = c }) store in
-        let does : Reaches whole lands-within frame (here s1) (here s4) memory (Nothing whole frame) block =
-        (does-block source s1 s2 s3 s4 statements tail c first last left).reaches whole frame grown4 sound is lands-within around' stands' fuel store memory holds in
-        reaches-on whole lands-within frame (start_of target.begin_block) (here s4) (Entry target.end_block) memory (Nothing whole frame) (λ later. inner-heads source s0 s1 s3 s4 s5 target.end_block target entered inner spared-inside dropped left gone whole frame grows is later) block
-        (subst (λ (p : Point). Reaches whole lands-within frame p (here s4) memory (Nothing whole frame) block) entered.begins does)
+        let does : Reaches source whole lands-within frame (here s1) (here s4) memory (Nothing whole frame) block =
+        (does-block source s1 s2 s3 s4 statements tail c first last left).reaches whole frame grown4 sound is lands-within around' stands' fuel serves store memory holds in
+        reaches-on source whole lands-within frame (start_of target.begin_block) (here s4) (Entry target.end_block) memory (Nothing whole frame) (λ later. inner-heads source s0 s1 s3 s4 s5 target.end_block target entered inner spared-inside dropped left gone whole frame grows is later) block
+        (subst (λ (p : Point). Reaches source whole lands-within frame p (here s4) memory (Nothing whole frame) block) entered.begins does)
 
-    ends-block : (store : Store) (memory : Memory) → Holds whole frame store memory → Reaches whole lands frame (Entry target.end_block) (here s5) memory (Nothing whole frame) (Go tt store (turns_alone 1))
-    ends-block store memory holds = (memory, inner-leaves source s0 s1 s3 s4 s5 target.end_block target entered inner spared-inside dropped left gone frame memory, holds, tt)
+    ends-block : (store : Store) (memory : Memory) → Holds whole frame store memory → Reaches source whole lands frame (Entry target.end_block) (here s5) memory (Nothing whole frame) (Go tt store (turns_alone 1))
+    ends-block store memory holds = inr (memory, inner-leaves source s0 s1 s3 s4 s5 target.end_block target entered inner spared-inside dropped left gone frame memory, holds, tt)
 
-    one-block : (fuel : ℕ) → ((store : Store) (memory : Memory) → Holds whole frame store memory → Reaches whole lands frame (Entry target.begin_block) (here s5) memory (Nothing whole frame) ((level_at source fuel around).own e (record { cell = c }) store)) →
-        (store : Store) (memory : Memory) → Holds whole frame store memory → Reaches whole lands frame (Entry target.begin_block) (here s5) memory (Nothing whole frame) (into_of source (level_at source fuel) (callees_at fuel) around e (Some (expr.Labelled label statements tail)) (record { cell = c }) store)
-    one-block fuel again store memory holds =
-        reaches-after whole lands frame (Entry target.begin_block) (start_of target.begin_block) (here s5) memory memory (Nothing whole frame) (turns_alone 1) (enters-block frame memory target.begin_block) _
-        (reaches-caught whole frame lands e target.begin_block target.end_block (start_of target.begin_block) (Entry target.end_block) (here s5) memory _ _ again ends-block
+    one-block : (fuel : ℕ) → Serves fuel source frame.program → ((store : Store) (memory : Memory) → Holds whole frame store memory → Reaches source whole lands frame (Entry target.begin_block) (here s5) memory (Nothing whole frame) ((level_at source fuel around).own e (record { cell = c }) store)) →
+        (store : Store) (memory : Memory) → Holds whole frame store memory → Reaches source whole lands frame (Entry target.begin_block) (here s5) memory (Nothing whole frame) (into_of source (level_at source fuel) (callees_at fuel) around e (Some (expr.Labelled label statements tail)) (record { cell = c }) store)
+    one-block fuel serves again store memory holds =
+        reaches-after source whole lands frame (Entry target.begin_block) (start_of target.begin_block) (here s5) memory memory (Nothing whole frame) (turns_alone 1) (enters-block frame memory target.begin_block) _
+        (reaches-caught source whole frame lands e target.begin_block target.end_block (start_of target.begin_block) (Entry target.end_block) (here s5) memory _ _ again ends-block
         (λ later. inner-leaves source s0 s1 s3 s4 s5 target.end_block target entered inner spared-inside dropped left gone frame later)
-        (block_into source (level_at source fuel) (inside e (Some label) (record { cell = c }) around) statements tail (record { cell = c }) store) (block-reaches fuel store memory holds))
+        (block_into source (level_at source fuel) (inside e (Some label) (record { cell = c }) around) statements tail (record { cell = c }) store) (block-reaches fuel serves store memory holds))
 
     -- by induction on the fuel, of which each `continue` takes some
-    labelled-reaches : (fuel : ℕ) (store : Store) (memory : Memory) → Holds whole frame store memory → Reaches whole lands frame (Entry target.begin_block) (here s5) memory (Nothing whole frame) (into_of source (level_at source fuel) (callees_at fuel) around e (Some (expr.Labelled label statements tail)) (record { cell = c }) store)
+    labelled-reaches : (fuel : ℕ) → Serves fuel source frame.program → (store : Store) (memory : Memory) → Holds whole frame store memory → Reaches source whole lands frame (Entry target.begin_block) (here s5) memory (Nothing whole frame) (into_of source (level_at source fuel) (callees_at fuel) around e (Some (expr.Labelled label statements tail)) (record { cell = c }) store)
     unfolding level_at
-    labelled-reaches zero = one-block zero (λ store memory holds. none-entered _)
-    labelled-reaches (suc fuel) =
-        one-block (suc fuel) (λ store memory holds.
-        subst (λ f. Reaches whole lands frame (Entry target.begin_block) (here s5) memory (Nothing whole frame) (into_of source (level_at source fuel) (callees_at fuel) around e f (record { cell = c }) store)) (sym form) (labelled-reaches fuel store memory holds))
+    labelled-reaches zero serves = one-block zero serves (λ store memory holds. inr (none-entered _))
+    labelled-reaches (suc fuel) serves =
+        one-block (suc fuel) serves (λ store memory holds.
+        subst (λ f. Reaches source whole lands frame (Entry target.begin_block) (here s5) memory (Nothing whole frame) (into_of source (level_at source fuel) (callees_at fuel) around e f (record { cell = c }) store)) (sym form) (labelled-reaches fuel (serves-less fuel source frame.program serves) store memory holds))
 
   pub lowers-labelled : LowersOwn source s0 s5 e c
   lowers-labelled =
@@ -293,10 +302,10 @@ module _ (source : Source) (s0 s1 s2 s3 s4 s5 : Shape) (e : ℕ) (label : LabelI
               ∙ sym (append-nil s0.scope) ∙ ap (λ m. s0.scope ++ m) (sym (labelled_marks source ready.checked e ready.within label statements tail form));
         };
         does = does-form source s0 s5 e c (Some (expr.Labelled label statements tail)) form (record {
-          reaches = λ whole frame grows sound is lands around stands fuel store memory holds.
+          reaches = λ whole frame grows sound is lands around stands fuel serves store memory holds.
               let grown1 : Grows s1 whole = grows-trans s1 s3 whole inner (grows-trans s3 s5 whole behind grows) in
-              reaches-from whole lands frame (here s0) (Entry target.begin_block) (here s5) memory (Nothing whole frame) (entered.heads whole frame grown1 is memory) _
-              (labelled-reaches whole frame grows sound is lands around stands fuel store memory holds);
+              reaches-from source whole lands frame (here s0) (Entry target.begin_block) (here s5) memory (Nothing whole frame) (entered.heads whole frame grown1 is memory) _
+              (labelled-reaches whole frame grows sound is lands around stands fuel serves store memory holds);
         });
         laid = lays-block source s1 s2 s3 s5 e (expr.Labelled label statements tail) statements tail c form (block_parts statements tail) (λ ty plain. plain.1) first last (grows-trans s2 s3 s5 last.keeps.grows behind) behind;
       }

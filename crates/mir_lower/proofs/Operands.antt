@@ -1,5 +1,5 @@
 -- Literals, paths, and other expressions as operands and as places.
-use Rattle.std.proofs.Common.{◌≡◌, ℕ, zero, suc, false, List, [], ◌∷◌, ◌++◌, Option, Some, None, refl, sym, ap, ◌∙◌, subst, append_assoc, append-nil}
+use Rattle.std.proofs.Common.{◌≡◌, ℕ, zero, suc, false, List, [], ◌∷◌, ◌++◌, Option, Some, None, refl, sym, ap, ◌∙◌, subst, append_assoc, append-nil, inr}
 use Rattle.std.specs.Prelude.{slice_get, option_map}
 use Rattle.source_meaning.specs.Core.{CoreExpr, CoreLiteral, is_literal, is_path}
 use Rattle.source_meaning.specs.Core as expr
@@ -27,6 +27,7 @@ use Rattle.mir_lower.proofs.Reaching.{none-entered, comes-refl, reaches-then}
 use Rattle.mir_lower.proofs.Sparing.{spares-refl, spares-trans}
 use Rattle.mir_lower.proofs.Steps.{local_of-grows, reaches-from}
 use Rattle.mir_lower.proofs.Standing.{marking-fits}
+use Rattle.mir_lower.specs.Callees.{Serves}
 
 -- a literal's operand
 pub literal-fits : (source : Source) (whole : Shape) (frame : Frame) (e : ℕ) (literal : CoreLiteral) (operand : OperandKind) (is : IsLiteral source e literal operand) → Fits source operand whole frame (Literally is.is_constant.ty is.bytes)
@@ -42,14 +43,14 @@ literal-means : (source : Source) (e : ℕ) (literal : CoreLiteral) (operand : O
 literal-means source e literal operand store is given same =
     ap (literal_operand source e store) same ∙ ap (λ (t : Option _). elim t [ Some ty ↦ Go (Literally ty is.bytes) store (constant_cost source e) | None ↦ Stuck ]) is.is_constant.typed
 
-literal-operand : (source : Source) (whole : Shape) (frame : Frame) (s : Shape) (e : ℕ) (literal : CoreLiteral) (operand : OperandKind) → unadjusted source e ≡ Some (expr.Literal literal) → IsLiteral source e literal operand → (lands : Landings) (around : Around) → Stands whole s lands around → (fuel : ℕ) (store : Store) (memory : Memory) → Holds whole frame store memory → Reaches whole lands frame (here s) (here s) memory (Fits source operand whole frame) ((level_at source fuel around).operand e store)
+literal-operand : (source : Source) (whole : Shape) (frame : Frame) (s : Shape) (e : ℕ) (literal : CoreLiteral) (operand : OperandKind) → unadjusted source e ≡ Some (expr.Literal literal) → IsLiteral source e literal operand → (lands : Landings) (around : Around) → Stands whole s lands around → (fuel : ℕ) → Serves fuel source frame.program → (store : Store) (memory : Memory) → Holds whole frame store memory → Reaches source whole lands frame (here s) (here s) memory (Fits source operand whole frame) ((level_at source fuel around).operand e store)
 unfolding level_at
-literal-operand source whole frame s e literal operand form is lands around stands zero store memory holds = none-entered (run_from frame memory (here s))
-literal-operand source whole frame s e literal operand form is lands around stands (suc fuel) store memory holds =
+literal-operand source whole frame s e literal operand form is lands around stands zero serves store memory holds = inr (none-entered (run_from frame memory (here s)))
+literal-operand source whole frame s e literal operand form is lands around stands (suc fuel) serves store memory holds =
     let gives : operand_of source (level_at source fuel) around e (unadjusted source e) store ≡ Go (Literally is.is_constant.ty is.bytes) store (constant_cost source e) =
     ap (λ f. operand_of source (level_at source fuel) around e f store) form ∙ literal-means source e literal operand store is _ is.has_bytes in
-    subst (Reaches whole lands frame (here s) (here s) memory (Fits source operand whole frame)) (sym gives)
-    (memory, comes-refl frame (here s) memory, holds, literal-fits source whole frame e literal operand is)
+    subst (Reaches source whole lands frame (here s) (here s) memory (Fits source operand whole frame)) (sym gives)
+    (inr (memory, comes-refl frame (here s) memory, holds, literal-fits source whole frame e literal operand is))
 
 literal-marks : (source : Source) (e : ℕ) (literal : CoreLiteral) → unadjusted source e ≡ Some (expr.Literal literal) → marked_as_operand source e ≡ []
 literal-marks source e literal form = literal_operand_marks source e (ap is_literal form)
@@ -65,7 +66,7 @@ lowers-literal-operand source s e literal operand sound opened form is =
         «open» = opened;
         scope = sym (ap (λ m. s.scope ++ m) (literal-marks source e literal form) ∙ append-nil s.scope);
       };
-      does = record { reaches = λ whole frame grows whole-sound frame-is lands around stands fuel store memory holds. literal-operand source whole frame s e literal operand form is lands around stands fuel store memory holds };
+      does = record { reaches = λ whole frame grows whole-sound frame-is lands around stands fuel serves store memory holds. literal-operand source whole frame s e literal operand form is lands around stands fuel serves store memory holds };
       laid = lays-literal source s e literal operand form is;
     }
 
@@ -82,16 +83,16 @@ place-fits source whole frame c place sound is found =
           ∙ sym there.2;
     }
 
-place-operand : (source : Source) (old new whole : Shape) (frame : Frame) (e : ℕ) (place : Place) → IsSound source whole → IsFrameOf whole frame → Grows new whole → DoesPlace source old new e place.local.0 → is_literal (unadjusted source e) ≡ false → (lands : Landings) (around : Around) → Stands whole old lands around → (fuel : ℕ) (store : Store) (memory : Memory) → Holds whole frame store memory → Reaches whole lands frame (here old) (here new) memory (Fits source (Copy place) whole frame) ((level_at source fuel around).operand e store)
+place-operand : (source : Source) (old new whole : Shape) (frame : Frame) (e : ℕ) (place : Place) → IsSound source whole → IsFrameOf whole frame → Grows new whole → DoesPlace source old new e place.local.0 → is_literal (unadjusted source e) ≡ false → (lands : Landings) (around : Around) → Stands whole old lands around → (fuel : ℕ) → Serves fuel source frame.program → (store : Store) (memory : Memory) → Holds whole frame store memory → Reaches source whole lands frame (here old) (here new) memory (Fits source (Copy place) whole frame) ((level_at source fuel around).operand e store)
 unfolding level_at
-place-operand source old new whole frame e place sound is grows does form lands around stands zero store memory holds = none-entered (run_from frame memory (here old))
-place-operand source old new whole frame e place sound is grows does form lands around stands (suc fuel) store memory holds =
-    subst (Reaches whole lands frame (here old) (here new) memory (Fits source (Copy place) whole frame))
+place-operand source old new whole frame e place sound is grows does form lands around stands zero serves store memory holds = inr (none-entered (run_from frame memory (here old)))
+place-operand source old new whole frame e place sound is grows does form lands around stands (suc fuel) serves store memory holds =
+    subst (Reaches source whole lands frame (here old) (here new) memory (Fits source (Copy place) whole frame))
     (sym (no-literal (unadjusted source e) form))
-    (reaches-then whole lands frame (here old) (here new) (here new) memory (LeadsTo does.cell whole frame) (Fits source (Copy place) whole frame)
+    (reaches-then source whole lands frame (here old) (here new) (here new) memory (LeadsTo does.cell whole frame) (Fits source (Copy place) whole frame)
     ((level_at source fuel around).place e store) (λ path later. Go (At path) later no_cost)
-    (does.does.reaches whole frame grows sound is lands around stands fuel store memory holds)
-    (λ path after middle claims. (
+    (does.does.reaches whole frame grows sound is lands around stands fuel serves store memory holds)
+    (λ path after middle claims. inr (
       middle,
       comes-refl frame (here new) middle,
       claims.0,
@@ -111,21 +112,21 @@ lowers-place-operand source old new e place lowers form =
         «open» = lowers.keeps.«open»;
         scope = lowers.keeps.scope ∙ ap (λ m. old.scope ++ m) (sym (operand_marks source e form));
       };
-      does = record { reaches = λ whole frame grows sound is lands around stands fuel store memory holds. place-operand source old new whole frame e place sound is grows lowers.does form lands around stands fuel store memory holds };
+      does = record { reaches = λ whole frame grows sound is lands around stands fuel serves store memory holds. place-operand source old new whole frame e place sound is grows lowers.does form lands around stands fuel serves store memory holds };
       laid = λ truth. lowers.laid;
     }
 
 -- an expression that is evaluated into a local of its own
-into-place : (source : Source) (from middle new whole : Shape) (frame : Frame) (e : ℕ) → is_path (unadjusted source e) ≡ false → Does source middle new e (Node e) → Grows new whole → IsSound source whole → IsFrameOf whole frame → Keeps source from middle (Node e ∷ []) → ((memory : Memory) → Comes frame 0 (here from) memory (here middle) memory) → (lands : Landings) (around : Around) → Stands whole from lands around → (fuel : ℕ) (store : Store) (memory : Memory) → Holds whole frame store memory → Reaches whole lands frame (here from) (here new) memory (LeadsTo (Node e) whole frame) ((level_at source fuel around).place e store)
+into-place : (source : Source) (from middle new whole : Shape) (frame : Frame) (e : ℕ) → is_path (unadjusted source e) ≡ false → Does source middle new e (Node e) → Grows new whole → IsSound source whole → IsFrameOf whole frame → Keeps source from middle (Node e ∷ []) → ((memory : Memory) → Comes frame 0 (here from) memory (here middle) memory) → (lands : Landings) (around : Around) → Stands whole from lands around → (fuel : ℕ) → Serves fuel source frame.program → (store : Store) (memory : Memory) → Holds whole frame store memory → Reaches source whole lands frame (here from) (here new) memory (LeadsTo (Node e) whole frame) ((level_at source fuel around).place e store)
 unfolding level_at
-into-place source from middle new whole frame e form does grows sound is marks live lands around stands zero store memory holds = none-entered (run_from frame memory (here from))
-into-place source from middle new whole frame e form does grows sound is marks live lands around stands (suc fuel) store memory holds =
-    subst (Reaches whole lands frame (here from) (here new) memory (LeadsTo (Node e) whole frame))
+into-place source from middle new whole frame e form does grows sound is marks live lands around stands zero serves store memory holds = inr (none-entered (run_from frame memory (here from)))
+into-place source from middle new whole frame e form does grows sound is marks live lands around stands (suc fuel) serves store memory holds =
+    subst (Reaches source whole lands frame (here from) (here new) memory (LeadsTo (Node e) whole frame))
     (sym (no-path (unadjusted source e) form))
-    (reaches-then whole lands frame (here from) (here new) (here new) memory (Nothing whole frame) (LeadsTo (Node e) whole frame)
+    (reaches-then source whole lands frame (here from) (here new) (here new) memory (Nothing whole frame) (LeadsTo (Node e) whole frame)
     ((level_at source fuel (marking (Node e ∷ []) around)).into e (record { cell = Node e }) store) (λ _ later. Go (record { cell = Node e }) later no_cost)
-    (reaches-from whole lands frame (here from) (here middle) (here new) memory (Nothing whole frame) (live memory) ((level_at source fuel (marking (Node e ∷ []) around)).into e (record { cell = Node e }) store) (does.reaches whole frame grows sound is lands (marking (Node e ∷ []) around) (marking-fits marks around stands) fuel store memory holds))
-    (λ value after later claims. (later, comes-refl frame (here new) later, claims.0, refl))) where
+    (reaches-from source whole lands frame (here from) (here middle) (here new) memory (Nothing whole frame) (live memory) ((level_at source fuel (marking (Node e ∷ []) around)).into e (record { cell = Node e }) store) (does.reaches whole frame grows sound is lands (marking (Node e ∷ []) around) (marking-fits marks around stands) fuel serves store memory holds))
+    (λ value after later claims. inr (later, comes-refl frame (here new) later, claims.0, refl))) where
       no-path : (form : Option CoreExpr) → is_path form ≡ false → place_of source (level_at source fuel) around e form store ≡ then_do ((level_at source fuel (marking (Node e ∷ []) around)).into e (record { cell = Node e }) store) (λ _ later. Go (record { cell = Node e }) later no_cost)
       no-path (Some (expr.Path name)) is = absurd cc
       no-path _ is = refl
@@ -147,23 +148,23 @@ lowers-temp source s0 s1 s2 e local form given into =
         cell = Node e;
         found = into.keeps.grows.temps e local given.found;
         does = record {
-          reaches = λ whole frame grows sound is lands around stands fuel store memory holds.
+          reaches = λ whole frame grows sound is lands around stands fuel serves store memory holds.
               into-place source s0 s1 s2 whole frame e form into.does grows sound is given.keeps
-              (λ m. given.comes whole frame (grows-trans s1 s2 whole into.keeps.grows grows) is m) lands around stands fuel store memory holds;
+              (λ m. given.comes whole frame (grows-trans s1 s2 whole into.keeps.grows grows) is m) lands around stands fuel serves store memory holds;
         };
       };
       laid = lays-temp source s1 s2 e local given.keeps.sound given.found into;
     }
 
 -- a path is the place that it names
-name-place : (source : Source) (whole : Shape) (frame : Frame) (s : Shape) (e local : ℕ) (name : _) (named : IsNamed source s e local) → unadjusted source e ≡ Some (expr.Path name) → (lands : Landings) (around : Around) → Stands whole s lands around → (fuel : ℕ) (store : Store) (memory : Memory) → Holds whole frame store memory → Reaches whole lands frame (here s) (here s) memory (LeadsTo (Binding named.binding.0) whole frame) ((level_at source fuel around).place e store)
+name-place : (source : Source) (whole : Shape) (frame : Frame) (s : Shape) (e local : ℕ) (name : _) (named : IsNamed source s e local) → unadjusted source e ≡ Some (expr.Path name) → (lands : Landings) (around : Around) → Stands whole s lands around → (fuel : ℕ) → Serves fuel source frame.program → (store : Store) (memory : Memory) → Holds whole frame store memory → Reaches source whole lands frame (here s) (here s) memory (LeadsTo (Binding named.binding.0) whole frame) ((level_at source fuel around).place e store)
 unfolding level_at
-name-place source whole frame s e local name named form lands around stands zero store memory holds = none-entered (run_from frame memory (here s))
-name-place source whole frame s e local name named form lands around stands (suc fuel) store memory holds =
+name-place source whole frame s e local name named form lands around stands zero serves store memory holds = inr (none-entered (run_from frame memory (here s)))
+name-place source whole frame s e local name named form lands around stands (suc fuel) serves store memory holds =
     let gives : place_of source (level_at source fuel) around e (unadjusted source e) store ≡ Go (record { cell = Binding named.binding.0 }) store no_cost =
     ap (λ f. place_of source (level_at source fuel) around e f store) form ∙ ap (λ (n : Option ValueNs). named_place n store) named.named in
-    subst (Reaches whole lands frame (here s) (here s) memory (LeadsTo (Binding named.binding.0) whole frame)) (sym gives)
-    (memory, comes-refl frame (here s) memory, holds, refl)
+    subst (Reaches source whole lands frame (here s) (here s) memory (LeadsTo (Binding named.binding.0) whole frame)) (sym gives)
+    (inr (memory, comes-refl frame (here s) memory, holds, refl))
 
 pub lowers-name : (source : Source) (s : Shape) (e local : ℕ) (name : _) → IsSound source s → IsOpen s → unadjusted source e ≡ Some (expr.Path name) → IsNamed source s e local → LowersPlace source s s e local
 lowers-name source s e local name sound opened form named =
@@ -178,7 +179,7 @@ lowers-name source s e local name sound opened form named =
       does = record {
         cell = Binding named.binding.0;
         found = named.found;
-        does = record { reaches = λ whole frame grows whole-sound frame-is lands around stands fuel store memory holds. name-place source whole frame s e local name named form lands around stands fuel store memory holds };
+        does = record { reaches = λ whole frame grows whole-sound frame-is lands around stands fuel serves store memory holds. name-place source whole frame s e local name named form lands around stands fuel serves store memory holds };
       };
       laid = lays-name source s e local name sound form named;
     }

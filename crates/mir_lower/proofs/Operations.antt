@@ -30,6 +30,7 @@ use Rattle.mir_lower.proofs.Reaching.{comes-refl, reaches-after}
 use Rattle.mir_lower.proofs.Sound.{with_statement-sound, with_statement-open, with_statement-scope}
 use Rattle.mir_lower.proofs.Sparing.{with_statement-spares}
 use Rattle.mir_lower.proofs.Steps.{local_of-grows, assigned-bytes, does-form}
+use Rattle.mir_lower.specs.Callees.{Serves}
 
 abbrev pub assignment : Place → Rvalue → MirSpan → Statement
 assignment place rvalue span = record { kind = Assign place rvalue; span = span }
@@ -71,10 +72,10 @@ lowers-literal source s new e l place operand span ready form is same c local =
       does = does-form source s (with_statement st s) e c (Some (expr.Literal l)) form (record { reaches = reaches });
       laid = lays-literal-into source (with_statement st s) e l form;
     }) where
-      reaches : (whole : Shape) (frame : Frame) → Grows (with_statement (assignment place (Use operand) span) s) whole → IsSound source whole → IsFrameOf whole frame → (lands : Landings) (around : Around) → Stands whole s lands around → (fuel : ℕ) (store : Store) (memory : Memory) → Holds whole frame store memory → Reaches whole lands frame (here s) (here (with_statement (assignment place (Use operand) span) s)) memory (Nothing whole frame) (into_of source (level_at source fuel) (callees_at fuel) around e (Some (expr.Literal l)) (record { cell = c }) store)
-      reaches whole frame grows sound frame-is lands around stands fuel store memory holds =
-          subst (λ (bytes : Option (List ℕ)). Reaches whole lands frame (here s) (here (with_statement (assignment place (Use operand) span) s)) memory (Nothing whole frame) (put_literal source e store (record { cell = c }) bytes)) (sym is.has_bytes)
-          (reaches-after whole lands frame (here s) (here s) (here (with_statement (assignment place (Use operand) span) s)) memory memory (Nothing whole frame) (constant_cost source e) (comes-refl frame (here s) memory) (put store (record { cell = c }) is.bytes)
+      reaches : (whole : Shape) (frame : Frame) → Grows (with_statement (assignment place (Use operand) span) s) whole → IsSound source whole → IsFrameOf whole frame → (lands : Landings) (around : Around) → Stands whole s lands around → (fuel : ℕ) → Serves fuel source frame.program → (store : Store) (memory : Memory) → Holds whole frame store memory → Reaches source whole lands frame (here s) (here (with_statement (assignment place (Use operand) span) s)) memory (Nothing whole frame) (into_of source (level_at source fuel) (callees_at fuel) around e (Some (expr.Literal l)) (record { cell = c }) store)
+      reaches whole frame grows sound frame-is lands around stands fuel serves store memory holds =
+          subst (λ (bytes : Option (List ℕ)). Reaches source whole lands frame (here s) (here (with_statement (assignment place (Use operand) span) s)) memory (Nothing whole frame) (put_literal source e store (record { cell = c }) bytes)) (sym is.has_bytes)
+          (reaches-after source whole lands frame (here s) (here s) (here (with_statement (assignment place (Use operand) span) s)) memory memory (Nothing whole frame) (constant_cost source e) (comes-refl frame (here s) memory) (put store (record { cell = c }) is.bytes)
           (assigned-bytes source s whole frame place (Use operand) span ready.«open» sound frame-is lands grows c (local-later s whole _ ready.«open» grows c place.local.0 local) store memory holds is.bytes (literal-computes source whole frame e l operand is store memory holds)))
 
 -- what a path names is copied
@@ -87,8 +88,8 @@ lowers-named source s new e name place from operand span ready form named copies
       does = does-form source s (with_statement st s) e c (Some (expr.Path name)) form (record { reaches = reaches });
       laid = lays-name-into source (with_statement st s) e name form;
     }) where
-      reaches : (whole : Shape) (frame : Frame) → Grows (with_statement (assignment place (Use operand) span) s) whole → IsSound source whole → IsFrameOf whole frame → (lands : Landings) (around : Around) → Stands whole s lands around → (fuel : ℕ) (store : Store) (memory : Memory) → Holds whole frame store memory → Reaches whole lands frame (here s) (here (with_statement (assignment place (Use operand) span) s)) memory (Nothing whole frame) (into_of source (level_at source fuel) (callees_at fuel) around e (Some (expr.Path name)) (record { cell = c }) store)
-      reaches whole frame grows sound frame-is lands around stands fuel store memory holds =
-          subst (λ (n : Option ValueNs). Reaches whole lands frame (here s) (here (with_statement (assignment place (Use operand) span) s)) memory (Nothing whole frame) (named_into n (record { cell = c }) store)) (sym named.named)
+      reaches : (whole : Shape) (frame : Frame) → Grows (with_statement (assignment place (Use operand) span) s) whole → IsSound source whole → IsFrameOf whole frame → (lands : Landings) (around : Around) → Stands whole s lands around → (fuel : ℕ) → Serves fuel source frame.program → (store : Store) (memory : Memory) → Holds whole frame store memory → Reaches source whole lands frame (here s) (here (with_statement (assignment place (Use operand) span) s)) memory (Nothing whole frame) (into_of source (level_at source fuel) (callees_at fuel) around e (Some (expr.Path name)) (record { cell = c }) store)
+      reaches whole frame grows sound frame-is lands around stands fuel serves store memory holds =
+          subst (λ (n : Option ValueNs). Reaches source whole lands frame (here s) (here (with_statement (assignment place (Use operand) span) s)) memory (Nothing whole frame) (named_into n (record { cell = c }) store)) (sym named.named)
           (assigned-bytes source s whole frame place (Use operand) span ready.«open» sound frame-is lands grows c (local-later s whole _ ready.«open» grows c place.local.0 local) store memory holds (store (Binding named.binding.0))
           (name-computes source whole frame (Binding named.binding.0) from operand copies sound frame-is (local-later s whole _ ready.«open» grows (Binding named.binding.0) from.local.0 named.found) store memory holds))

@@ -1,13 +1,14 @@
 -- Reaching a point through another.
-use Rattle.std.proofs.Common.{◌≡◌, ℕ, ◌+◌, ◌-◌, ⊎_elim, ap, ◌∙◌, subst, arith}
+use Rattle.std.proofs.Common.{◌≡◌, ℕ, ◌+◌, ◌-◌, ◌≤◌, ◌⊎◌, ⊎_elim, inl, inr, ap, ◌∙◌, subst, arith}
 use Rattle.std.proofs.lemmas.Bool.{cases_lt}
 use Rattle.mir.specs.Memory.{Memory}
-use Rattle.mir.specs.Run.{Frame, Ending, Ended}
+use Rattle.mir.specs.Run.{Program, Frame, Ending, Ended}
 use Rattle.source_meaning.specs.Ends.{Cost, End, Go, Jumps, Faults, Stuck, More, plus, after, then_do}
-use Rattle.source_meaning.specs.Source.{Store}
-use Rattle.mir_lower.specs.Does.{Holds, Landing, Nowhere, AtPoint, Landings, Lands, Reaches}
+use Rattle.source_meaning.specs.Source.{Source, Store}
+use Rattle.mir_lower.specs.Does.{Holds, Landing, Nowhere, AtPoint, Landings, Lands, Goes, Reaches}
 use Rattle.mir_lower.specs.Graph.{Shape}
 use Rattle.mir_lower.specs.Runs.{Point, run_from, Comes, Enters, IsFault, EndsAfter, error_of, KeepsOthers}
+use Rattle.mir_lower.specs.Stops.{IsCut, StopsWithin, turns_of}
 
 -- each run enters no block at least
 pub none-entered : (run : ℕ → Ended) → Enters 0 run
@@ -75,23 +76,66 @@ lands-after whole frame first second from at memory middle store (AtPoint point)
     (does.0, comes-trans frame first second from at memory middle comes point does.0 does.1, does.2)
 
 -- what an end does from a point on, after the run came to that point
-pub reaches-after : {A : Type 0} (whole : Shape) (lands : Landings) (frame : Frame) (from at to : Point) (memory middle : Memory) (claim : A → Type 0) (cost : Cost) → Comes frame cost.turns from memory at middle → (end : End A) → Reaches whole lands frame at to middle claim end → Reaches whole lands frame from to memory claim (after cost end)
+goes-after : {A : Type 0} (whole : Shape) (lands : Landings) (frame : Frame) (from at to : Point) (memory middle : Memory) (claim : A → Type 0) (cost : Cost) → Comes frame cost.turns from memory at middle → (end : End A) → Goes whole lands frame at to middle claim end → Goes whole lands frame from to memory claim (after cost end)
 unfolding after plus
-reaches-after whole lands frame from at to memory middle claim cost comes (Go value store then) does =
+goes-after whole lands frame from at to memory middle claim cost comes (Go value store then) does =
     (does.0, comes-trans frame cost.turns then.turns from at memory middle comes to does.0 does.1, does.2, does.3)
-reaches-after whole lands frame from at to memory middle claim cost comes (Jumps jump store then) does =
+goes-after whole lands frame from at to memory middle claim cost comes (Jumps jump store then) does =
     lands-after whole frame cost.turns then.turns from at memory middle store (lands jump) comes does
-reaches-after whole lands frame from at to memory middle claim cost comes (Faults fault then) does =
+goes-after whole lands frame from at to memory middle claim cost comes (Faults fault then) does =
     ends-after frame cost.turns then.turns from at memory middle comes (IsFault (error_of fault)) does
-reaches-after whole lands frame from at to memory middle claim cost comes Stuck does = tt
-reaches-after whole lands frame from at to memory middle claim cost comes (More then) does = enters-both frame cost.turns then.turns from at memory middle comes does
+goes-after whole lands frame from at to memory middle claim cost comes Stuck does = tt
+goes-after whole lands frame from at to memory middle claim cost comes (More then) does = enters-both frame cost.turns then.turns from at memory middle comes does
 
--- one evaluation, and then another; where the first ends by a jump or a fault, or its fuel runs out, so do both
-pub reaches-then : {A B : Type 0} (whole : Shape) (lands : Landings) (frame : Frame) (from at to : Point) (memory : Memory) (first : A → Type 0) (claim : B → Type 0) (end : End A) (next : A → Store → End B) → Reaches whole lands frame from at memory first end → ((value : A) (store : Store) (middle : Memory) → Holds whole frame store middle × first value → Reaches whole lands frame at to middle claim (next value store)) → Reaches whole lands frame from to memory claim (then_do end next)
+-- a run that stops at a call within some blocks from a point on does so within as many more, after it came to that point
+pub stops-after : (source : Source) (frame : Frame) (first second : ℕ) (from at : Point) (memory middle : Memory) → Comes frame first from memory at middle → StopsWithin source frame.program second (run_from frame middle at) → StopsWithin source frame.program (first + second) (run_from frame memory from)
+stops-after source frame first second from at memory middle comes stops =
+    record {
+      call = stops.call;
+      blocks = first + stops.blocks;
+      within = (let less = stops.within in omega arith);
+      ends = ends-after frame first stops.blocks from at memory middle comes (IsCut frame.program) stops.ends;
+    }
+
+-- or within more
+pub stops-within : (source : Source) (program : Program) (few many : ℕ) (run : ℕ → Ended) → few ≤ many → StopsWithin source program few run → StopsWithin source program many run
+stops-within source program few many run less stops =
+    record { call = stops.call; blocks = stops.blocks; within = (let within = stops.within in omega arith); ends = stops.ends }
+
+-- where a run comes to a point, and stops at a call from there on
+stopped-after : {A : Type 0} (source : Source) (whole : Shape) (lands : Landings) (frame : Frame) (from at to : Point) (memory middle : Memory) (claim : A → Type 0) (cost : Cost) → Comes frame cost.turns from memory at middle → (end : End A) → StopsWithin source frame.program (turns_of end) (run_from frame middle at) → Reaches source whole lands frame from to memory claim (after cost end)
+unfolding after plus
+stopped-after source whole lands frame from at to memory middle claim cost comes (Go value store then) stops = inl (stops-after source frame cost.turns then.turns from at memory middle comes stops)
+stopped-after source whole lands frame from at to memory middle claim cost comes (Jumps jump store then) stops = inl (stops-after source frame cost.turns then.turns from at memory middle comes stops)
+stopped-after source whole lands frame from at to memory middle claim cost comes (Faults fault then) stops = inl (stops-after source frame cost.turns then.turns from at memory middle comes stops)
+stopped-after source whole lands frame from at to memory middle claim cost comes Stuck stops = inr tt
+stopped-after source whole lands frame from at to memory middle claim cost comes (More then) stops = inl (stops-after source frame cost.turns then.turns from at memory middle comes stops)
+
+-- where a run stops at a call within what is counted first
+pub stopped-before : {A : Type 0} (source : Source) (whole : Shape) (lands : Landings) (frame : Frame) (from to : Point) (memory : Memory) (claim : A → Type 0) (cost : Cost) → StopsWithin source frame.program cost.turns (run_from frame memory from) → (end : End A) → Reaches source whole lands frame from to memory claim (after cost end)
+unfolding after plus
+stopped-before source whole lands frame from to memory claim cost stops (Go value store then) = inl (stops-within source frame.program cost.turns (cost.turns + then.turns) (run_from frame memory from) (omega arith) stops)
+stopped-before source whole lands frame from to memory claim cost stops (Jumps jump store then) = inl (stops-within source frame.program cost.turns (cost.turns + then.turns) (run_from frame memory from) (omega arith) stops)
+stopped-before source whole lands frame from to memory claim cost stops (Faults fault then) = inl (stops-within source frame.program cost.turns (cost.turns + then.turns) (run_from frame memory from) (omega arith) stops)
+stopped-before source whole lands frame from to memory claim cost stops Stuck = inr tt
+stopped-before source whole lands frame from to memory claim cost stops (More then) = inl (stops-within source frame.program cost.turns (cost.turns + then.turns) (run_from frame memory from) (omega arith) stops)
+
+-- what an end does from a point on, or where the run stops then, after the run came to that point
+pub reaches-after : {A : Type 0} (source : Source) (whole : Shape) (lands : Landings) (frame : Frame) (from at to : Point) (memory middle : Memory) (claim : A → Type 0) (cost : Cost) → Comes frame cost.turns from memory at middle → (end : End A) → Reaches source whole lands frame at to middle claim end → Reaches source whole lands frame from to memory claim (after cost end)
+reaches-after source whole lands frame from at to memory middle claim cost comes end =
+    ⊎_elim (stopped-after source whole lands frame from at to memory middle claim cost comes end) (λ does. inr (goes-after whole lands frame from at to memory middle claim cost comes end does))
+
+-- One evaluation, and then another; where the first ends by a jump or a fault, or its fuel runs out, so do both, and where it stops at a
+-- call, both do.
+pub reaches-then : {A B : Type 0} (source : Source) (whole : Shape) (lands : Landings) (frame : Frame) (from at to : Point) (memory : Memory) (first : A → Type 0) (claim : B → Type 0) (end : End A) (next : A → Store → End B) → Reaches source whole lands frame from at memory first end → ((value : A) (store : Store) (middle : Memory) → Holds whole frame store middle × first value → Reaches source whole lands frame at to middle claim (next value store)) → Reaches source whole lands frame from to memory claim (then_do end next)
 unfolding then_do
-reaches-then whole lands frame from at to memory first claim (Go value store cost) next does rest =
-    reaches-after whole lands frame from at to memory does.0 claim cost does.1 (next value store) (rest value store does.0 (does.2, does.3))
-reaches-then whole lands frame from at to memory first claim (Jumps jump store cost) next does rest = does
-reaches-then whole lands frame from at to memory first claim (Faults fault cost) next does rest = does
-reaches-then whole lands frame from at to memory first claim Stuck next does rest = tt
-reaches-then whole lands frame from at to memory first claim (More cost) next does rest = does
+reaches-then source whole lands frame from at to memory first claim (Go value store cost) next (inr does) rest =
+    reaches-after source whole lands frame from at to memory does.0 claim cost does.1 (next value store) (rest value store does.0 (does.2, does.3))
+reaches-then source whole lands frame from at to memory first claim (Go value store cost) next (inl stops) rest = stopped-before source whole lands frame from to memory claim cost stops (next value store)
+reaches-then source whole lands frame from at to memory first claim (Jumps jump store cost) next (inr does) rest = inr does
+reaches-then source whole lands frame from at to memory first claim (Jumps jump store cost) next (inl stops) rest = inl stops
+reaches-then source whole lands frame from at to memory first claim (Faults fault cost) next (inr does) rest = inr does
+reaches-then source whole lands frame from at to memory first claim (Faults fault cost) next (inl stops) rest = inl stops
+reaches-then source whole lands frame from at to memory first claim Stuck next does rest = inr tt
+reaches-then source whole lands frame from at to memory first claim (More cost) next (inr does) rest = inr does
+reaches-then source whole lands frame from at to memory first claim (More cost) next (inl stops) rest = inl stops

@@ -46,10 +46,6 @@ refuses-unbuilt source e error unbuilt cases =
 pub refuses-unbuilt-form : (source : Source) (e : ℕ) (error : MirLowerError) → HasForm source e form.Unbuilt → (error ≡ refusal.NotSupported (codes "form not built")) ⊎ (error ≡ refusal.NoMemory) → RefusesAt source e error
 refuses-unbuilt-form source e error has cases = refuses-unbuilt source e error (subst (IsUnbuilt source e) (sym has.core) has.cause) cases
 
--- and that of a call
-pub refuses-call : (source : Source) (e : ℕ) (error : MirLowerError) (callee : ℕ) (args : List ℕ) → node source e ≡ Some (expr.Call callee args) → (error ≡ refusal.NotSupported (codes "form not built")) ⊎ (error ≡ refusal.NoMemory) → RefusesAt source e error
-refuses-call source e error callee args form cases = refuses-unbuilt source e error (subst (IsUnbuilt source e) (sym form) tt) cases
-
 -- a block that has a statement that isn't built, or that binds a binding that the body lacks
 unbuilt-statement : (source : Source) (e : ℕ) (st : Statement) (form : Option CoreExpr) (statements : List Statement) → HasStatements form statements → Contains statements st → IsUnbuiltStatement source st → IsUnbuilt source e form
 unbuilt-statement source e st (Some (expr.Block own tail)) statements same within unbuilt = (st, subst (λ (s : List Statement). Contains s st) (sym same) within, unbuilt)

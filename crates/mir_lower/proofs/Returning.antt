@@ -1,5 +1,5 @@
 -- `return`: its value goes to the result, all open scopes are left, and the body returns.
-use Rattle.std.proofs.Common.{◌≡◌, ℕ, List, ◌++◌, Contains, Option, Some, None, refl, sym, ap, ◌∙◌, subst, arith}
+use Rattle.std.proofs.Common.{◌≡◌, ℕ, List, ◌++◌, Contains, Option, Some, None, refl, sym, ap, ◌∙◌, subst, arith, inr}
 use Rattle.std.specs.Prelude.{flat_map, IfSome}
 use Rattle.types.specs.declared.ids.ExprId.{ExprId}
 use Rattle.mir.specs.declared.body.Terminator.{Terminator}
@@ -32,6 +32,7 @@ use Rattle.mir_lower.proofs.Reaching.{comes-on, reaches-then}
 use Rattle.mir_lower.proofs.Sound.{slot-there, with_terminator-sound, with_terminator-scope, with_block-sound, with_block-open, with_block-scope}
 use Rattle.mir_lower.proofs.Sparing.{spares-trans, with_terminator-spares, with_block-spares}
 use Rattle.mir_lower.proofs.Steps.{does-form}
+use Rattle.mir_lower.specs.Callees.{Serves}
 
 -- all open scopes were left, the current block returns, and a new block is the current one
 pub returns : (source : Source) (s0 s1 s2 new : Shape) (span : MirSpan) (turns : ℕ) → Idles source s0 s1 turns → s2 ≡ with_terminator (record { span = span; kind = kind.Return }) s1 → new ≡ with_block s2 → HasReturned source s0 new turns
@@ -60,18 +61,18 @@ return-part source e (Some one) form = subst (λ n. Contains (parts_of n) one.0)
 
 -- A `return`: its value went to the result, and a return was added.
 module _ (source : Source) (s0 s1 s2 : Shape) (e : ℕ) (value : Option ExprId) (form : node source e ≡ Some (expr.Return value)) (ready : IsReady source s0 e) (tail : LowersTail source s0 s1 value Result) (returned : HasReturned source s1 s2 (drops source s1.scope)) where
-  return-reaches : (whole : Shape) (frame : Frame) → Grows s2 whole → IsSound source whole → IsFrameOf whole frame → (lands : Landings) (around : Around) → Stands whole s0 lands around → (fuel : ℕ) (store : Store) (memory : Memory) → Holds whole frame store memory → Reaches whole lands frame (here s0) (here s2) memory (Nothing whole frame) (return_into source (level_at source fuel) around value store)
-  return-reaches whole frame grows sound is lands around stands fuel store memory holds =
+  return-reaches : (whole : Shape) (frame : Frame) → Grows s2 whole → IsSound source whole → IsFrameOf whole frame → (lands : Landings) (around : Around) → Stands whole s0 lands around → (fuel : ℕ) → Serves fuel source frame.program → (store : Store) (memory : Memory) → Holds whole frame store memory → Reaches source whole lands frame (here s0) (here s2) memory (Nothing whole frame) (return_into source (level_at source fuel) around value store)
+  return-reaches whole frame grows sound is lands around stands fuel serves store memory holds =
       let grown1 : Grows s1 whole = grows-trans s1 s2 whole returned.grows grows in
       let leaving : ℕ = drops source (around.marks ++ marked_by_tail source value) in
       let counted : leaving ≡ drops source s1.scope =
       ap (λ (marks : List Cell). drops source (marks ++ marked_by_tail source value)) stands.marks ∙ ap (drops source) (sym tail.keeps.scope) in
-      reaches-then whole lands frame (here s0) (here s1) (here s2) memory (Nothing whole frame) (Nothing whole frame) (tail_into (level_at source fuel around) value around.result store) (λ _ later. Jumps Return later (turns_alone leaving))
-      (subst (λ (p : Path). Reaches whole lands frame (here s0) (here s1) memory (Nothing whole frame) (tail_into (level_at source fuel around) value p store)) (sym stands.result)
-      (tail.does.reaches whole frame grown1 sound is lands around stands fuel store memory holds))
+      reaches-then source whole lands frame (here s0) (here s1) (here s2) memory (Nothing whole frame) (Nothing whole frame) (tail_into (level_at source fuel around) value around.result store) (λ _ later. Jumps Return later (turns_alone leaving))
+      (subst (λ (p : Path). Reaches source whole lands frame (here s0) (here s1) memory (Nothing whole frame) (tail_into (level_at source fuel around) value p store)) (sym stands.result)
+      (tail.does.reaches whole frame grown1 sound is lands around stands fuel serves store memory holds))
       (λ done store1 memory1 claims.
-      subst (Lands whole frame (here s1) memory1 store1 leaving) (sym stands.returns)
-      (memory1, subst (λ (n : ℕ). Comes frame n (here s1) memory1 Exit memory1) (sym counted) (returned.leaves whole frame grows is memory1), claims.0))
+      inr (subst (Lands whole frame (here s1) memory1 store1 leaving) (sym stands.returns)
+      (memory1, subst (λ (n : ℕ). Comes frame n (here s1) memory1 Exit memory1) (sym counted) (returned.leaves whole frame grows is memory1), claims.0)))
 
   -- the value has the type of the result, which has a local
   lays-value : (child : ℕ) (given : Option ExprId) → value ≡ given → Contains (flat_map (sized_part source) (tail_steps given)) child → IsPlainWithin source e → IsPlainWithin source child → HasLayouts source s2 → (f : ℕ) → NeedsLayout source child f → IsLaidOutNode source f

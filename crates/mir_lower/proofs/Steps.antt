@@ -25,6 +25,8 @@ use Rattle.mir_lower.proofs.Holding.{assigns, interval-of}
 use Rattle.mir_lower.proofs.Reaching.{none-entered, reaches-after}
 use Rattle.mir_lower.proofs.Running.{comes-statement, ends-statement}
 use Rattle.mir_lower.proofs.Sound.{binding_local-grows}
+use Rattle.mir_lower.specs.Callees.{Serves}
+use Rattle.mir_lower.proofs.Serving.{serves-less}
 
 by_test : {A : Type 0} (m n : ℕ) (fits not : A) (b : Bool) → eqb m n ≡ b → ((m ≡ n) × (cond b fits not ≡ fits)) ⊎ (cond b fits not ≡ not)
 by_test m n fits not true is = inl (eqb-true m n is, refl)
@@ -49,14 +51,14 @@ module _ (source : Source) (s whole : Shape) (frame : Frame) (place : Place) (rv
   abbrev added : Statement
   added = record { kind = Assign place rvalue; span = span }
 
-  pub assigned-bytes : (bytes : List ℕ) → rvalue_bytes frame memory rvalue ≡ Ok bytes → Reaches whole lands frame (here s) (here (with_statement added s)) memory (Nothing whole frame) (put store (record { cell = c }) bytes)
+  pub assigned-bytes : (bytes : List ℕ) → rvalue_bytes frame memory rvalue ≡ Ok bytes → Reaches source whole lands frame (here s) (here (with_statement added s)) memory (Nothing whole frame) (put store (record { cell = c }) bytes)
   assigned-bytes bytes computes =
       ⊎_elim
       (λ fits.
       let done = assigns source whole frame sound is store memory holds c place rvalue bytes local computes fits.0 in
-      subst (Reaches whole lands frame (here s) (here (with_statement added s)) memory (Nothing whole frame)) (sym fits.1)
-      (done.0, comes-statement added s whole frame memory opened grows is done.0 done.1 done.3, done.2, tt))
-      (λ stuck. subst (Reaches whole lands frame (here s) (here (with_statement added s)) memory (Nothing whole frame)) (sym stuck) tt)
+      subst (Reaches source whole lands frame (here s) (here (with_statement added s)) memory (Nothing whole frame)) (sym fits.1)
+      (inr (done.0, comes-statement added s whole frame memory opened grows is done.0 done.1 done.3, done.2, tt)))
+      (λ stuck. subst (Reaches source whole lands frame (here s) (here (with_statement added s)) memory (Nothing whole frame)) (sym stuck) (inr tt))
       (put-cases store (record { cell = c }) bytes)
 
   faults : (e : MirEvalError) → rvalue_bytes frame memory rvalue ≡ Err e → after_statement frame memory (Assign place rvalue) ≡ Err e
@@ -65,25 +67,33 @@ module _ (source : Source) (s whole : Shape) (frame : Frame) (place : Place) (rv
       let at = interval-of frame memory place.local.0 (store c) (holds.shows c place.local.0 local) in
       ap (λ o. copied memory o (rvalue_bytes frame memory rvalue)) at.1 ∙ ap (λ r. copied memory (Some at.0) r) err
 
-  pub assigned-answer : (answer : Answer) → rvalue_bytes frame memory rvalue ≡ answered answer → Reaches whole lands frame (here s) (here (with_statement added s)) memory (Nothing whole frame) (put_answer store (record { cell = c }) answer)
+  pub assigned-answer : (answer : Answer) → rvalue_bytes frame memory rvalue ≡ answered answer → Reaches source whole lands frame (here s) (here (with_statement added s)) memory (Nothing whole frame) (put_answer store (record { cell = c }) answer)
   unfolding answered
   assigned-answer (Computes bytes) computes = assigned-bytes bytes computes
-  assigned-answer (Panics word) computes = ends-statement added s whole frame memory opened grows is (error.Panic word) (faults (error.Panic word) computes)
-  assigned-answer Undefined computes = tt
+  assigned-answer (Panics word) computes = inr (ends-statement added s whole frame memory opened grows is (error.Panic word) (faults (error.Panic word) computes))
+  assigned-answer Undefined computes = inr tt
 
 -- what an end does from a point on, it does from one that leads there over no block
-pub reaches-from : {A : Type 0} (whole : Shape) (lands : Landings) (frame : Frame) (p q to : Point) (memory : Memory) (claim : A → Type 0) → Comes frame 0 p memory q memory → (end : End A) → Reaches whole lands frame q to memory claim end → Reaches whole lands frame p to memory claim end
-reaches-from whole lands frame p q to memory claim comes end reaches =
-    subst (Reaches whole lands frame p to memory claim) (after-none end)
-    (reaches-after whole lands frame p q to memory memory claim no_cost comes end reaches)
+pub reaches-from : {A : Type 0} (source : Source) (whole : Shape) (lands : Landings) (frame : Frame) (p q to : Point) (memory : Memory) (claim : A → Type 0) → Comes frame 0 p memory q memory → (end : End A) → Reaches source whole lands frame q to memory claim end → Reaches source whole lands frame p to memory claim end
+reaches-from source whole lands frame p q to memory claim comes end reaches =
+    subst (Reaches source whole lands frame p to memory claim) (after-none end)
+    (reaches-after source whole lands frame p q to memory memory claim no_cost comes end reaches)
 
--- an expression itself does what its form does with one unit of fuel less
-pub does-form : (source : Source) (old new : Shape) (e : ℕ) (c : Cell) (form : Option CoreExpr) → node source e ≡ form → Performs source old new Nothing (λ around fuel store. into_of source (level_at source fuel) (callees_at fuel) around e form (record { cell = c }) store) → DoesOwn source old new e c
+-- an expression itself does what its form does with one unit of fuel less, and so do the bodies that calls enter
+pub does-with-callees : (source : Source) (old new : Shape) (e : ℕ) (c : Cell) (form : Option CoreExpr) → node source e ≡ form →
+    ((whole : Shape) (frame : Frame) → Grows new whole → IsSound source whole → IsFrameOf whole frame → (lands : Landings) (around : Around) → Stands whole old lands around → (fuel : ℕ) → Serves (suc fuel) source frame.program → (store : Store) (memory : Memory) → Holds whole frame store memory →
+    Reaches source whole lands frame (here old) (here new) memory (Nothing whole frame) (into_of source (level_at source fuel) (callees_at fuel) around e form (record { cell = c }) store)) → DoesOwn source old new e c
 unfolding level_at
+does-with-callees source old new e c form is performs =
+    record { reaches = λ whole frame grows sound frame-is lands around stands fuel serves store memory holds. by-fuel whole frame grows sound frame-is lands around stands fuel serves store memory holds } where
+      by-fuel : (whole : Shape) (frame : Frame) → Grows new whole → IsSound source whole → IsFrameOf whole frame → (lands : Landings) (around : Around) → Stands whole old lands around → (fuel : ℕ) → Serves fuel source frame.program → (store : Store) (memory : Memory) → Holds whole frame store memory → Reaches source whole lands frame (here old) (here new) memory (Nothing whole frame) ((level_at source fuel around).own e (record { cell = c }) store)
+      by-fuel whole frame grows sound frame-is lands around stands zero serves store memory holds = inr (none-entered (run_from frame memory (here old)))
+      by-fuel whole frame grows sound frame-is lands around stands (suc fuel) serves store memory holds =
+          subst (λ f. Reaches source whole lands frame (here old) (here new) memory (Nothing whole frame) (into_of source (level_at source fuel) (callees_at fuel) around e f (record { cell = c }) store)) (sym is)
+          (performs whole frame grows sound frame-is lands around stands fuel serves store memory holds)
+
+pub does-form : (source : Source) (old new : Shape) (e : ℕ) (c : Cell) (form : Option CoreExpr) → node source e ≡ form → Performs source old new Nothing (λ around fuel store. into_of source (level_at source fuel) (callees_at fuel) around e form (record { cell = c }) store) → DoesOwn source old new e c
 does-form source old new e c form is performs =
-    record { reaches = λ whole frame grows sound frame-is lands around stands fuel store memory holds. by-fuel whole frame grows sound frame-is lands around stands fuel store memory holds } where
-      by-fuel : (whole : Shape) (frame : Frame) → Grows new whole → IsSound source whole → IsFrameOf whole frame → (lands : Landings) (around : Around) → Stands whole old lands around → (fuel : ℕ) (store : Store) (memory : Memory) → Holds whole frame store memory → Reaches whole lands frame (here old) (here new) memory (Nothing whole frame) ((level_at source fuel around).own e (record { cell = c }) store)
-      by-fuel whole frame grows sound frame-is lands around stands zero store memory holds = none-entered (run_from frame memory (here old))
-      by-fuel whole frame grows sound frame-is lands around stands (suc fuel) store memory holds =
-          subst (λ f. Reaches whole lands frame (here old) (here new) memory (Nothing whole frame) (into_of source (level_at source fuel) (callees_at fuel) around e f (record { cell = c }) store)) (sym is)
-          (performs.reaches whole frame grows sound frame-is lands around stands fuel store memory holds)
+    does-with-callees source old new e c form is
+    (λ whole frame grows sound frame-is lands around stands fuel serves store memory holds.
+    performs.reaches whole frame grows sound frame-is lands around stands fuel (serves-less fuel source frame.program serves) store memory holds)

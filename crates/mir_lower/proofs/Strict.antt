@@ -1,5 +1,5 @@
 -- Strict forms: operands from left to right, and then one assignment of what the operation makes of them.
-use Rattle.std.proofs.Common.{arith, ◌≡◌, ℕ, false, List, [], ◌∷◌, ◌++◌, map, flat_map, Contains, Some, refl, sym, ap, ◌∙◌, subst, append_assoc, append-nil, ⊎_elim}
+use Rattle.std.proofs.Common.{arith, ◌≡◌, ℕ, false, List, [], ◌∷◌, ◌++◌, map, flat_map, Contains, Some, refl, sym, ap, ◌∙◌, subst, append_assoc, append-nil, ⊎_elim, inr}
 use Rattle.std.proofs.lemmas.List.Elements.{Contains-append_cases}
 use Rattle.source_meaning.specs.Core.{Operation, Strict, Combine, is_truth}
 use Rattle.numbers.specs.declared.operator.Operator.{Operator}
@@ -37,6 +37,7 @@ use Rattle.mir_lower.proofs.Sound.{with_statement-sound, with_statement-open, wi
 use Rattle.mir_lower.proofs.Sparing.{spares-refl, spares-trans, with_statement-spares}
 use Rattle.mir_lower.proofs.Standing.{marking-fits}
 use Rattle.mir_lower.proofs.Steps.{local_of-grows, assigned-answer, does-form}
+use Rattle.mir_lower.specs.Callees.{Serves}
 
 no-operands : (source : Source) (below : Levels) (around : Around) (store : Store) → operands_of source below around [] store ≡ Go [] store no_cost
 unfolding operands_of
@@ -51,9 +52,9 @@ lowers-no-operand source s sound opened =
     record {
       keeps = record { grows = grows-refl s; spares = spares-refl s; sound = sound; «open» = opened; scope = sym (append-nil s.scope) };
       does = record {
-        reaches = λ whole frame grows whole-sound is lands around stands fuel store memory holds.
-            subst (Reaches whole lands frame (here s) (here s) memory (FitAll source [] whole frame)) (sym (no-operands source (level_at source fuel) around store))
-            (memory, comes-refl frame (here s) memory, holds, tt);
+        reaches = λ whole frame grows whole-sound is lands around stands fuel serves store memory holds.
+            subst (Reaches source whole lands frame (here s) (here s) memory (FitAll source [] whole frame)) (sym (no-operands source (level_at source fuel) around store))
+            (inr (memory, comes-refl frame (here s) memory, holds, tt));
       };
       laid = λ e within. absurd (let below = within.1 in omega arith);
     }
@@ -72,16 +73,16 @@ lowers-more-operands source s0 s1 s2 e rest operand operands first others =
             ∙ append_assoc s0.scope (marked_as_operand source e) (flat_map (marked_as_operand source) rest);
       };
       does = record {
-        reaches = λ whole frame grows sound is lands around stands fuel store memory holds.
+        reaches = λ whole frame grows sound is lands around stands fuel serves store memory holds.
             let below = level_at source fuel in
             let behind : Around = marking (marked_as_operand source e) around in
-            subst (Reaches whole lands frame (here s0) (here s2) memory (FitAll source (operand ∷ operands) whole frame)) (sym (first-operand source below around e rest store))
-            (reaches-then whole lands frame (here s0) (here s1) (here s2) memory (Fits source operand whole frame) (FitAll source (operand ∷ operands) whole frame) ((below around).operand e store) _
-            (first.does.reaches whole frame (grows-trans s1 s2 whole others.keeps.grows grows) sound is lands around stands fuel store memory holds)
+            subst (Reaches source whole lands frame (here s0) (here s2) memory (FitAll source (operand ∷ operands) whole frame)) (sym (first-operand source below around e rest store))
+            (reaches-then source whole lands frame (here s0) (here s1) (here s2) memory (Fits source operand whole frame) (FitAll source (operand ∷ operands) whole frame) ((below around).operand e store) _
+            (first.does.reaches whole frame (grows-trans s1 s2 whole others.keeps.grows grows) sound is lands around stands fuel serves store memory holds)
             (λ v store1 memory1 claims1.
-            reaches-then whole lands frame (here s1) (here s2) (here s2) memory1 (FitAll source operands whole frame) (FitAll source (operand ∷ operands) whole frame) (operands_of source below behind rest store1) _
-            (others.does.reaches whole frame grows sound is lands behind (marking-fits first.keeps around stands) fuel store1 memory1 claims1.0)
-            (λ values store2 memory2 claims2. (memory2, comes-refl frame (here s2) memory2, claims2.0, (claims1.1, claims2.1)))));
+            reaches-then source whole lands frame (here s1) (here s2) (here s2) memory1 (FitAll source operands whole frame) (FitAll source (operand ∷ operands) whole frame) (operands_of source below behind rest store1) _
+            (others.does.reaches whole frame grows sound is lands behind (marking-fits first.keeps around stands) fuel serves store1 memory1 claims1.0)
+            (λ values store2 memory2 claims2. inr (memory2, comes-refl frame (here s2) memory2, claims2.0, (claims1.1, claims2.1)))));
       };
       laid = λ child within truth plain layouts. ⊎_elim
           (λ here'. let same = one-of e child here' in
@@ -120,14 +121,14 @@ lowers-strict source s0 s1 new e operation es operands rvalue place span ready f
       does = does-form source s0 (with_statement st s1) e c (Some (Strict operation es)) form (record { reaches = reaches });
       laid = lays-strict source s1 (with_statement st s1) e operation es form given.laid last;
     }) where
-      reaches : (whole : Shape) (frame : Frame) → Grows (with_statement (assignment place rvalue span) s1) whole → IsSound source whole → IsFrameOf whole frame → (lands : Landings) (around : Around) → Stands whole s0 lands around → (fuel : ℕ) (store : Store) (memory : Memory) → Holds whole frame store memory → Reaches whole lands frame (here s0) (here (with_statement (assignment place rvalue span) s1)) memory (Nothing whole frame) (into_of source (level_at source fuel) (callees_at fuel) around e (Some (Strict operation es)) (record { cell = c }) store)
-      reaches whole frame grows sound frame-is lands around stands fuel store memory holds =
+      reaches : (whole : Shape) (frame : Frame) → Grows (with_statement (assignment place rvalue span) s1) whole → IsSound source whole → IsFrameOf whole frame → (lands : Landings) (around : Around) → Stands whole s0 lands around → (fuel : ℕ) → Serves fuel source frame.program → (store : Store) (memory : Memory) → Holds whole frame store memory → Reaches source whole lands frame (here s0) (here (with_statement (assignment place rvalue span) s1)) memory (Nothing whole frame) (into_of source (level_at source fuel) (callees_at fuel) around e (Some (Strict operation es)) (record { cell = c }) store)
+      reaches whole frame grows sound frame-is lands around stands fuel serves store memory holds =
           let st = assignment place rvalue span in
           let opened = given.keeps.«open» in
           let grown : Grows s1 whole = grows-trans s1 (with_statement st s1) whole (with_statement-grows st s1 opened) grows in
           let found = local_of-grows s0 whole (grows-trans s0 s1 whole given.keeps.grows grown) c place.local.0 local in
-          reaches-then whole lands frame (here s0) (here s1) (here (with_statement st s1)) memory (FitAll source operands whole frame) (Nothing whole frame) (operands_of source (level_at source fuel) around es store) _
-          (given.does.reaches whole frame grown sound frame-is lands around stands fuel store memory holds)
+          reaches-then source whole lands frame (here s0) (here s1) (here (with_statement st s1)) memory (FitAll source operands whole frame) (Nothing whole frame) (operands_of source (level_at source fuel) around es store) _
+          (given.does.reaches whole frame grown sound frame-is lands around stands fuel serves store memory holds)
           (λ values store1 memory1 claims.
           assigned-answer source s1 whole frame place rvalue span opened sound frame-is lands grows c found store1 memory1 claims.0 _
           (computes whole frame values store1 memory1 claims.0 claims.1))

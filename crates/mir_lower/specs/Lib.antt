@@ -11,4 +11,5 @@ pub mod Simulates
 pub mod Branches
 pub mod Built
 pub mod Callees
+pub mod Calling
 pub mod Stops

@@ -3,6 +3,7 @@
 
 mod body;
 mod branch;
+mod call;
 mod first;
 mod graph;
 mod jump;

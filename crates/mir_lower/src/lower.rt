@@ -12,20 +12,21 @@ ghost use Rattle.body_forms.specs.Contexts.{source_of};
 ghost use Rattle.body_forms.specs.Form.{core_value, operation_of};
 ghost use Rattle.mir_lower.specs.Graph.{shape, local_of};
 ghost use Rattle.mir_lower.specs.Growth.{IsPlaced, IsReady, ArePartsReady, IsReadyPart};
-ghost use Rattle.mir_lower.specs.Lowered.{HasStatements, LowersInto, LowersPlace, LowersOperand, LowersStatements, LowersTail, IsStatementOf, LowersOwn};
+ghost use Rattle.mir_lower.specs.Lowered.{HasStatements, LowersInto, LowersPlace, LowersOperand, LowersOperands, LowersStatements, LowersTail, IsStatementOf, LowersOwn};
 ghost use Rattle.mir_lower.specs.Built.{IsBuilt, IsBuiltThrough};
 ghost use Rattle.mir_lower.specs.Refusals.{RefusesAt};
-ghost use Rattle.std.specs.Prelude.{All, Contains, IfSome};
-ghost use Rattle.world.specs.Nodes.{optional};
+ghost use Rattle.std.specs.Prelude.{All, Contains, IfSome, map};
+ghost use Rattle.world.specs.Nodes.{expr_numbers, optional};
 
 use crate::branch::{fork, go_on};
+use crate::call::call;
 use crate::graph::Graph;
 use crate::jump::{enter_loop, jump, leave_loop, return_from, target_of_jump};
 use crate::leave::leave_scope;
 use crate::locals::{assign, assign_target, bind, fake_read, new_never, new_temp, place_named};
 use body_forms::{
-    Context, Form, LiteralValue, diverges, form_at, form_not_built, literal_at, lower_literal,
-    path_at,
+    Context, Form, LiteralValue, diverges, form_at, form_not_built, literal_at, lower_callee,
+    lower_literal, path_at,
 };
 use mir::{BinOp, LocalId, MirLowerError, MirSpan, Operand, OperandKind, Place, Rvalue, UnOp};
 use world::{ExprId, LabelId, List, LogicOp, PatId, Statement, Text, TryClone};
@@ -206,7 +207,7 @@ fn lower_own(
         Form::Break(label, value) => lower_break(context, graph, e, label, value),
         Form::Continue(label) => lower_continue(context, graph, e, label),
         Form::Return(value) => lower_return(context, graph, e, value),
-        Form::Call(_, _) => Err(form_not_built(context.alloc)),
+        Form::Call(callee, args) => lower_call(context, graph, e, callee, args, place),
         Form::Incomplete => Err(MirLowerError::IncompleteExpr),
         Form::Unbuilt => Err(form_not_built(context.alloc)),
     }
@@ -475,6 +476,51 @@ fn lower_return(
     lower_tail(context, graph, e, value, slot)?;
     return_from(context, graph, e)?;
     Ok(())
+}
+
+/// A call: the operand that names the callee, the arguments' operands from left to right, and then the call, which reads them all.
+#[cycle(lower)]
+fn lower_call(
+    context: &Context<'_>,
+    graph: &mut Graph,
+    e: ExprId,
+    callee: ExprId,
+    args: &List<ExprId>,
+    place: Place,
+) -> Result<(), MirLowerError>
+    requires ready { IsReady (source_of context.now) (shape graph.old) e.0 }
+    requires form { node (source_of context.now) e.0 ≡ Some (expr.Call callee.0 (expr_numbers args.now)) }
+    ensures lowered { OnOk result ((cell : Cell) → local_of (shape graph.old) cell ≡ Some place.local.0
+        → LowersOwn (source_of context.now) (shape graph.old) (shape graph.new) e.0 cell) }
+    ensures built { OnOk result (IsBuilt (source_of context.now) e.0) }
+    ensures refused { IfErr result (RefusesAt (source_of context.now) e.0) }
+{
+    let func = lower_callee(context, e, callee)?;
+    let operands = lower_operands(context, graph, e, args.as_slice())?;
+    call(context, graph, e, func, operands, place)?;
+    Ok(())
+}
+
+/// The operands of a call's arguments, from left to right.
+#[cycle(lower)]
+fn lower_operands(
+    context: &Context<'_>,
+    graph: &mut Graph,
+    e: ExprId,
+    args: &[ExprId],
+) -> Result<List<Operand>, MirLowerError>
+    requires ready { ArePartsReady (source_of context.now) (shape graph.old) e.0 }
+    requires parts { parts_of (node (source_of context.now) e.0) ≡ expr_numbers args.now }
+    ensures lowered { IfOk result (λ operands. LowersOperands (source_of context.now) (shape graph.old) (shape graph.new) (expr_numbers args.now) (map (λ operand. operand.kind) operands)) }
+    ensures built { OnOk result (All (IsBuilt (source_of context.now)) (expr_numbers args.now)) }
+    ensures refused { IfErr result (RefusesAt (source_of context.now) e.0) }
+{
+    let mut operands = List::new(context.alloc);
+    for arg in args {
+        let operand = lower_operand(context, graph, *arg)?;
+        operands.push(operand)?;
+    }
+    Ok(operands)
 }
 
 /// The statements of a block.

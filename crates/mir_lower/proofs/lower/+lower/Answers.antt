@@ -1,6 +1,6 @@
 -- Each form does what it means, by what its parts do; each refusal has its cause.
-use Rattle.std.proofs.Common.{List, [], ◌∷◌, take, Option, Some, refl, sym, ap, ◌∙◌, subst, arith}
-use Rattle.std.proofs.lemmas.List.{take_more}
+use Rattle.std.proofs.Common.{List, [], ◌∷◌, ◌≡◌, ◌+◌, drop, map, take, Option, Some, refl, sym, ap, ◌∙◌, subst, arith}
+use Rattle.std.proofs.lemmas.List.{drop_all, map-append, take_all, take_more}
 use Rattle.std.proofs.lemmas.Result.{IfOk-weaker, on_ok_weaker, IfErr-weaker}
 use Rattle.mir.specs.declared.errors.MirLowerError.TheVariants as refusal
 use Rattle.mir.specs.declared.span.MirSpan.TheVariants.{ExprId}
@@ -11,7 +11,7 @@ use Rattle.body_forms.specs.Contexts.{source_of}
 use Rattle.mir_lower.specs.Graph.{shape, target_of_blocks}
 use Rattle.mir_lower.specs.Growth.{Grows, IsPlaced, IsInside}
 use Rattle.source_meaning.specs.Valid.{opened_in}
-use Rattle.mir_lower.specs.Lowered.{HasStatements, LowersOperand, LowersStatements, LowersTail}
+use Rattle.mir_lower.specs.Lowered.{HasStatements, LowersOperand, LowersOperands, LowersStatements, LowersTail}
 use Rattle.mir.specs.declared.operand.Operand.{Operand}
 use Rattle.mir.specs.declared.operand.OperandKind.{OperandKind}
 use Rattle.mir.specs.declared.operand.Rvalue.TheVariants.{CheckedBinaryOp, UnaryOp as Unary}
@@ -23,14 +23,17 @@ use Rattle.std.specs.Prelude.{All, Contains, IfSome, ℕ}
 use Rattle.std.proofs.lemmas.List.Elements.{All-nil, All-more, Contains-get_or}
 use Rattle.world.specs.Nodes.{optional}
 use Rattle.mir_lower.specs.Built.{IsBuilt, IsBuiltThrough}
-use Rattle.mir_lower.proofs.Building.{built-return, has-target, built-labelled, built-loop, built-break, built-literal, built-path, built-strict, built-logic, built-if, built-assign, built-block, one-built, two-built}
+use Rattle.mir_lower.proofs.Building.{built-return, has-target, built-labelled, built-loop, built-break, built-literal, built-path, built-strict, built-call, built-logic, built-if, built-assign, built-block, one-built, two-built}
 use Rattle.mir_lower.proofs.Adjusting.{lowers-undiverted, lowers-diverted}
 use Rattle.mir_lower.proofs.Assignments.{value-part, lowers-assign}
+use Rattle.mir_lower.proofs.Calls.{Collects, argument-in, arguments-from, built-arguments, collects-none, collects-more, collects-all, has-called, lowers-call}
+use Rattle.source_meaning.proofs.Parts.{call_parts}
+use Rattle.world.specs.Nodes.{expr_numbers}
 use Rattle.mir_lower.proofs.Blocks.{idles-read, lowers-none, lowers-more, lowers-let, lowers-expr-statement, lowers-tail, lowers-no-tail, block-inner, lowers-block}
 use Rattle.mir_lower.proofs.Drops.{opened-within, scope-left}
 use Rattle.mir_lower.proofs.Operands.{lowers-literal-operand, lowers-place-operand, lowers-temp, lowers-name}
 use Rattle.mir_lower.proofs.Strict.{lowers-strict, unary-computes, binary-computes, lowers-one, lowers-two, first-part, second-part}
-use Rattle.mir_lower.proofs.Refused.{refuses-here, refuses-no-memory, refuses-part, refuses-unbuilt-form, refuses-call, refuses-statement, without-initializer, with-else, item-is-unbuilt, refuses-pattern, refuses-target, refused-exit, part-below, part-of-statement, refuses-break}
+use Rattle.mir_lower.proofs.Refused.{refuses-here, refuses-no-memory, refuses-part, refuses-unbuilt-form, refuses-statement, without-initializer, with-else, item-is-unbuilt, refuses-pattern, refuses-target, refused-exit, part-below, part-of-statement, refuses-break}
 use Rattle.mir_lower.proofs.Growing.{grows-trans}
 use Rattle.mir_lower.proofs.Steps.{local_of-grows, placed-later}
 use Rattle.mir_lower.proofs.Branches.{reserved-spared, other-reserved, join-reserved}
@@ -136,11 +139,8 @@ lower_into-returns-else-diverges-clause-lowered t c =
 pub lower_own-returns-in-Incomplete-clause-refused : goal.lower_own-returns-in-Incomplete-clause-refused
 lower_own-returns-in-Incomplete-clause-refused t c = refuses-here (source_of c.args.context.now) c.args.e.0 refusal.IncompleteExpr c.in-Incomplete.ensures.cause
 
-pub lower_own-returns-in-Call-clause-refused : goal.lower_own-returns-in-Call-clause-refused
-lower_own-returns-in-Call-clause-refused t c = refuses-call (source_of c.args.context.now) c.args.e.0 c.form_not_built.result _ _ c.in-Call.ensures.core c.form_not_built.ensures
-
 pub lower_own-returns-in-Unbuilt-clause-refused : goal.lower_own-returns-in-Unbuilt-clause-refused
-lower_own-returns-in-Unbuilt-clause-refused t c = refuses-unbuilt-form (source_of c.args.context.now) c.args.e.0 c.form_not_built-in-Unbuilt.result c.in-Unbuilt.ensures c.form_not_built-in-Unbuilt.ensures
+lower_own-returns-in-Unbuilt-clause-refused t c = refuses-unbuilt-form (source_of c.args.context.now) c.args.e.0 c.form_not_built.result c.in-Unbuilt.ensures c.form_not_built.ensures
 
 -- an assignment and a jump write nothing to the place that they are lowered into
 pub lower_own-returns-in-Assign-clause-lowered : goal.lower_own-returns-in-Assign-clause-lowered
@@ -1047,3 +1047,112 @@ lower_return-returns-clause-lowered t c =
     λ cell.
     let source = source_of c.args.context.now in
     lowers-return source (shape c.args.graph.now) (shape c.lower_tail.new.graph) (shape c.return_from.new.graph) c.args.e.0 c.args.value c.requires.form c.requires.ready (c.in_ok-lower_tail.ensures.lowered Result refl) c.in_ok-return_from.ensures cell
+
+-- a call
+
+pub lower_call-lower_callee-requires : goal.lower_call-lower_callee-requires
+lower_call-lower_callee-requires t c = (expr_numbers c.args.args.now, c.requires.form)
+
+pub lower_call-returns-in_err-func-clause-refused : goal.lower_call-returns-in_err-func-clause-refused
+lower_call-returns-in_err-func-clause-refused t c =
+    let source = source_of c.args.context.now in
+    refused-exit (RefusesAt source c.args.e.0) _ c.from_residual.result c.from_residual.ensures.1
+    (λ error same. subst (RefusesAt source c.args.e.0) (sym same) (refuses-here source c.args.e.0 _ c.in_err-func.ensures.refused))
+
+pub lower_call-lower_operands-requires : goal.lower_call-lower_operands-requires
+lower_call-lower_operands-requires t c =
+    let source = source_of c.args.context.now in (
+      omega arith,
+      (
+        parts-ready source (shape c.args.graph.now) c.args.e.0 (λ outer. ap (λ n. opened_in c.args.e.0 n outer) c.requires.form) c.requires.ready,
+        ap parts_of c.requires.form ∙ call_parts c.args.callee.0 (expr_numbers c.args.args.now) ∙ ap expr_numbers (sym c.as_slice.ensures),
+      ),
+    )
+
+pub lower_call-returns-in_err-operands-clause-refused : goal.lower_call-returns-in_err-operands-clause-refused
+lower_call-returns-in_err-operands-clause-refused t c =
+    let source = source_of c.args.context.now in
+    refused-exit (RefusesAt source c.args.e.0) _ c.from_residual-in_err-operands.result c.from_residual-in_err-operands.ensures.1
+    (λ error same. subst (RefusesAt source c.args.e.0) (sym same) c.in_err-operands.ensures.refused)
+
+pub lower_call-call-requires : goal.lower_call-call-requires
+lower_call-call-requires t c = c.in_ok-operands.ensures.lowered.keeps.«open»
+
+pub lower_call-returns-in_err-call-clause-refused : goal.lower_call-returns-in_err-call-clause-refused
+lower_call-returns-in_err-call-clause-refused t c =
+    refused-exit (RefusesAt (source_of c.args.context.now) c.args.e.0) _ c.from_residual-in_err-call.result c.from_residual-in_err-call.ensures.1 (refuses-no-memory (source_of c.args.context.now) c.args.e.0)
+
+pub lower_call-returns-clause-lowered : goal.lower_call-returns-clause-lowered
+lower_call-returns-clause-lowered t c =
+    λ cell found.
+    let source = source_of c.args.context.now in
+    let s0 = shape c.args.graph.now in
+    let s1 = shape c.lower_operands.new.graph in
+    let es = expr_numbers c.args.args.now in
+    let given : LowersOperands source s0 s1 es (map (λ (operand : Operand). operand.kind) c.in_ok-operands.operands) =
+    subst (λ (args : List _). LowersOperands source s0 s1 (expr_numbers args) (map (λ (operand : Operand). operand.kind) c.in_ok-operands.operands)) c.as_slice.ensures c.in_ok-operands.ensures.lowered in
+    let next = c.in_ok-call.ensures in
+    lowers-call source s0 s1 (shape c.call.new.graph) c.args.e c.args.callee.0 es c.in_ok-func.func c.in_ok-operands.operands c.args.place next.0 c.requires.ready c.requires.form given c.in_ok-func.ensures.callee c.in_ok-func.ensures.built next.1
+    (has-called source s1 (shape c.call.new.graph) c.args.e c.in_ok-func.func c.in_ok-operands.operands c.args.place _ given.keeps.sound given.keeps.«open» next.2) cell found
+
+pub lower_call-returns-clause-built : goal.lower_call-returns-clause-built
+lower_call-returns-clause-built t c =
+    let source = source_of c.args.context.now in
+    built-call source c.args.e.0 c.args.callee.0 (expr_numbers c.args.args.now) c.requires.form c.in_ok-func.ensures.built
+    (subst (λ (args : List _). All (IsBuilt source) (expr_numbers args)) c.as_slice.ensures c.in_ok-operands.ensures.built)
+
+-- the operands of a call
+
+pub lower_operands-loop-arg-init : goal.lower_operands-loop-arg-init
+lower_operands-loop-arg-init t c =
+    (collects-none (source_of c.args.context.now) (shape c.args.graph.now) (expr_numbers c.args.args.now) c.requires.ready.sound c.requires.ready.«open», All-nil (λ arg. IsBuilt (source_of c.args.context.now) arg.0))
+
+pub lower_operands-lower_operand-requires : goal.lower_operands-lower_operand-requires
+lower_operands-lower_operand-requires t c =
+    let source = source_of c.args.context.now in
+    let s = shape c.loop-arg.graph in
+    let so-far = c.loop-arg.invariant.0 in
+    let is = subst (λ (list : List ℕ). Contains list _) (sym c.requires.parts) (argument-in c.args.args.now c.loop-arg.arg-index _ c.loop-arg-test.true) in
+    let below = part-below source c.args.e.0 _ c.requires.ready.checked is in (
+      omega (arith, below),
+      part-ready source s c.args.e.0 _ (parts-ready-in source (shape c.args.graph.now) s c.args.e.0 c.requires.ready so-far.spares.targets so-far.grows so-far.sound so-far.«open») is,
+    )
+
+pub lower_operands-returns-in_err-operand-clause-refused : goal.lower_operands-returns-in_err-operand-clause-refused
+lower_operands-returns-in_err-operand-clause-refused t c =
+    let source = source_of c.args.context.now in
+    let is = subst (λ (list : List ℕ). Contains list _) (sym c.requires.parts) (argument-in c.args.args.now c.loop-arg.arg-index _ c.loop-arg-test.true) in
+    refused-exit (RefusesAt source c.args.e.0) _ c.from_residual.result c.from_residual.ensures.1
+    (λ error same. subst (RefusesAt source c.args.e.0) (sym same) (refuses-part source c.args.e.0 _ _ is c.in_err-operand.ensures.refused))
+
+pub lower_operands-returns-in_err-push-clause-refused : goal.lower_operands-returns-in_err-push-clause-refused
+lower_operands-returns-in_err-push-clause-refused t c =
+    refused-exit (RefusesAt (source_of c.args.context.now) c.args.e.0) _ c.from_residual-in_err-push.result c.from_residual-in_err-push.ensures.1 (refuses-no-memory (source_of c.args.context.now) c.args.e.0)
+
+pub lower_operands-loop-arg-preserved : goal.lower_operands-loop-arg-preserved
+lower_operands-loop-arg-preserved t c =
+    let source = source_of c.args.context.now in
+    let i = c.loop-arg.arg-index in
+    let s0 = shape c.args.graph.now in
+    let kinds : List Operand → List OperandKind = map (λ (operand : Operand). operand.kind) in
+    let so-far = subst (λ (rest : List ℕ). Collects source s0 (shape c.loop-arg.graph) (expr_numbers c.args.args.now) rest (kinds c.loop-arg.operands)) (arguments-from c.args.args.now i _ c.loop-arg-test.true) c.loop-arg.invariant.0 in
+    let operand = c.in_ok-operand.operand in
+    let pushed = ap kinds c.in_ok-push.ensures.ok ∙ map-append (λ (operand : Operand). operand.kind) c.loop-arg.operands (operand ∷ []) in (
+      subst (λ (list : List OperandKind). Collects source s0 (shape c.lower_operand.new.graph) (expr_numbers c.args.args.now) (expr_numbers (drop (i + 1) c.args.args.now)) list) (sym pushed)
+          (collects-more source s0 (shape c.loop-arg.graph) (shape c.lower_operand.new.graph) (expr_numbers c.args.args.now) _ (expr_numbers (drop (i + 1) c.args.args.now)) (kinds c.loop-arg.operands) operand.kind so-far c.in_ok-operand.ensures.lowered),
+      All-more (λ arg. IsBuilt source arg.0) c.args.args.now i _ c.loop-arg-test.true c.loop-arg.invariant.1 c.in_ok-operand.ensures.built,
+    )
+
+pub lower_operands-returns-clause-lowered : goal.lower_operands-returns-clause-lowered
+lower_operands-returns-clause-lowered t c =
+    let source = source_of c.args.context.now in
+    let args = c.args.args.now in
+    let none : expr_numbers (drop c.loop-arg.arg-index args) ≡ [] = ap expr_numbers (drop_all c.loop-arg.arg-index args c.loop-arg-test.false) in
+    collects-all source (shape c.args.graph.now) (shape c.loop-arg.graph) (expr_numbers args) (map (λ (operand : Operand). operand.kind) c.loop-arg.operands)
+    (subst (λ (rest : List ℕ). Collects source (shape c.args.graph.now) (shape c.loop-arg.graph) (expr_numbers args) rest (map (λ (operand : Operand). operand.kind) c.loop-arg.operands)) none c.loop-arg.invariant.0)
+
+pub lower_operands-returns-clause-built : goal.lower_operands-returns-clause-built
+lower_operands-returns-clause-built t c =
+    let source = source_of c.args.context.now in
+    let args = c.args.args.now in
+    built-arguments source args (subst (λ (list : List _). All (λ arg. IsBuilt source arg.0) list) (take_all c.loop-arg.arg-index args c.loop-arg-test.false) c.loop-arg.invariant.1)

@@ -1,8 +1,12 @@
 -- A part has a lower number than its expression. At one expression the operand comes before the place, the place before
 -- its local, that before what is evaluated into it, then the expression itself, the forms, the statements of a block, one of them, and its kind.
-use Rattle.std.proofs.Common.{◌+◌, ◌*◌, take}
+use Rattle.std.proofs.Common.{◌+◌, ◌*◌, drop, map, take}
 use Rattle.std.specs.Prelude.{All}
-use Rattle.mir_lower.specs.Built.{IsBuiltThrough}
+use Rattle.types.specs.declared.ids.ExprId.{ExprId}
+use Rattle.mir.specs.declared.operand.Operand.{Operand}
+use Rattle.world.specs.Nodes.{expr_numbers}
+use Rattle.mir_lower.specs.Built.{IsBuilt, IsBuiltThrough}
+use Rattle.mir_lower.proofs.Calls.{Collects}
 use Rattle.body_forms.specs.Contexts.{source_of}
 use Rattle.mir_lower.specs.Graph.{shape}
 use Rattle.mir_lower.specs.Lowered.{LowersStatements}
@@ -53,6 +57,12 @@ decreases-lower_break l = 10 * l.e.0 + 4
 abbrev pub decreases-lower_return : goal.decreases-lower_return
 decreases-lower_return l = 10 * l.e.0 + 4
 
+abbrev pub decreases-lower_call : goal.decreases-lower_call
+decreases-lower_call l = 10 * l.e.0 + 4
+
+abbrev pub decreases-lower_operands : goal.decreases-lower_operands
+decreases-lower_operands l = 10 * l.e.0 + 3
+
 abbrev pub decreases-lower_statements : goal.decreases-lower_statements
 decreases-lower_statements l = 10 * l.e.0 + 3
 
@@ -73,3 +83,9 @@ abbrev pub invariant-lower_statements-loop-statement : goal.invariant-lower_stat
 invariant-lower_statements-loop-statement l =
     LowersStatements (source_of l.context) (shape l.initial.graph) (shape l.graph) (take l.statement-index l.statements)
     × All (IsBuiltThrough (source_of l.context)) (take l.statement-index l.statements)
+
+-- the arguments so far were lowered, and are built
+abbrev pub invariant-lower_operands-loop-arg : goal.invariant-lower_operands-loop-arg
+invariant-lower_operands-loop-arg l =
+    Collects (source_of l.context) (shape l.initial.graph) (shape l.graph) (expr_numbers l.args) (expr_numbers (drop l.arg-index l.args)) (map (λ (operand : Operand). operand.kind) l.operands)
+    × All (λ (arg : ExprId). IsBuilt (source_of l.context) arg.0) (take l.arg-index l.args)

@@ -1,0 +1,75 @@
+//! Calls: the terminator of a call, and the block behind it.
+
+ghost use Rattle.std.specs.Prelude.{◌≡◌, ◌<◌, length, IfOk, IfSome, OnOk};
+ghost use Rattle.source_meaning.specs.Calls.{must_not_return};
+ghost use Rattle.body_forms.specs.Contexts.{source_of};
+ghost use Rattle.mir_lower.specs.Calling.{call_terminator, target_of_call};
+ghost use Rattle.mir_lower.specs.Graph.{shape, with_block, with_terminator};
+ghost use Rattle.mir_lower.specs.Growth.{IsOpen};
+
+use crate::graph::Graph;
+use body_forms::{Context, must_not_return};
+use mir::{BasicBlockId, MirSpan, Operand, Place, Terminator, TerminatorKind};
+use std::alloc::Global;
+use world::{ExprId, List, NoMemory};
+
+/// The block that a call goes on in, where its callee may return.
+fn target_of_call(context: &Context<'_>, e: ExprId, next: BasicBlockId) -> Option<BasicBlockId>
+    ensures { result ≡ target_of_call (must_not_return (source_of context.now) e.0) next }
+{
+    if must_not_return(context, e) {
+        None
+    } else {
+        Some(next)
+    }
+}
+
+/// Ends the current block by a call, and opens a new one, which is the call's target where it has one. A block that would be the
+/// 2^32nd has no id: `NoMemory`.
+fn end_by_call(
+    alloc: Global,
+    graph: &mut Graph,
+    e: ExprId,
+    func: Operand,
+    args: List<Operand>,
+    destination: Place,
+    target: Option<BasicBlockId>,
+) -> Result<(), NoMemory>
+    requires { IsOpen (shape graph.old) }
+    ensures { OnOk result (shape graph.new ≡ with_block (with_terminator (call_terminator e func args destination target) (shape graph.old))) }
+{
+    graph.set_terminator(Terminator {
+        span: MirSpan::ExprId(e),
+        kind: TerminatorKind::Call {
+            func,
+            args,
+            destination,
+            target,
+            cleanup: None,
+            from_hir_call: true,
+        },
+    });
+    graph.open_block(alloc)
+}
+
+/// Ends the current block by a call of the function that an operand names. What follows goes into a new block: the call's target, or,
+/// where the callee must not return, one that nothing leads to.
+pub(crate) fn call(
+    context: &Context<'_>,
+    graph: &mut Graph,
+    e: ExprId,
+    func: Operand,
+    args: List<Operand>,
+    destination: Place,
+) -> Result<(), NoMemory>
+    requires { IsOpen (shape graph.old) }
+    ensures { OnOk result ((next : _) × (next.0 ≡ length (shape graph.old).blocks) × (shape graph.new ≡ with_block (with_terminator (call_terminator e func args destination (target_of_call (must_not_return (source_of context.now) e.0) next)) (shape graph.old)))) }
+{
+    let count = graph.blocks.len();
+    if count >= u32::MAX as usize {
+        return Err(NoMemory);
+    }
+    let next = BasicBlockId(count as u32);
+    let target = target_of_call(context, e, next);
+    end_by_call(context.alloc, graph, e, func, args, destination, target)
+}
