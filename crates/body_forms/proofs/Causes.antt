@@ -2,18 +2,21 @@
 use Rattle.std.proofs.Common.{◌≡◌, ℕ, Bool, List, Option, Some, None, option_and_then, ⊎_elim, refl, sym, ap, ◌∙◌, subst}
 use Rattle.std.proofs.lemmas.Bool.{false≢true}
 use Rattle.std.proofs.lemmas.List.Elements.{All-contains}
-use Rattle.source_meaning.specs.Built.{AssignsBinding, IsBuiltStatement, IsBuiltForm}
+use Rattle.source_meaning.specs.Built.{AssignsBinding, CallsFunction, IsBuiltStatement, IsBuiltForm}
 use Rattle.source_meaning.specs.Core.{CoreExpr, core_of, local_named}
 use Rattle.source_meaning.specs.Core as expr
 use Rattle.source_meaning.specs.Source.{Source, node, target_path, pattern_named_by, binding_type}
 use Rattle.types.specs.declared.ids.BindingId.{BindingId}
+use Rattle.types.specs.declared.ids.FunctionId.{FunctionId}
 use Rattle.world.specs.declared.body.Statement.{Statement}
 use Rattle.world.specs.declared.body.Statement.TheVariants as statement
 use Rattle.world.specs.declared.expr.Expr.{Expr}
 use Rattle.world.specs.declared.expr.Expr.TheVariants as whole
 use Rattle.world.specs.declared.infer.ValueNs.{ValueNs}
 use Rattle.world.specs.declared.infer.ValueNs.TheVariants.{LocalBinding}
-use Rattle.body_forms.specs.Refusals.{IsIncomplete, LacksPart, IsUnbuiltForm, IsUnbuiltStatement, IsUnbuiltTarget, IsUnbuilt, LetBindsNone, LacksLocal, IsUnresolved}
+use Rattle.world.specs.declared.items.FunctionRow.{FunctionRow}
+use Rattle.world.specs.Lookups.{function_row}
+use Rattle.body_forms.specs.Refusals.{IsIncomplete, LacksPart, IsUnbuiltForm, IsUnbuiltStatement, IsUnbuiltTarget, IsUnbuiltCall, IsUnbuilt, LetBindsNone, LacksLocal, IsUnresolved}
 use Rattle.body_forms.proofs.Forms.{node-plain}
 
 incomplete-core : (item : Bool) (e : Expr) → IsIncomplete e → core_of item e ≡ None
@@ -53,6 +56,16 @@ target-is-no-unbuilt source assigned built unbuilt =
     let names = target-names source assigned built.binding (target_path source assigned) (pattern_named_by source assigned) built.names in
     ⊎_elim names.0 (λ other. let one = ap (option_and_then local_named) (sym other.1) ∙ names.1 in let none = other.2 in absurd cc) unbuilt
 
+-- a call that is built names a function, and the machine runs the function's body
+call-is-no-unbuilt : (source : Source) (callee : ℕ) → CallsFunction source callee → IsUnbuiltCall source callee → ⊥
+call-is-no-unbuilt source callee built unbuilt =
+    ⊎_elim (λ none. let names = built.names in absurd cc) (λ other.
+    let names = built.names in
+    let is = other.2 in
+    let same : built.id ≡ other.0 = cc in
+    let none = sym built.not_special ∙ ap (λ (id : FunctionId). option_and_then (λ (row : FunctionRow). row.special) (function_row source.world id)) same ∙ other.3 in
+    absurd cc) unbuilt
+
 pub built-is-no-unbuilt : (source : Source) (e : ℕ) (form : Option CoreExpr) → IsBuiltForm source e form → IsUnbuilt source e form → ⊥
 built-is-no-unbuilt source e (Some (expr.Literal l)) built unbuilt = unbuilt
 built-is-no-unbuilt source e (Some (expr.Path name)) built unbuilt =
@@ -73,7 +86,7 @@ built-is-no-unbuilt source e (Some (expr.Loop label body)) built unbuilt = unbui
 built-is-no-unbuilt source e (Some (expr.Break label value)) built unbuilt = unbuilt
 built-is-no-unbuilt source e (Some (expr.Continue label)) built unbuilt = unbuilt
 built-is-no-unbuilt source e (Some (expr.Return value)) built unbuilt = unbuilt
-built-is-no-unbuilt source e (Some (expr.Call callee args)) built unbuilt = built
+built-is-no-unbuilt source e (Some (expr.Call callee args)) built unbuilt = call-is-no-unbuilt source callee built unbuilt
 built-is-no-unbuilt source e None built unbuilt = built
 
 -- two bindings that stand in one place are one

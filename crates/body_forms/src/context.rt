@@ -1,10 +1,11 @@
 //! What lowering reads: a typed body in its world.
 
 ghost use Rattle.body_forms.specs.Copies.{HasCopyTypes};
+ghost use Rattle.body_forms.specs.Diverging.{HasDiverging};
 
 use std::alloc::Global;
 use std::collections::BTreeSet;
-use world::{Body, HirDatabase, InferenceResult, Ty};
+use world::{Body, ExprId, HirDatabase, InferenceResult, Ty};
 
 /// A typed body in its world, and the allocator for its graph.
 #[derive(Drop)]
@@ -15,5 +16,8 @@ pub struct Context<'a> {
     pub infer: &'a InferenceResult,
     /// The types that `infer` lists as `Copy`.
     pub copy_types: BTreeSet<Ty>,
+    /// The calls that `infer` lists as diverging.
+    pub diverging: BTreeSet<ExprId>,
     ghost copies: { HasCopyTypes infer.now copy_types },
+    ghost calls: { HasDiverging infer.now diverging },
 }

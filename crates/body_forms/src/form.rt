@@ -19,8 +19,7 @@ use world::{
     Pat, PatId, Statement, Text, UnaryOp,
 };
 
-/// What lowering does with an expression. Its variants are the forms that have a meaning, and two for the others. All
-/// of these but calls are built.
+/// What lowering does with an expression. Its variants are the forms that have a meaning, and two for the others.
 #[derive(Clone, Copy)]
 pub enum Form<'a> {
     Literal(LiteralValue),
@@ -36,7 +35,6 @@ pub enum Form<'a> {
     Break(Option<LabelId>, Option<ExprId>),
     Continue(Option<LabelId>),
     Return(Option<ExprId>),
-    /// A call, which isn't built yet.
     Call(ExprId, &'a List<ExprId>),
     /// An expression that is missing, or whose operator is.
     Incomplete,

@@ -1,4 +1,4 @@
-//! What inference found of a body: the types of its expressions and bindings, and which types are `Copy`.
+//! What inference found of a body: the types of its expressions and bindings, which types are `Copy`, and which calls diverge.
 
 ghost use Rattle.std.specs.Prelude.{◌≡◌, ◌<◌, ℕ, length, Some, IfOk};
 ghost use Rattle.std.specs.Option.{option_copied};
@@ -8,6 +8,7 @@ ghost use Rattle.world.specs.Checked.{IsCheckedBody};
 ghost use Rattle.world.specs.Lookups.{is_copy as is_copy_type};
 ghost use Rattle.body_forms.specs.Contexts.{source_of};
 ghost use Rattle.body_forms.specs.Copies.{HasCopyTypes};
+ghost use Rattle.body_forms.specs.Diverging.{HasDiverging};
 
 use crate::context::Context;
 use std::alloc::Global;
@@ -79,7 +80,7 @@ pub fn node_ty<'a>(context: &Context<'a>, e: ExprId) -> &'a Ty
 
 /// The type of an expression itself, where it has one.
 #[tactic(auto, unfolding(source_meaning::specs::Source::own_type))]
-fn own_type<'a>(context: &Context<'a>, e: ExprId) -> Option<&'a Ty>
+pub(crate) fn own_type<'a>(context: &Context<'a>, e: ExprId) -> Option<&'a Ty>
     ensures { option_copied result ≡ own_type (source_of context.now) e.0 }
 {
     context.infer.expr_types.get(e.0 as u64)
@@ -136,8 +137,24 @@ fn copy_types(alloc: Global, infer: &InferenceResult) -> Result<BTreeSet<Ty>, No
     Ok(types)
 }
 
+/// The calls that are listed as diverging, in their order.
+fn diverging_calls(
+    alloc: Global,
+    infer: &InferenceResult,
+) -> Result<BTreeSet<ExprId>, NoMemory>
+    ensures { IfOk result (HasDiverging infer.now) }
+{
+    let listed = infer.diverging.as_slice();
+    let mut calls = BTreeSet::new(alloc);
+    for call in listed {
+        calls.insert(*call)?;
+    }
+    Ok(calls)
+}
+
 impl<'a> Context<'a> {
-    /// A typed body in its world. The only refusal is want of memory for the types that are listed as `Copy`.
+    /// A typed body in its world. The only refusal is want of memory for the types that are listed as `Copy` and the calls that
+    /// are listed as diverging.
     pub fn new(
         alloc: Global,
         db: &'a HirDatabase,
@@ -152,6 +169,7 @@ impl<'a> Context<'a> {
             body,
             infer,
             copy_types: copy_types(alloc, infer)?,
+            diverging: diverging_calls(alloc, infer)?,
         })
     }
 }

@@ -1,13 +1,15 @@
 //! What lowering reads of a typed body: the form of each expression, as far as forms have a meaning, the types that inference
-//! found, and literals as operands. Nothing here touches a graph.
+//! found, and literals and callees as operands. Nothing here touches a graph.
 #![tactic(auto)]
 
+mod call;
 mod context;
 mod form;
 mod inferred;
 mod literal;
 mod unbuilt;
 
+pub use call::{function_called, lower_callee, must_not_return};
 pub use context::Context;
 pub use form::{Form, form_at, literal_at, name_bound, path_at, target_path};
 pub use inferred::{binding_ty, diverges, is_copy, never_type, node_ty, own_ty, value_type};

@@ -55,7 +55,7 @@ fn signed_bytes(number: i128) -> [u8; 16]
 }
 
 /// A constant of a type, as an operand.
-fn constant(
+pub(crate) fn constant(
     context: &Context<'_>,
     e: ExprId,
     ty: &Ty,

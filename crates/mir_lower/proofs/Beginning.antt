@@ -1,5 +1,5 @@
 -- The graph that lowering begins with: one binding after another is added, and then it can be lowered into.
-use Rattle.std.proofs.Common.{◌≡◌, ℕ, zero, suc, ◌+◌, ◌<◌, ◌⊎◌, ⊎_elim, inl, inr, List, [], ◌∷◌, ◌++◌, length, Option, Some, None, refl, sym, ap, ◌∙◌, arith, append-nil, length-append}
+use Rattle.std.proofs.Common.{◌≡◌, ℕ, zero, suc, ◌+◌, ◌<◌, ◌⊎◌, ⊎_elim, inl, inr, List, [], ◌∷◌, ◌++◌, length, Option, Some, None, refl, sym, ap, ◌∙◌, subst, arith, append-nil, append_assoc, length-append}
 use Rattle.std.specs.Prelude.{is_some, if◌then◌else◌, option_and_then, option_map, replicate, slice_get}
 use Rattle.std.proofs.lemmas.Bool.{cases_lt}
 use Rattle.std.proofs.lemmas.Option.{option_and_then_some}
@@ -9,11 +9,11 @@ use Rattle.mir.specs.declared.body.Local.{Local}
 use Rattle.mir.specs.declared.ids.LocalId.{LocalId}
 use Rattle.mir_lower.specs.declared.graph.Temps.{Temps}
 use Rattle.source_meaning.specs.Source.{Source, Cell, Result, Node, Binding, Never, binding_type, cell_type, node_type, root}
-use Rattle.mir_lower.specs.Graph.{Shape, no_statements, no_temps, first_shape, local_at, local_of, local_of_type, binding_local, temp_at, temp_of, never_of, with_binding}
+use Rattle.mir_lower.specs.Graph.{Shape, no_statements, no_temps, first_shape, local_at, local_of, local_of_type, binding_local, temp_at, temp_of, never_of, with_binding, with_scope}
 use Rattle.mir_lower.specs.Growth.{terminator_at, IsStored, IsFirst, IsSound, IsOpen}
 use Rattle.mir_lower.specs.Order.{first_locals, local_if_any}
 use Rattle.mir_lower.proofs.Lists.{slice_get-front, slice_get-last, slice_get-more, slice_get_below}
-use Rattle.mir_lower.proofs.Sound.{no-more-allotted, one-more-allotted}
+use Rattle.mir_lower.proofs.Sound.{no-more-allotted, one-more-allotted, with_scope-sound, with_scope-open}
 
 -- no expression has a local at first
 none-at : (which : Temps → Option LocalId) → which no_temps ≡ None → (n e l : ℕ) → temp_at which (replicate n no_temps) e ≡ Some l → ⊥
@@ -177,3 +177,30 @@ first-open source n s first =
       unended = ap (λ bs. option_and_then (λ block. block.terminator) (slice_get bs s.current)) first.blocks
           ∙ ap (λ (n : ℕ). option_and_then (λ block. block.terminator) (slice_get (no_statements ∷ []) n)) first.current;
     }
+
+-- the first graph, where some cells are in use
+pub record IsBegun (source : Source) (cells : List Cell) (s : Shape) : Type 0 where
+  pub sound : IsSound source s
+  pub «open» : IsOpen s
+  pub blocks : s.blocks ≡ no_statements ∷ []
+  pub current : s.current ≡ 0
+  pub scope : s.scope ≡ cells
+  pub targets : s.targets ≡ []
+  pub locals : s.locals ≡ first_locals source (length source.body.bindings)
+
+module _ (source : Source) (s0 s1 : Shape) (cells : List Cell) (marked : s1 ≡ with_scope (s0.scope ++ cells) s0) where
+  pub begins-marking : IsFirst source (length source.body.bindings) s0 → IsBegun source cells s1
+  begins-marking first =
+      record {
+        sound = subst (IsSound source) (sym marked) (with_scope-sound source (s0.scope ++ cells) s0 (first-sound source s0 first));
+        «open» = subst IsOpen (sym marked) (with_scope-open (s0.scope ++ cells) s0 (first-open source (length source.body.bindings) s0 first));
+        blocks = ap (λ (s : Shape). s.blocks) marked ∙ first.blocks;
+        current = ap (λ (s : Shape). s.current) marked ∙ first.current;
+        scope = ap (λ (s : Shape). s.scope) marked ∙ ap (λ (scope : List Cell). scope ++ cells) first.scope;
+        targets = ap (λ (s : Shape). s.targets) marked ∙ first.targets;
+        locals = ap (λ (s : Shape). s.locals) marked ∙ first.locals;
+      }
+
+  -- with the cells that came into use since
+  pub marked-since : (s2 : Shape) (inner : List Cell) → s2.scope ≡ s1.scope ++ inner → s2.scope ≡ s0.scope ++ (cells ++ inner)
+  marked-since s2 inner since = since ∙ ap (λ (s : Shape). s.scope ++ inner) marked ∙ append_assoc s0.scope cells inner

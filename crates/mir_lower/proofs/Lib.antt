@@ -1,5 +1,6 @@
 pub mod Adjusting
 pub mod Aligned
+pub mod Arguments
 pub mod Assignments
 pub mod Beginning
 pub mod Blocks
@@ -23,6 +24,7 @@ pub mod Loops
 pub mod Needed
 pub mod Operands
 pub mod Operations
+pub mod Parameters
 pub mod Placing
 pub mod Reaching
 pub mod Ready

@@ -56,4 +56,4 @@ has-drops source body simulates needs =
 pub refuses-drops : (source : Source) (body : MirBody) (error : MirLowerError) → Simulates source body → needs_drops source body.locals ≡ true →
     (error ≡ refusal.NotSupported (codes "form not built")) ⊎ (error ≡ refusal.NoMemory) → RefusesInferred source error
 refuses-drops source body error simulates needs cases =
-    ⊎_elim (λ text. inl (text, has-drops source body simulates needs)) (λ none. inr (refuses-no-memory source (root source) error none)) cases
+    ⊎_elim (λ text. inl (text, has-drops source body simulates needs)) (λ none. inr (inr (refuses-no-memory source (root source) error none))) cases

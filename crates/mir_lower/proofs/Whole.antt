@@ -1,5 +1,5 @@
 -- A whole body: its root, leaving it, and returning.
-use Rattle.std.proofs.Common.{[], ◌∷◌, ◌++◌, ◌≡◌, ℕ, ◌+◌, ◌<◌, ◌≤◌, List, length, Option, Some, Ok, refl, sym, ap, ◌∙◌, subst, arith}
+use Rattle.std.proofs.Common.{[], ◌∷◌, ◌++◌, ◌≡◌, ℕ, ◌+◌, ◌<◌, ◌≤◌, ◌⊎◌, ⊎_elim, inl, inr, List, length, Option, Some, Ok, refl, sym, ap, ◌∙◌, subst, arith}
 use Rattle.std.specs.Prelude.{slice_get, map, sum, replicate, option_map, option_and_then, unwrap_or}
 use Rattle.world.specs.declared.database.HirDatabase.{HirDatabase}
 use Rattle.world.specs.declared.layout.Layout.{Layout}
@@ -13,37 +13,54 @@ use Rattle.mir.specs.declared.address.Interval.{Interval}
 use Rattle.mir.specs.Areas.{first_areas}
 use Rattle.mir.specs.Memory.{Memory, cell_bytes, cells_of}
 use Rattle.mir.specs.Run.{Program, Frame, Waiting, Ended, Returned, Stops, returned, resumed, after_return, going_on, entering, begun}
-use Rattle.source_meaning.specs.Around.{at_root}
+use Rattle.source_meaning.specs.Around.{Around, at_root, marking}
+use Rattle.source_meaning.specs.Calls.{parameters, parameter_cells}
 use Rattle.source_meaning.specs.Ends.{Cost, turns_alone, plus, End, Go, Jumps, Break, Continue, Return, Faults, Stuck, More, after}
 use Rattle.source_meaning.specs.Entering.{body_room, room_of, run_cost, entering as entering_cost}
 use Rattle.source_meaning.specs.Events.{marked}
 use Rattle.source_meaning.specs.Meaning.{level_at, meaning_from, meaning_of, returned as returned_of}
-use Rattle.source_meaning.specs.Source.{Source, node_type, root, Cell, Result as Slot, Path, cell_type, cell_layout, drops, Store, zeroed, own_type}
+use Rattle.source_meaning.specs.Source.{Source, node_type, root, Cell, Result as Slot, Binding, Path, cell_type, cell_layout, drops, Store, zeroed, own_type}
 use Rattle.source_meaning.specs.Valid.{IsPlain, IsLaidOut, AreLaidOut}
-use Rattle.mir_lower.specs.Does.{FrontAll, here, IsFrameOf, Holds, Nowhere, AtPoint, Landings, Reaches, Nothing, Stands}
+use Rattle.mir_lower.specs.Callees.{AreLocalsOf, RunsOn, RunsAs, Serves}
+use Rattle.mir_lower.specs.Does.{FrontAll, here, IsFrameOf, Holds, Nowhere, AtPoint, Landings, Goes, Reaches, Nothing, Stands}
 use Rattle.mir_lower.specs.Graph.{OpenTarget, Shape, no_statements, local_of, local_of_type, with_terminator, with_scope}
 use Rattle.mir_lower.specs.Growth.{Grows, IsSound, count_at}
 use Rattle.mir_lower.specs.Leaving.{Idles}
 use Rattle.mir_lower.specs.Lowered.{HasLayouts, LowersInto}
-use Rattle.mir_lower.specs.Simulates.{EndsAs, RunsAs, Simulates}
+use Rattle.mir_lower.specs.Simulates.{EndsOn, EndsAs, Simulates}
+use Rattle.mir_lower.specs.Stops.{StopsWithin, turns_of}
 use Rattle.mir_lower.specs.Runs.{Point, Within, Entry, Exit, start_of, run_from, local_bytes, AreCellsApart, Enters, IsReturned, IsFault, EndsAfter, error_of, Comes}
 use Rattle.mir_lower.proofs.Growing.{grows-refl, grows-trans, with_terminator-grows, with_scope-grows}
 use Rattle.mir_lower.proofs.Leaving.{enters-block, comes-return, here-scope}
 use Rattle.mir_lower.proofs.Lists.{front-of}
 use Rattle.mir_lower.proofs.Placing.{AreAligned, Placing, places-all, first-ok}
-use Rattle.mir_lower.proofs.Reaching.{comes-on, comes-trans, enters-both, ends-after}
+use Rattle.mir_lower.proofs.Reaching.{comes-on, comes-trans, enters-both, ends-after, stops-after, stops-within}
+use Rattle.mir_lower.proofs.Parameters.{locals-carried}
 use Rattle.mir_lower.proofs.Room.{fits-room}
 use Rattle.mir_lower.proofs.Sound.{with_terminator-sound, slot-there, binding-there, stored-is-used}
+use Rattle.mir_lower.proofs.Steps.{local_of-grows}
 use Rattle.std.proofs.lemmas.List.Elements.{All-nil}
 
 -- a meaning that a cost stands before, and a run that comes to where it begins over as many blocks
-runs-after : (allotted : Cell → Option ℕ) (frame : Frame) (from at : Point) (memory middle : Memory) (cost : Cost) → Comes frame cost.turns from memory at middle → (end : End (List ℕ)) → RunsAs allotted frame at middle end → RunsAs allotted frame from memory (after cost end)
-unfolding after plus
-runs-after allotted frame from at memory middle cost comes (Go bytes store then) does = (does.0, comes-trans frame cost.turns then.turns from at memory middle comes Exit does.0 does.1, does.2, does.3)
-runs-after allotted frame from at memory middle cost comes (Jumps to store then) does = tt
-runs-after allotted frame from at memory middle cost comes (Faults fault then) does = ends-after frame cost.turns then.turns from at memory middle comes (IsFault (error_of fault)) does
-runs-after allotted frame from at memory middle cost comes Stuck does = tt
-runs-after allotted frame from at memory middle cost comes (More then) does = enters-both frame cost.turns then.turns from at memory middle comes does
+module _ (source : Source) (allotted : Cell → Option ℕ) (frame : Frame) (from at : Point) (memory middle : Memory) (cost : Cost) (comes : Comes frame cost.turns from memory at middle) where
+  runs-on-after : (end : End (List ℕ)) → RunsOn allotted frame at middle end → RunsOn allotted frame from memory (after cost end)
+  unfolding after plus
+  runs-on-after (Go bytes store then) does = (does.0, comes-trans frame cost.turns then.turns from at memory middle comes Exit does.0 does.1, does.2, does.3)
+  runs-on-after (Jumps to store then) does = tt
+  runs-on-after (Faults fault then) does = ends-after frame cost.turns then.turns from at memory middle comes (IsFault (error_of fault)) does
+  runs-on-after Stuck does = tt
+  runs-on-after (More then) does = enters-both frame cost.turns then.turns from at memory middle comes does
+
+  runs-cut-after : (end : End (List ℕ)) → StopsWithin source frame.program (turns_of end) (run_from frame middle at) → RunsAs source allotted frame from memory (after cost end)
+  unfolding after plus
+  runs-cut-after (Go bytes store then) stops = inl (stops-after source frame cost.turns then.turns from at memory middle comes stops)
+  runs-cut-after (Jumps to store then) stops = inl (stops-after source frame cost.turns then.turns from at memory middle comes stops)
+  runs-cut-after (Faults fault then) stops = inl (stops-after source frame cost.turns then.turns from at memory middle comes stops)
+  runs-cut-after Stuck stops = inr tt
+  runs-cut-after (More then) stops = inl (stops-after source frame cost.turns then.turns from at memory middle comes stops)
+
+  runs-after : (end : End (List ℕ)) → RunsAs source allotted frame at middle end → RunsAs source allotted frame from memory (after cost end)
+  runs-after end does = ⊎_elim (runs-cut-after end) (λ goes. inr (runs-on-after end goes)) does
 
 -- where no body waits, a run that comes to where the body returns ends with the bytes of the return slot
 return-ends : (frame : Frame) (memory : Memory) (bytes : List ℕ) (more : ℕ) → frame.below ≡ [] → local_bytes frame memory 0 ≡ Some bytes → run_from frame memory Exit more ≡ record { ending = Returned bytes; left = more }
@@ -53,16 +70,19 @@ return-ends frame memory bytes more alone slot =
     ∙ ap (λ o. record { ending = returned o; left = more }) slot
 
 -- so there a run ends as the meaning does
-ends-as-run : (allotted : Cell → Option ℕ) (frame : Frame) (from : Point) (memory : Memory) → frame.below ≡ [] → (end : End (List ℕ)) → RunsAs allotted frame from memory end → EndsAs end (run_from frame memory from)
-ends-as-run allotted frame from memory alone (Go bytes store cost) does =
+ends-on-run : (allotted : Cell → Option ℕ) (frame : Frame) (from : Point) (memory : Memory) → frame.below ≡ [] → (end : End (List ℕ)) → RunsOn allotted frame from memory end → EndsOn end (run_from frame memory from)
+ends-on-run allotted frame from memory alone (Go bytes store cost) does =
     record {
       with_more = λ more. (Returned bytes, refl, does.1.with_more more ∙ return-ends frame does.0 bytes more alone does.3);
       with_fewer = does.1.with_fewer;
     }
-ends-as-run allotted frame from memory alone (Jumps to store cost) does = tt
-ends-as-run allotted frame from memory alone (Faults fault cost) does = does
-ends-as-run allotted frame from memory alone Stuck does = tt
-ends-as-run allotted frame from memory alone (More cost) does = does
+ends-on-run allotted frame from memory alone (Jumps to store cost) does = tt
+ends-on-run allotted frame from memory alone (Faults fault cost) does = does
+ends-on-run allotted frame from memory alone Stuck does = tt
+ends-on-run allotted frame from memory alone (More cost) does = does
+
+ends-as-run : (source : Source) (allotted : Cell → Option ℕ) (frame : Frame) (from : Point) (memory : Memory) → frame.below ≡ [] → (end : End (List ℕ)) → RunsAs source allotted frame from memory end → EndsAs source frame.program end (run_from frame memory from)
+ends-as-run source allotted frame from memory alone end does = ⊎_elim (λ stops. inl stops) (λ goes. inr (ends-on-run allotted frame from memory alone end goes)) does
 
 -- where the run is after each jump out of a root: after a `return`, where the body returns; and of the others nothing is said
 abbrev lands-out : Landings
@@ -71,45 +91,72 @@ lands-out (Break node) = Nowhere
 lands-out (Continue node) = Nowhere
 
 -- a cost without blocks before a meaning changes nothing of a run
-ends-as-costed : (cost : Cost) (end : End (List ℕ)) (run : ℕ → Ended) → cost.turns ≡ 0 → EndsAs end run → EndsAs (after cost end) run
+turns-costed : (cost : Cost) (end : End (List ℕ)) → cost.turns ≡ 0 → turns_of end ≡ turns_of (after cost end)
 unfolding after plus
-ends-as-costed cost (Go bytes store rest) run free ends =
+turns-costed cost (Go bytes store rest) free = omega arith
+turns-costed cost (Jumps to store rest) free = omega arith
+turns-costed cost (Faults fault rest) free = omega arith
+turns-costed cost Stuck free = refl
+turns-costed cost (More rest) free = omega arith
+
+ends-on-costed : (cost : Cost) (end : End (List ℕ)) (run : ℕ → Ended) → cost.turns ≡ 0 → EndsOn end run → EndsOn (after cost end) run
+unfolding after plus
+ends-on-costed cost (Go bytes store rest) run free ends =
     let plain : rest.turns ≡ cost.turns + rest.turns = omega arith in
     subst (λ (n : ℕ). EndsAfter n (IsReturned bytes) run) plain ends
-ends-as-costed cost (Jumps to store rest) run free ends = tt
-ends-as-costed cost (Faults fault rest) run free ends =
+ends-on-costed cost (Jumps to store rest) run free ends = tt
+ends-on-costed cost (Faults fault rest) run free ends =
     let plain : rest.turns ≡ cost.turns + rest.turns = omega arith in
     subst (λ (n : ℕ). EndsAfter n (IsFault (error_of fault)) run) plain ends
-ends-as-costed cost Stuck run free ends = tt
-ends-as-costed cost (More rest) run free ends =
+ends-on-costed cost Stuck run free ends = tt
+ends-on-costed cost (More rest) run free ends =
     let plain : rest.turns ≡ cost.turns + rest.turns = omega arith in
     subst (λ (n : ℕ). Enters n run) plain ends
 
--- and so does that of a run by itself
-ends-as-run-alone : (end : End (List ℕ)) (run : ℕ → Ended) → EndsAs end run → EndsAs (after run_cost end) run
-unfolding run_cost
-ends-as-run-alone end run = ends-as-costed run_cost end run refl
+ends-as-costed : (source : Source) (program : Program) (cost : Cost) (end : End (List ℕ)) (run : ℕ → Ended) → cost.turns ≡ 0 → EndsAs source program end run → EndsAs source program (after cost end) run
+ends-as-costed source program cost end run free ends =
+    ⊎_elim (λ stops. inl (subst (λ (n : ℕ). StopsWithin source program n run) (turns-costed cost end free) stops)) (λ goes. inr (ends-on-costed cost end run free goes)) ends
 
--- what leaving the body costs
+-- and so does that of a run by itself
+ends-as-run-alone : (source : Source) (program : Program) (end : End (List ℕ)) (run : ℕ → Ended) → EndsAs source program end run → EndsAs source program (after run_cost end) run
+unfolding run_cost
+ends-as-run-alone source program end run = ends-as-costed source program run_cost end run refl
+
+-- what leaving the body costs: the parameters' cells are left too
 abbrev pub leaving : Source → ℕ
-leaving source = drops source (marked source (root source))
+leaving source = drops source (parameter_cells source ++ marked source (root source))
 
 -- what a body makes of the end of its root, where the run goes on to leave the body's scope and returns
-runs-returned : (source : Source) (whole : Shape) (frame : Frame) (from at : Point) (memory : Memory) (end : End (Unit {0})) → Reaches whole lands-out frame from at memory (Nothing whole frame) end →
-    ((middle : Memory) → Comes frame (leaving source) at middle Exit middle) → RunsAs (local_of whole) frame from memory (returned_of source end)
-runs-returned source whole frame from at memory (Go done store cost) does rest =
-    runs-after (local_of whole) frame from at memory does.0 cost does.1 (Go (store Slot) store (turns_alone (leaving source))) (does.0, rest does.0, does.2, does.2.shows Slot 0 refl)
-runs-returned source whole frame from at memory (Jumps Return store cost) does rest = (does.0, does.1, does.2, does.2.shows Slot 0 refl)
-runs-returned source whole frame from at memory (Jumps (Break node) store cost) does rest = tt
-runs-returned source whole frame from at memory (Jumps (Continue node) store cost) does rest = tt
-runs-returned source whole frame from at memory (Faults fault cost) does rest = does
-runs-returned source whole frame from at memory Stuck does rest = tt
-runs-returned source whole frame from at memory (More cost) does rest = does
+module _ (source : Source) (whole : Shape) (frame : Frame) (from at : Point) (memory : Memory) where
+  runs-cut : (end : End (Unit {0})) → StopsWithin source frame.program (turns_of end) (run_from frame memory from) → RunsAs source (local_of whole) frame from memory (returned_of source end)
+  unfolding after plus
+  runs-cut (Go done store cost) stops = inl (stops-within source frame.program cost.turns (cost.turns + leaving source) (run_from frame memory from) (omega arith) stops)
+  runs-cut (Jumps Return store cost) stops = inl stops
+  runs-cut (Jumps (Break node) store cost) stops = inl stops
+  runs-cut (Jumps (Continue node) store cost) stops = inl stops
+  runs-cut (Faults fault cost) stops = inl stops
+  runs-cut Stuck stops = inl stops
+  runs-cut (More cost) stops = inl stops
+
+  runs-out : (end : End (Unit {0})) → Goes whole lands-out frame from at memory (Nothing whole frame) end →
+      ((middle : Memory) → Comes frame (leaving source) at middle Exit middle) → RunsAs source (local_of whole) frame from memory (returned_of source end)
+  runs-out (Go done store cost) does rest =
+      inr (runs-on-after source (local_of whole) frame from at memory does.0 cost does.1 (Go (store Slot) store (turns_alone (leaving source))) (does.0, rest does.0, does.2, does.2.shows Slot 0 refl))
+  runs-out (Jumps Return store cost) does rest = inr (does.0, does.1, does.2, does.2.shows Slot 0 refl)
+  runs-out (Jumps (Break node) store cost) does rest = inr tt
+  runs-out (Jumps (Continue node) store cost) does rest = inr tt
+  runs-out (Faults fault cost) does rest = inr does
+  runs-out Stuck does rest = inr tt
+  runs-out (More cost) does rest = inr does
+
+  runs-returned : (end : End (Unit {0})) → Reaches source whole lands-out frame from at memory (Nothing whole frame) end →
+      ((middle : Memory) → Comes frame (leaving source) at middle Exit middle) → RunsAs source (local_of whole) frame from memory (returned_of source end)
+  runs-returned end does rest = ⊎_elim (runs-cut end) (λ goes. runs-out end goes rest) does
 
 -- entering a body costs a block
-runs-entered : (source : Source) (allotted : Cell → Option ℕ) (frame : Frame) (memory : Memory) (block : ℕ) (end : End (List ℕ)) → RunsAs allotted frame (start_of block) memory end → RunsAs allotted frame (Entry block) memory (after (entering_cost source) end)
+runs-entered : (source : Source) (allotted : Cell → Option ℕ) (frame : Frame) (memory : Memory) (block : ℕ) (end : End (List ℕ)) → RunsAs source allotted frame (start_of block) memory end → RunsAs source allotted frame (Entry block) memory (after (entering_cost source) end)
 unfolding entering_cost
-runs-entered source allotted frame memory block end does = runs-after allotted frame (Entry block) (start_of block) memory memory (entering_cost source) (enters-block frame memory block) end does
+runs-entered source allotted frame memory block end does = runs-after source allotted frame (Entry block) (start_of block) memory memory (entering_cost source) (enters-block frame memory block) end does
 
 -- the frame in which a body begins
 pub begun-cells : (program : Program) (body : MirBody) (start : Frame × Memory) → begun program body ≡ Ok start → (all : List Interval × Memory) × (cells_of program.world body.locals (first_areas program.bytes) ≡ Ok all) × ◌≡◌ {A = Frame × Memory} start (record { program = program; body = body; cells = all.0; below = [] }, all.1)
@@ -137,15 +184,15 @@ here-first s blocks current =
     let at : List BasicBlock → ℕ → Point = λ bs n. Within n (unwrap_or (option_map (λ (b : BasicBlock). length b.statements) (slice_get bs n)) 0) in
     ap (λ (bs : List BasicBlock). at bs s.current) blocks ∙ ap (λ (n : ℕ). at (no_statements ∷ []) n) current
 
--- the root was lowered, its scope left, and the block ended by a return
-module _ (source : Source) (s0 s1 s2 : Shape) (span : MirSpan) (begins : here s0 ≡ Within 0 0) (nothing : s0.scope ≡ []) (outermost : s0.targets ≡ []) (into : LowersInto source s0 s1 (root source) Slot) (idles : Idles source (with_scope s0.scope s1) s2 (leaving source)) where
+-- the root was lowered, where the parameters' cells are in use; the body's scope was left, and the block ended by a return
+module _ (source : Source) (s0 s1 s2 : Shape) (span : MirSpan) (begins : here s0 ≡ Within 0 0) (inside : s0.scope ≡ parameter_cells source) (outermost : s0.targets ≡ []) (into : LowersInto source s0 s1 (root source) Slot) (idles : Idles source (with_scope [] s1) s2 (leaving source)) where
   abbrev Whole : Shape
   Whole = with_terminator (record { span = span; kind = kind.Return }) s2
 
   first-grows : Grows s1 Whole
   first-grows =
-      grows-trans s1 (with_scope s0.scope s1) Whole (with_scope-grows s0.scope s1)
-      (grows-trans (with_scope s0.scope s1) s2 Whole idles.grows (with_terminator-grows (record { span = span; kind = kind.Return }) s2 idles.«open»))
+      grows-trans s1 (with_scope [] s1) Whole (with_scope-grows [] s1)
+      (grows-trans (with_scope [] s1) s2 Whole idles.grows (with_terminator-grows (record { span = span; kind = kind.Return }) s2 idles.«open»))
 
   whole-sound : IsSound source Whole
   whole-sound = with_terminator-sound source (record { span = span; kind = kind.Return }) s2 idles.«open» idles.sound
@@ -154,22 +201,23 @@ module _ (source : Source) (s0 s1 s2 : Shape) (span : MirSpan) (begins : here s0
   returns-after : (frame : Frame) → IsFrameOf Whole frame → (memory : Memory) → Comes frame (leaving source) (here s1) memory Exit memory
   returns-after frame is memory =
       let comes : Comes frame (leaving source) (here s1) memory (here s2) memory =
-      subst (λ (p : Point). Comes frame (leaving source) p memory (here s2) memory) (here-scope s1 s0.scope)
+      subst (λ (p : Point). Comes frame (leaving source) p memory (here s2) memory) (here-scope s1 [])
       (idles.comes Whole frame (with_terminator-grows (record { span = span; kind = kind.Return }) s2 idles.«open») is memory) in
       comes-on frame (leaving source) (here s1) (here s2) Exit memory memory memory comes (comes-return s2 Whole frame span memory idles.«open» (grows-refl Whole) is)
 
   -- the run of a body from its frame on
-  runs-whole : (frame : Frame) (store : Store) (memory : Memory) → IsFrameOf Whole frame → Holds Whole frame store memory → (fuel : ℕ) → RunsAs (local_of Whole) frame (Entry 0) memory (meaning_from source store fuel)
+  runs-whole : (frame : Frame) (store : Store) (memory : Memory) → IsFrameOf Whole frame → Holds Whole frame store memory → (fuel : ℕ) → Serves fuel source frame.program → RunsAs source (local_of Whole) frame (Entry 0) memory (meaning_from source store fuel)
   unfolding meaning_from
-  runs-whole frame store memory is holds fuel =
+  runs-whole frame store memory is holds fuel serves =
       let slot : Path = record { cell = Slot } in
-      let evaluates : End (Unit {0}) = (level_at source fuel (at_root slot)).into (root source) slot store in
-      let stands : Stands Whole s0 lands-out (at_root slot) =
-      record { marks = sym nothing; result = refl; returns = refl; targets = subst (λ (targets : List OpenTarget). FrontAll Whole lands-out targets []) (sym outermost) tt } in
+      let around : Around = marking (parameter_cells source) (at_root slot) in
+      let evaluates : End (Unit {0}) = (level_at source fuel around).into (root source) slot store in
+      let stands : Stands Whole s0 lands-out around =
+      record { marks = sym inside; result = refl; returns = refl; targets = subst (λ (targets : List OpenTarget). FrontAll Whole lands-out targets []) (sym outermost) tt } in
       runs-entered source (local_of Whole) frame memory 0 (returned_of source evaluates)
-      (subst (λ (p : Point). RunsAs (local_of Whole) frame p memory (returned_of source evaluates)) begins
+      (subst (λ (p : Point). RunsAs source (local_of Whole) frame p memory (returned_of source evaluates)) begins
       (runs-returned source Whole frame (here s0) (here s1) memory evaluates
-      (into.does.reaches Whole frame first-grows whole-sound is lands-out (at_root slot) stands fuel store memory holds)
+      (into.does.reaches Whole frame first-grows whole-sound is lands-out around stands fuel serves store memory holds)
       (returns-after frame is)))
 
   -- what is evaluated has types with layouts, where the locals have
@@ -185,17 +233,20 @@ module _ (source : Source) (s0 s1 s2 : Shape) (span : MirSpan) (begins : here s0
       }
 
   -- the graph of a body does what the body means
-  pub whole-simulates : (body : MirBody) → AreAligned source.world → root source < length source.body.exprs → body.basic_blocks ≡ Whole.blocks → body.locals ≡ Whole.locals → body.start_block.0 ≡ 0 → Simulates source body
-  whole-simulates body aligned within blocks locals start =
+  pub whole-simulates : (body : MirBody) → AreAligned source.world → root source < length source.body.exprs → body.basic_blocks ≡ Whole.blocks → body.locals ≡ Whole.locals → body.start_block.0 ≡ 0 →
+      (bound : List ℕ) → parameters source ≡ Some bound → AreLocalsOf (local_of s0) bound body.param_locals → Simulates source body
+  whole-simulates body aligned within blocks locals start bound binds told =
       let first = slot-there source Whole whole-sound in
       let frame-of : (frame : Frame) → frame.body ≡ body → AreCellsApart frame.cells → IsFrameOf Whole frame = λ frame same apart. record {
         blocks = ap (λ (b : MirBody). b.basic_blocks) same ∙ blocks;
         locals = ap (λ (b : MirBody). b.locals) same ∙ locals;
         apart = apart;
       } in
-      let does-from : (fuel : ℕ) (store : Store) (frame : Frame) (memory : Memory) → frame.body ≡ body → AreCellsApart frame.cells → Holds Whole frame store memory → RunsAs (local_of Whole) frame (Entry body.start_block.0) memory (meaning_from source store fuel) =
-      λ fuel store frame memory same apart holds.
-      subst (λ (n : ℕ). RunsAs (local_of Whole) frame (Entry n) memory (meaning_from source store fuel)) (sym start) (runs-whole frame store memory (frame-of frame same apart) holds fuel) in
+      let does-from : (fuel : ℕ) (store : Store) (frame : Frame) (memory : Memory) → frame.body ≡ body → Serves fuel source frame.program → AreCellsApart frame.cells → Holds Whole frame store memory →
+      RunsAs source (local_of Whole) frame (Entry body.start_block.0) memory (meaning_from source store fuel) =
+      λ fuel store frame memory same serves apart holds.
+      subst (λ (n : ℕ). RunsAs source (local_of Whole) frame (Entry n) memory (meaning_from source store fuel)) (sym start) (runs-whole frame store memory (frame-of frame same apart) holds fuel serves) in
+      let all-grow : Grows s0 Whole = grows-trans s0 s1 Whole into.keeps.grows first-grows in
       record {
         allotted = local_of Whole;
         result = refl;
@@ -204,6 +255,11 @@ module _ (source : Source) (s0 s1 s2 : Shape) (span : MirSpan) (begins : here s0
         typed = λ c l found.
             let at = whole-sound.allotted.typed c l found in
             (at.0, ap (λ (ls : List Local). slice_get ls l) locals ∙ at.1, at.2);
+        params = record {
+          bound = bound;
+          binds = binds;
+          locals = locals-carried (local_of s0) (local_of Whole) bound body.param_locals (λ b l found. local_of-grows s0 Whole all-grow (Binding b) l found) told;
+        };
         does = does-from;
         slot = (first.0, ap (λ (l : List Local). slice_get l 0) locals ∙ first.1, first.2);
         cells = λ l local h.
@@ -213,17 +269,17 @@ module _ (source : Source) (s0 s1 s2 : Shape) (span : MirSpan) (begins : here s0
             subst (λ (ls : List Local). sum (map (λ local. room_of (layout_of source.world local.ty)) ls) ≤ body_room source) (sym locals)
             (fits-room source Whole within whole-sound);
         laid_out = lays-out body.locals locals;
-        runs = λ fuel program begin world h.
+        runs = λ fuel program begin serves h.
             let all = begun-cells program body begin h in
             let frame : Frame = record { program = program; body = body; cells = all.0.0; below = [] } in
             let before : Memory = first_areas program.bytes in
-            let placed = ap (λ (w : HirDatabase). cells_of w body.locals before) (sym world) ∙ all.1 in
+            let placed = ap (λ (w : HirDatabase). cells_of w body.locals before) (sym serves.world) ∙ all.1 in
             let placing = places-all source.world aligned body.locals before all.0 placed in
             let placing' : Placing source.world Whole.locals before all.0.0 all.0.1 = subst (λ (l : List Local). Placing source.world l before all.0.0 all.0.1) locals placing in
-            subst (λ (b : Frame × Memory). EndsAs (meaning_of source fuel) (λ budget. entering budget b.0 b.1 body.start_block.0)) (sym all.2)
-            (ends-as-run-alone (meaning_from source (zeroed source) fuel) (λ budget. entering budget frame all.0.1 body.start_block.0)
-            (ends-as-run (local_of Whole) frame (Entry body.start_block.0) all.0.1 refl (meaning_from source (zeroed source) fuel)
-            (does-from fuel (zeroed source) frame all.0.1 refl placing.apart (starts-zeroed source Whole frame before all.0.1 whole-sound placing'))));
+            subst (λ (b : Frame × Memory). EndsAs source program (meaning_of source fuel) (λ budget. entering budget b.0 b.1 body.start_block.0)) (sym all.2)
+            (ends-as-run-alone source program (meaning_from source (zeroed source) fuel) (λ budget. entering budget frame all.0.1 body.start_block.0)
+            (ends-as-run source (local_of Whole) frame (Entry body.start_block.0) all.0.1 refl (meaning_from source (zeroed source) fuel)
+            (does-from fuel (zeroed source) frame all.0.1 refl serves placing.apart (starts-zeroed source Whole frame before all.0.1 whole-sound placing'))));
       }
 
   -- the locals that there were at first come first

@@ -13,3 +13,4 @@ pub mod Built
 pub mod Callees
 pub mod Calling
 pub mod Stops
+pub mod Parameters

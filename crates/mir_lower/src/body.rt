@@ -1,28 +1,31 @@
 //! Lowering a whole body.
 
-ghost use Rattle.std.specs.Prelude.{◌≡◌, false, [], IfOk, IfErr, OnOk};
+ghost use Rattle.std.specs.Prelude.{◌≡◌, ◌⊎◌, false, [], IfOk, IfErr, OnOk};
 ghost use Rattle.source_meaning.specs.Source.{Source};
 ghost use Rattle.world.specs.Checked.{IsChecked, IsCheckedBody};
 ghost use Rattle.source_meaning.specs.Source.{root};
 ghost use Rattle.mir_lower.specs.Built.{IsBuilt};
 ghost use Rattle.body_forms.specs.Contexts.{source_of};
 ghost use Rattle.mir_lower.specs.Order.{AreInOrder};
-ghost use Rattle.mir_lower.specs.Refusals.{Refuses, RefusesAt, RefusesInferred, are_some_dropped, needs_drops};
+ghost use Rattle.mir_lower.specs.Refusals.{Refuses, RefusesAt, RefusesInferred, RefusesParameters, are_some_dropped, needs_drops};
 ghost use Rattle.mir_lower.specs.Simulates.{Simulates};
 
 use crate::first::first_graph;
 use crate::leave::leave_scope;
 use crate::lower::lower_into;
+use crate::params::lower_params;
 use body_forms::{Context, form_not_built, is_copy};
 use mir::{Local, LocalId, MirBody, MirLowerError, MirSpan, Place, Terminator, TerminatorKind};
 use std::alloc::Global;
 use world::{Body, DefWithBodyId, HirDatabase, InferenceResult};
 
 /// The graph of a typed body: a run of it does what the body means. Its locals are the return slot, one for each binding
-/// that no closure owns, by rising id, and then the temporaries; none is a parameter's. The refusals are `HasErrors`
-/// where inference met an error, that of an expression, `NotSupported` where the world has a drop function and a
-/// local's type isn't listed as `Copy`, and `NoMemory`: also where a block or a local would be the 2^32nd of its kind,
-/// since the room for ids is used up then.
+/// that no closure owns, by rising id, and then the temporaries. The locals of the parameters, in order, that of `self`
+/// first, are those of the bindings that these are the plain names of, and stand among those of the bindings. The
+/// refusals are `HasErrors` where inference met an error, that of an expression, `NotSupported` where a parameter isn't a
+/// name by value, `InaccessibleLocal` where the body lacks its binding, `NotSupported` where the world has a drop
+/// function and a local's type isn't listed as `Copy`, and `NoMemory`: also where a block or a local would be the
+/// 2^32nd of its kind, since the room for ids is used up then.
 pub fn lower_to_mir(
     alloc: Global,
     db: &HirDatabase,
@@ -35,7 +38,6 @@ pub fn lower_to_mir(
     ensures simulates { IfOk result (Simulates (record { world = db.now; body = body.now; infer = infer.now })) }
     ensures order { IfOk result (λ lowered. AreInOrder (record { world = db.now; body = body.now; infer = infer.now }) lowered.locals) }
     ensures owner { IfOk result (λ lowered. lowered.owner ≡ owner) }
-    ensures params { IfOk result (λ lowered. lowered.param_locals ≡ []) }
     ensures errors { OnOk result ((infer.now.erroneous ≡ false) × (infer.now.mismatches ≡ [])) }
     ensures dropless { IfOk result (λ lowered. needs_drops (record { world = db.now; body = body.now; infer = infer.now }) lowered.locals ≡ false) }
     ensures built { OnOk result (IsBuilt (record { world = db.now; body = body.now; infer = infer.now }) body.now.body_expr.0) }
@@ -69,7 +71,6 @@ fn lower_inferred(context: &Context<'_>, owner: DefWithBodyId) -> Result<MirBody
     ensures simulates { IfOk result (Simulates (source_of context.now)) }
     ensures order { IfOk result (λ lowered. AreInOrder (source_of context.now) lowered.locals) }
     ensures owner { IfOk result (λ lowered. lowered.owner ≡ owner) }
-    ensures params { IfOk result (λ lowered. lowered.param_locals ≡ []) }
     ensures dropless { IfOk result (λ lowered. needs_drops (source_of context.now) lowered.locals ≡ false) }
     ensures built { OnOk result (IsBuilt (source_of context.now) (root (source_of context.now))) }
     ensures refused { IfErr result (RefusesInferred (source_of context.now)) }
@@ -88,13 +89,13 @@ fn lower_body(context: &Context<'_>, owner: DefWithBodyId) -> Result<MirBody, Mi
     ensures simulates { IfOk result (Simulates (source_of context.now)) }
     ensures order { IfOk result (λ lowered. AreInOrder (source_of context.now) lowered.locals) }
     ensures owner { IfOk result (λ lowered. lowered.owner ≡ owner) }
-    ensures params { IfOk result (λ lowered. lowered.param_locals ≡ []) }
     ensures built { OnOk result (IsBuilt (source_of context.now) (root (source_of context.now))) }
-    ensures refused { IfErr result (RefusesAt (source_of context.now) (root (source_of context.now))) }
+    ensures refused { IfErr result (λ error. RefusesParameters (source_of context.now) error ⊎ RefusesAt (source_of context.now) (root (source_of context.now)) error) }
 {
     let start = context.body.body_expr;
     let mut graph = first_graph(context)?;
     let scope = graph.push_drop_scope();
+    let params = lower_params(context, &mut graph)?;
     let slot = Place { local: LocalId(0) };
     lower_into(context, &mut graph, start, slot)?;
     leave_scope(context, &mut graph, scope, start)?;
@@ -102,5 +103,5 @@ fn lower_body(context: &Context<'_>, owner: DefWithBodyId) -> Result<MirBody, Mi
         span: MirSpan::ExprId(start),
         kind: TerminatorKind::Return,
     });
-    Ok(graph.into_body(context.alloc, owner))
+    Ok(graph.into_body(owner, params))
 }

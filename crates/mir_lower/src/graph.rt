@@ -336,13 +336,13 @@ impl Graph {
         None
     }
 
-    /// The body with these blocks and locals, none of which is a parameter's. It takes no memory.
-    pub fn into_body(self, alloc: Global, owner: DefWithBodyId) -> MirBody
+    /// The body with these blocks and locals, some of which are the parameters'. It takes no memory.
+    pub fn into_body(self, owner: DefWithBodyId, params: List<LocalId>) -> MirBody
         ensures blocks { result.basic_blocks ≡ (shape self).blocks }
         ensures locals { result.locals ≡ (shape self).locals }
         ensures start { result.start_block.0 ≡ 0 }
         ensures owner { result.owner ≡ owner }
-        ensures params { result.param_locals ≡ [] }
+        ensures params { result.param_locals ≡ params }
     {
         let Graph { blocks, locals, .. } = self;
         MirBody {
@@ -350,7 +350,7 @@ impl Graph {
             locals,
             start_block: BasicBlockId(0),
             owner,
-            param_locals: List::new(alloc),
+            param_locals: params,
         }
     }
 }

@@ -10,5 +10,6 @@ mod jump;
 mod leave;
 mod locals;
 mod lower;
+mod params;
 
 pub use body::lower_to_mir;

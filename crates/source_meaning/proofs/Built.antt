@@ -1,10 +1,11 @@
--- A plain expression that is no call has a form that is built.
-use Rattle.std.proofs.Common.{ℕ, get_or, Option, Some, None}
+-- A plain expression has a form that is built.
+use Rattle.std.proofs.Common.{ℕ, get_or, Option, Some, None, option_and_then, ap, ◌∙◌}
 use Rattle.world.specs.declared.body.Statement.{Statement}
 use Rattle.world.specs.declared.body.Statement.TheVariants as statement
+use Rattle.world.specs.declared.items.FunctionRow.{FunctionRow}
 use Rattle.types.specs.declared.ty.Ty.{Ty}
 use Rattle.source_meaning.specs.Built.{IsBuiltStatement, IsBuiltForm}
-use Rattle.source_meaning.specs.Core.{CoreExpr, Literal, Path, Strict, Logic, If, Assign, Block, Labelled, Loop, Break, Continue, Return, Call, IsNoCall}
+use Rattle.source_meaning.specs.Core.{CoreExpr, Literal, Path, Strict, Logic, If, Assign, Block, Labelled, Loop, Break, Continue, Return, Call}
 use Rattle.source_meaning.specs.Source.{Source, node}
 use Rattle.source_meaning.specs.Valid.{IsPlainStatement, HasPlainForm, IsPlainNode}
 
@@ -16,28 +17,24 @@ plain_statement_is_built source (statement.Let pat None other) plain = plain
 plain_statement_is_built source (statement.Expr e has_semi) plain = plain
 plain_statement_is_built source statement.Item plain = plain
 
-plain_form_is_built : (source : Source) (e : ℕ) (form : Option CoreExpr) (ty : Ty) → HasPlainForm source e form ty → IsNoCall form → IsBuiltForm source e form
-plain_form_is_built source e (Some (Literal given)) ty plain no_call = tt
-plain_form_is_built source e (Some (Path name)) ty plain no_call =
+plain_form_is_built : (source : Source) (e : ℕ) (form : Option CoreExpr) (ty : Ty) → HasPlainForm source e form ty → IsBuiltForm source e form
+plain_form_is_built source e (Some (Literal given)) ty plain = tt
+plain_form_is_built source e (Some (Path name)) ty plain =
     record { binding = plain.binding; named = plain.named; there = record { ty = ty; typed = plain.binding_has } }
-plain_form_is_built source e (Some (Strict operation operands)) ty plain no_call = tt
-plain_form_is_built source e (Some (Logic op left right)) ty plain no_call = tt
-plain_form_is_built source e (Some (If condition then_branch else_branch)) ty plain no_call = tt
-plain_form_is_built source e (Some (Assign assigned value)) ty plain no_call =
+plain_form_is_built source e (Some (Strict operation operands)) ty plain = tt
+plain_form_is_built source e (Some (Logic op left right)) ty plain = tt
+plain_form_is_built source e (Some (If condition then_branch else_branch)) ty plain = tt
+plain_form_is_built source e (Some (Assign assigned value)) ty plain =
     record { binding = plain.binding; names = plain.names; there = record { ty = plain.ty; typed = plain.binding_has } }
-plain_form_is_built source e (Some (Block statements tail)) ty plain no_call = λ k d less. plain_statement_is_built source (get_or statements k d) (plain.0 k d less)
-plain_form_is_built source e (Some (Labelled label statements tail)) ty plain no_call = λ k d less. plain_statement_is_built source (get_or statements k d) (plain.0 k d less)
-plain_form_is_built source e (Some (Loop label body)) ty plain no_call = tt
-plain_form_is_built source e (Some (Break label value)) ty plain no_call = tt
-plain_form_is_built source e (Some (Continue label)) ty plain no_call = tt
-plain_form_is_built source e (Some (Return value)) ty plain no_call = tt
-plain_form_is_built source e (Some (Call callee args)) ty plain no_call = no_call
-plain_form_is_built source e None ty plain no_call = plain
+plain_form_is_built source e (Some (Block statements tail)) ty plain = λ k d less. plain_statement_is_built source (get_or statements k d) (plain.0 k d less)
+plain_form_is_built source e (Some (Labelled label statements tail)) ty plain = λ k d less. plain_statement_is_built source (get_or statements k d) (plain.0 k d less)
+plain_form_is_built source e (Some (Loop label body)) ty plain = tt
+plain_form_is_built source e (Some (Break label value)) ty plain = tt
+plain_form_is_built source e (Some (Continue label)) ty plain = tt
+plain_form_is_built source e (Some (Return value)) ty plain = tt
+plain_form_is_built source e (Some (Call callee args)) ty plain =
+    record { id = plain.id; names = plain.names; not_special = ap (option_and_then (λ (row : FunctionRow). row.special)) plain.found ∙ plain.not_special }
+plain_form_is_built source e None ty plain = plain
 
-pub plain_is_built : (source : Source) (e : ℕ) → IsPlainNode source e → IsNoCall (node source e) → IsBuiltForm source e (node source e)
-plain_is_built source e plain no_call = plain_form_is_built source e (node source e) plain.ty plain.form no_call
-
--- what is built is no call
-pub built_is_no_call : (source : Source) (e : ℕ) (form : Option CoreExpr) → IsBuiltForm source e form → IsNoCall form
-built_is_no_call source e (Some (Call callee args)) built = built
-built_is_no_call source e _ built = tt
+pub plain_is_built : (source : Source) (e : ℕ) → IsPlainNode source e → IsBuiltForm source e (node source e)
+plain_is_built source e plain = plain_form_is_built source e (node source e) plain.ty plain.form

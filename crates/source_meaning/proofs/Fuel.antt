@@ -7,7 +7,7 @@ use Rattle.types.specs.declared.ids.ExprId.{ExprId}
 use Rattle.types.specs.declared.ids.LabelId.{LabelId}
 use Rattle.types.specs.declared.operators.LogicOp.{LogicOp}
 use Rattle.source_meaning.specs.Around.{Around, Target, at_root, marking, inside, target_of}
-use Rattle.source_meaning.specs.Calls.{source_called, must_not_return, started}
+use Rattle.source_meaning.specs.Calls.{source_called, must_not_return, parameter_cells, started}
 use Rattle.source_meaning.specs.Core as expr
 use Rattle.source_meaning.specs.Core.{CoreExpr, Operation}
 use Rattle.source_meaning.specs.Ends.{Cost, turns_alone, End, Go, Jumps, Break, Continue, Return, Faults, Stuck, More, IsOver, after, then_do}
@@ -241,7 +241,7 @@ no_fuel_agrees above = record {
 -- where the evaluations of levels agree, so do those of the bodies
 body_agrees : (source : Source) (below above : Levels) → Agrees below above → (store : Store) → IsOver (body_meaning source below store) → body_meaning source above store ≡ body_meaning source below store
 body_agrees source below above agrees store over =
-    let first = at_root (record { cell = Result }) in
+    let first = marking (parameter_cells source) (at_root (record { cell = Result })) in
     after_agrees _ _ _ (returned_agrees source ((below first).into (root source) _ _) ((above first).into (root source) _ _) (agrees.into first (root source) _ _)) over
 
 pub more_agrees : (source : Source) (fuel more : ℕ) → fuel ≤ more → Agrees (level_at source fuel) (level_at source more)

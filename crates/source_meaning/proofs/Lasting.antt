@@ -16,7 +16,7 @@ use Rattle.world.specs.Checked.{IsChecked, IsCheckedBody}
 use Rattle.world.specs.Nodes.{optional}
 use Rattle.numbers.specs.Operators.{Answer, Computes, Panics, Undefined}
 use Rattle.source_meaning.specs.Around.{Around, Target, at_root, marking, inside, target_of}
-use Rattle.source_meaning.specs.Calls.{source_at, source_called, must_not_return, started}
+use Rattle.source_meaning.specs.Calls.{source_at, source_called, must_not_return, parameter_cells, started}
 use Rattle.source_meaning.specs.Core as expr
 use Rattle.source_meaning.specs.Core.{CoreExpr, Operation}
 use Rattle.source_meaning.specs.Ends.{Cost, plus, turns_alone, End, Go, Jumps, Break, Continue, Return, Faults, Stuck, More, GoesOn, after, then_do}
@@ -326,8 +326,8 @@ record AreBelow (world : HirDatabase) (top : ℕ) : Type 0 where
   root : (i : ℕ) (row : BodyRow) → slice_get world.bodies i ≡ Some row → row.body.body_expr.0 < top
 
 -- what stands around the root of a body
-abbrev first_around : Around
-first_around = at_root (record { cell = Result })
+abbrev first_around : Source → Around
+first_around source = marking (parameter_cells source) (at_root (record { cell = Result }))
 
 returned_lasts : (source : Source) (limit : ℕ) (end : End (Unit {0})) → Lasts limit end → Lasts limit (returned source end)
 unfolding after
@@ -362,7 +362,7 @@ into_from_own limit source (suc fuel) e around path store lasts = lasts
 -- a body lasts for one block more than its root does
 body_lasts : (source : Source) (start : Store) (many fuel : ℕ) → ((around : Around) (path : Path) (store : Store) → Lasts many ((level_at source fuel around).own (root source) path store)) → Lasts (suc many) (body_meaning source (level_at source fuel) start)
 body_lasts source start many fuel lasts =
-    lasts_after_entering source many _ (returned_lasts source many _ (into_from_own many source fuel (root source) first_around _ start (lasts _ _ start)))
+    lasts_after_entering source many _ (returned_lasts source many _ (into_from_own many source fuel (root source) (first_around source) _ start (lasts _ _ start)))
 
 own_goes_on : (top : ℕ) (source : Source) → AreBelow source.world top → IsCheckedBody source.body source.infer → (many bound e fuel : ℕ) → e < bound → fuel_for top many bound ≤ fuel →
     (around : Around) (path : Path) (store : Store) → Lasts many ((level_at source fuel around).own e path store)

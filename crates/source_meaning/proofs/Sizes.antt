@@ -17,7 +17,7 @@ use Rattle.numbers.specs.Bytes.{low_bytes}
 use Rattle.numbers.specs.Operators.{Answer, Computes, Panics, Undefined, kind_of}
 use Rattle.numbers.proofs.Digits.{length-low_bytes}
 use Rattle.source_meaning.specs.Around.{Opened, Target, Around, at_root, marking, entered, inside as inside_of, is_meant, meant, target_of}
-use Rattle.source_meaning.specs.Calls.{must_not_return, parameters}
+use Rattle.source_meaning.specs.Calls.{must_not_return, parameter_cells, parameters}
 use Rattle.source_meaning.specs.Core as expr
 use Rattle.source_meaning.specs.Core.{CoreExpr, CoreLiteral, Truth, Number, Operation, is_truth}
 use Rattle.source_meaning.specs.Ends.{Cost, no_cost, turns_alone, plus, End, Go, Jumps, Jump, Break, Continue, Return, Faults, Stuck, More, JumpsNowhere, after, then_do}
@@ -658,7 +658,7 @@ module _ (source : Source) (checked : IsChecked source.world) where
       own = λ e path store fine sized fits. into_is_sound callees callees_are outer around stands e (node source e) path store refl fine sized fits;
     }
 
-  root_stands : Stands [] (at_root (record { cell = Result }))
+  root_stands : Stands [] (marking (parameter_cells source) (at_root (record { cell = Result })))
   root_stands = record { opened = refl; fits = λ target contained. absurd (let less = contained.1 in omega arith); returns = refl }
 
 no_node : (node : ℕ) → IsNode [] node → ⊥
@@ -687,7 +687,7 @@ returned_is_settled source (More cost) sound = tt
 body_is_settled : (source : Source) (checked : IsChecked source.world) (levels : Levels) → IsPlain source → AreLaidOut source →
     ((outer : List Opened) (around : Around) → Stands source checked outer around → IsSoundLevel source checked outer around.targets (levels around)) → (store : Store) → IsSized source store → IsSettled source (body_meaning source levels store)
 body_is_settled source checked levels plain laid_out sound store sized =
-    let first = at_root (record { cell = Result }) in
+    let first = marking (parameter_cells source) (at_root (record { cell = Result })) in
     let root_is_fine : IsFine source [] (root source) = record { evaluated = itself; jumps = plain.jumps; plain = plain.nodes; laid_out = laid_out.nodes } in
     let level = sound [] first (root_stands source checked) in
     after_is_settled source (entering source) _ (returned_is_settled source ((levels first).into (root source) _ _) (level.into (root source) _ _ root_is_fine sized refl))

@@ -357,8 +357,8 @@ returned source Stuck = Stuck
 returned source (More cost) = More cost
 
 -- What a body means from a store on, by the meanings of its expressions: its root is evaluated into the result's cell, which is also the
--- return path, and the bytes of that cell are the value. The parameters' cells are in use from the start on. No cell is zeroed: the result's keeps its old bytes where nothing is written to
--- it.
+-- return path, and the bytes of that cell are the value. The parameters' cells are in use from the start on. No cell is zeroed: the
+-- result's keeps its old bytes where nothing is written to it.
 abbrev pub body_meaning : Source → Levels → Store → End (List ℕ)
 body_meaning source levels store =
     after (entering source) (returned source ((levels (marking (parameter_cells source) (at_root (record { cell = Result })))).into (root source) (record { cell = Result }) store))

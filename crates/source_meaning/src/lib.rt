@@ -24,7 +24,7 @@ pub fn bodies_go_on()
     ensures { BodiesGoOn }
 {}
 
-/// A plain expression that is no call has a form that is built.
+/// A plain expression has a form that is built.
 pub fn plain_is_built()
     ensures { PlainIsBuilt }
 {}

@@ -1,37 +1,50 @@
--- From the first graph through the root, the scope that is left, and the return.
-use Rattle.std.proofs.Common.{◌++◌, List, length, refl, ap, ◌∙◌}
+-- From the first graph through the parameters, the root, the scope that is left, and the return.
+use Rattle.std.proofs.Common.{◌⊎◌, ◌++◌, [], List, refl, sym, ap, ◌∙◌, subst, inr}
 use Rattle.mir.specs.declared.body.Local.{Local}
+use Rattle.mir.specs.declared.errors.MirLowerError.{MirLowerError}
+use Rattle.mir.specs.declared.ids.LocalId.{LocalId}
 use Rattle.mir.specs.declared.span.MirSpan.TheVariants.{ExprId}
+use Rattle.source_meaning.specs.Calls.{parameter_cells}
 use Rattle.source_meaning.specs.Events.{marked}
-use Rattle.source_meaning.specs.Source.{root, Result}
+use Rattle.source_meaning.specs.Source.{Source, Cell, root, Result}
 use Rattle.source_meaning.specs.Valid.{itself}
 use Rattle.body_forms.specs.Contexts.{source_of}
-use Rattle.mir_lower.specs.Graph.{Shape, shape}
+use Rattle.mir_lower.specs.Callees.{AreLocalsOf}
+use Rattle.mir_lower.specs.Graph.{Shape, shape, local_of, with_scope}
+use Rattle.mir_lower.specs.Leaving.{Idles}
 use Rattle.mir_lower.specs.Lowered.{LowersInto}
-use Rattle.mir_lower.specs.Refusals.{RefusesAt}
+use Rattle.mir_lower.specs.Refusals.{RefusesAt, RefusesParameters}
 use Rattle.mir_lower.proofs.Aligned.{are-aligned}
 use Rattle.mir_lower.proofs.Ready.{around-first}
 use Rattle.mir_lower.proofs.Refused.{refuses-no-memory, refused-exit}
-use Rattle.mir_lower.proofs.Beginning.{first-sound, first-open}
+use Rattle.mir_lower.proofs.Beginning.{first-sound, begins-marking, marked-since}
 use Rattle.mir_lower.proofs.Drops.{opened-within, scope-left}
-use Rattle.mir_lower.proofs.Whole.{here-first, whole-front, whole-simulates}
+use Rattle.mir_lower.proofs.Whole.{leaving, here-first, whole-front, whole-simulates}
 use Rattle.mir_lower.proofs.body.lower_body.Goals as goal
+
+-- the causes of refusals
+abbrev Cause : Source → MirLowerError → Type 0
+Cause source error = RefusesParameters source error ⊎ RefusesAt source (root source) error
 
 pub returns-in_err-graph-clause-refused : goal.returns-in_err-graph-clause-refused
 returns-in_err-graph-clause-refused c =
-    refused-exit (RefusesAt (source_of c.args.context.now) (root (source_of c.args.context.now))) _ c.from_residual.result c.from_residual.ensures.1 (refuses-no-memory (source_of c.args.context.now) (root (source_of c.args.context.now)))
+    let source = source_of c.args.context.now in
+    refused-exit (Cause source) _ c.from_residual.result c.from_residual.ensures.1 (λ error none. inr (refuses-no-memory source (root source) error none))
+
+pub lower_params-requires : goal.lower_params-requires
+lower_params-requires c = first-sound (source_of c.args.context.now) (shape c.in_ok-graph.graph) c.in_ok-graph.ensures
 
 pub lower_into-requires-clause-ready : goal.lower_into-requires-clause-ready
 lower_into-requires-clause-ready c =
     let source = source_of c.args.context.now in
-    let s = shape c.in_ok-graph.graph in
+    let begun = begins-marking source (shape c.in_ok-graph.graph) (shape c.lower_params.new.graph) (parameter_cells source) c.in_ok-params.ensures.lowered.marked c.in_ok-graph.ensures in
     record {
       checked = c.requires.checked;
-      sound = first-sound source s c.in_ok-graph.ensures;
-      «open» = first-open source (length source.body.bindings) s c.in_ok-graph.ensures;
+      sound = begun.sound;
+      «open» = begun.«open»;
       within = c.requires.checked.root;
       reached = itself;
-      around = around-first source s c.in_ok-graph.ensures.targets;
+      around = around-first source (shape c.lower_params.new.graph) begun.targets;
     }
 
 pub lower_into-requires-clause-placed : goal.lower_into-requires-clause-placed
@@ -46,31 +59,45 @@ leave_scope-requires-clause-opened c = (c.in_ok-lower_into.ensures.lowered Resul
 pub leave_scope-requires-clause-within : goal.leave_scope-requires-clause-within
 leave_scope-requires-clause-within c =
     let source = source_of c.args.context.now in
-    opened-within (shape c.in_ok-graph.graph) (shape c.lower_into.new.graph) c.push_drop_scope-scope.result.0 (marked source (root source)) c.push_drop_scope-scope.ensures (c.in_ok-lower_into.ensures.lowered Result refl).keeps.scope
+    let s0 = shape c.in_ok-graph.graph in
+    let s2 = shape c.lower_into.new.graph in
+    let inner = parameter_cells source ++ marked source (root source) in
+    let since = marked-since source s0 (shape c.lower_params.new.graph) (parameter_cells source) c.in_ok-params.ensures.lowered.marked s2 (marked source (root source)) (c.in_ok-lower_into.ensures.lowered Result refl).keeps.scope in
+    opened-within s0 s2 c.push_drop_scope-scope.result.0 inner c.push_drop_scope-scope.ensures since
 
 pub returns-in_err-leave_scope-clause-refused : goal.returns-in_err-leave_scope-clause-refused
 returns-in_err-leave_scope-clause-refused c =
-    refused-exit (RefusesAt (source_of c.args.context.now) (root (source_of c.args.context.now))) _ c.from_residual-in_err-leave_scope.result c.from_residual-in_err-leave_scope.ensures.1 (refuses-no-memory (source_of c.args.context.now) (root (source_of c.args.context.now)))
+    let source = source_of c.args.context.now in
+    refused-exit (Cause source) _ c.from_residual-in_err-leave_scope.result c.from_residual-in_err-leave_scope.ensures.1 (λ error none. inr (refuses-no-memory source (root source) error none))
 
 pub returns : goal.returns
 returns c =
     let source = source_of c.args.context.now in
-    let first = c.in_ok-graph.ensures in
     let s0 = shape c.in_ok-graph.graph in
-    let s1 = shape c.lower_into.new.graph in
-    let s2 = shape c.leave_scope.new.graph in
-    let into : LowersInto source s0 s1 (root source) Result = c.in_ok-lower_into.ensures.lowered Result refl in
-    let left = scope-left s0 s1 c.push_drop_scope-scope.result.0 (marked source (root source)) c.push_drop_scope-scope.ensures into.keeps.scope source s2 c.in_ok-leave_scope.ensures in
-    let begins = here-first s0 first.blocks first.current in
+    let s1 = shape c.lower_params.new.graph in
+    let s2 = shape c.lower_into.new.graph in
+    let s3 = shape c.leave_scope.new.graph in
+    let token = c.push_drop_scope-scope.result.0 in
+    let opened = c.push_drop_scope-scope.ensures in
+    let cells = parameter_cells source in
+    let params = c.in_ok-params.ensures.lowered in
+    let begun = begins-marking source s0 s1 cells params.marked c.in_ok-graph.ensures in
+    let into : LowersInto source s1 s2 (root source) Result = c.in_ok-lower_into.ensures.lowered Result refl in
+    let since = marked-since source s0 s1 cells params.marked s2 (marked source (root source)) into.keeps.scope in
+    let left : Idles source (with_scope [] s2) s3 (leaving source) =
+    subst (λ (scope : List Cell). Idles source (with_scope scope s2) s3 (leaving source)) c.in_ok-graph.ensures.scope
+    (scope-left s0 s2 token (cells ++ marked source (root source)) opened since source s3 c.in_ok-leave_scope.ensures) in
+    let begins = here-first s1 begun.blocks begun.current in
     let span = ExprId c.args.context.now.body.now.body_expr in
+    let body = c.into_body.result in
     let locals = c.into_body.ensures.locals ∙ ap (λ (s : Shape). s.locals) c.set_terminator.ensures in
-    let front = whole-front source s0 s1 s2 span begins first.scope first.targets into left c.into_body.result.locals locals in
+    let told : AreLocalsOf (local_of s1) params.bound body.param_locals = subst (λ (ls : List LocalId). AreLocalsOf (local_of s1) params.bound ls) (sym c.into_body.ensures.params) params.told in
+    let front = whole-front source s1 s2 s3 span begins begun.scope begun.targets into left body.locals locals in
     record {
-      simulates = whole-simulates source s0 s1 s2 span begins first.scope first.targets into left c.into_body.result (are-aligned source.world c.requires.world) c.requires.checked.root
-          (c.into_body.ensures.blocks ∙ ap (λ (s : Shape). s.blocks) c.set_terminator.ensures) locals c.into_body.ensures.start;
-      order = record { temporaries = front.0; order = front.1 ∙ ap (λ (ls : List Local). ls ++ front.0) first.locals };
+      simulates = whole-simulates source s1 s2 s3 span begins begun.scope begun.targets into left body (are-aligned source.world c.requires.world) c.requires.checked.root
+          (c.into_body.ensures.blocks ∙ ap (λ (s : Shape). s.blocks) c.set_terminator.ensures) locals c.into_body.ensures.start params.bound params.binds told;
+      order = record { temporaries = front.0; order = front.1 ∙ ap (λ (ls : List Local). ls ++ front.0) begun.locals };
       owner = c.into_body.ensures.owner;
-      params = c.into_body.ensures.params;
       built = c.in_ok-lower_into.ensures.built;
       refused = tt;
     }

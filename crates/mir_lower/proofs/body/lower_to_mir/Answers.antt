@@ -14,7 +14,7 @@ use Rattle.mir_lower.proofs.body.lower_to_mir.Goals as goal
 pub returns-in_err-context-clause-refused : goal.returns-in_err-context-clause-refused
 returns-in_err-context-clause-refused c =
     let source : Source = record { world = c.args.db.now; body = c.args.body.now; infer = c.args.infer.now } in
-    refused-exit (Refuses source) _ c.from_residual.result c.from_residual.ensures.1 (λ error none. inr (inr (refuses-no-memory source (root source) error none)))
+    refused-exit (Refuses source) _ c.from_residual.result c.from_residual.ensures.1 (λ error none. inr (inr (inr (refuses-no-memory source (root source) error none))))
 
 pub lower_inferred-requires-clause-world : goal.lower_inferred-requires-clause-world
 lower_inferred-requires-clause-world c = subst (λ (s : Source). IsChecked s.world) (sym c.in_ok-context.ensures) c.requires.world

@@ -1,0 +1,20 @@
+-- A call that is added to a set of calls.
+use Rattle.std.proofs.Common.{◌≡◌, ℕ, Bool, true, false, cond, refl, ap, ◌∙◌, arith}
+use Rattle.std.proofs.lemmas.Bool.Decides.{nat_tests}
+use Rattle.std.specs.Ordering.{is_eq, nat_cmp}
+use Rattle.std.specs.Prelude.{◌==◌, ◌||◌}
+use Rattle.types.specs.contracts.ids.ExprIdOrd.TheImpl as ExprIdOrd
+use Rattle.types.specs.declared.ids.ExprId.{ExprId}
+
+by-either : (added there : Bool) → cond added true there ≡ (there || added)
+by-either true true = refl
+by-either true false = refl
+by-either false true = refl
+by-either false false = refl
+
+same-number : (a b : ℕ) → is_eq (nat_cmp a b) ≡ (a == b)
+same-number a b = grind (arith, nat_tests)
+
+-- a call is in the set with one more where it is that one, or was there
+pub one-more : (one e : ExprId) (there : Bool) → cond (is_eq (ExprIdOrd.ghosts.cmp one e)) true there ≡ (there || (one.0 == e.0))
+one-more one e there = ap (λ (added : Bool). cond added true there) (same-number one.0 e.0) ∙ by-either (one.0 == e.0) there

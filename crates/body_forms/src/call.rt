@@ -1,0 +1,89 @@
+//! What a call calls: the function that its callee names, as an operand, and whether that function returns.
+
+ghost use Rattle.std.specs.Prelude.{◌≡◌, ℕ, List, Some, IfOk, IfErr, IfSome, IfNone, OnOk};
+ghost use Rattle.std.specs.Option.{option_copied};
+ghost use Rattle.source_meaning.specs.Built.{CallsFunction};
+ghost use Rattle.source_meaning.specs.Calls.{function_called, function_in, must_not_return, without_generics};
+ghost use Rattle.source_meaning.specs.Core as expr;
+ghost use Rattle.source_meaning.specs.Source.{node, own_type};
+ghost use Rattle.body_forms.specs.Callees.{IsCalleeOperand};
+ghost use Rattle.body_forms.specs.Contexts.{source_of};
+ghost use Rattle.body_forms.specs.Refusals.{IsUnbuiltCall, RefusesNode};
+
+use crate::context::Context;
+use crate::inferred::own_type;
+use crate::literal::constant;
+use crate::unbuilt::form_not_built;
+use mir::{MirLowerError, Operand};
+use world::{Bytes, CallableDefId, ExprId, FunctionId, GenericArg, List, Ty};
+
+/// A function, where it is given no generic arguments.
+fn without_generics(id: FunctionId, args: &List<GenericArg>) -> Option<FunctionId>
+    ensures { result ≡ without_generics id args.now }
+{
+    match args.as_slice() {
+        [] => Some(id),
+        _ => None,
+    }
+}
+
+/// The function that a type is the one of, where it is given no generic arguments.
+fn function_in(ty: &Ty) -> Option<FunctionId>
+    ensures { result ≡ function_in ty.now }
+{
+    match ty {
+        Ty::FnDef(CallableDefId::FunctionId(id), args) => without_generics(*id, &args.0),
+        _ => None,
+    }
+}
+
+/// The function that a callee names by its type, where it is given no generic arguments.
+#[tactic(auto, unfolding(source_meaning::specs::Calls::function_called))]
+pub fn function_called(context: &Context<'_>, callee: ExprId) -> Option<FunctionId>
+    ensures { result ≡ function_called (source_of context.now) callee.0 }
+{
+    match own_type(context, callee) {
+        Some(ty) => function_in(ty),
+        None => None,
+    }
+}
+
+/// Whether a call is one whose callee must not return, so that its terminator has no target. It takes as many comparisons of
+/// numbers as the logarithm of the number of such calls.
+#[tactic(auto, unfolding(source_meaning::specs::Calls::must_not_return))]
+pub fn must_not_return(context: &Context<'_>, e: ExprId) -> bool
+    ensures { result ≡ must_not_return (source_of context.now) e.0 }
+{
+    context.diverging.contains(&e)
+}
+
+/// The type of a callee that is built: a function that is given no generic arguments, and whose body the machine runs.
+fn callee_type<'a>(context: &Context<'a>, callee: ExprId) -> Option<&'a Ty>
+    ensures typed { IfSome result (λ ty. own_type (source_of context.now) callee.0 ≡ Some ty.now) }
+    ensures built { IfSome result (λ ty. CallsFunction (source_of context.now) callee.0) }
+    ensures unbuilt { IfNone result (IsUnbuiltCall (source_of context.now) callee.0) }
+{
+    let ty = own_type(context, callee)?;
+    let id = function_in(ty)?;
+    match context.db.is_special(id) {
+        Some(_) => None,
+        None => Some(ty),
+    }
+}
+
+/// The callee of a call as an operand: a constant of no bytes of the callee's type, which names the function.
+pub fn lower_callee(
+    context: &Context<'_>,
+    e: ExprId,
+    callee: ExprId,
+) -> Result<Operand, MirLowerError>
+    requires form { (args : List ℕ) × (node (source_of context.now) e.0 ≡ Some (expr.Call callee.0 args)) }
+    ensures callee { IfOk result (λ operand. IsCalleeOperand (source_of context.now) callee.0 operand.kind) }
+    ensures built { OnOk result (CallsFunction (source_of context.now) callee.0) }
+    ensures refused { IfErr result (RefusesNode (source_of context.now) e.0) }
+{
+    match callee_type(context, callee) {
+        Some(ty) => constant(context, callee, ty, Bytes::new(context.alloc)),
+        None => Err(form_not_built(context.alloc)),
+    }
+}

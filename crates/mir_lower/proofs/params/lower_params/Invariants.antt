@@ -1,0 +1,9 @@
+-- The parameters so far are marked.
+use Rattle.std.proofs.Common.{take}
+use Rattle.body_forms.specs.Contexts.{source_of}
+use Rattle.mir_lower.specs.Graph.{shape}
+use Rattle.mir_lower.proofs.Parameters.{MarksNames}
+use Rattle.mir_lower.proofs.params.lower_params.Given as goal
+
+abbrev pub invariant-loop-pat : goal.invariant-loop-pat
+invariant-loop-pat l = MarksNames (source_of l.context) (shape l.fn.graph) (shape l.graph) (take l.pat-index l.params) l.locals
