@@ -138,10 +138,7 @@ fn copy_types(alloc: Global, infer: &InferenceResult) -> Result<BTreeSet<Ty>, No
 }
 
 /// The calls that are listed as diverging, in their order.
-fn diverging_calls(
-    alloc: Global,
-    infer: &InferenceResult,
-) -> Result<BTreeSet<ExprId>, NoMemory>
+fn diverging_calls(alloc: Global, infer: &InferenceResult) -> Result<BTreeSet<ExprId>, NoMemory>
     ensures { IfOk result (HasDiverging infer.now) }
 {
     let listed = infer.diverging.as_slice();
