@@ -3,7 +3,7 @@
 import json
 
 from running import ROOT
-from rust_text import read
+from rust_text import read, read_function
 from typed_bodies import ALL, LAYOUTS, SCALARS, body_row, world_of_bodies
 from worlds import (
     BOOL,
@@ -119,9 +119,15 @@ COPIES = {True: SCALARS, False: [], "all": ALL}
 
 
 def source_world(row):
-    """A world of one constant, whose body is written in Rust, and whose run may have limits."""
+    """A world of one constant, whose body is written in Rust, as the functions are that it may call, and whose run may have
+    limits."""
     copy_types = COPIES[row.get("copies", True)]
-    made = world_of_bodies([(body_row(read(row["source"]), row["type"], copy_types), row["type"])])
+    functions = [read_function(text) for text in row.get("functions", [])]
+    body_of_goal = body_row(read(row["source"]), row["type"], copy_types, functions)
+    made = world_of_bodies([(body_of_goal, row["type"])], functions, copy_types)
+    if "goal" in row:
+        names = [one.name for one in functions]
+        made["goals"] = [goal({"FunctionId": names.index(row["goal"])})]
     limits = {name: row[name] for name in ("blocks", "nesting", "bytes") if name in row}
     if limits:
         made["goals"][0]["limits"] = {"blocks": 10000000, "nesting": 100, "bytes": 1000000, **limits}

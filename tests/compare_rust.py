@@ -65,9 +65,15 @@ def faults_of_types(folder, rows):
     yield from (f"types: Rust doesn't write {text!r}" for text in named if text not in printed)
 
 
+def closure_body(row):
+    """The source of a row, behind the functions that it may call."""
+    functions = row.get("functions", [])
+    return f"{{ {' '.join(functions)} {row['source']} }}" if functions else row["source"]
+
+
 def program_of(rows):
     """A Rust program that shows the values of the sources of these rows."""
-    calls = [f"show::<{row['type']}>({number}, || {row['source']});" for number, row in enumerate(rows)]
+    calls = [f"show::<{row['type']}>({number}, || {closure_body(row)});" for number, row in enumerate(rows)]
     return "\n".join([FRONT, *calls, "}", ""])
 
 

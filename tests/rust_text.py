@@ -1,5 +1,5 @@
-"""Reads bodies that are written in Rust: numbers, truth values, names, operators, blocks, `if`, loops, jumps, `let`, and
-assignments.
+"""Reads bodies that are written in Rust: numbers, truth values, names, operators, blocks, `if`, loops, jumps, `let`,
+assignments, and calls of functions by their names. It reads functions too.
 
 A body is read as a tree of tuples, the first part of which says what it is:
 
@@ -10,15 +10,19 @@ A body is read as a tree of tuples, the first part of which says what it is:
     ("branch", condition, block, block of `else`, another branch, a jump or None)
     ("loop", body, label or None)
     ("leave", value or None, label or None)     ("again", label or None)        ("give_back", value or None)
+    ("call", name, arguments)
 
 A label is its text, as `'a`. `while c { .. }` is read as the loop with an `if` that it stands for,
 `loop { if c { .. } else { break } }`, where the loop's body is the `if` itself. An operator is one of the worlds' JSON, as
 `{"ArithOp": "Add"}`. A statement is one of
 
     ("let", name, type or None, initializer or None, block of `else` or None)        ("expr", expression)
+
+A function is read as a `Function`. Its parameters are plain names.
 """
 
 import re
+from dataclasses import dataclass
 
 ARITHMETIC = {"+": "Add", "-": "Sub", "*": "Mul", "/": "Div", "%": "Rem", "<<": "Shl", ">>": "Shr",
               "&": "BitAnd", "|": "BitOr", "^": "BitXor"}
@@ -37,15 +41,25 @@ UNARY = {"-": "Neg", "!": "Not", "*": "Deref"}
 LEVELS = (("||",), ("&&",), tuple(COMPARISONS), ("|",), ("^",), ("&",), ("<<", ">>"), ("+", "-"), ("*", "/", "%"))
 
 # What follows a jump that has no value.
-ENDS = (";", "}", ")", "")
+ENDS = (";", "}", ")", ",", "")
 
 TOKEN = re.compile(
-    r"\s*(\d+(?:[iu](?:8|16|32|64|128|size))?|'?[A-Za-z_]\w*|<<=|>>=|&&|\|\||<<|>>|[-+*/%&|^=!<>]=|[-+*/%&|^=!<>(){};:])"
+    r"\s*(\d+(?:[iu](?:8|16|32|64|128|size))?|'?[A-Za-z_]\w*|<<=|>>=|&&|\|\||<<|>>|->|[-+*/%&|^=!<>]=|[-+*/%&|^=!<>(){};:,])"
 )
 
 
 class NoBody(Exception):
     """A text that is no body of these forms, or one whose types don't fit."""
+
+
+@dataclass
+class Function:
+    """A function: its name, its parameters with their types, the type that it returns, and the tree of its body."""
+
+    name: str
+    params: list
+    ret: str
+    tree: tuple
 
 
 def operator_of(token):
@@ -147,8 +161,36 @@ class Reader:
             digits, suffix = re.fullmatch(r"(\d+)(\w*)", token).groups()
             return ("number", digits, suffix or None)
         if token[0].isalpha() or token[0] == "_":
-            return ("path", token)
+            return ("call", token, self.arguments()) if self.next() == "(" else ("path", token)
         raise NoBody(f"{token!r} stands where an expression is wanted")
+
+    def arguments(self):
+        """The arguments of a call in brackets."""
+        self.need("(")
+        found = []
+        while not self.take(")"):
+            found.append(self.expr())
+            if self.next() != ")":
+                self.need(",")
+        return found
+
+    def function(self):
+        """The whole text as one function."""
+        self.need("fn")
+        name, params = self.need(), []
+        self.need("(")
+        while not self.take(")"):
+            self.take("mut")
+            param = self.need()
+            self.need(":")
+            params.append((param, self.type()))
+            if self.next() != ")":
+                self.need(",")
+        ret = self.type() if self.take("->") else "()"
+        tree = self.block()
+        if self.next() != "":
+            raise NoBody(f"{self.next()!r} stands after the end")
+        return Function(name, params, ret, tree)
 
     def branch(self):
         """An `if`."""
@@ -210,3 +252,8 @@ class Reader:
 def read(text):
     """The tree of a body."""
     return Reader(text).body()
+
+
+def read_function(text):
+    """The function that a text is."""
+    return Reader(text).function()

@@ -4,6 +4,8 @@ Types are found as Rust finds them: a literal without a suffix has the type that
 does. A block without a tail may have any type that is asked for, as where its end isn't reached. A jump, and a loop that
 no `break` leaves, are of type `!`, and become of the type that is asked for, where one is.
 
+A call of a function that returns `!` is one that inference marks as diverging.
+
 A jump means what it means here: one without a label the innermost loop or labelled block, where Rust refuses the block. A
 `return` leaves the body, as it does in a function. Rust refuses it in a constant.
 """
@@ -24,6 +26,8 @@ from worlds import (
     continue_to,
     expr_pat,
     filled,
+    fn_def,
+    function,
     goal,
     integer,
     let_statement,
@@ -79,8 +83,10 @@ def same(left, right):
 
 
 def settled(ty):
-    """The JSON of a type, once nothing more is learned of it."""
+    """The JSON of a type, once nothing more is learned of it. The type of a function's name is its JSON already."""
     ty = known(ty)
+    if isinstance(ty, dict):
+        return ty
     if not isinstance(ty, Unknown):
         return TYPES[ty]
     return TYPES["i32" if ty.is_integer else "!" if ty.is_endless else "()"]
@@ -105,10 +111,13 @@ class Target:
 
 
 class Draft:
-    """A body of this type that is made node by node, in the order in which its nodes have to stand."""
+    """A body of this type that is made node by node, in the order in which its nodes have to stand. It may call these
+    functions."""
 
-    def __init__(self, ty):
+    def __init__(self, ty, functions=()):
         self.ty = ty
+        self.functions = {one.name: (place, one) for place, one in enumerate(functions)}
+        self.params, self.diverging = [], []
         self.exprs, self.pats, self.bindings = [], [], []
         self.expr_types, self.pat_types, self.binding_types = [], [], []
         self.value_res, self.pat_value_res, self.binding_modes = [], [], []
@@ -147,6 +156,28 @@ class Draft:
             same(ty, self.binding_types[found])
             self.value_res.append([place, {"LocalBinding": found}])
         return place
+
+    def call(self, name, args, ty):
+        """A call of a function by its name."""
+        if name not in self.functions:
+            raise NoBody(f"no function is called {name}")
+        number, called = self.functions[name]
+        callee = self.add(path(name), fn_def(number))
+        self.value_res.append([callee, {"FunctionId": number}])
+        if len(args) != len(called.params):
+            raise NoBody(f"{name} takes {len(called.params)} arguments")
+        given = [self.expr(arg, param) for arg, (_, param) in zip(args, called.params)]
+        node = filled(Call={"callee": callee, "args": given})
+        if called.ret == "!":
+            place = self.add_endless(node, ty)
+            self.diverging.append(place)
+            return place
+        same(ty, called.ret)
+        return self.add(node, ty)
+
+    def param(self, name, ty):
+        """A parameter, whose name is known in the whole body."""
+        self.params.append(self.name(name, ty))
 
     def unary(self, op, operand, ty):
         inside = self.expr(operand, ty)
@@ -271,32 +302,53 @@ class Draft:
         ty = Unknown() if written is None else written
         value = None if initializer is None else self.expr(initializer, ty)
         instead = None if other is None else self.expr(other, Unknown())
+        return let_statement(self.name(name, ty), value, instead)
+
+    def name(self, name, ty):
+        """The pattern of a name that is bound from here on."""
         self.bindings.append({"name": name, "mode": "Unannotated"})
         self.binding_types.append(ty)
         self.scopes[-1][name] = len(self.bindings) - 1
         pat = self.add_pat(bind(len(self.bindings) - 1), ty)
         self.binding_modes.append([pat, "Move"])
-        return let_statement(pat, value, instead)
+        return pat
 
     def row(self, copy_types):
         """The row of the body, whose root is the last expression."""
         kinds = ("expr_types", "pat_types", "binding_types")
         types = {kind: [settled(ty) for ty in getattr(self, kind)] for kind in kinds}
-        nodes = filled(exprs=self.exprs, pats=self.pats, bindings=self.bindings, labels=self.labels)
+        nodes = filled(exprs=self.exprs, pats=self.pats, bindings=self.bindings, labels=self.labels, params=self.params)
         names = {"value_res": self.value_res, "pat_value_res": self.pat_value_res, "binding_modes": self.binding_modes}
-        found = filled(**types, expr_adjustments=list(self.adjustments()), **names, copy_types=copy_types)
+        found = filled(**types, expr_adjustments=list(self.adjustments()), **names, diverging=self.diverging, copy_types=copy_types)
         return {"body": {**nodes, "body_expr": len(self.exprs) - 1}, "infer": found}
 
 
-def body_row(tree, ty, copy_types=SCALARS):
-    """The row of a body that is a tree, at a type, with the types that are listed as `Copy`."""
-    draft = Draft(ty)
+def body_row(tree, ty, copy_types=SCALARS, functions=()):
+    """The row of a body that is a tree, at a type, with the types that are listed as `Copy`, and the functions that it may
+    call."""
+    draft = Draft(ty, functions)
     draft.expr(tree, ty)
     return draft.row(copy_types)
 
 
-def world_of_bodies(bodies):
-    """An input in which each of these bodies, which stand with the names of their types, is a constant and a goal."""
+def row_of_function(called, copy_types, functions):
+    """The row of a function's body."""
+    draft = Draft(called.ret, functions)
+    for name, ty in called.params:
+        draft.param(name, ty)
+    draft.expr(called.tree, called.ret)
+    return draft.row(copy_types)
+
+
+def world_of_bodies(bodies, functions=(), copy_types=SCALARS):
+    """An input in which each of these bodies, which stand with the names of their types, is a constant and a goal. The bodies of
+    the functions stand behind them."""
     consts = [const(TYPES[ty], name="GOAL", body=place) for place, (_, ty) in enumerate(bodies)]
     goals = [goal({"ConstId": place}) for place in range(len(bodies))]
-    return world(goals, consts=consts, bodies=[row for row, _ in bodies], layouts=LAYOUTS)
+    rows = [row for row, _ in bodies] + [row_of_function(one, copy_types, functions) for one in functions]
+    called = [
+        function([TYPES[ty] for _, ty in one.params], TYPES[one.ret], name=one.name, body=len(bodies) + place)
+        for place, one in enumerate(functions)
+    ]
+    tables = {"functions": called} if called else {}
+    return world(goals, consts=consts, bodies=rows, layouts=LAYOUTS, **tables)

@@ -63,8 +63,12 @@ fn callee_type<'a>(context: &Context<'a>, callee: ExprId) -> Option<&'a Ty>
     ensures built { IfSome result (λ ty. CallsFunction (source_of context.now) callee.0) }
     ensures unbuilt { IfNone result (IsUnbuiltCall (source_of context.now) callee.0) }
 {
-    let ty = own_type(context, callee)?;
-    let id = function_in(ty)?;
+    let Some(ty) = own_type(context, callee) else {
+        return None;
+    };
+    let Some(id) = function_in(ty) else {
+        return None;
+    };
     match context.db.is_special(id) {
         Some(_) => None,
         None => Some(ty),

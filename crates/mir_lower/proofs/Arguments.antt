@@ -1,14 +1,19 @@
 -- The cells of a called body, and its arguments in them.
-use Rattle.std.proofs.Common.{◌≡◌, ◌≢◌, ℕ, zero, suc, ◌⊎◌, ⊎_elim, Bool, true, false, cond, List, [], ◌∷◌, length, Option, Some, None, Result, Ok, Err, refl, sym, ap, ◌∙◌, subst, eqb}
+use Rattle.std.proofs.Common.{◌≡◌, ◌≢◌, ℕ, zero, suc, ⊎_elim, Bool, true, false, cond, List, [], ◌∷◌, length, Option, Some, None, Result, Ok, Err, refl, sym, ap, ◌∙◌, subst, eqb}
 use Rattle.std.specs.Prelude.{slice_get, map, replicate, unwrap_or, option_map, option_and_then, codes}
-use Rattle.std.proofs.lemmas.List.{length-replicate}
 use borrow.Author.Tests.{eqb-true}
 use Rattle.types.specs.declared.ids.CallableDefId.TheVariants.{FunctionId as CalledFunction, StructId, EnumVariantId}
 use Rattle.types.specs.declared.ids.FunctionId.{FunctionId}
+use Rattle.types.specs.declared.ty.ComplexMemoryMap.{ComplexMemoryMap}
+use Rattle.types.specs.declared.ty.Const.{Const}
 use Rattle.types.specs.declared.ty.Const.TheOpen as layer
 use Rattle.types.specs.declared.ty.GenericArg.{GenericArg}
 use Rattle.types.specs.declared.ty.GenericArgs.{GenericArgs}
-use Rattle.types.specs.declared.ty.Ty.{Ty, out-Ty}
+use Rattle.types.specs.declared.ty.MemoryMap.{MemoryMap}
+use Rattle.types.specs.declared.ty.TraitRef.{TraitRef}
+use Rattle.types.specs.declared.ty.Ty.{Ty, Ty-F, out-Ty}
+use Rattle.types.specs.declared.ty.UnevaluatedConst.{UnevaluatedConst}
+use Rattle.types.specs.declared.ty.ValueConst.{ValueConst}
 use Rattle.world.specs.declared.database.HirDatabase.{HirDatabase}
 use Rattle.world.specs.declared.layout.Layout.{Layout}
 use Rattle.world.specs.Lookups.{layout_of}
@@ -24,8 +29,8 @@ use Rattle.mir.specs.Areas.{AreApart, after_push}
 use Rattle.mir.specs.Errors.{layout_error_of}
 use Rattle.mir.specs.Memory.{Memory, cell_bytes, cell_before, cell_size_of, size_before, sizes_of, pushed, cells_of}
 use Rattle.mir.specs.Run.{Frame, operand_bytes as mir_bytes, bad_write, read, copied, filled as mir_filled, called_cells, function_of as mir_function_of, function_in as mir_function_in}
-use Rattle.source_meaning.specs.Calls.{TyLayer, without_generics, function_of, function_in, function_called, filled}
-use Rattle.source_meaning.specs.Source.{Source, Cell, Result as Slot, Node, Binding, Never, Store, Operand, operand_bytes, own_type, cell_type, cell_layout, cell_size, same_cell, zeroed, with_cell_bytes}
+use Rattle.source_meaning.specs.Calls.{without_generics, function_of, function_in, function_called, filled}
+use Rattle.source_meaning.specs.Source.{Source, Cell, Result as Slot, Binding, Store, Operand, operand_bytes, own_type, cell_type, cell_layout, cell_size, zeroed, with_cell_bytes}
 use Rattle.mir_lower.specs.Callees.{AreLocalsOf, without_arguments}
 use Rattle.mir_lower.specs.Does.{Holds, FitAll}
 use Rattle.mir_lower.specs.Graph.{Shape, local_of}
@@ -35,9 +40,16 @@ use Rattle.mir_lower.proofs.Holding.{cells, interval-of}
 use Rattle.mir_lower.proofs.Placing.{HasCell, Placing, AreAligned, places-all, apart-sym}
 use Rattle.mir_lower.proofs.Stack.{length-cell_bytes, can_write, read-written, read-apart}
 
+-- a type's variant
+abbrev TyLayer : Type 0
+TyLayer = Ty-F Const GenericArg MemoryMap Ty ComplexMemoryMap GenericArgs TraitRef UnevaluatedConst ValueConst
+
 -- A function that a type names without generic arguments: MIR's reading of the type names it with none.
 without-any : (id named : FunctionId) (args : GenericArgs) (given : List GenericArg) → args ≡ record { 0 = given } → without_generics named given ≡ Some id → ◌≡◌ {A = Option (FunctionId × GenericArgs)} (Some (named, args)) (Some (without_arguments id))
-without-any id named args [] none is = let same : named ≡ id = cc in ap (λ (n : FunctionId). Some (n, args)) same ∙ ap (λ (a : GenericArgs). Some (id, a)) none
+without-any id named args [] none is =
+    let same : named ≡ id = cc in
+    let pair : FunctionId → GenericArgs → Option (FunctionId × GenericArgs) = λ n a. Some (n, a) in
+    ap (λ (n : FunctionId). pair n args) same ∙ ap (pair id) none
 without-any id named args (first ∷ rest) none is = absurd cc
 
 layer-names : (of : TyLayer) (id : FunctionId) → function_of of ≡ Some id → mir_function_of of ≡ Some (without_arguments id)
@@ -105,9 +117,11 @@ bytes-at frame memory l cell found = ap (option_and_then (cell_bytes memory)) fo
 pub represents-later : (allotted : Cell → Option ℕ) (frame : Frame) (store : Store) (before memory : Memory) → Represents allotted frame store before →
     ((old : Interval) (bytes : List ℕ) → cell_bytes before old ≡ Some bytes → cell_bytes memory old ≡ Some bytes) → Represents allotted frame store memory
 represents-later allotted frame store before memory holds kept =
-    record { shows = λ c l local.
-        let at = interval-of frame before l (store c) (holds.shows c l local) in
-        bytes-at frame memory l at.0 at.1 ∙ kept at.0 (store c) at.2 }
+    record {
+      shows = λ c l local.
+          let at = interval-of frame before l (store c) (holds.shows c l local) in
+          bytes-at frame memory l at.0 at.1 ∙ kept at.0 (store c) at.2;
+    }
 
 -- bytes that are written to the local of a cell, in a frame whose cells lie apart
 module _ (allotted : Cell → Option ℕ) (own : (c d : Cell) (l : ℕ) → allotted c ≡ Some l → allotted d ≡ Some l → c ≡ d) (frame : Frame) (apart : AreCellsApart frame.cells) (store : Store) (memory : Memory) (holds : Represents allotted frame store memory) (c : Cell) (l : ℕ) (local : allotted c ≡ Some l) (bytes : List ℕ) (long : length bytes ≡ length (store c)) where
@@ -169,12 +183,14 @@ module _ (source : Source) (whole : Shape) (caller : Frame) (store : Store) (bef
       Filling now memory → filled called now bound (map (operand_bytes store) values) ≡ Some start → (after : Memory) × (mir_filled caller frame.cells params args memory ≡ Ok after) × Filling start after
   unfolding filled mir_filled
   fills [] [] [] [] now start memory locals fit filling is = let same : now ≡ start = cc in (memory, refl, subst (λ (s : Store). Filling s memory) same filling)
+  fills [] [] [] (value ∷ values) now start memory locals fit filling is = absurd fit
+  fills [] [] (arg ∷ args) [] now start memory locals fit filling is = absurd fit
   fills [] [] (arg ∷ args) (value ∷ values) now start memory locals fit filling is = absurd cc
-  fills (b ∷ bound) (param ∷ params) [] [] now start memory locals fit filling is = absurd cc
-  fills bound params [] (value ∷ values) now start memory locals fit filling is = absurd fit
-  fills bound params (arg ∷ args) [] now start memory locals fit filling is = absurd fit
   fills [] (param ∷ params) args values now start memory locals fit filling is = absurd locals
   fills (b ∷ bound) [] args values now start memory locals fit filling is = absurd locals
+  fills (b ∷ bound) (param ∷ params) [] [] now start memory locals fit filling is = absurd cc
+  fills (b ∷ bound) (param ∷ params) [] (value ∷ values) now start memory locals fit filling is = absurd fit
+  fills (b ∷ bound) (param ∷ params) (arg ∷ args) [] now start memory locals fit filling is = absurd fit
   fills (b ∷ bound) (param ∷ params) (arg ∷ args) (value ∷ values) now start memory locals fit filling is =
       let bytes = operand_bytes store value in
       let next = with_cell_bytes now (Binding b) bytes in

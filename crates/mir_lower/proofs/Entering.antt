@@ -2,7 +2,6 @@
 use Rattle.std.proofs.Common.{◌≡◌, ℕ, suc, ◌+◌, ◌≤◌, ◌⊎◌, ⊎_elim, inl, inr, Bool, true, false, cond, List, ◌∷◌, length, map, Option, Some, None, Result, Ok, Err, refl, sym, ap, ◌∙◌, subst, arith, eqb}
 use Rattle.std.specs.Prelude.{slice_get, nat_le, if◌then◌else◌, option_map, option_and_then, codes}
 use Rattle.std.proofs.lemmas.List.{length-replicate}
-use borrow.Author.Tests.{eqb-true}
 use Rattle.types.specs.declared.ids.FunctionId.{FunctionId}
 use Rattle.types.specs.declared.ty.GenericArgs.{GenericArgs}
 use Rattle.types.specs.declared.ty.Ty.{Ty}
@@ -19,17 +18,17 @@ use Rattle.mir.specs.declared.errors.MirEvalError.{MirEvalError}
 use Rattle.mir.specs.declared.errors.MirEvalError as error
 use Rattle.mir.specs.declared.operand.Operand.{Operand as MirOperand}
 use Rattle.mir.specs.Memory.{Memory, cell_bytes}
-use Rattle.mir.specs.Run.{Program, Frame, Calling, Next, GoesTo, Ending, Faulted, Asked, Ended, operand_type as mir_type, function_in as mir_function_in, filled as mir_filled, body_query, bad_write, trail_of, faults, levels_over, waiting, entry_of, callee_error, called_cells, called as mir_called, called_by, calls, entered, resumed, after_return, entering, going_on}
+use Rattle.mir.specs.Run.{Program, Frame, Calling, GoesTo, Ending, Faulted, Asked, Ended, operand_type as mir_type, function_in as mir_function_in, filled as mir_filled, body_query, bad_write, trail_of, faults, levels_over, waiting, entry_of, callee_error, called_cells, called as mir_called, called_by, calls, entered, resumed, after_return, going_on}
 use Rattle.source_meaning.specs.Calls.{function_called, source_at, source_of, source_called, filled, started}
-use Rattle.source_meaning.specs.Ends.{Cost, no_cost, turns_alone, one_level_more, plus, End, Go, Jumps, Faults, Undefined, Stuck, More, after, then_do}
+use Rattle.source_meaning.specs.Ends.{Cost, no_cost, turns_alone, plus, End, Go, Jumps, Faults, Stuck, More, after, then_do}
 use Rattle.source_meaning.specs.Meaning.{put, gone_on, gone_astray, entered_from, entered_into, callees_at, meaning_from}
 use Rattle.source_meaning.specs.Source.{Source, own_type, Cell, Result as Slot, Binding, cell_size, Path, Store, Operand, operand_bytes, zeroed, with_cell_bytes}
-use Rattle.mir_lower.specs.Callees.{RunsOn, RunsAs, DoesBelow, Serves, without_arguments}
+use Rattle.mir_lower.specs.Callees.{RunsAs, DoesBelow, Serves, without_arguments}
 use Rattle.mir_lower.specs.Does.{IsFrameOf, Holds, Landings, Reaches, Nothing, FitAll}
 use Rattle.mir_lower.specs.Graph.{Shape, local_of}
 use Rattle.mir_lower.specs.Growth.{IsSound}
-use Rattle.mir_lower.specs.Runs.{Point, Entry, Exit, start_of, run_from, local_bytes, Enters, IsFault, EndsAfter, error_of, LiesApart, Comes, Represents}
-use Rattle.mir_lower.specs.Stops.{MakesCall, IsCut, LacksRoom, StopsWithin, turns_of}
+use Rattle.mir_lower.specs.Runs.{Point, Entry, Exit, start_of, run_from, local_bytes, Enters, IsFault, EndsAfter, error_of, LiesApart, Comes}
+use Rattle.mir_lower.specs.Stops.{MakesCall, IsCut, StopsWithin, turns_of}
 use Rattle.mir_lower.proofs.Aligned.{are-aligned}
 use Rattle.mir_lower.proofs.Arguments.{names-callee, called-lacks, bytes-at, Spares, Shows, ArePlaced, called-places, fills}
 use Rattle.mir_lower.proofs.Holding.{cells, interval-of}
@@ -67,13 +66,14 @@ stops-now source program turns run ending makes cut ends =
       };
     }
 
+by_test : {A : Type 0} (fits not : A) (b : Bool) → (cond b fits not ≡ fits) ⊎ (cond b fits not ≡ not)
+by_test fits not true = inl refl
+by_test fits not false = inr refl
+
 -- a write's bytes fit their cell, or the write is stuck
 put-fits : (store : Store) (path : Path) (bytes : List ℕ) → (put store path bytes ≡ Go tt (with_cell_bytes store path.cell bytes) no_cost) ⊎ (put store path bytes ≡ Stuck)
 unfolding put
-put-fits store path bytes = by_test (eqb (length bytes) (length (store path.cell))) where
-  by_test : (b : Bool) → (cond b (Go tt (with_cell_bytes store path.cell bytes) no_cost) Stuck ≡ Go tt (with_cell_bytes store path.cell bytes) no_cost) ⊎ (cond b (Go tt (with_cell_bytes store path.cell bytes) no_cost) Stuck ≡ Stuck)
-  by_test true = inl refl
-  by_test false = inr refl
+put-fits store path bytes = by_test (Go tt (with_cell_bytes store path.cell bytes) no_cost) Stuck (eqb (length bytes) (length (store path.cell)))
 
 -- the source of a function stands in its world
 source-world : (world : HirDatabase) (id : FunctionId) (called : Source) → source_of world id ≡ Some called → called.world ≡ world
@@ -282,7 +282,7 @@ module _ (source : Source) (whole : Shape) (frame : Frame) (lands : Landings) (f
           }
 
     gives-value : (value : List ℕ) (left : Store) (cost : Cost) → RunsAs called into.allotted Inner (Entry into.body.start_block.0) into.now (Go value left cost) → Returns (gone_on (record { cell = c }) store (Go value left cost))
-    unfolding gone_on after then_do plus
+    unfolding after then_do plus
     gives-value value left cost does = by_put (put-fits store (record { cell = c }) value) does where
       by_put : (put store (record { cell = c }) value ≡ Go tt (with_cell_bytes store c value) no_cost) ⊎ (put store (record { cell = c }) value ≡ Stuck) → RunsAs called into.allotted Inner (Entry into.body.start_block.0) into.now (Go value left cost) → Returns (after cost (then_do (put store (record { cell = c }) value) (λ _ last. Go tt last (turns_alone 1))))
       by_put (inl fits) (inl stops) =
@@ -295,7 +295,6 @@ module _ (source : Source) (whole : Shape) (frame : Frame) (lands : Landings) (f
           subst (λ (written : End (Unit {0})). Returns (after cost (then_do written (λ _ last. Go tt last (turns_alone 1))))) (sym stuck) (inr tt)
 
     gives-back : (end : End (List ℕ)) → RunsAs called into.allotted Inner (Entry into.body.start_block.0) into.now end → Returns (gone_on (record { cell = c }) store end)
-    unfolding gone_on
     gives-back (Go value left cost) does = gives-value value left cost does
     gives-back (Jumps to left cost) does = inr tt
     gives-back Stuck does = inr tt
@@ -319,7 +318,6 @@ module _ (source : Source) (whole : Shape) (frame : Frame) (lands : Landings) (f
     stops-astray turns stops = stops-same source called frame.program turns turns (run_from frame memory from) (run_from Own into.now (Entry into.body.start_block.0)) makes into.same (omega arith) stops
 
     gives-astray : (end : End (List ℕ)) → RunsAs called into.allotted Own (Entry into.body.start_block.0) into.now end → Strays (gone_astray end)
-    unfolding gone_astray
     gives-astray (Jumps jump left cost) does = inr tt
     gives-astray Stuck does = inr tt
     gives-astray (Go value left cost) (inl stops) = inl (stops-astray cost.turns stops)

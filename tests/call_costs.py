@@ -1,0 +1,838 @@
+#!/usr/bin/env python3
+"""What the goals of a world have to answer, by the rules of `docs/MEANING.md` and of "Limits" in `docs/DECISIONS.md`: it
+evaluates the trees of the world's bodies, and counts blocks, bytes and levels of nesting. It knows no graph, and takes nothing from
+the program.
+
+usage: call_costs.py           compares all cases that have a report with it
+       call_costs.py WORLD     prints the report of an input
+
+It knows the forms that are evaluated, with their faults and refusals, of which the first in the order of lowering is the answer. A world
+in which it meets something else is skipped in a comparison. The exit code is 1 where something differs.
+"""
+
+import json
+import sys
+import threading
+from dataclasses import dataclass, field
+
+ORIGIN = "tests/call_costs.py"
+NOT_BUILT = 'NotSupported("form not built")'
+DEFAULT_LIMITS = {"blocks": 10000000, "nesting": 100, "bytes": 1000000000}
+SIGNED = {"I8": 1, "I16": 2, "I32": 4, "I64": 8, "I128": 16, "Isize": 8}
+RESULT = ("result",)
+# Calls nest in Python as they do in the world.
+STACK, DEPTH = 512 * 2**20, 10**6
+
+
+class Unknown(Exception):
+    """A world in which something stands that isn't known here."""
+
+
+def has_param(tree):
+    """Whether a type holds a parameter."""
+    if isinstance(tree, dict):
+        return "Param" in tree or any(has_param(part) for part in tree.values())
+    return isinstance(tree, list) and any(has_param(part) for part in tree)
+
+
+def no_layout(ty):
+    """Why a type has no layout."""
+    return "HasPlaceholder" if has_param(ty) else "Unknown"
+
+
+def quoted(text):
+    """A text in quotes."""
+    shown = text.replace("\\", "\\\\").replace('"', '\\"').replace("\n", "\\n")
+    return f'"{shown}"'
+
+
+class Refusal(Exception):
+    """Why a body can't be lowered."""
+
+
+class Fault(Exception):
+    """A fault of a run, with the calls that were open: the innermost one, and those around it."""
+
+    def __init__(self, text, trail):
+        super().__init__(text)
+        self.text, self.trail = text, trail
+
+    def shown(self):
+        calls, around = [], self.trail
+        while around:
+            call, around = around
+            calls.append(call)
+        return f"InFunction({self.text}, [{', '.join(calls)}])"
+
+
+class NoPlace(Exception):
+    """Why cells can't be placed."""
+
+
+class Jump(Exception):
+    """A jump: where it leads, as ("break", e), ("continue", e) or ("return",)."""
+
+    def __init__(self, *to):
+        super().__init__(to)
+        self.to = to
+
+
+def key(tree):
+    """A text that is the same for the same JSON."""
+    return json.dumps(tree, sort_keys=True)
+
+
+def variant(tree):
+    """The name of a variant of an enum, and its part."""
+    return (tree, None) if isinstance(tree, str) else next(iter(tree.items()))
+
+
+def shown_type(ty):
+    """The text of a simple type."""
+    name, part = variant(ty)
+    if name in ("Int", "Uint"):
+        return part.lower()
+    if name == "Tuple" and not part:
+        return "()"
+    if name in ("Bool", "Char", "Str"):
+        return name.lower()
+    if name == "Never":
+        return "!"
+    raise Unknown(f"the text of {ty}")
+
+
+# The table of operators.
+
+
+def number_of(kind, data):
+    """The number that bytes are, at a kind of types: "signed", "unsigned" or "bool"."""
+    return int.from_bytes(data, "little", signed=kind == "signed")
+
+
+def low_bytes(size, number):
+    return (number % 256**size).to_bytes(size, "little")
+
+
+def held(kind, size, number, word):
+    """The bytes of an exact result, or the word of the panic where the type doesn't hold it."""
+    least, most = (-(256**size) // 2, 256**size // 2 - 1) if kind == "signed" else (0, 256**size - 1)
+    if not least <= number <= most:
+        raise OverflowError(word)
+    return low_bytes(size, number)
+
+
+def divided(left, right):
+    """The quotient, towards zero."""
+    quotient = abs(left) // abs(right)
+    return quotient if (left < 0) == (right < 0) else -quotient
+
+
+def arithmetic(op, kind, left, right, right_kind):
+    """An arithmetic operator on bytes. A panic is an `OverflowError` with its operator."""
+    a, b, size = number_of(kind, left), number_of(right_kind, right), len(left)
+    if op in ("BitAnd", "BitOr", "BitXor"):
+        made = {"BitAnd": lambda x, y: x & y, "BitOr": lambda x, y: x | y, "BitXor": lambda x, y: x ^ y}[op]
+        return bytes(made(x, y) for x, y in zip(left, right))
+    if kind == "bool":
+        raise Unknown("arithmetic on truth values")
+    if op in ("Shl", "Shr"):
+        if not 0 <= b < 8 * size:
+            raise OverflowError(op)
+        return low_bytes(size, a << b if op == "Shl" else a >> b)
+    if op in ("Div", "Rem"):
+        if b == 0 or (kind == "signed" and b == -1 and a == -(256**size) // 2):
+            raise OverflowError(op)
+        quotient = divided(a, b)
+        return low_bytes(size, quotient if op == "Div" else a - b * quotient)
+    return held(kind, size, {"Add": a + b, "Sub": a - b, "Mul": a * b}[op], op)
+
+
+def compared(op, left, right):
+    """A comparison of numbers."""
+    name, part = variant(op)
+    if name == "Eq":
+        return (left != right) if part["negated"] else (left == right)
+    if left == right:
+        return not part["strict"]
+    return (left < right) == (part["ordering"] == "Less")
+
+
+# Bodies, as lowering goes through them.
+
+
+@dataclass
+class Target:
+    """A loop or a labelled block that is open, and how many cells were marked when it was opened."""
+
+    e: int
+    label: object
+    kept: int
+
+
+@dataclass
+class Body:
+    """A body that was gone through: its cells in the order of their locals, how many drops leaving each scope makes, what each jump means,
+    and the cells of the parameters."""
+
+    owner: str
+    body: dict
+    infer: dict
+    locals: list = field(default_factory=list)
+    drops: dict = field(default_factory=dict)
+    targets: dict = field(default_factory=dict)
+    params: list = field(default_factory=list)
+    end: int = 0
+    rows: dict = field(default_factory=dict)
+
+
+class Reading:
+    """Goes through a body in the order of lowering."""
+
+    def __init__(self, world, owner, row):
+        self.world = world
+        self.body = Body(owner, row["body"], row["infer"])
+        self.exprs = row["body"].get("exprs", [])
+        self.pats = row["body"].get("pats", [])
+        self.bindings = row["body"].get("bindings", [])
+        found = row["infer"]
+        self.rows = {
+            name: dict(map(tuple_of, found.get(name, [])))
+            for name in ("expr_adjustments", "value_res", "assoc_res", "variant_res", "pat_value_res", "pat_assoc_res",
+                         "pat_variant_res", "pat_adjustments", "binding_modes")
+        }
+        self.rows["diverging"] = set(found.get("diverging", []))
+        self.layouts = {key(ty): layout for ty, layout in world.get("layouts", [])}
+        self.copies = {key(ty) for ty in found.get("copy_types", [])}
+        self.marks, self.open, self.temps = [], [], []
+
+    def read(self):
+        """The body, once all that is evaluated in it was gone through."""
+        root = self.body.body["body_expr"]
+        if self.body.body.get("self_param") is not None:
+            self.body.params.append(self.bound(self.body.body["self_param"]))
+        self.body.params += [self.name_bound(pat) for pat in self.body.body.get("params", [])]
+        self.marks += self.body.params
+        self.into(root)
+        self.body.end = self.count(0)
+        bindings = [("binding", place) for place, one in enumerate(self.bindings) if one.get("owner") is None]
+        self.body.locals = [RESULT, *bindings, *self.temps]
+        self.body.rows = self.rows
+        if self.world.get("drop_fn") is not None and not all(self.is_copy(cell) for cell in self.body.locals):
+            raise Refusal(NOT_BUILT)
+        return self.body
+
+    def never_target(self, e):
+        """The type after `NeverToAny`, where that adjusts an expression."""
+        steps = self.rows["expr_adjustments"].get(e, [])
+        if not steps:
+            return None
+        if len(steps) > 1 or steps[0]["kind"] != "NeverToAny":
+            raise Refusal(NOT_BUILT)
+        return steps[0]["target"]
+
+    def type_of(self, cell):
+        """The type of a cell."""
+        if cell[0] == "binding":
+            return self.body.infer["binding_types"][cell[1]]
+        e = self.body.body["body_expr"] if cell == RESULT else cell[1]
+        own = self.body.infer["expr_types"][e]
+        steps = [] if cell[0] == "never" else self.rows["expr_adjustments"].get(e, [])
+        return steps[0]["target"] if steps else own
+
+    def is_copy(self, cell):
+        return key(self.type_of(cell)) in self.copies
+
+    def count(self, kept):
+        """How many drops leaving the marks behind the first ones makes."""
+        return sum(not self.is_copy(cell) for cell in self.marks[kept:])
+
+    def temp(self, cell):
+        self.temps.append(cell)
+        self.marks.append(cell)
+
+    def bound(self, binding):
+        if self.bindings[binding].get("owner") is not None:
+            raise Refusal("InaccessibleLocal")
+        return ("binding", binding)
+
+    def name_bound(self, pat):
+        """The cell of the binding that a pattern is the plain name of."""
+        name, part = variant(self.pats[pat])
+        by_value = self.rows["binding_modes"].get(pat, "Move") == "Move" and not self.rows["pat_adjustments"].get(pat, 0)
+        if name != "Bind" or part.get("subpat") is not None or not by_value:
+            raise Refusal(NOT_BUILT)
+        return self.bound(part["id"])
+
+    def named(self, rows, place, name):
+        """The cell of the binding that a path names."""
+        found = rows.get(place)
+        if found is None:
+            raise Refusal(f"UnresolvedName({quoted(name)})")
+        if variant(found)[0] != "LocalBinding":
+            raise Refusal(NOT_BUILT)
+        return self.bound(found["LocalBinding"])
+
+    def is_a(self, e, name):
+        """Whether an expression that isn't adjusted is of a form."""
+        return variant(self.exprs[e])[0] == name and self.never_target(e) is None
+
+    def place(self, e):
+        if self.is_a(e, "Path"):
+            return self.own(e)
+        self.temp(("node", e))
+        return self.into(e)
+
+    def operand(self, e):
+        return self.own(e) if self.is_a(e, "Literal") else self.place(e)
+
+    def into(self, e):
+        if self.never_target(e) is not None:
+            self.temp(("never", e))
+        return self.own(e)
+
+    def tail(self, e):
+        if e is not None:
+            self.into(e)
+
+    def own(self, e):
+        self.never_target(e)
+        name, part = variant(self.exprs[e])
+        method = getattr(self, f"own_{name.lower()}", None)
+        if method is None:
+            raise Refusal(NOT_BUILT)
+        method(e, part)
+
+    def own_missing(self, e, part):
+        raise Refusal("IncompleteExpr")
+
+    def own_literal(self, e, part):
+        name, _ = variant(part)
+        if name not in ("Bool", "Int", "Uint"):
+            raise Refusal(NOT_BUILT)
+        ty = self.body.infer["expr_types"][e]
+        layout = self.layouts.get(key(ty))
+        if name != "Bool" and layout is None:
+            raise Refusal(f"LayoutError({no_layout(ty)})")
+        if name != "Bool" and layout["size"] > 16:
+            raise Refusal('TypeError("number literal of more than 16 bytes")')
+
+    def own_path(self, e, part):
+        if e in self.rows["assoc_res"] or e in self.rows["variant_res"]:
+            raise Refusal(NOT_BUILT)
+        self.named(self.rows["value_res"], e, part)
+
+    def own_unaryop(self, e, part):
+        if part["op"] == "Deref":
+            raise Refusal(NOT_BUILT)
+        self.operand(part["expr"])
+
+    def own_binaryop(self, e, part):
+        if part.get("op") is None:
+            raise Refusal("IncompleteExpr")
+        if variant(part["op"])[0] == "Assignment":
+            raise Refusal(NOT_BUILT)
+        self.operand(part["lhs"])
+        if variant(part["op"])[0] == "LogicOp":
+            self.into(part["rhs"])
+        else:
+            self.operand(part["rhs"])
+
+    def own_if(self, e, part):
+        self.operand(part["condition"])
+        self.into(part["then_branch"])
+        self.tail(part.get("else_branch"))
+
+    def own_assignment(self, e, part):
+        self.place(part["value"])
+        pat = part["target"]
+        name, path = variant(self.pats[pat])
+        unplain = any(pat in self.rows[rows] for rows in ("pat_assoc_res", "pat_variant_res"))
+        if name != "Path" or unplain or self.rows["pat_adjustments"].get(pat, 0):
+            raise Refusal(NOT_BUILT)
+        self.named(self.rows["pat_value_res"], pat, path)
+
+    def own_block(self, e, part):
+        label = part.get("label")
+        kept = len(self.marks)
+        if label is not None:
+            self.open.append(Target(e, label, kept))
+        for statement in part.get("statements", []):
+            self.statement(e, statement)
+        self.tail(part.get("tail"))
+        self.leave(e, kept)
+        if label is not None:
+            self.open.pop()
+
+    def leave(self, scope, kept):
+        self.body.drops[scope] = self.count(kept)
+        del self.marks[kept:]
+
+    def statement(self, e, statement):
+        name, part = variant(statement)
+        if name == "Expr":
+            kept = len(self.marks)
+            self.place(part["expr"])
+            self.leave(("statement", part["expr"]), kept)
+        elif name == "Let" and part.get("initializer") is not None and part.get("else_branch") is None:
+            self.place(part["initializer"])
+            self.marks.append(self.name_bound(part["pat"]))
+        else:
+            raise Refusal(NOT_BUILT)
+
+    def own_loop(self, e, part):
+        kept = len(self.marks)
+        self.open.append(Target(e, part.get("label"), kept))
+        self.place(part["body"])
+        self.leave(e, kept)
+        self.open.pop()
+
+    def target_of(self, e, label, refusal):
+        found = next((one for one in reversed(self.open) if label in (None, one.label)), None)
+        if found is None:
+            raise Refusal(refusal if label is None else "UnresolvedLabel")
+        self.body.targets[e] = found
+        return found
+
+    def own_break(self, e, part):
+        target = self.target_of(e, part.get("label"), "BreakWithoutLoop")
+        self.tail(part.get("expr"))
+        self.body.drops[e] = self.count(target.kept)
+
+    def own_continue(self, e, part):
+        target = self.target_of(e, (part or {}).get("label"), "ContinueWithoutLoop")
+        self.body.drops[e] = self.count(target.kept)
+
+    def own_return(self, e, part):
+        self.tail(part.get("expr"))
+        self.body.drops[e] = self.count(0)
+
+    def own_call(self, e, part):
+        function = function_in(self.body.infer["expr_types"][part["callee"]])
+        if function is None or self.world["functions"][function].get("special") is not None:
+            raise Refusal(NOT_BUILT)
+        for arg in part.get("args", []):
+            self.operand(arg)
+
+
+def tuple_of(entry):
+    return entry[0], entry[1]
+
+
+def function_in(ty):
+    """The function that a type is the one of, where it has no generic arguments."""
+    name, part = variant(ty)
+    if name != "FnDef" or variant(part[0])[0] != "FunctionId" or part[1]:
+        return None
+    return part[0]["FunctionId"]
+
+
+# Runs.
+
+
+@dataclass
+class Frame:
+    """A body that runs, with the bytes of its cells, and the calls that are open."""
+
+    body: Body
+    cells: dict
+    trail: tuple
+    places: dict = field(default_factory=dict)
+
+
+class Run:
+    """Evaluates one goal."""
+
+    def __init__(self, world, limits, kept):
+        self.world, self.limits, self.kept = world, limits, kept
+        self.layouts = {key(ty): layout for ty, layout in world.get("layouts", [])}
+        self.turns, self.stack, self.levels, self.most_levels = 0, 1, 0, 0
+
+    # Definitions.
+
+    def row_of(self, definition):
+        """The name of a definition, its row, and the row of its body."""
+        sort, number = variant(definition)
+        if sort not in ("ConstId", "FunctionId"):
+            raise Refusal(NOT_BUILT)
+        table, word = {"ConstId": ("consts", "const"), "FunctionId": ("functions", "fn")}[sort]
+        row = self.world[table][number]
+        body = None if row.get("body") is None else self.world["bodies"][row["body"]]
+        return f"{word}#{number}", row, body
+
+    def read(self, definition, args=()):
+        """The body of a definition. Each body is gone through once."""
+        found = self.kept.get(key(definition))
+        if found is None:
+            found = self.kept[key(definition)] = self.read_anew(definition, args)
+        if isinstance(found, Refusal):
+            raise found
+        return found
+
+    def read_anew(self, definition, args):
+        try:
+            owner, row, body = self.row_of(definition)
+            if body is not None and (body["infer"].get("erroneous") or body["infer"].get("mismatches")):
+                return Refusal("HasErrors")
+            if args or row.get("generics"):
+                return Refusal(NOT_BUILT)
+            if body is None:
+                return Refusal("IncompleteExpr")
+            return Reading(self.world, owner, body).read()
+        except Refusal as refusal:
+            return refusal
+
+    # Cells.
+
+    def layout(self, ty):
+        """The layout of a local's type."""
+        found = self.layouts.get(key(ty))
+        if found is None:
+            raise NoPlace(f"LayoutError({no_layout(ty)}, {shown_type(ty)})")
+        if not found.get("sized"):
+            raise NoPlace(f'TypeIsUnsized({shown_type(ty)}, "no unsized local in extending stack")')
+        return found
+
+    def type_of(self, body, cell):
+        if cell[0] == "binding":
+            return body.infer["binding_types"][cell[1]]
+        e = body.body["body_expr"] if cell == RESULT else cell[1]
+        steps = [] if cell[0] == "never" else body.rows["expr_adjustments"].get(e, [])
+        return steps[0]["target"] if steps else body.infer["expr_types"][e]
+
+    def place_cells(self, body, cells):
+        """Places cells at the end of the stack. The answer has the bytes of each."""
+        end, placed = self.stack, {}
+        for cell, layout in [(cell, self.layout(self.type_of(body, cell))) for cell in cells]:
+            end = -(-end // layout["align"]) * layout["align"] + layout["size"]
+            placed[cell] = bytes(layout["size"]) if end - 1 <= self.limits["bytes"] else b""
+        if end - 1 > self.limits["bytes"]:
+            raise NoPlace("MemoryLimitExceeded")
+        self.stack = end
+        return placed
+
+    # What is counted.
+
+    def enter(self, frame, count=1):
+        """Enters blocks."""
+        for _ in range(count):
+            if self.turns == self.limits["blocks"]:
+                raise Fault("ExecutionLimitExceeded", frame.trail)
+            self.turns += 1
+
+    # Answers.
+
+    def answer(self, goal):
+        """The answer of a goal, as it stands in the report."""
+        definition = goal["def"]
+        try:
+            body = self.read(definition, goal.get("args"))
+        except Refusal as refusal:
+            return f"error lower {refusal}"
+        krate = self.row_of(definition)[1]["krate"]
+        width = self.world["crates"][krate].get("pointer_bytes")
+        if width is None:
+            return f"error eval TargetDataLayoutNotAvailable(crate#{krate})"
+        if width != 8:
+            return 'error eval NotSupported("targets with different pointer size from host")'
+        if self.limits["nesting"] == 0:
+            return "error eval StackOverflow"
+        try:
+            cells = self.place_cells(body, body.locals)
+        except NoPlace as cause:
+            return f"error eval {cause}"
+        if body.params:
+            return 'error eval InternalError("too few arguments")'
+        self.levels = self.most_levels = 1
+        try:
+            value = self.run(Frame(body, cells, ()))
+        except Fault as fault:
+            return f"error eval {fault.shown()}"
+        if self.limits["nesting"] < 2:
+            return "error eval StackOverflow"
+        return f"value {shown_type(self.type_of(body, RESULT))} {value.hex() or '-'}"
+
+    def run(self, frame):
+        """Runs a body from its first block on. The answer has the bytes of its result."""
+        self.enter(frame)
+        try:
+            self.into(frame, frame.body.body["body_expr"], RESULT)
+            self.enter(frame, frame.body.end)
+        except Jump as jump:
+            if jump.to != ("return",):
+                raise
+        return frame.cells[RESULT]
+
+    # Expressions.
+
+    def form(self, frame, e):
+        return variant(frame.body.body["exprs"][e])
+
+    def is_adjusted(self, frame, e):
+        return bool(frame.body.rows["expr_adjustments"].get(e))
+
+    def kind(self, ty):
+        name, _ = variant(ty)
+        return {"Int": "signed", "Uint": "unsigned", "Bool": "bool"}.get(name)
+
+    def literal(self, frame, e):
+        """The bytes of a literal."""
+        name, part = variant(self.form(frame, e)[1])
+        if name == "Bool":
+            return bytes([part])
+        return low_bytes(self.layouts[key(frame.body.infer["expr_types"][e])]["size"], int(part[0]))
+
+    def place(self, frame, e):
+        """The cell that an expression is evaluated to."""
+        name, _ = self.form(frame, e)
+        if name == "Path" and not self.is_adjusted(frame, e):
+            return ("binding", frame.body.rows["value_res"][e]["LocalBinding"])
+        self.into(frame, e, ("node", e))
+        return ("node", e)
+
+    def operand(self, frame, e):
+        """What an operation reads: bytes, or a cell."""
+        if self.form(frame, e)[0] == "Literal" and not self.is_adjusted(frame, e):
+            return self.literal(frame, e)
+        return self.place(frame, e)
+
+    def value(self, frame, operand):
+        return operand if isinstance(operand, bytes) else frame.cells[operand]
+
+    def operand_type(self, frame, e):
+        """The type of an operand: a binding's, where it is one."""
+        name, _ = self.form(frame, e)
+        if self.is_adjusted(frame, e):
+            return frame.body.rows["expr_adjustments"][e][0]["target"]
+        if name == "Path":
+            return frame.body.infer["binding_types"][frame.body.rows["value_res"][e]["LocalBinding"]]
+        return frame.body.infer["expr_types"][e]
+
+    def into(self, frame, e, cell):
+        self.own(frame, e, ("never", e) if self.is_adjusted(frame, e) else cell)
+
+    def put(self, frame, cell, data):
+        if len(frame.cells[cell]) != len(data):
+            raise Unknown("a value that isn't as long as its cell")
+        frame.cells[cell] = data
+
+    def own(self, frame, e, cell):
+        name, part = self.form(frame, e)
+        getattr(self, f"own_{name.lower()}")(frame, e, part, cell)
+
+    def own_literal(self, frame, e, part, cell):
+        self.put(frame, cell, self.literal(frame, e))
+
+    def own_path(self, frame, e, part, cell):
+        self.put(frame, cell, frame.cells[("binding", frame.body.rows["value_res"][e]["LocalBinding"])])
+
+    def own_unaryop(self, frame, e, part, cell):
+        given = self.value(frame, self.operand(frame, part["expr"]))
+        kind = self.kind(self.operand_type(frame, part["expr"]))
+        if kind == "bool":
+            made = bytes([given[0] ^ 1])
+        elif part["op"] == "Not":
+            made = bytes(byte ^ 255 for byte in given)
+        else:
+            made = low_bytes(len(given), -number_of(kind, given))
+        self.put(frame, cell, made)
+
+    def own_binaryop(self, frame, e, part, cell):
+        name, op = variant(part["op"])
+        left = self.operand(frame, part["lhs"])
+        if name == "LogicOp":
+            self.logic(frame, part, op, self.value(frame, left), cell)
+            return
+        right = self.operand(frame, part["rhs"])
+        left, right = self.value(frame, left), self.value(frame, right)
+        kinds = [self.kind(self.operand_type(frame, part[side])) for side in ("lhs", "rhs")]
+        if name == "CmpOp":
+            made = bytes([compared(op, number_of(kinds[0], left), number_of(kinds[1], right))])
+        else:
+            try:
+                made = arithmetic(op, kinds[0], left, right, kinds[1])
+            except OverflowError as panic:
+                raise Fault(f'Panic("Overflow in {panic}")', frame.trail) from None
+        self.put(frame, cell, made)
+
+    def logic(self, frame, part, op, left, cell):
+        self.enter(frame)
+        if left[0] == (0 if op == "And" else 1):
+            self.put(frame, cell, left)
+        else:
+            self.into(frame, part["rhs"], cell)
+        self.enter(frame)
+
+    def own_if(self, frame, e, part, cell):
+        condition = self.value(frame, self.operand(frame, part["condition"]))
+        self.enter(frame)
+        branch = part["then_branch"] if condition[0] == 1 else part.get("else_branch")
+        if branch is not None:
+            self.into(frame, branch, cell)
+        self.enter(frame)
+
+    def own_assignment(self, frame, e, part, cell):
+        given = self.place(frame, part["value"])
+        target = frame.body.rows["pat_value_res"][part["target"]]["LocalBinding"]
+        self.put(frame, ("binding", target), frame.cells[given])
+
+    def own_block(self, frame, e, part, cell):
+        if part.get("label") is None:
+            self.statements(frame, e, part, cell)
+            return
+        frame.places[e] = cell
+        while True:
+            self.enter(frame)
+            try:
+                self.statements(frame, e, part, cell)
+            except Jump as jump:
+                if jump.to == ("continue", e):
+                    continue
+                if jump.to != ("break", e):
+                    raise
+            self.enter(frame)
+            return
+
+    def statements(self, frame, e, part, cell):
+        for statement in part.get("statements", []):
+            name, inside = variant(statement)
+            if name == "Expr":
+                self.place(frame, inside["expr"])
+                self.enter(frame, frame.body.drops[("statement", inside["expr"])])
+            else:
+                given = self.place(frame, inside["initializer"])
+                binding = frame.body.body["pats"][inside["pat"]]["Bind"]["id"]
+                self.put(frame, ("binding", binding), frame.cells[given])
+        if part.get("tail") is not None:
+            self.into(frame, part["tail"], cell)
+        self.enter(frame, frame.body.drops[e])
+
+    def own_loop(self, frame, e, part, cell):
+        frame.places[e] = cell
+        while True:
+            self.enter(frame)
+            try:
+                self.place(frame, part["body"])
+                self.enter(frame, frame.body.drops[e])
+            except Jump as jump:
+                if jump.to == ("break", e):
+                    self.enter(frame)
+                    return
+                if jump.to != ("continue", e):
+                    raise
+
+    def own_break(self, frame, e, part, cell):
+        target = frame.body.targets[e].e
+        if part.get("expr") is not None:
+            self.into(frame, part["expr"], frame.places[target])
+        self.enter(frame, frame.body.drops[e])
+        raise Jump("break", target)
+
+    def own_continue(self, frame, e, part, cell):
+        self.enter(frame, frame.body.drops[e])
+        raise Jump("continue", frame.body.targets[e].e)
+
+    def own_return(self, frame, e, part, cell):
+        if part.get("expr") is not None:
+            self.into(frame, part["expr"], RESULT)
+        self.enter(frame, frame.body.drops[e])
+        raise Jump("return")
+
+    def own_call(self, frame, e, part, cell):
+        given = [self.operand(frame, arg) for arg in part.get("args", [])]
+        function = function_in(frame.body.infer["expr_types"][part["callee"]])
+        trail = (f"fn#{function} at expr#{e} of {frame.body.owner}", frame.trail)
+        marked = e in frame.body.rows["diverging"]
+        try:
+            callee = self.read({"FunctionId": function})
+        except Refusal as refusal:
+            raise Fault(f"MirLowerError(fn#{function}, {refusal})", trail) from None
+        if marked and self.levels == self.limits["nesting"]:
+            raise Fault("StackOverflow", frame.trail)
+        try:
+            cells = self.place_cells(callee, callee.locals if marked else callee.locals[1:])
+        except NoPlace as cause:
+            raise Fault(str(cause), frame.trail) from None
+        if not marked:
+            cells[RESULT] = frame.cells[cell]
+        if len(given) != len(callee.params):
+            text = "too many arguments" if len(given) > len(callee.params) else "too few arguments"
+            raise Fault(f'InternalError("{text}")', frame.trail)
+        for param, operand in zip(callee.params, given):
+            inside = Frame(callee, cells, trail)
+            self.put(inside, param, self.value(frame, operand))
+        self.levels += marked
+        self.most_levels = max(self.levels, self.most_levels)
+        value = self.run(Frame(callee, cells, trail))
+        if marked:
+            raise Fault('UndefinedBehavior("Diverging function returned")', frame.trail)
+        self.put(frame, cell, value)
+        self.enter(frame)
+
+
+# Reports and comparisons.
+
+
+def answers(tree):
+    """The answer of each goal of an input, with how many blocks its run enters."""
+    kept = {}
+    for goal in tree.get("goals", []):
+        run = Run(tree["world"], goal.get("limits") or DEFAULT_LIMITS, kept)
+        yield run.answer(goal), run
+
+
+def report(tree):
+    """The report on an input."""
+    lines = [f"goal {number} {answer}\n  turns {run.turns}\n" for number, (answer, run) in enumerate(answers(tree))]
+    return "".join(lines)
+
+
+def with_depth(work):
+    """What is done where calls may nest deep."""
+    made = []
+    threading.stack_size(STACK)
+    sys.setrecursionlimit(DEPTH)
+    thread = threading.Thread(target=lambda: made.append(work()))
+    thread.start()
+    thread.join()
+    return made[0] if made else None
+
+
+def faults_of_cases():
+    """A line for each case whose report isn't the one of here, and how many were compared and skipped."""
+    from case_files import all_rows, end_of, input_of  # noqa: PLC0415
+
+    compared_rows, skipped, faults = 0, 0, []
+    for topic, row in all_rows():
+        status, wanted, _ = end_of(row)
+        if status > 1 or not wanted:
+            continue
+        try:
+            found = report(json.loads(input_of(row)()))
+        except Unknown as cause:
+            skipped += 1
+            if row["from"] == ORIGIN:
+                faults.append(f"{topic}, {row['name']}: {cause}")
+            continue
+        compared_rows += 1
+        if found != wanted:
+            faults.append(f"{topic}, {row['name']}: {found!r}, and not {wanted!r}")
+    return faults, compared_rows, skipped
+
+
+def main(words):
+    if len(words) > 1:
+        sys.exit("usage: call_costs.py [WORLD]")
+    if words:
+        with open(words[0], encoding="utf-8") as source:
+            print(report(json.load(source)), end="")
+        return 0
+    from faults import show  # noqa: PLC0415
+
+    faults, many, skipped = faults_of_cases()
+    show("costs", faults)
+    print(f"costs: {many} cases, {skipped} skipped, {len(faults)} faults")
+    return 1 if faults else 0
+
+
+if __name__ == "__main__":
+    sys.exit(with_depth(lambda: main(sys.argv[1:])))
