@@ -13,6 +13,7 @@ in which it meets something else is skipped in a comparison. The exit code is 1 
 import json
 import sys
 import threading
+from concurrent.futures import ThreadPoolExecutor
 from dataclasses import dataclass, field
 
 ORIGIN = "tests/call_costs.py"
@@ -445,7 +446,7 @@ class Run:
     def __init__(self, world, limits, kept):
         self.world, self.limits, self.kept = world, limits, kept
         self.layouts = {key(ty): layout for ty, layout in world.get("layouts", [])}
-        self.turns, self.stack, self.levels, self.most_levels = 0, 1, 0, 0
+        self.turns, self.stack, self.levels = 0, 1, 0
 
     # Definitions.
 
@@ -542,7 +543,7 @@ class Run:
             return f"error eval {cause}"
         if body.params:
             return 'error eval InternalError("too few arguments")'
-        self.levels = self.most_levels = 1
+        self.levels = 1
         try:
             value = self.run(Frame(body, cells, ()))
         except Fault as fault:
@@ -757,12 +758,11 @@ class Run:
         if len(given) != len(callee.params):
             text = "too many arguments" if len(given) > len(callee.params) else "too few arguments"
             raise Fault(f'InternalError("{text}")', frame.trail)
+        inside = Frame(callee, cells, trail)
         for param, operand in zip(callee.params, given):
-            inside = Frame(callee, cells, trail)
             self.put(inside, param, self.value(frame, operand))
         self.levels += marked
-        self.most_levels = max(self.levels, self.most_levels)
-        value = self.run(Frame(callee, cells, trail))
+        value = self.run(inside)
         if marked:
             raise Fault('UndefinedBehavior("Diverging function returned")', frame.trail)
         self.put(frame, cell, value)
@@ -788,18 +788,15 @@ def report(tree):
 
 def with_depth(work):
     """What is done where calls may nest deep."""
-    made = []
     threading.stack_size(STACK)
     sys.setrecursionlimit(DEPTH)
-    thread = threading.Thread(target=lambda: made.append(work()))
-    thread.start()
-    thread.join()
-    return made[0] if made else None
+    with ThreadPoolExecutor(1) as pool:
+        return pool.submit(work).result()
 
 
 def faults_of_cases():
     """A line for each case whose report isn't the one of here, and how many were compared and skipped."""
-    from case_files import all_rows, end_of, input_of  # noqa: PLC0415
+    from case_files import all_rows, end_of, input_of
 
     compared_rows, skipped, faults = 0, 0, []
     for topic, row in all_rows():
@@ -826,7 +823,7 @@ def main(words):
         with open(words[0], encoding="utf-8") as source:
             print(report(json.load(source)), end="")
         return 0
-    from faults import show  # noqa: PLC0415
+    from faults import show
 
     faults, many, skipped = faults_of_cases()
     show("costs", faults)
