@@ -62,7 +62,7 @@ module _ (t : Terminator) (s whole : Shape) (frame : Frame) (opened : IsOpen s) 
       ∙ ap (λ o. going_on budget (next_from frame memory o (length b.0.statements))) (ended-there (b.0, b.1))
       ∙ ap (going_on budget) (next-at-end frame memory (ended t b.0))
 
-here-with_block : (s : Shape) → here (with_block s) ≡ Within (length s.blocks) 0
+pub here-with_block : (s : Shape) → here (with_block s) ≡ Within (length s.blocks) 0
 unfolding with_block count_at
 here-with_block s = ap (λ (o : Option BasicBlock). Within (length s.blocks) (unwrap_or (option_map (λ (b : BasicBlock). length b.statements) o) 0)) (slice_get-last s.blocks no_statements)
 

@@ -28,6 +28,7 @@ use Rattle.mir_lower.proofs.Sparing.{spares-refl, spares-trans}
 use Rattle.mir_lower.proofs.Steps.{local_of-grows, reaches-from}
 use Rattle.mir_lower.proofs.Standing.{marking-fits}
 use Rattle.mir_lower.specs.Callees.{Serves}
+use Rattle.mir_lower.proofs.Serving.{serves-less}
 
 -- a literal's operand
 pub literal-fits : (source : Source) (whole : Shape) (frame : Frame) (e : ℕ) (literal : CoreLiteral) (operand : OperandKind) (is : IsLiteral source e literal operand) → Fits source operand whole frame (Literally is.is_constant.ty is.bytes)
@@ -91,7 +92,7 @@ place-operand source old new whole frame e place sound is grows does form lands 
     (sym (no-literal (unadjusted source e) form))
     (reaches-then source whole lands frame (here old) (here new) (here new) memory (LeadsTo does.cell whole frame) (Fits source (Copy place) whole frame)
     ((level_at source fuel around).place e store) (λ path later. Go (At path) later no_cost)
-    (does.does.reaches whole frame grows sound is lands around stands fuel serves store memory holds)
+    (does.does.reaches whole frame grows sound is lands around stands fuel (serves-less fuel source frame.program serves) store memory holds)
     (λ path after middle claims. inr (
       middle,
       comes-refl frame (here new) middle,
@@ -125,7 +126,7 @@ into-place source from middle new whole frame e form does grows sound is marks l
     (sym (no-path (unadjusted source e) form))
     (reaches-then source whole lands frame (here from) (here new) (here new) memory (Nothing whole frame) (LeadsTo (Node e) whole frame)
     ((level_at source fuel (marking (Node e ∷ []) around)).into e (record { cell = Node e }) store) (λ _ later. Go (record { cell = Node e }) later no_cost)
-    (reaches-from source whole lands frame (here from) (here middle) (here new) memory (Nothing whole frame) (live memory) ((level_at source fuel (marking (Node e ∷ []) around)).into e (record { cell = Node e }) store) (does.reaches whole frame grows sound is lands (marking (Node e ∷ []) around) (marking-fits marks around stands) fuel serves store memory holds))
+    (reaches-from source whole lands frame (here from) (here middle) (here new) memory (Nothing whole frame) (live memory) ((level_at source fuel (marking (Node e ∷ []) around)).into e (record { cell = Node e }) store) (does.reaches whole frame grows sound is lands (marking (Node e ∷ []) around) (marking-fits marks around stands) fuel (serves-less fuel source frame.program serves) store memory holds))
     (λ value after later claims. inr (later, comes-refl frame (here new) later, claims.0, refl))) where
       no-path : (form : Option CoreExpr) → is_path form ≡ false → place_of source (level_at source fuel) around e form store ≡ then_do ((level_at source fuel (marking (Node e ∷ []) around)).into e (record { cell = Node e }) store) (λ _ later. Go (record { cell = Node e }) later no_cost)
       no-path (Some (expr.Path name)) is = absurd cc

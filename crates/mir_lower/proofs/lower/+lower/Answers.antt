@@ -1,5 +1,5 @@
 -- Each form does what it means, by what its parts do; each refusal has its cause.
-use Rattle.std.proofs.Common.{List, [], ◌∷◌, ◌≡◌, ◌+◌, drop, map, take, Option, Some, refl, sym, ap, ◌∙◌, subst, arith}
+use Rattle.std.proofs.Common.{List, [], ◌∷◌, ◌≡◌, ◌+◌, drop, get_or, map, take, Option, Some, refl, sym, ap, ◌∙◌, subst, arith}
 use Rattle.std.proofs.lemmas.List.{drop_all, map-append, take_all, take_more}
 use Rattle.std.proofs.lemmas.Result.{IfOk-weaker, on_ok_weaker, IfErr-weaker}
 use Rattle.mir.specs.declared.errors.MirLowerError.TheVariants as refusal
@@ -1051,7 +1051,7 @@ lower_return-returns-clause-lowered t c =
 -- a call
 
 pub lower_call-lower_callee-requires : goal.lower_call-lower_callee-requires
-lower_call-lower_callee-requires t c = (expr_numbers c.args.args.now, c.requires.form)
+lower_call-lower_callee-requires t c = record { form = (expr_numbers c.args.args.now, c.requires.form) }
 
 pub lower_call-returns-in_err-func-clause-refused : goal.lower_call-returns-in_err-func-clause-refused
 lower_call-returns-in_err-func-clause-refused t c =
@@ -1105,25 +1105,32 @@ lower_call-returns-clause-built t c =
 
 pub lower_operands-loop-arg-init : goal.lower_operands-loop-arg-init
 lower_operands-loop-arg-init t c =
-    (collects-none (source_of c.args.context.now) (shape c.args.graph.now) (expr_numbers c.args.args.now) c.requires.ready.sound c.requires.ready.«open», All-nil (λ arg. IsBuilt (source_of c.args.context.now) arg.0))
+    let source = source_of c.args.context.now in
+    let s = shape c.args.graph.now in
+    let es = expr_numbers c.args.args.now in (
+      subst (λ (operands : List Operand). Collects source s s es es (map (λ (operand : Operand). operand.kind) operands)) (sym c.new-operands.ensures) (collects-none source s es c.requires.ready.sound c.requires.ready.«open»),
+      All-nil (λ arg. IsBuilt source arg.0),
+    )
 
 pub lower_operands-lower_operand-requires : goal.lower_operands-lower_operand-requires
 lower_operands-lower_operand-requires t c =
     let source = source_of c.args.context.now in
     let s = shape c.loop-arg.graph in
     let so-far = c.loop-arg.invariant.0 in
-    let is = subst (λ (list : List ℕ). Contains list _) (sym c.requires.parts) (argument-in c.args.args.now c.loop-arg.arg-index _ c.loop-arg-test.true) in
-    let below = part-below source c.args.e.0 _ c.requires.ready.checked is in (
+    let child : ℕ = (get_or c.args.args.now c.loop-arg.arg-index (record { 0 = 0 })).0 in
+    let is : Contains (parts_of (node source c.args.e.0)) child = subst (λ (list : List ℕ). Contains list child) (sym c.requires.parts) (argument-in c.args.args.now c.loop-arg.arg-index (record { 0 = 0 }) c.loop-arg-test.true) in
+    let below = part-below source c.args.e.0 child c.requires.ready.checked is in (
       omega (arith, below),
-      part-ready source s c.args.e.0 _ (parts-ready-in source (shape c.args.graph.now) s c.args.e.0 c.requires.ready so-far.spares.targets so-far.grows so-far.sound so-far.«open») is,
+      part-ready source s c.args.e.0 child (parts-ready-in source (shape c.args.graph.now) s c.args.e.0 c.requires.ready so-far.spares.targets so-far.grows so-far.sound so-far.«open») is,
     )
 
 pub lower_operands-returns-in_err-operand-clause-refused : goal.lower_operands-returns-in_err-operand-clause-refused
 lower_operands-returns-in_err-operand-clause-refused t c =
     let source = source_of c.args.context.now in
-    let is = subst (λ (list : List ℕ). Contains list _) (sym c.requires.parts) (argument-in c.args.args.now c.loop-arg.arg-index _ c.loop-arg-test.true) in
+    let child : ℕ = (get_or c.args.args.now c.loop-arg.arg-index (record { 0 = 0 })).0 in
+    let is : Contains (parts_of (node source c.args.e.0)) child = subst (λ (list : List ℕ). Contains list child) (sym c.requires.parts) (argument-in c.args.args.now c.loop-arg.arg-index (record { 0 = 0 }) c.loop-arg-test.true) in
     refused-exit (RefusesAt source c.args.e.0) _ c.from_residual.result c.from_residual.ensures.1
-    (λ error same. subst (RefusesAt source c.args.e.0) (sym same) (refuses-part source c.args.e.0 _ _ is c.in_err-operand.ensures.refused))
+    (λ error same. subst (RefusesAt source c.args.e.0) (sym same) (refuses-part source c.args.e.0 child _ is c.in_err-operand.ensures.refused))
 
 pub lower_operands-returns-in_err-push-clause-refused : goal.lower_operands-returns-in_err-push-clause-refused
 lower_operands-returns-in_err-push-clause-refused t c =
@@ -1135,7 +1142,7 @@ lower_operands-loop-arg-preserved t c =
     let i = c.loop-arg.arg-index in
     let s0 = shape c.args.graph.now in
     let kinds : List Operand → List OperandKind = map (λ (operand : Operand). operand.kind) in
-    let so-far = subst (λ (rest : List ℕ). Collects source s0 (shape c.loop-arg.graph) (expr_numbers c.args.args.now) rest (kinds c.loop-arg.operands)) (arguments-from c.args.args.now i _ c.loop-arg-test.true) c.loop-arg.invariant.0 in
+    let so-far = subst (λ (rest : List ℕ). Collects source s0 (shape c.loop-arg.graph) (expr_numbers c.args.args.now) rest (kinds c.loop-arg.operands)) (arguments-from c.args.args.now i (record { 0 = 0 }) c.loop-arg-test.true) c.loop-arg.invariant.0 in
     let operand = c.in_ok-operand.operand in
     let pushed = ap kinds c.in_ok-push.ensures.ok ∙ map-append (λ (operand : Operand). operand.kind) c.loop-arg.operands (operand ∷ []) in (
       subst (λ (list : List OperandKind). Collects source s0 (shape c.lower_operand.new.graph) (expr_numbers c.args.args.now) (expr_numbers (drop (i + 1) c.args.args.now)) list) (sym pushed)
