@@ -1,13 +1,11 @@
 -- Which calls are built, by the types of their callees.
-use Rattle.std.proofs.Common.{◌≡◌, ℕ, List, Some, None, codes, ◌⊎◌, ⊎_elim, inl, inr, option_and_then, refl, sym, ap, ◌∙◌, subst}
+use Rattle.std.proofs.Common.{◌≡◌, ℕ, List, true, false, Some, None, codes, ◌⊎◌, ⊎_elim, inl, inr, option_and_then, refl, sym, ap, ◌∙◌, subst}
 use Rattle.types.specs.declared.ids.FunctionId.{FunctionId}
 use Rattle.types.specs.declared.ty.Ty.{Ty}
-use Rattle.world.specs.declared.items.FunctionRow.{FunctionRow}
-use Rattle.world.specs.declared.items.Special.{Special}
 use Rattle.world.specs.Lookups.{function_row}
 use Rattle.mir.specs.declared.errors.MirLowerError.{MirLowerError}
 use Rattle.mir.specs.declared.errors.MirLowerError.TheVariants as refusal
-use Rattle.source_meaning.specs.Built.{CallsFunction}
+use Rattle.source_meaning.specs.Built.{CallsFunction, is_direct}
 use Rattle.source_meaning.specs.Calls.{function_called, function_in}
 use Rattle.source_meaning.specs.Core as expr
 use Rattle.source_meaning.specs.Source.{Source, node, own_type}
@@ -27,15 +25,13 @@ without-type source callee none = inl (ap (option_and_then function_in) none)
 pub without-function : (source : Source) (callee : ℕ) (ty : Ty) → own_type source callee ≡ Some ty → function_in ty ≡ None → IsUnbuiltCall source callee
 without-function source callee ty typed none = inl (called-by-type source callee ty typed ∙ none)
 
--- the machine does something else in the place of the function's body
-pub with-meaning : (source : Source) (callee : ℕ) (ty : Ty) (id : FunctionId) (special : Special) → own_type source callee ≡ Some ty → function_in ty ≡ Some id
-    → option_and_then (λ (row : FunctionRow). row.special) (function_row source.world id) ≡ Some special → IsUnbuiltCall source callee
-with-meaning source callee ty id special typed names is = inr (id, special, called-by-type source callee ty typed ∙ names, is)
+-- a call doesn't enter the function's own body
+pub with-other : (source : Source) (callee : ℕ) (ty : Ty) (id : FunctionId) → own_type source callee ≡ Some ty → function_in ty ≡ Some id → is_direct (function_row source.world id) ≡ false → IsUnbuiltCall source callee
+with-other source callee ty id typed names is = inr (id, called-by-type source callee ty typed ∙ names, is)
 
--- the machine runs the function's body
-pub with-body : (source : Source) (callee : ℕ) (ty : Ty) (id : FunctionId) → own_type source callee ≡ Some ty → function_in ty ≡ Some id
-    → option_and_then (λ (row : FunctionRow). row.special) (function_row source.world id) ≡ None → CallsFunction source callee
-with-body source callee ty id typed names none = record { id = id; names = called-by-type source callee ty typed ∙ names; not_special = none }
+-- or it does
+pub with-body : (source : Source) (callee : ℕ) (ty : Ty) (id : FunctionId) → own_type source callee ≡ Some ty → function_in ty ≡ Some id → is_direct (function_row source.world id) ≡ true → CallsFunction source callee
+with-body source callee ty id typed names is = record { id = id; names = called-by-type source callee ty typed ∙ names; direct = is }
 
 -- a call that isn't built is refused
 pub refuses-call : (source : Source) (e callee : ℕ) (args : List ℕ) (error : MirLowerError) → node source e ≡ Some (expr.Call callee args) → IsUnbuiltCall source callee

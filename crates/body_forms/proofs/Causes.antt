@@ -1,8 +1,8 @@
 -- A form that is built isn't refused: no cause of a refusal holds there but for the layout of a number.
-use Rattle.std.proofs.Common.{◌≡◌, ℕ, Bool, List, Option, Some, None, option_and_then, ⊎_elim, refl, sym, ap, ◌∙◌, subst}
+use Rattle.std.proofs.Common.{◌≡◌, ℕ, Bool, true, false, List, Option, Some, None, option_and_then, ⊎_elim, refl, sym, ap, ◌∙◌, subst}
 use Rattle.std.proofs.lemmas.Bool.{false≢true}
 use Rattle.std.proofs.lemmas.List.Elements.{All-contains}
-use Rattle.source_meaning.specs.Built.{AssignsBinding, CallsFunction, IsBuiltStatement, IsBuiltForm}
+use Rattle.source_meaning.specs.Built.{AssignsBinding, CallsFunction, is_direct, IsBuiltStatement, IsBuiltForm}
 use Rattle.source_meaning.specs.Core.{CoreExpr, core_of, local_named}
 use Rattle.source_meaning.specs.Core as expr
 use Rattle.source_meaning.specs.Source.{Source, node, target_path, pattern_named_by, binding_type}
@@ -14,7 +14,6 @@ use Rattle.world.specs.declared.expr.Expr.{Expr}
 use Rattle.world.specs.declared.expr.Expr.TheVariants as whole
 use Rattle.world.specs.declared.infer.ValueNs.{ValueNs}
 use Rattle.world.specs.declared.infer.ValueNs.TheVariants.{LocalBinding}
-use Rattle.world.specs.declared.items.FunctionRow.{FunctionRow}
 use Rattle.world.specs.Lookups.{function_row}
 use Rattle.body_forms.specs.Refusals.{IsIncomplete, LacksPart, IsUnbuiltForm, IsUnbuiltStatement, IsUnbuiltTarget, IsUnbuiltCall, IsUnbuilt, LetBindsNone, LacksLocal, IsUnresolved}
 use Rattle.body_forms.proofs.Forms.{node-plain}
@@ -56,14 +55,14 @@ target-is-no-unbuilt source assigned built unbuilt =
     let names = target-names source assigned built.binding (target_path source assigned) (pattern_named_by source assigned) built.names in
     ⊎_elim names.0 (λ other. let one = ap (option_and_then local_named) (sym other.1) ∙ names.1 in let none = other.2 in absurd cc) unbuilt
 
--- a call that is built names a function, and the machine runs the function's body
+-- a call that is built names a function, and enters its own body
 call-is-no-unbuilt : (source : Source) (callee : ℕ) → CallsFunction source callee → IsUnbuiltCall source callee → ⊥
 call-is-no-unbuilt source callee built unbuilt =
     ⊎_elim (λ none. let names = built.names in absurd cc) (λ other.
     let names = built.names in
-    let is = other.2 in
+    let is = other.1 in
     let same : built.id ≡ other.0 = cc in
-    let none = sym built.not_special ∙ ap (λ (id : FunctionId). option_and_then (λ (row : FunctionRow). row.special) (function_row source.world id)) same ∙ other.3 in
+    let both : true ≡ false = sym built.direct ∙ ap (λ (id : FunctionId). is_direct (function_row source.world id)) same ∙ other.2 in
     absurd cc) unbuilt
 
 pub built-is-no-unbuilt : (source : Source) (e : ℕ) (form : Option CoreExpr) → IsBuiltForm source e form → IsUnbuilt source e form → ⊥

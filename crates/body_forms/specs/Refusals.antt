@@ -1,9 +1,9 @@
 -- Why an expression of a typed body can't be lowered.
-use Rattle.std.specs.Prelude.{◌≡◌, ℕ, ◌<◌, true, false, List, [], ◌⊎◌, Contains, Option, Some, None, codes, option_and_then}
+use Rattle.std.specs.Prelude.{◌≡◌, ℕ, ◌<◌, true, false, List, [], ◌⊎◌, Contains, Option, Some, None, codes}
 use Rattle.types.specs.declared.ty.Ty.{Ty}
 use Rattle.world.specs.Lookups.{expr_of, function_row}
-use Rattle.world.specs.declared.items.Special.{Special}
 use Rattle.types.specs.declared.ids.FunctionId.{FunctionId}
+use Rattle.source_meaning.specs.Built.{is_direct}
 use Rattle.source_meaning.specs.Calls.{function_called}
 use Rattle.source_meaning.specs.Core.{CoreExpr, Number, core_of, is_adjusted_otherwise, names_item}
 use Rattle.source_meaning.specs.Core as expr
@@ -74,12 +74,11 @@ IsUnbuiltTarget source p =
     (target_path source p ≡ None)
     ⊎ ((named : ValueNs) × (pattern_named_by source p ≡ Some named) × (local_named named ≡ None))
 
--- a call that isn't built yet: its callee is no function, or one that is given generic arguments, or that has a meaning of its own in the
--- machine, as an intrinsic has
+-- a call that isn't built yet: its callee is no function, or one that is given generic arguments, or whose own body a call doesn't enter
 abbrev pub IsUnbuiltCall : Source → ℕ → Type 0
 IsUnbuiltCall source callee =
     (function_called source callee ≡ None)
-    ⊎ ((id : FunctionId) × (special : Special) × (function_called source callee ≡ Some id) × (option_and_then (λ row. row.special) (function_row source.world id) ≡ Some special))
+    ⊎ ((id : FunctionId) × (function_called source callee ≡ Some id) × (is_direct (function_row source.world id) ≡ false))
 
 -- an expression that isn't built yet: by its form, as a path by what it names, as an assignment by its target, as a block by one
 -- of its statements, or as a call by what it calls

@@ -2,7 +2,7 @@
 
 ghost use Rattle.std.specs.Prelude.{◌≡◌, ℕ, List, Some, IfOk, IfErr, IfSome, IfNone, OnOk};
 ghost use Rattle.std.specs.Option.{option_copied};
-ghost use Rattle.source_meaning.specs.Built.{CallsFunction};
+ghost use Rattle.source_meaning.specs.Built.{CallsFunction, is_direct};
 ghost use Rattle.source_meaning.specs.Calls.{function_called, function_in, must_not_return, without_generics};
 ghost use Rattle.source_meaning.specs.Core as expr;
 ghost use Rattle.source_meaning.specs.Source.{node, own_type};
@@ -15,7 +15,7 @@ use crate::inferred::own_type;
 use crate::literal::constant;
 use crate::unbuilt::form_not_built;
 use mir::{MirLowerError, Operand};
-use world::{Bytes, CallableDefId, ExprId, FunctionId, GenericArg, List, Ty};
+use world::{Bytes, CallableDefId, ExprId, FunctionId, FunctionRow, GenericArg, List, Ty};
 
 /// A function, where it is given no generic arguments.
 fn without_generics(id: FunctionId, args: &List<GenericArg>) -> Option<FunctionId>
@@ -57,7 +57,20 @@ pub fn must_not_return(context: &Context<'_>, e: ExprId) -> bool
     context.diverging.contains(&e)
 }
 
-/// The type of a callee that is built: a function that is given no generic arguments, and whose body the machine runs.
+/// Whether a call of a function enters its own body: it has no generic parameters, isn't declared by a trait, of whose impls
+/// a call takes one, and isn't special, as an intrinsic is.
+fn is_direct(row: Option<&FunctionRow>) -> bool
+    ensures { result ≡ is_direct (option_copied row.entry) }
+{
+    match row {
+        Some(row) => {
+            row.generics.as_slice().is_empty() && row.in_trait.is_none() && row.special.is_none()
+        }
+        None => false,
+    }
+}
+
+/// The type of a callee that is built: a function that is given no generic arguments, and whose own body a call enters.
 fn callee_type<'a>(context: &Context<'a>, callee: ExprId) -> Option<&'a Ty>
     ensures typed { IfSome result (λ ty. own_type (source_of context.now) callee.0 ≡ Some ty.now) }
     ensures built { IfSome result (λ ty. CallsFunction (source_of context.now) callee.0) }
@@ -69,9 +82,10 @@ fn callee_type<'a>(context: &Context<'a>, callee: ExprId) -> Option<&'a Ty>
     let Some(id) = function_in(ty) else {
         return None;
     };
-    match context.db.is_special(id) {
-        Some(_) => None,
-        None => Some(ty),
+    if is_direct(context.db.functions.get(id.0 as u64)) {
+        Some(ty)
+    } else {
+        None
     }
 }
 

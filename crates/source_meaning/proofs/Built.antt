@@ -1,10 +1,13 @@
 -- A plain expression has a form that is built.
-use Rattle.std.proofs.Common.{ℕ, get_or, Option, Some, None, option_and_then, ap, ◌∙◌}
+use Rattle.std.proofs.Common.{◌≡◌, ℕ, true, not, ◌&&◌, List, [], get_or, Option, Some, None, is_some, ap, ◌∙◌}
+use Rattle.types.specs.declared.ids.GenericParamId.{GenericParamId}
+use Rattle.types.specs.declared.ids.TraitId.{TraitId}
 use Rattle.world.specs.declared.body.Statement.{Statement}
 use Rattle.world.specs.declared.body.Statement.TheVariants as statement
 use Rattle.world.specs.declared.items.FunctionRow.{FunctionRow}
+use Rattle.world.specs.declared.items.Special.{Special}
 use Rattle.types.specs.declared.ty.Ty.{Ty}
-use Rattle.source_meaning.specs.Built.{IsBuiltStatement, IsBuiltForm}
+use Rattle.source_meaning.specs.Built.{are_none, is_direct, IsBuiltStatement, IsBuiltForm}
 use Rattle.source_meaning.specs.Core.{CoreExpr, Literal, Path, Strict, Logic, If, Assign, Block, Labelled, Loop, Break, Continue, Return, Call}
 use Rattle.source_meaning.specs.Source.{Source, node}
 use Rattle.source_meaning.specs.Valid.{IsPlainStatement, HasPlainForm, IsPlainNode}
@@ -16,6 +19,12 @@ plain_statement_is_built source (statement.Let pat (Some e) (Some other)) plain 
 plain_statement_is_built source (statement.Let pat None other) plain = plain
 plain_statement_is_built source (statement.Expr e has_semi) plain = plain
 plain_statement_is_built source statement.Item plain = plain
+
+direct_row : (row : FunctionRow) → row.generics ≡ [] → row.in_trait ≡ None → row.special ≡ None → is_direct (Some row) ≡ true
+direct_row row no_generics no_trait not_special =
+    ap (λ (params : List GenericParamId). are_none params && not (is_some row.in_trait) && not (is_some row.special)) no_generics
+    ∙ ap (λ (declared : Option TraitId). not (is_some declared) && not (is_some row.special)) no_trait
+    ∙ ap (λ (special : Option Special). not (is_some special)) not_special
 
 plain_form_is_built : (source : Source) (e : ℕ) (form : Option CoreExpr) (ty : Ty) → HasPlainForm source e form ty → IsBuiltForm source e form
 plain_form_is_built source e (Some (Literal given)) ty plain = tt
@@ -33,7 +42,7 @@ plain_form_is_built source e (Some (Break label value)) ty plain = tt
 plain_form_is_built source e (Some (Continue label)) ty plain = tt
 plain_form_is_built source e (Some (Return value)) ty plain = tt
 plain_form_is_built source e (Some (Call callee args)) ty plain =
-    record { id = plain.id; names = plain.names; not_special = ap (option_and_then (λ (row : FunctionRow). row.special)) plain.found ∙ plain.not_special }
+    record { id = plain.id; names = plain.names; direct = ap is_direct plain.found ∙ direct_row plain.row plain.no_generics plain.no_trait plain.not_special }
 plain_form_is_built source e None ty plain = plain
 
 pub plain_is_built : (source : Source) (e : ℕ) → IsPlainNode source e → IsBuiltForm source e (node source e)

@@ -1,15 +1,17 @@
 -- Which expressions have a form that is built: each has a meaning, its paths name bindings of the body, and its statements
 -- bind names of the body.
-use Rattle.std.specs.Prelude.{◌≡◌, ℕ, All, Option, Some, None, option_and_then}
+use Rattle.std.specs.Prelude.{◌≡◌, ℕ, Bool, true, false, not, ◌&&◌, All, List, [], ◌∷◌, Option, Some, None, is_some}
 use Rattle.source_meaning.specs.Core.{CoreExpr}
 use Rattle.source_meaning.specs.Core as expr
 use Rattle.source_meaning.specs.Source.{Source, binding_type, named_by, pattern, target}
 use Rattle.types.specs.declared.ids.BindingId.{BindingId}
 use Rattle.types.specs.declared.ids.FunctionId.{FunctionId}
+use Rattle.types.specs.declared.ids.GenericParamId.{GenericParamId}
 use Rattle.types.specs.declared.ty.Ty.{Ty}
 use Rattle.world.specs.declared.body.Statement.{Statement}
 use Rattle.world.specs.declared.body.Statement.TheVariants as statement
 use Rattle.world.specs.declared.infer.ValueNs.TheVariants.{LocalBinding}
+use Rattle.world.specs.declared.items.FunctionRow.{FunctionRow}
 use Rattle.world.specs.Lookups.{function_row}
 use Rattle.source_meaning.specs.Calls.{function_called}
 
@@ -42,12 +44,22 @@ IsBuiltStatement source (statement.Let pat (Some e) None) = BindsBinding source 
 IsBuiltStatement source (statement.Expr e has_semi) = Unit {0}
 IsBuiltStatement source _ = ⊥
 
--- A call that is built: by its type, its callee is a function that is given no generic arguments, and that has no meaning of its own in the
--- machine, as an intrinsic has.
+-- whether there are no generic parameters
+abbrev pub are_none : List GenericParamId → Bool
+are_none [] = true
+are_none (param ∷ params) = false
+
+-- Whether a call of a function enters its own body: it has no generic parameters, isn't declared by a trait, of whose impls a call takes
+-- one, and isn't special, as an intrinsic is.
+abbrev pub is_direct : Option FunctionRow → Bool
+is_direct (Some row) = are_none row.generics && not (is_some row.in_trait) && not (is_some row.special)
+is_direct None = false
+
+-- A call that is built: by its type, its callee is a function that is given no generic arguments, and whose own body a call enters.
 pub record CallsFunction (source : Source) (callee : ℕ) : Type 0 where
   pub id : FunctionId
   pub names : function_called source callee ≡ Some id
-  pub not_special : option_and_then (λ row. row.special) (function_row source.world id) ≡ None
+  pub direct : is_direct (function_row source.world id) ≡ true
 
 -- An expression of a form that is built, whatever its parts are.
 abbrev pub IsBuiltForm : Source → ℕ → Option CoreExpr → Type 0

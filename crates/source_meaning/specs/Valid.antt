@@ -10,13 +10,14 @@ use Rattle.world.specs.declared.infer.ValueNs.TheVariants.{LocalBinding}
 use Rattle.world.specs.declared.items.FunctionRow.{FunctionRow}
 use Rattle.world.specs.declared.layout.Layout.{Layout}
 use Rattle.types.specs.declared.ty.Ty.{Ty, Bool as BoolTy, Int as IntTy, Uint as UintTy, Never as NeverTy}
-use Rattle.world.specs.Lookups.{layout_of, function_row}
+use Rattle.world.specs.declared.expr.Expr.TheVariants as whole
+use Rattle.world.specs.Lookups.{expr_of, layout_of, function_row}
 use Rattle.numbers.specs.declared.operator.Operator.{Operator}
 use Rattle.numbers.specs.declared.operator.Operator.TheVariants.{Add, Sub, Mul, Div, Rem, BitXor, BitAnd, BitOr, Shl, Shr, Eq, Ne, Lt, Le, Gt, Ge}
 use Rattle.source_meaning.specs.Around.{Opened, meant}
 use Rattle.source_meaning.specs.Calls.{function_called, source_of, source_called, parameters}
 use Rattle.source_meaning.specs.Core as expr
-use Rattle.source_meaning.specs.Core.{CoreExpr, CoreLiteral, Truth, Number, Operation, Negate, Invert, Combine, is_path, is_truth, IsNoCall}
+use Rattle.source_meaning.specs.Core.{CoreExpr, CoreLiteral, Truth, Number, Operation, Negate, Invert, Combine, is_truth, IsNoCall}
 use Rattle.source_meaning.specs.Source.{Source, node, unadjusted, diverges, own_type, node_type, binding_type, pattern, pattern_type, target, named_by, root}
 use Rattle.source_meaning.specs.Steps.{Step, steps_of, step_part, parts_of}
 use Rattle.source_meaning.specs.Steps as step
@@ -161,16 +162,18 @@ AreBound source [] [] = Unit {0}
 AreBound source (b ∷ rest) (ty ∷ others) = (binding_type source b ≡ Some ty) × AreBound source rest others
 AreBound source _ _ = ⊥
 
--- The callee is a path of the type of a function that has a body and neither generics nor a meaning of its own in the machine, and whose
--- parameters are plain names. There are as many arguments as parameters, each of its parameter's type, and the call and the callee's
+-- The callee is a path of the type of a function that has a body, has no generics, is declared by no trait and isn't special, as an
+-- intrinsic is, and whose parameters are plain names. There are as many arguments as parameters, each of its parameter's type, and the call and the callee's
 -- body have the type of the function's result.
 pub record IsPlainCall (source : Source) (callee : ℕ) (args : List ℕ) (ty : Ty) : Type 0 where
-  pub by_path : is_path (node source callee) ≡ true
+  pub name : List ℕ
+  pub by_path : expr_of source.body callee ≡ Some (whole.Path name)
   pub id : FunctionId
   pub names : function_called source callee ≡ Some id
   pub row : FunctionRow
   pub found : function_row source.world id ≡ Some row
   pub no_generics : row.generics ≡ []
+  pub no_trait : row.in_trait ≡ None
   pub not_special : row.special ≡ None
   pub called : Source
   pub has_body : source_of source.world id ≡ Some called
