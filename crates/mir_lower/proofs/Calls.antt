@@ -1,5 +1,5 @@
 -- Calls: the arguments' operands from left to right, and then the call.
-use Rattle.std.proofs.Common.{◌≡◌, ℕ, zero, suc, ◌+◌, ◌<◌, Bool, true, false, cond, List, [], ◌∷◌, ◌++◌, length, get_or, drop, map, flat_map, Contains, Option, Some, None, refl, sym, ap, ◌∙◌, subst, append_assoc, append-nil, drop-cons, arith}
+use Rattle.std.proofs.Common.{◌≡◌, ℕ, zero, suc, ◌+◌, ◌<◌, Bool, true, false, List, [], ◌∷◌, ◌++◌, length, get_or, drop, map, Contains, Option, Some, refl, sym, ap, ◌∙◌, subst, append_assoc, append-nil, drop-cons, arith}
 use Rattle.std.specs.Prelude.{All}
 use Rattle.std.proofs.lemmas.List.Elements.{All-nil, All-cons, All-head, All-tail}
 use Rattle.std.proofs.Math.ListN.{length-set}
@@ -17,7 +17,6 @@ use Rattle.source_meaning.specs.Built.{CallsFunction}
 use Rattle.source_meaning.specs.Calls.{must_not_return, source_called}
 use Rattle.source_meaning.specs.Core as expr
 use Rattle.source_meaning.specs.Core.{CoreExpr, IsNoCall, is_truth}
-use Rattle.source_meaning.specs.Events.{marked_as_operand}
 use Rattle.source_meaning.specs.Meaning.{level_at, callees_at, operands_of, entered_into, into_of}
 use Rattle.source_meaning.specs.Source.{Source, node, unadjusted, Cell, Store, Operand, operand_bytes}
 use Rattle.source_meaning.specs.Valid.{own, inside, sized_parts, IsLaidOutNode}
@@ -32,7 +31,7 @@ use Rattle.mir_lower.specs.Does.{Stands, here, IsFrameOf, Holds, Landings, Reach
 use Rattle.mir_lower.specs.Graph.{Shape, with_block, with_terminator, local_of, ended}
 use Rattle.mir_lower.specs.Growth.{Grows, Spares, IsSound, IsOpen, IsReady}
 use Rattle.mir_lower.specs.Lowered.{LaysOut, LowersOwn, LowersOperand, LowersOperands}
-use Rattle.mir_lower.specs.Runs.{Point, Within, start_of, run_from}
+use Rattle.mir_lower.specs.Runs.{Point, start_of}
 use Rattle.mir_lower.specs.Stops.{MakesCall}
 use Rattle.mir_lower.proofs.Entering.{call-returns, call-strays}
 use Rattle.mir_lower.proofs.Growing.{current_of, grows-refl, grows-trans, with_terminator-is, with_terminator-grows, with_block-grows}

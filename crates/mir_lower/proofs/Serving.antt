@@ -1,5 +1,5 @@
 -- Bodies that a run is told do what their sources mean, at less fuel too.
-use Rattle.std.proofs.Common.{◌≡◌, ℕ, suc, ◌<◌, arith}
+use Rattle.std.proofs.Common.{ℕ, suc, arith}
 use Rattle.mir.specs.declared.body.MirBody.{MirBody}
 use Rattle.mir.specs.Run.{Program}
 use Rattle.source_meaning.specs.Source.{Source}
