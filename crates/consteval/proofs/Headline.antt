@@ -73,7 +73,7 @@ module _ (world : HirDatabase) (checked : IsChecked world) (def : DefWithBodyId)
   ends-well : AreLaidOut Of → (fuel : ℕ) → (meaning_of Of fuel ≢ Stuck) × JumpsNowhere (meaning_of Of fuel)
   ends-well laid fuel =
       let body = checked-body world def row checked valid.body in
-      let laid_out : AreLaidOutThroughout Of = record { each = λ reached on. reached-laid-out on laid valid.laid_out } in
+      let laid_out : AreLaidOutThroughout Of = record { each = λ reached on. reached-laid-out on laid (λ callee later calls on. let fit = valid.called callee later calls on in fit.laid_out) } in
       (run_is_never_stuck Of fuel checked body valid.plain laid_out, run_jumps_nowhere Of fuel checked body valid.plain laid_out)
 
   module _ (kept : Kept) (same : kept.world ≡ world) (sound : IsSound kept) (limits : Limits) (turns : ℕ) (answer : Result Const ConstEvalError) where
