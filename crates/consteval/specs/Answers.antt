@@ -220,15 +220,17 @@ pub record RunsTo (kept : Kept) (def : DefWithBodyId) (body : MirBody) (limits :
   pub is : answer ≡ carried outcome
 
 -- A body could not begin: the size of the crate's pointers isn't known, or it is another than 8 bytes, or else there is no
--- level of nesting for the run, or else a local's type has no layout or no size, or else the cells take more bytes than the limit, or else
--- the body has parameters, for which a run that nothing calls has no arguments. `begun` tells of the two before the last which it is.
+-- level of nesting for the run, or else a local's type has no layout or no size, or else the cells take more bytes than the limit, or else,
+-- where its cells could be placed, the body has parameters, for which a run that nothing calls has no arguments. `begun` tells of the two
+-- before the last which it is.
 abbrev pub RefusesRun : HirDatabase → DefWithBodyId → MirBody → Limits → MirEvalError → Type 0
 RefusesRun world def body limits e =
     ((e ≡ error.TargetDataLayoutNotAvailable (crate_or_first world def)) × (pointer_bytes world def ≡ None))
     ⊎ ((e ≡ error.NotSupported (codes "targets with different pointer size from host")) × (width : ℕ) × (pointer_bytes world def ≡ Some width) × (width ≢ 8))
     ⊎ ((e ≡ error.StackOverflow) × (pointer_bytes world def ≡ Some 8) × (limits.nesting ≡ 0))
     ⊎ ((pointer_bytes world def ≡ Some 8) × (0 < limits.nesting) × (begun (program_of world limits []) body ≡ Err e))
-    ⊎ ((e ≡ error.InternalError (codes "too few arguments")) × (pointer_bytes world def ≡ Some 8) × (0 < limits.nesting) × (body.param_locals ≢ []))
+    ⊎ ((e ≡ error.InternalError (codes "too few arguments")) × (pointer_bytes world def ≡ Some 8) × (0 < limits.nesting)
+    × (start : Frame × Memory) × (begun (program_of world limits []) body ≡ Ok start) × (body.param_locals ≢ []))
 
 -- no run of a body began, for want of memory or for a cause that the answer names
 pub record NeverBegins (world : HirDatabase) (def : DefWithBodyId) (body : MirBody) (limits : Limits) (turns : ℕ) (answer : Result Const ConstEvalError) : Type 0 where
