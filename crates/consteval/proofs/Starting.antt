@@ -40,8 +40,8 @@ started-refused params (Err e') block blocks e h = inl (let same : e' ≡ e = cc
 abbrev standing : Frame × Memory → ℕ → ℕ → State
 standing start block blocks = Going (record { frame = start.0; memory = start.1; point = BeforeBlock block; left = blocks })
 
-started-going : (params : List LocalId) (r : Result (Frame × Memory) MirEvalError) (block blocks : ℕ) (state : State) → started params r block blocks ≡ Ok state → (start : Frame × Memory) × (r ≡ Ok start) × (state ≡ standing start block blocks)
-started-going [] (Ok start) block blocks state h = (start, refl, (let same : standing start block blocks ≡ state = cc in sym same))
+started-going : (params : List LocalId) (r : Result (Frame × Memory) MirEvalError) (block blocks : ℕ) (state : State) → started params r block blocks ≡ Ok state → (start : Frame × Memory) × (r ≡ Ok start) × (state ≡ standing start block blocks) × (params ≡ [])
+started-going [] (Ok start) block blocks state h = (start, refl, (let same : standing start block blocks ≡ state = cc in sym same), refl)
 started-going (param ∷ params) (Ok start) block blocks state h = absurd cc
 started-going params (Err e) block blocks state h = absurd cc
 
@@ -81,6 +81,7 @@ start-begun world def body limits after is blocks = by-width (is_own_width (poin
         nests = made.0;
         start = going.0;
         began = going.1;
+        no_params = going.3;
         blocks = blocks;
         state = going.2;
       }

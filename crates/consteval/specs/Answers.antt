@@ -239,8 +239,8 @@ pub record NeverBegins (world : HirDatabase) (def : DefWithBodyId) (body : MirBo
   pub is : answer ≡ Err (from_eval_error fault)
   pub refuses : (fault ≡ error.NoMemory) ⊎ RefusesRun world def body limits fault
 
--- memory ran out in a run of a body, at its end, or at a call for which it had to be told more: no more blocks are counted than
--- the run enters that is told these answers, up to its end or its next question
+-- memory ran out in a run of a body without parameters, at its end, or at a call for which it had to be told more: no more blocks are
+-- counted than the run enters that is told these answers, up to its end or its next question
 pub record RunsOut (kept : Kept) (def : DefWithBodyId) (body : MirBody) (limits : Limits) (turns : ℕ) (answer : Result Const ConstEvalError) : Type 0 where
   pub pointers : pointer_bytes kept.world def ≡ Some 8
   pub nests : 0 < limits.nesting
@@ -248,6 +248,7 @@ pub record RunsOut (kept : Kept) (def : DefWithBodyId) (body : MirBody) (limits 
   pub right : AreRightAnswers kept answers
   pub start : Frame × Memory
   pub began : begun (program_of kept.world limits answers) body ≡ Ok start
+  pub no_params : body.param_locals ≡ []
   pub entered : turns ≤ limits.blocks - (run_of body start limits.blocks).left
   pub is : answer ≡ Err constant.NoMemory
 
