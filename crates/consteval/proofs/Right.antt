@@ -23,7 +23,7 @@ use Rattle.consteval.proofs.Keeping.{contains-stays}
 module _ (before after : Kept) (stays : Stays before after) where
   pub right-stays : (q : Query) (a : Answer) → IsRightAnswer before q a → IsRightAnswer after q a
   right-stays (query.Body def args) (answer.Body body) right = (right.0, contains-stays before after stays (Lowered def body.value) right.1)
-  right-stays (query.Body def args) (answer.Failed (constant.MirLowerError e)) right = subst (λ world. RefusesBody world def args e) (sym stays.world) right
+  right-stays (query.Body def args) (answer.Failed (constant.MirLowerError e)) right = (right.0, subst (λ world. RefusesBody world def args e) (sym stays.world) right.1)
   right-stays _ _ right = absurd right
 
   pub all-right-stay : (answers : List (Query × Answer)) → AreRightAnswers before answers → AreRightAnswers after answers

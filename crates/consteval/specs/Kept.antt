@@ -1,5 +1,5 @@
 -- What is kept of finished evaluations, as its callers see it.
-use Rattle.std.specs.Prelude.{◌≡◌, ℕ, ◌-◌, ◌<◌, false, List, [], ◌∷◌, ◌++◌, take, Some, Result, Ok, Contains, map, slice_get}
+use Rattle.std.specs.Prelude.{◌≡◌, ◌≢◌, ℕ, ◌-◌, ◌<◌, false, List, [], ◌∷◌, ◌++◌, take, Some, Result, Ok, Contains, map, slice_get}
 use Rattle.world.specs.declared.database.HirDatabase.{HirDatabase}
 use Rattle.world.specs.declared.database.BodyRow.{BodyRow}
 use Rattle.world.specs.declared.limits.Limits.{Limits}
@@ -13,6 +13,7 @@ use Rattle.mir.specs.declared.answers.Query.{Query}
 use Rattle.mir.specs.declared.answers.Query.TheVariants as query
 use Rattle.mir.specs.declared.body.MirBody.{MirBody}
 use Rattle.mir.specs.declared.errors.ConstEvalError.TheVariants as constant
+use Rattle.mir.specs.declared.errors.MirLowerError.TheVariants as refusal
 use Rattle.mir.specs.Memory.{Memory}
 use Rattle.mir.specs.Run.{Program, Frame, Ended, begun, entering}
 use Rattle.mir_eval.specs.Machine.{Machine, Going, Entry as BeforeBlock, outcome_of, pointer_bytes}
@@ -81,10 +82,10 @@ pub record IsLowered (world : HirDatabase) (def : DefWithBodyId) (body : MirBody
   pub simulates : Simulates (source_of world row) body
 
 -- An answer is right by what is kept: for the body of a definition that is given no arguments, the body that is kept for it; for one that
--- can't be lowered, the refusal. Nothing else is a right answer.
+-- can't be lowered, the refusal, which is never want of memory. Nothing else is a right answer.
 abbrev pub IsRightAnswer : Kept → Query → Answer → Type 0
 IsRightAnswer kept (query.Body def args) (answer.Body body) = (args.0 ≡ []) × Contains kept.entries (Lowered def body.value)
-IsRightAnswer kept (query.Body def args) (answer.Failed (constant.MirLowerError e)) = RefusesBody kept.world def args e
+IsRightAnswer kept (query.Body def args) (answer.Failed (constant.MirLowerError e)) = (e ≢ refusal.NoMemory) × RefusesBody kept.world def args e
 IsRightAnswer kept _ _ = ⊥
 
 -- each answer that a run is told is right by what is kept
