@@ -87,6 +87,16 @@ panic_layer _ = None
 unfoldable pub panic_word : MirEvalError → Option (List ℕ)
 panic_word = fold-MirEvalError (Option (List ℕ)) panic_layer
 
+-- the text of undefined behavior, by that of the error in it
+abbrev pub undefined_layer : MirEvalError-F (Option (List ℕ)) → Option (List ℕ)
+undefined_layer (layer.UndefinedBehavior text) = Some text
+undefined_layer (layer.InFunction inner trail) = inner
+undefined_layer _ = None
+
+-- the text of undefined behavior, under any number of frames and any trail
+unfoldable pub undefined_text : MirEvalError → Option (List ℕ)
+undefined_text = fold-MirEvalError (Option (List ℕ)) undefined_layer
+
 -- what a part of an evaluation costs
 abbrev pub cost_in : End (List ℕ) → Cost
 cost_in (Go bytes store cost) = cost
