@@ -219,8 +219,8 @@ ends-in-undefined source limits e text ends says = by (out-MirEvalError e) ends 
   by (layer.TypeIsUnsized ty reason) ends says = absurd (none-some text says)
   by _ ends says = absurd ends
 
--- What errors say is read the same under any number of frames, and isn't said by an error in which a run stops at its limit on blocks or at a
--- call. What the error says in which a valid definition ends is what its source means.
+-- A reading of errors: it is the same under a frame, and reads nothing in the errors in which a run stops at its limit on blocks or at a
+-- call. What it reads in an error in which a valid definition can end is what the source means.
 pub record IsReading (read : MirEvalError → Option (List ℕ)) (Means : Source → List ℕ → Type 0) : Type 0 where
   pub of_frame : (e : MirEvalError) (trail : List TrailEntry) → read (error.InFunction e trail) ≡ read e
   pub past_blocks : (trail : List TrailEntry) → read (error.InFunction error.ExecutionLimitExceeded trail) ≡ None

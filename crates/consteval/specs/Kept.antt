@@ -100,8 +100,8 @@ program_of world limits answers = record { world = world; nesting = limits.nesti
 abbrev pub run_of : MirBody → Frame × Memory → ℕ → Ended
 run_of body start blocks = entering blocks start.0 start.1 body.start_block.0
 
--- A machine that was told nothing yet is about to enter the first block of a body without parameters, there is a level of nesting for its run,
--- and the pointers of its owner's crate have 8 bytes. Its cells are within the limit on bytes, since it began.
+-- A machine that was told nothing yet is about to enter the first block of a body without parameters, there is a level of nesting for its
+-- run, and the pointers of its owner's crate have 8 bytes. Its cells are within the limit on bytes, since it began.
 pub record HasBegun (world : HirDatabase) (def : DefWithBodyId) (body : MirBody) (limits : Limits) (machine : Machine) : Type 0 where
   pub pointers : pointer_bytes world def ≡ Some 8
   pub nests : 0 < limits.nesting
@@ -111,9 +111,9 @@ pub record HasBegun (world : HirDatabase) (def : DefWithBodyId) (body : MirBody)
   pub blocks : machine.blocks ≡ limits.blocks
   pub state : machine.state ≡ Going (record { frame = start.0; memory = start.1; point = BeforeBlock body.start_block.0; left = limits.blocks })
 
--- A run of a kept body without parameters, told answers that are right by what is kept, entered `turns` blocks and had this outcome. It took
--- one level of nesting for itself, and handed out its value from those that were left. The cells of the body took no more bytes than the
--- limit, since it began. A body with parameters has no such run, since nothing gives it arguments.
+-- A run of a kept body without parameters, told answers that are right by what is kept, entered `turns` blocks and had this outcome. It
+-- took one level of nesting for itself, and handed out its value from those that were left. The cells of the body took no more bytes than
+-- the limit, since it began. A body with parameters has no such run, since nothing gives it arguments.
 pub record Ran (kept : Kept) (body : MirBody) (limits : Limits) (turns : ℕ) (outcome : Result Const _) : Type 0 where
   pub nests : 0 < limits.nesting
   pub answers : List (Query × Answer)

@@ -39,8 +39,8 @@ IsPlainItem world (Const id) ty = IsPlainConst world id ty
 IsPlainItem world (Function id) ty = IsPlainFunction world id ty
 IsPlainItem world _ ty = ⊥
 
--- A body can be run that is called: each of its types that has to have a layout has one, inference met no error in it, and no value in it may
--- need a drop function.
+-- A body that is called can be run: each of its types that needs a layout has one, inference met no error in it, and no value of it may need
+-- a drop function.
 pub record IsFitBody (source : Source) : Type 0 where
   pub laid_out : AreLaidOut source
   pub inferred : source.infer.erroneous ≡ false
@@ -49,8 +49,8 @@ pub record IsFitBody (source : Source) : Type 0 where
 
 -- A definition and its arguments are valid: it is a constant without generic parameters, or a function without generic and value
 -- parameters, has a body of its type without parameters and typing errors, and no value of which may need a drop function, no
--- arguments, and its crate has pointers of 8 bytes. Its body is plain, and so is each body that it reaches by calls. Each body that is reached
--- by calls has types with layouts and no typing error, and no value of it may need a drop function.
+-- arguments, and its crate has pointers of 8 bytes. Its body is plain, and so is each body that it reaches by calls. Each body that is
+-- reached by calls has types with layouts and no typing error, and no value of it may need a drop function.
 pub record IsValid (world : HirDatabase) (def : DefWithBodyId) (args : GenericArgs) (row : BodyRow) : Type 0 where
   pub ty : Ty
   pub item : IsPlainItem world def ty
