@@ -51,6 +51,7 @@ module _ (before after : Kept) (stays : Stays before after) where
         right = all-right-stay before after stays ran.answers ran.right;
         start = ran.start;
         began = ap (λ world. begun (program_of world limits ran.answers) body) stays.world ∙ ran.began;
+        no_params = ran.no_params;
         ended = ran.ended;
         entered = ran.entered;
       }
@@ -90,6 +91,7 @@ module _ (before after : Kept) (stays : Stays before after) where
           right = all-right-stay before after stays out.answers out.right;
           start = out.start;
           began = ap (λ world. begun (program_of world limits out.answers) body) stays.world ∙ out.began;
+          no_params = out.no_params;
           entered = out.entered;
           is = out.is;
         }
@@ -126,11 +128,12 @@ module _ (before after : Kept) (stays : Stays before after) (def : DefWithBodyId
         right = runs.ran.right;
         start = runs.ran.start;
         began = runs.ran.began;
+        no_params = runs.ran.no_params;
         entered = (let is = runs.ran.entered in omega arith);
         is = refl;
       })))
       (⊎_elim (λ never. inr (inl (record { none = never.none; fault = error.NoMemory; is = refl; refuses = inl refl })))
-      (λ out. inr (inr (record { pointers = out.pointers; nests = out.nests; answers = out.answers; right = out.right; start = out.start; began = out.began; entered = out.entered; is = refl }))))
+      (λ out. inr (inr (record { pointers = out.pointers; nests = out.nests; answers = out.answers; right = out.right; start = out.start; began = out.began; no_params = out.no_params; entered = out.entered; is = refl }))))
 
   pub cause-out : (answer : Result Const ConstEvalError) → HasCause before def args limits turns answer → HasCause after def args limits turns (Err constant.NoMemory)
   cause-out answer cause =

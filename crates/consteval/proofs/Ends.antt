@@ -23,9 +23,9 @@ use Rattle.source_meaning.specs.Meaning.{Gives, meaning_of}
 use Rattle.source_meaning.specs.Source.{Source, Store, node_type, root}
 use Rattle.source_meaning.specs.Valid.{HasNoCalls}
 use Rattle.consteval.specs.Kept.{run_of}
-use Rattle.consteval.proofs.Faults.{ends-in-panic, framed, overflowed, word-lacks-room, word-of-frame, word-past-blocks}
+use Rattle.consteval.proofs.Faults.{IsReading, framed, overflowed}
 use Rattle.consteval.proofs.Nesting.{fault-on-level, has-level, value-nests, value-on-level}
-use Rattle.consteval.specs.Answers.{EndsEvaluation, EndsFrame, GivesPanic, GivesValue, CountsBlocks, IsWithinLimits, constant_of, cost_in, panic_word}
+use Rattle.consteval.specs.Answers.{EndsEvaluation, EndsFrame, GivesValue, CountsBlocks, IsWithinLimits, constant_of, cost_in}
 
 -- with as many blocks as it enters, a run reaches its end
 runs-with : (turns : ℕ) (ends : Ending → Type 0) (run : ℕ → Ended) → EndsAfter turns ends run → (blocks : ℕ) → turns ≤ blocks → ends (run blocks).ending
@@ -56,10 +56,10 @@ faulted-outcome : (levels : ℕ) (body : MirBody) (e : MirEvalError) (trail : Li
 unfolding outcome_of
 faulted-outcome levels body e trail = refl
 
--- a fault says the word of a panic as it is handed out, or none
-wrapped-word : (e : MirEvalError) (trail : List TrailEntry) (word : List ℕ) → panic_word (wrapped e trail) ≡ Some word → panic_word e ≡ Some word
-wrapped-word error.NoMemory trail word says = says
-wrapped-word e trail word says = sym (word-of-frame e trail) ∙ says
+-- a fault says the same as it is handed out
+wrapped-says : (read : MirEvalError → Option (List ℕ)) (Means : Source → List ℕ → Type 0) → IsReading read Means → (e : MirEvalError) (trail : List TrailEntry) (said : List ℕ) → read (wrapped e trail) ≡ Some said → read e ≡ Some said
+wrapped-says read Means reading error.NoMemory trail said says = says
+wrapped-says read Means reading e trail said says = sym (reading.of_frame e trail) ∙ says
 
 -- a fault that a source means is handed out in a frame
 wrapped-fault : (fault : Fault) (trail : List TrailEntry) → wrapped (error_of fault) trail ≡ error.InFunction (error_of fault) trail
@@ -83,17 +83,17 @@ cut-gives-no-value program levels body (Returned bytes) konst cut h = cut
 cut-gives-no-value program levels body (Faulted e trail) konst cut h = value-is-no-fault konst (wrapped e trail) (sym h)
 cut-gives-no-value program levels body (Asked q frame memory call) konst cut h = cc
 
--- and no panic, where no refusal that it was told says the word of one
-cut-gives-no-panic : (program : Program) (levels : ℕ) (body : MirBody) (ending : Ending) (e : MirEvalError) (word : List ℕ) →
-    ((refusal : MirEvalError) → WasRefused program refusal → panic_word refusal ≡ None) → IsCut program ending → outcome_of levels body ending ≡ Some (Err e) → panic_word e ≡ Some word → ⊥
+-- and no error that says something, where no refusal that it was told does
+cut-says-nothing : (read : MirEvalError → Option (List ℕ)) (Means : Source → List ℕ → Type 0) → IsReading read Means → (program : Program) (levels : ℕ) (body : MirBody) (ending : Ending) (e : MirEvalError) (said : List ℕ) →
+    ((refusal : MirEvalError) → WasRefused program refusal → read refusal ≡ None) → IsCut program ending → outcome_of levels body ending ≡ Some (Err e) → read e ≡ Some said → ⊥
 unfolding outcome_of
-cut-gives-no-panic program levels body (Returned bytes) e word silent cut h says = cut
-cut-gives-no-panic program levels body (Faulted fault trail) e word silent cut h says =
+cut-says-nothing read Means reading program levels body (Returned bytes) e said silent cut h says = cut
+cut-says-nothing read Means reading program levels body (Faulted fault trail) e said silent cut h says =
     let same = same-fault (wrapped fault trail) e h in
-    let said = wrapped-word fault trail word (ap panic_word same ∙ says) in
-    let none : panic_word fault ≡ None = ⊎_elim (silent fault) (word-lacks-room fault) cut in
-    none-some word (sym none ∙ said)
-cut-gives-no-panic program levels body (Asked q frame memory call) e word silent cut h says = cc
+    let inner = wrapped-says read Means reading fault trail said (ap read same ∙ says) in
+    let none : read fault ≡ None = ⊎_elim (silent fault) (reading.lacks_room fault) cut in
+    none-some said (sym none ∙ inner)
+cut-says-nothing read Means reading program levels body (Asked q frame memory call) e said silent cut h says = cc
 
 -- an end that has a meaning, and is no jump
 abbrev EndsWell : End (List ℕ) → Type 0
@@ -155,16 +155,16 @@ module _ (source : Source) (program : Program) (body : MirBody) (serves : (fuel 
       stops-or-out turns stops (λ out. no-fault konst error.ExecutionLimitExceeded h (out-of-blocks out))
       (λ cut. absurd (cut-gives-no-value program Levels body (Run limits.blocks).ending konst cut h))
 
-  -- and no panic
-  stops-without-panic : {A : Type 0} (turns : ℕ) → StopsWithin source program turns Run → ((refusal : MirEvalError) → WasRefused program refusal → panic_word refusal ≡ None) →
-      (e : MirEvalError) (word : List ℕ) → Outcome ≡ Some (Err e) → panic_word e ≡ Some word → A
-  stops-without-panic turns stops silent e word h says =
+  -- and no error that says something
+  stops-silently : {A : Type 0} (read : MirEvalError → Option (List ℕ)) (Means : Source → List ℕ → Type 0) → IsReading read Means → (turns : ℕ) → StopsWithin source program turns Run →
+      ((refusal : MirEvalError) → WasRefused program refusal → read refusal ≡ None) → (e : MirEvalError) (said : List ℕ) → Outcome ≡ Some (Err e) → read e ≡ Some said → A
+  stops-silently read Means reading turns stops silent e said h says =
       stops-or-out turns stops
       (λ out.
       let handed_out = out-of-blocks out in
       let is = same-fault e _ (sym h ∙ handed_out.1) in
-      absurd (none-some word (sym (word-past-blocks handed_out.0) ∙ sym (ap panic_word is) ∙ says)))
-      (λ cut. absurd (cut-gives-no-panic program Levels body (Run limits.blocks).ending e word silent cut h says))
+      absurd (none-some said (sym (reading.past_blocks handed_out.0) ∙ sym (ap read is) ∙ says)))
+      (λ cut. absurd (cut-says-nothing read Means reading program Levels body (Run limits.blocks).ending e said silent cut h says))
 
   -- without calls no run stops at one
   ends-on : (end : End (List ℕ)) → HasNoCalls source → EndsAs source program end Run → EndsOn end Run
@@ -260,12 +260,12 @@ module _ (source : Source) (program : Program) (body : MirBody) (serves : (fuel 
   counts-value end comes well konst h =
       ⊎_elim (λ stops. stops-without-value (turns_of end) stops konst h) (λ on. counts-of-end end comes on well konst h) (ends-as end comes.fuel comes.reached)
 
-  -- a panic that was handed out is one that the source means, where no refusal that the run was told says the word of one
-  pub gives-panic : (end : End (List ℕ)) → Comes end → EndsWell end → ((refusal : MirEvalError) → WasRefused program refusal → panic_word refusal ≡ None) →
-      (e : MirEvalError) (word : List ℕ) → Outcome ≡ Some (Err e) → panic_word e ≡ Some word → GivesPanic source word
-  gives-panic end comes well silent e word h says =
-      ⊎_elim (λ stops. stops-without-panic (turns_of end) stops silent e word h says)
-      (λ on. ends-in-panic source limits e word (fault-of-end end comes on well e h) says) (ends-as end comes.fuel comes.reached)
+  -- what an error says that was handed out is what the source means, where no refusal that the run was told says anything
+  pub gives-said : (read : MirEvalError → Option (List ℕ)) (Means : Source → List ℕ → Type 0) → IsReading read Means → (end : End (List ℕ)) → Comes end → EndsWell end →
+      ((refusal : MirEvalError) → WasRefused program refusal → read refusal ≡ None) → (e : MirEvalError) (said : List ℕ) → Outcome ≡ Some (Err e) → read e ≡ Some said → Means source said
+  gives-said read Means reading end comes well silent e said h says =
+      ⊎_elim (λ stops. stops-silently read Means reading (turns_of end) stops silent e said h says)
+      (λ on. reading.ends source limits e said (fault-of-end end comes on well e h) says) (ends-as end comes.fuel comes.reached)
 
   module _ (none : HasNoCalls source) where
     -- a value that is within the limits is handed out

@@ -1,4 +1,4 @@
--- The faults that a valid definition can end in, and the words of panics among them.
+-- The faults that a valid definition can end in, with the words of panics and the texts of undefined behavior among them.
 use Rattle.std.proofs.Common.{◌≡◌, ℕ, ◌<◌, List, Option, Some, None, Result, Err, refl, sym, ap, ◌∙◌, subst}
 use Rattle.std.proofs.lemmas.Option.{none-some}
 use Rattle.types.specs.declared.ids.FunctionId.{FunctionId}
@@ -18,7 +18,7 @@ use Rattle.mir.specs.declared.errors.TrailEntry.{TrailEntry}
 use Rattle.mir_lower.specs.Stops.{LacksRoom}
 use Rattle.mir.specs.Errors.{from_eval_error, from_lower_error, layout_error_of}
 use Rattle.source_meaning.specs.Source.{Source}
-use Rattle.consteval.specs.Answers.{NeverRuns, NeverRunsLayer, EndsEvaluation, EndsFrame, EndsIn, EndsLayer, EndsLowering, GivesPanic, LacksLayout, LacksSize, PassesBytes, panic_layer, panic_word}
+use Rattle.consteval.specs.Answers.{NeverRuns, NeverRunsLayer, EndsEvaluation, EndsFrame, EndsIn, EndsLayer, EndsLowering, GivesPanic, GivesUndefined, LacksLayout, LacksSize, PassesBytes, panic_layer, panic_word, undefined_layer, undefined_text}
 use Rattle.consteval.proofs.Nesting.{passes-nesting}
 
 -- a frame's fault, wrapped in it
@@ -127,16 +127,16 @@ unfolding panic_word
 word-by-layer e = ap panic_word (sym (roll-out-MirEvalError e)) ∙ fold-roll-MirEvalError (Option (List ℕ)) panic_layer (out-MirEvalError e)
 
 -- a frame's error says the word of the one in it
-pub word-of-frame : (e : MirEvalError) (trail : List TrailEntry) → panic_word (error.InFunction e trail) ≡ panic_word e
+word-of-frame : (e : MirEvalError) (trail : List TrailEntry) → panic_word (error.InFunction e trail) ≡ panic_word e
 unfolding panic_word
 word-of-frame e trail = ap panic_word (sym (rolls-InFunction e trail)) ∙ fold-roll-MirEvalError (Option (List ℕ)) panic_layer (layer.InFunction e trail)
 
 -- a run that is out of blocks says none
-pub word-past-blocks : (trail : List TrailEntry) → panic_word (error.InFunction error.ExecutionLimitExceeded trail) ≡ None
+word-past-blocks : (trail : List TrailEntry) → panic_word (error.InFunction error.ExecutionLimitExceeded trail) ≡ None
 word-past-blocks trail = word-of-frame error.ExecutionLimitExceeded trail ∙ word-limit
 
 -- and neither does the error of a call whose callee's cells aren't placed, or that nests too deep
-pub word-lacks-room : (e : MirEvalError) → LacksRoom e → panic_word e ≡ None
+word-lacks-room : (e : MirEvalError) → LacksRoom e → panic_word e ≡ None
 unfolding panic_word
 word-lacks-room (error.LayoutError cause ty) lacks = ap panic_word (sym (rolls-LayoutError cause ty)) ∙ fold-roll-MirEvalError (Option (List ℕ)) panic_layer (layer.LayoutError cause ty)
 word-lacks-room (error.TypeIsUnsized ty text) lacks = ap panic_word (sym (rolls-TypeIsUnsized ty text)) ∙ fold-roll-MirEvalError (Option (List ℕ)) panic_layer (layer.TypeIsUnsized ty text)
@@ -145,11 +145,11 @@ word-lacks-room error.StackOverflow lacks = ap panic_word (sym rolls-StackOverfl
 word-lacks-room _ lacks = absurd lacks
 
 -- or the error of a call whose callee's body is refused
-pub word-unlowered : (id : FunctionId) (e : MirLowerError) → panic_word (error.MirLowerError id e) ≡ None
+word-unlowered : (id : FunctionId) (e : MirLowerError) → panic_word (error.MirLowerError id e) ≡ None
 unfolding panic_word
 word-unlowered id e = ap panic_word (sym (rolls-MirLowerError id e)) ∙ fold-roll-MirEvalError (Option (List ℕ)) panic_layer (layer.MirLowerError id e)
 
-pub ends-in-panic : (source : Source) (limits : Limits) (e : MirEvalError) (word : List ℕ) → EndsEvaluation source limits e → panic_word e ≡ Some word → GivesPanic source word
+ends-in-panic : (source : Source) (limits : Limits) (e : MirEvalError) (word : List ℕ) → EndsEvaluation source limits e → panic_word e ≡ Some word → GivesPanic source word
 ends-in-panic source limits e word ends says = by (out-MirEvalError e) ends (sym (word-by-layer e) ∙ says) where
   by : (l : MirEvalError-F MirEvalError) → EndsLayer source limits l → panic_layer (map-MirEvalError MirEvalError (Option (List ℕ)) panic_word l) ≡ Some word → GivesPanic source word
   by (layer.InFunction inner trail) ends says = frame-panic source limits inner word ends says
@@ -158,3 +158,78 @@ ends-in-panic source limits e word ends says = by (out-MirEvalError e) ends (sym
   by (layer.LayoutError e ty) ends says = absurd (none-some word says)
   by (layer.TypeIsUnsized ty text) ends says = absurd (none-some word says)
   by _ ends says = absurd ends
+
+text-undefined : (text : List ℕ) → undefined_text (error.UndefinedBehavior text) ≡ Some text
+unfolding undefined_text
+text-undefined text = ap undefined_text (sym (rolls-UndefinedBehavior text)) ∙ fold-roll-MirEvalError (Option (List ℕ)) undefined_layer (layer.UndefinedBehavior text)
+
+text-panic : (word : List ℕ) → undefined_text (error.Panic word) ≡ None
+unfolding undefined_text
+text-panic word = ap undefined_text (sym (rolls-Panic word)) ∙ fold-roll-MirEvalError (Option (List ℕ)) undefined_layer (layer.Panic word)
+
+text-limit : undefined_text error.ExecutionLimitExceeded ≡ None
+unfolding undefined_text
+text-limit = ap undefined_text (sym rolls-ExecutionLimitExceeded) ∙ fold-roll-MirEvalError (Option (List ℕ)) undefined_layer layer.ExecutionLimitExceeded
+
+-- undefined behavior that a valid definition ends in is what its source means
+frame-undefined : (source : Source) (limits : Limits) (inner : MirEvalError) (text : List ℕ) → EndsFrame source limits inner → undefined_text inner ≡ Some text → GivesUndefined source text
+frame-undefined source limits (error.Panic word) text ends says = absurd (none-some text (sym (text-panic word) ∙ says))
+frame-undefined source limits error.ExecutionLimitExceeded text ends says = absurd (none-some text (sym text-limit ∙ says))
+frame-undefined source limits (error.UndefinedBehavior named) text ends says =
+    let both : Some named ≡ Some text = sym (text-undefined named) ∙ says in
+    let same : named ≡ text = cc in
+    subst (GivesUndefined source) same ends
+frame-undefined source limits _ text ends says = absurd ends
+
+-- the text of an error is that of its layer
+text-by-layer : (e : MirEvalError) → undefined_text e ≡ undefined_layer (map-MirEvalError MirEvalError (Option (List ℕ)) undefined_text (out-MirEvalError e))
+unfolding undefined_text
+text-by-layer e = ap undefined_text (sym (roll-out-MirEvalError e)) ∙ fold-roll-MirEvalError (Option (List ℕ)) undefined_layer (out-MirEvalError e)
+
+-- a frame's error has the text of the one in it
+text-of-frame : (e : MirEvalError) (trail : List TrailEntry) → undefined_text (error.InFunction e trail) ≡ undefined_text e
+unfolding undefined_text
+text-of-frame e trail = ap undefined_text (sym (rolls-InFunction e trail)) ∙ fold-roll-MirEvalError (Option (List ℕ)) undefined_layer (layer.InFunction e trail)
+
+-- a run that is out of blocks has none
+text-past-blocks : (trail : List TrailEntry) → undefined_text (error.InFunction error.ExecutionLimitExceeded trail) ≡ None
+text-past-blocks trail = text-of-frame error.ExecutionLimitExceeded trail ∙ text-limit
+
+-- and neither does the error of a call whose callee's cells aren't placed, or that nests too deep
+text-lacks-room : (e : MirEvalError) → LacksRoom e → undefined_text e ≡ None
+unfolding undefined_text
+text-lacks-room (error.LayoutError cause ty) lacks = ap undefined_text (sym (rolls-LayoutError cause ty)) ∙ fold-roll-MirEvalError (Option (List ℕ)) undefined_layer (layer.LayoutError cause ty)
+text-lacks-room (error.TypeIsUnsized ty text) lacks = ap undefined_text (sym (rolls-TypeIsUnsized ty text)) ∙ fold-roll-MirEvalError (Option (List ℕ)) undefined_layer (layer.TypeIsUnsized ty text)
+text-lacks-room error.MemoryLimitExceeded lacks = ap undefined_text (sym rolls-MemoryLimitExceeded) ∙ fold-roll-MirEvalError (Option (List ℕ)) undefined_layer layer.MemoryLimitExceeded
+text-lacks-room error.StackOverflow lacks = ap undefined_text (sym rolls-StackOverflow) ∙ fold-roll-MirEvalError (Option (List ℕ)) undefined_layer layer.StackOverflow
+text-lacks-room _ lacks = absurd lacks
+
+-- or the error of a call whose callee's body is refused
+text-unlowered : (id : FunctionId) (e : MirLowerError) → undefined_text (error.MirLowerError id e) ≡ None
+unfolding undefined_text
+text-unlowered id e = ap undefined_text (sym (rolls-MirLowerError id e)) ∙ fold-roll-MirEvalError (Option (List ℕ)) undefined_layer (layer.MirLowerError id e)
+
+ends-in-undefined : (source : Source) (limits : Limits) (e : MirEvalError) (text : List ℕ) → EndsEvaluation source limits e → undefined_text e ≡ Some text → GivesUndefined source text
+ends-in-undefined source limits e text ends says = by (out-MirEvalError e) ends (sym (text-by-layer e) ∙ says) where
+  by : (l : MirEvalError-F MirEvalError) → EndsLayer source limits l → undefined_layer (map-MirEvalError MirEvalError (Option (List ℕ)) undefined_text l) ≡ Some text → GivesUndefined source text
+  by (layer.InFunction inner trail) ends says = frame-undefined source limits inner text ends says
+  by layer.StackOverflow ends says = absurd (none-some text says)
+  by layer.MemoryLimitExceeded ends says = absurd (none-some text says)
+  by (layer.LayoutError e ty) ends says = absurd (none-some text says)
+  by (layer.TypeIsUnsized ty reason) ends says = absurd (none-some text says)
+  by _ ends says = absurd ends
+
+-- A reading of errors: it is the same under a frame, and reads nothing in the errors in which a run stops at its limit on blocks or at a
+-- call. What it reads in an error in which a valid definition can end is what the source means.
+pub record IsReading (read : MirEvalError → Option (List ℕ)) (Means : Source → List ℕ → Type 0) : Type 0 where
+  pub of_frame : (e : MirEvalError) (trail : List TrailEntry) → read (error.InFunction e trail) ≡ read e
+  pub past_blocks : (trail : List TrailEntry) → read (error.InFunction error.ExecutionLimitExceeded trail) ≡ None
+  pub lacks_room : (e : MirEvalError) → LacksRoom e → read e ≡ None
+  pub unlowered : (id : FunctionId) (e : MirLowerError) → read (error.MirLowerError id e) ≡ None
+  pub ends : (source : Source) (limits : Limits) (e : MirEvalError) (said : List ℕ) → EndsEvaluation source limits e → read e ≡ Some said → Means source said
+
+pub reads-panics : IsReading panic_word GivesPanic
+reads-panics = record { of_frame = word-of-frame; past_blocks = word-past-blocks; lacks_room = word-lacks-room; unlowered = word-unlowered; ends = ends-in-panic }
+
+pub reads-undefined : IsReading undefined_text GivesUndefined
+reads-undefined = record { of_frame = text-of-frame; past_blocks = text-past-blocks; lacks_room = text-lacks-room; unlowered = text-unlowered; ends = ends-in-undefined }

@@ -27,7 +27,7 @@ use Rattle.source_meaning.specs.Ends.{Panic, Stuck, JumpsNowhere}
 use Rattle.source_meaning.specs.Meaning.{meaning_of}
 use Rattle.source_meaning.specs.Source.{Source}
 use Rattle.source_meaning.specs.Valid.{AreLaidOut, Calls, Reaches, at_once, through, AreLaidOutThroughout, HasDefinedCost, HasNoCalls}
-use Rattle.consteval.specs.Answers.{GivesValue, CountsBlocks, GivesPanic, AnswersWithin, AnswersEndless, HasNoEnd, OrNoMemory, PassesBytes, IsPastBlocks, EndsIn, HasCause, AnswersBody, RefusesRun, RunsTo, carried, panic_word}
+use Rattle.consteval.specs.Answers.{GivesValue, CountsBlocks, AnswersWithin, AnswersEndless, HasNoEnd, OrNoMemory, PassesBytes, IsPastBlocks, EndsIn, HasCause, AnswersBody, RefusesRun, RunsTo, carried}
 use Rattle.consteval.specs.Refusals.{RefusesBody}
 use Rattle.consteval.specs.Kept.{AreRightAnswers, Kept, Lowered, IsSound, IsLowered, Ran, program_of}
 use Rattle.consteval.specs.Sources.{source_of}
@@ -35,11 +35,11 @@ use Rattle.consteval.specs.Valid.{IsValid}
 use Rattle.consteval.proofs.Begins.{has-layouts}
 use Rattle.consteval.proofs.Causes.{carried-value}
 use Rattle.consteval.proofs.Bytes.{fault-takes, value-takes}
-use Rattle.consteval.proofs.Ends.{ComesTo, completes-value, completes-panic, gives-value, counts-value, gives-panic, gives-fault, gives-no-end, same-outcome}
-use Rattle.consteval.proofs.Faults.{carried-fault, carried-never, carried-refusal, carried-unlowered, carried-as, carried-is-no-want, unlowered-is-no-fault, ends-in-panic}
+use Rattle.consteval.proofs.Ends.{ComesTo, completes-value, completes-panic, gives-value, counts-value, gives-said, gives-fault, gives-no-end, same-outcome}
+use Rattle.consteval.proofs.Faults.{IsReading, carried-fault, carried-never, carried-refusal, carried-unlowered, carried-as, carried-is-no-want, unlowered-is-no-fault}
 use Rattle.consteval.proofs.Keeping.{kept-body-lowered}
 use Rattle.consteval.proofs.Nesting.{fault-nests, value-nests}
-use Rattle.consteval.proofs.Right.{refused-without-word}
+use Rattle.consteval.proofs.Right.{refused-silently}
 use Rattle.consteval.proofs.Refused.{run-refusal, run-never, run-is-refused-by-limits, lowering-refusal, lowering-is-not-refused}
 use Rattle.consteval.proofs.Serving.{serves}
 
@@ -73,7 +73,7 @@ module _ (world : HirDatabase) (checked : IsChecked world) (def : DefWithBodyId)
   ends-well : AreLaidOut Of → (fuel : ℕ) → (meaning_of Of fuel ≢ Stuck) × JumpsNowhere (meaning_of Of fuel)
   ends-well laid fuel =
       let body = checked-body world def row checked valid.body in
-      let laid_out : AreLaidOutThroughout Of = record { each = λ reached on. reached-laid-out on laid valid.laid_out } in
+      let laid_out : AreLaidOutThroughout Of = record { each = λ reached on. reached-laid-out on laid (λ callee later calls on. let fit = valid.called callee later calls on in fit.laid_out) } in
       (run_is_never_stuck Of fuel checked body valid.plain laid_out, run_jumps_nowhere Of fuel checked body valid.plain laid_out)
 
   module _ (kept : Kept) (same : kept.world ≡ world) (sound : IsSound kept) (limits : Limits) (turns : ℕ) (answer : Result Const ConstEvalError) where
@@ -108,16 +108,17 @@ module _ (world : HirDatabase) (checked : IsChecked world) (def : DefWithBodyId)
         (counts-value Of (ProgramWith ran.answers) body (served ran.answers ran.right) simulates ran.start ran.began limits ran.nests (meaning_of Of end.0) end.1 (ends-well laid end.0) konst
         (ran.ended ∙ ap Some (sym (carried-value runs.outcome konst (sym is ∙ runs.is)))))
 
-    run-panic : (body : MirBody) → IsLowered world def body → RunsTo kept def body limits turns answer → (e : MirEvalError) (word : List ℕ) → answer ≡ Err (constant.MirEvalError e) → panic_word e ≡ Some word → GivesPanic Of word
-    run-panic body lowered runs e word is says = by runs.outcome runs.ran (sym is ∙ runs.is) where
-      by : (outcome : Result Const MirEvalError) → Ran kept body limits turns outcome → Err (constant.MirEvalError e) ≡ carried outcome → GivesPanic Of word
+    run-said : (read : MirEvalError → Option (List ℕ)) (Means : Source → List ℕ → Type 0) → IsReading read Means → (body : MirBody) → IsLowered world def body → RunsTo kept def body limits turns answer →
+        (e : MirEvalError) (said : List ℕ) → answer ≡ Err (constant.MirEvalError e) → read e ≡ Some said → Means Of said
+    run-said read Means reading body lowered runs e said is says = by runs.outcome runs.ran (sym is ∙ runs.is) where
+      by : (outcome : Result Const MirEvalError) → Ran kept body limits turns outcome → Err (constant.MirEvalError e) ≡ carried outcome → Means Of said
       by (Ok konst) ran carries = absurd cc
       by (Err fault) ran carries =
           let simulates = simulated body lowered in
           let laid = laid-out-by body simulates (Err fault) ran in
           let end = comes limits in
-          gives-panic Of (ProgramWith ran.answers) body (served ran.answers ran.right) simulates ran.start ran.began limits ran.nests (meaning_of Of end.0) end.1 (ends-well laid end.0)
-          (refused-without-word kept limits ran.answers ran.right) fault word ran.ended (ap panic_word (carried-as fault e carries) ∙ says)
+          gives-said Of (ProgramWith ran.answers) body (served ran.answers ran.right) simulates ran.start ran.began limits ran.nests read Means reading (meaning_of Of end.0) end.1 (ends-well laid end.0)
+          (refused-silently read Means reading kept limits ran.answers ran.right) fault said ran.ended (ap read (carried-as fault e carries) ∙ says)
 
     run-closed : (body : MirBody) → IsLowered world def body → HasNoCalls Of → RunsTo kept def body limits turns answer → IfErr answer (EndsIn Of limits)
     run-closed body lowered no_calls runs = subst (λ a. IfErr a (EndsIn Of limits)) (sym runs.is) (by runs.outcome runs.ran) where
@@ -186,14 +187,15 @@ module _ (world : HirDatabase) (checked : IsChecked world) (def : DefWithBodyId)
         ⊎_elim (λ runs. run-counts body lowered runs konst is)
         (⊎_elim (λ never. let err = never.is in absurd cc) (λ out. let err = out.is in absurd cc)) answers
 
-    body-panic : (body : MirBody) → IsLowered world def body → AnswersBody kept def body limits turns answer → (e : MirEvalError) (word : List ℕ) → answer ≡ Err (constant.MirEvalError e) → panic_word e ≡ Some word → GivesPanic Of word
-    body-panic body lowered answers e word is says =
-        ⊎_elim (λ runs. run-panic body lowered runs e word is says)
+    body-said : (read : MirEvalError → Option (List ℕ)) (Means : Source → List ℕ → Type 0) → IsReading read Means → (body : MirBody) → IsLowered world def body → AnswersBody kept def body limits turns answer →
+        (e : MirEvalError) (said : List ℕ) → answer ≡ Err (constant.MirEvalError e) → read e ≡ Some said → Means Of said
+    body-said read Means reading body lowered answers e said is says =
+        ⊎_elim (λ runs. run-said read Means reading body lowered runs e said is says)
         (⊎_elim
         (λ never.
         let same_fault = carried-as never.fault e (sym is ∙ never.is) in
         ⊎_elim (λ none. absurd (carried-is-no-want e (sym is ∙ never.is ∙ ap (λ x. Err (from_eval_error x)) none)))
-        (λ refuses. ends-in-panic Of limits never.fault word (run-refusal world def args row limits body never.fault valid (simulated body lowered) refuses) (ap panic_word same_fault ∙ says)) (refuses-in body never.fault never.refuses))
+        (λ refuses. reading.ends Of limits never.fault said (run-refusal world def args row limits body never.fault valid (simulated body lowered) refuses) (ap read same_fault ∙ says)) (refuses-in body never.fault never.refuses))
         (λ out. absurd (let err = out.is in cc))) answers
 
     body-closed : (body : MirBody) → IsLowered world def body → HasNoCalls Of → AnswersBody kept def body limits turns answer → Closed answer
@@ -255,9 +257,11 @@ module _ (world : HirDatabase) (checked : IsChecked world) (def : DefWithBodyId)
         (⊎_elim (λ none. subst (λ e. EndsIn Of limits (from_lower_error e)) (sym none) tt) (carried-refusal Of limits never.fault)
         (lowering-refusal world def args row never.fault checked valid (refusal-in never.fault never.refuses))))
 
-    pub answer-panic : HasCause kept def args limits turns answer → (e : MirEvalError) (word : List ℕ) → answer ≡ Err (constant.MirEvalError e) → panic_word e ≡ Some word → GivesPanic Of word
-    answer-panic cause e word is says =
-        ⊎_elim (λ has. body-panic has.body (lowered-from has.body has.found) has.answers e word is says)
+    -- what an error says that is answered is what the source means
+    pub answer-said : (read : MirEvalError → Option (List ℕ)) (Means : Source → List ℕ → Type 0) → IsReading read Means → HasCause kept def args limits turns answer →
+        (e : MirEvalError) (said : List ℕ) → answer ≡ Err (constant.MirEvalError e) → read e ≡ Some said → Means Of said
+    answer-said read Means reading cause e said is says =
+        ⊎_elim (λ has. body-said read Means reading has.body (lowered-from has.body has.found) has.answers e said is says)
         (λ never. absurd (unlowered-is-no-fault never.fault e (sym never.is ∙ is))) cause
 
     pub answer-completes : HasNoCalls Of → HasDefinedCost Of → HasCause kept def args limits turns answer → AnswersWithin Of limits answer

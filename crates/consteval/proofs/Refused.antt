@@ -92,7 +92,7 @@ module _ (world : HirDatabase) (def : DefWithBodyId) (args : GenericArgs) (row :
       ⊎_elim (λ none. let is = none.1 in let there = valid.pointers in absurd cc)
       (⊎_elim (λ other. absurd (let is = other.2 in let there = valid.pointers in other.3 cc))
       (⊎_elim (λ deep. by-nesting deep.0 deep.2)
-      (⊎_elim (λ refused. by-cells refused.2) (λ lacking. absurd (lacking.3 without-params)))))
+      (⊎_elim (λ refused. by-cells refused.2) (λ lacking. absurd (lacking.5 without-params)))))
       refuses
 
   pub run-refusal : RefusesRun world def body limits e → EndsEvaluation (source_of world row) limits e

@@ -31,17 +31,17 @@ other-width None own there = absurd cc
 
 -- no start, or a start of a body with parameters
 started-refused : (params : List LocalId) (r : Result (Frame × Memory) MirEvalError) (block blocks : ℕ) (e : MirEvalError) → started params r block blocks ≡ Err e →
-    (r ≡ Err e) ⊎ ((e ≡ error.InternalError (codes "too few arguments")) × (params ≢ []))
+    (r ≡ Err e) ⊎ ((e ≡ error.InternalError (codes "too few arguments")) × (start : Frame × Memory) × (r ≡ Ok start) × (params ≢ []))
 started-refused [] (Ok start) block blocks e h = absurd cc
-started-refused (param ∷ params) (Ok start) block blocks e h = inr ((let same : error.InternalError (codes "too few arguments") ≡ e = cc in sym same), (λ none. cc))
+started-refused (param ∷ params) (Ok start) block blocks e h = inr ((let same : error.InternalError (codes "too few arguments") ≡ e = cc in sym same), start, refl, (λ none. cc))
 started-refused params (Err e') block blocks e h = inl (let same : e' ≡ e = cc in ap Err same)
 
 -- where a run stands that is about to enter a block
 abbrev standing : Frame × Memory → ℕ → ℕ → State
 standing start block blocks = Going (record { frame = start.0; memory = start.1; point = BeforeBlock block; left = blocks })
 
-started-going : (params : List LocalId) (r : Result (Frame × Memory) MirEvalError) (block blocks : ℕ) (state : State) → started params r block blocks ≡ Ok state → (start : Frame × Memory) × (r ≡ Ok start) × (state ≡ standing start block blocks)
-started-going [] (Ok start) block blocks state h = (start, refl, (let same : standing start block blocks ≡ state = cc in sym same))
+started-going : (params : List LocalId) (r : Result (Frame × Memory) MirEvalError) (block blocks : ℕ) (state : State) → started params r block blocks ≡ Ok state → (start : Frame × Memory) × (r ≡ Ok start) × (state ≡ standing start block blocks) × (params ≡ [])
+started-going [] (Ok start) block blocks state h = (start, refl, (let same : standing start block blocks ≡ state = cc in sym same), refl)
 started-going (param ∷ params) (Ok start) block blocks state h = absurd cc
 started-going params (Err e) block blocks state h = absurd cc
 
@@ -60,7 +60,7 @@ start-refused world def body limits e there is = by-width (is_own_width (pointer
   by-width true own h =
       let pointers = own-width (pointer_bytes world def) own in
       ⊎_elim (λ deep. inr (inr (inl (deep.0, pointers, deep.1))))
-      (λ refused. ⊎_elim (λ unplaced. inr (inr (inr (inl (pointers, refused.0, unplaced))))) (λ lacking. inr (inr (inr (inr (lacking.0, pointers, refused.0, lacking.1)))))
+      (λ refused. ⊎_elim (λ unplaced. inr (inr (inr (inl (pointers, refused.0, unplaced))))) (λ lacking. inr (inr (inr (inr (lacking.0, pointers, refused.0, lacking.1, lacking.2, lacking.3)))))
       (started-refused body.param_locals (begun (program_of world limits []) body) body.start_block.0 limits.blocks e refused.1))
       (refused-on-level limits.nesting (started body.param_locals (begun (program_of world limits []) body) body.start_block.0 limits.blocks) e h)
   by-width false own h =
@@ -81,6 +81,7 @@ start-begun world def body limits after is blocks = by-width (is_own_width (poin
         nests = made.0;
         start = going.0;
         began = going.1;
+        no_params = going.3;
         blocks = blocks;
         state = going.2;
       }

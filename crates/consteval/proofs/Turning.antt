@@ -24,12 +24,13 @@ use Rattle.consteval.proofs.Coming.{AsksFrom, HasCome, begun-telling, comes-firs
 use Rattle.consteval.proofs.Right.{all-right-stay}
 use Rattle.mir_laws.specs.Questions.{telling}
 
--- a run of a definition's body began under limits
+-- a run of a definition's body, which has no parameters, began under limits
 pub record HasStarted (world : HirDatabase) (def : DefWithBodyId) (body : MirBody) (limits : Limits) : Type 0 where
   pub pointers : pointer_bytes world def ≡ Some 8
   pub nests : 0 < limits.nesting
   pub start : Frame × Memory
   pub began : begun (program_of world limits []) body ≡ Ok start
+  pub no_params : body.param_locals ≡ []
 
 -- a machine's run of a body came to where it goes on
 pub record IsOnItsWay (kept : Kept) (def : DefWithBodyId) (body : MirBody) (limits : Limits) (machine : Machine) : Type 0 where
@@ -70,7 +71,7 @@ begins-on-its-way kept world def body limits machine same has = on (subst (λ w.
   on : HasBegun kept.world def body limits machine → IsOnItsWay kept def body limits machine
   on has =
       record {
-        started = record { pointers = has.pointers; nests = has.nests; start = has.start; began = has.began };
+        started = record { pointers = has.pointers; nests = has.nests; start = has.start; began = has.began; no_params = has.no_params };
         blocks = has.blocks;
         position = record { frame = has.start.0; memory = has.start.1; point = BeforeBlock body.start_block.0; left = limits.blocks };
         come = comes-first kept body limits has.start has.began;
@@ -104,6 +105,7 @@ module _ (kept : Kept) (def : DefWithBodyId) (body : MirBody) (limits : Limits) 
         right = come.right;
         start = Start;
         began = began-so;
+        no_params = started.no_params;
         entered = subst (λ (ended : Ended). entered ≤ limits.blocks - ended.left) (sym same-end) fewer;
         is = is;
       }))
@@ -120,6 +122,7 @@ module _ (kept : Kept) (def : DefWithBodyId) (body : MirBody) (limits : Limits) 
           right = come.right;
           start = Start;
           began = began-so;
+          no_params = started.no_params;
           ended =
               ap (λ (ended : Ended). outcome_of (limits.nesting - 1) body ended.ending) same-end
               ∙ sym (ap (λ (p : Program). outcome_of (p.nesting - 1) body (end_of position).ending) come.program)
@@ -247,6 +250,7 @@ module _ (kept : Kept) (def : DefWithBodyId) (body : MirBody) (limits : Limits) 
               nests = started.nests;
               start = started.start;
               began = ap (λ world. begun (program_of world limits []) body) stays.world ∙ started.began;
+              no_params = started.no_params;
             };
             blocks = now-blocks;
             position = with_answers goes-on.0 (record { frame = asking.caller; memory = asking.then; point = AtCall asking.block; left = asking.left });
@@ -273,5 +277,6 @@ module _ (kept : Kept) (def : DefWithBodyId) (body : MirBody) (limits : Limits) 
           nests = started.nests;
           start = started.start;
           began = ap (λ world. begun (program_of world limits []) body) stays.world ∙ started.began;
+          no_params = started.no_params;
         })
         (come-stays kept later stays body limits started.start position asking.come) entered answer (omega arith) is

@@ -87,6 +87,16 @@ panic_layer _ = None
 unfoldable pub panic_word : MirEvalError → Option (List ℕ)
 panic_word = fold-MirEvalError (Option (List ℕ)) panic_layer
 
+-- the text of undefined behavior, by that of the error in it
+abbrev pub undefined_layer : MirEvalError-F (Option (List ℕ)) → Option (List ℕ)
+undefined_layer (layer.UndefinedBehavior text) = Some text
+undefined_layer (layer.InFunction inner trail) = inner
+undefined_layer _ = None
+
+-- the text of undefined behavior, under any number of frames and any trail
+unfoldable pub undefined_text : MirEvalError → Option (List ℕ)
+undefined_text = fold-MirEvalError (Option (List ℕ)) undefined_layer
+
 -- what a part of an evaluation costs
 abbrev pub cost_in : End (List ℕ) → Cost
 cost_in (Go bytes store cost) = cost
@@ -220,15 +230,17 @@ pub record RunsTo (kept : Kept) (def : DefWithBodyId) (body : MirBody) (limits :
   pub is : answer ≡ carried outcome
 
 -- A body could not begin: the size of the crate's pointers isn't known, or it is another than 8 bytes, or else there is no
--- level of nesting for the run, or else a local's type has no layout or no size, or else the cells take more bytes than the limit, or else
--- the body has parameters, for which a run that nothing calls has no arguments. `begun` tells of the two before the last which it is.
+-- level of nesting for the run, or else a local's type has no layout or no size, or else the cells take more bytes than the limit, or else,
+-- where its cells could be placed, the body has parameters, for which a run that nothing calls has no arguments. `begun` tells of the two
+-- before the last which it is.
 abbrev pub RefusesRun : HirDatabase → DefWithBodyId → MirBody → Limits → MirEvalError → Type 0
 RefusesRun world def body limits e =
     ((e ≡ error.TargetDataLayoutNotAvailable (crate_or_first world def)) × (pointer_bytes world def ≡ None))
     ⊎ ((e ≡ error.NotSupported (codes "targets with different pointer size from host")) × (width : ℕ) × (pointer_bytes world def ≡ Some width) × (width ≢ 8))
     ⊎ ((e ≡ error.StackOverflow) × (pointer_bytes world def ≡ Some 8) × (limits.nesting ≡ 0))
     ⊎ ((pointer_bytes world def ≡ Some 8) × (0 < limits.nesting) × (begun (program_of world limits []) body ≡ Err e))
-    ⊎ ((e ≡ error.InternalError (codes "too few arguments")) × (pointer_bytes world def ≡ Some 8) × (0 < limits.nesting) × (body.param_locals ≢ []))
+    ⊎ ((e ≡ error.InternalError (codes "too few arguments")) × (pointer_bytes world def ≡ Some 8) × (0 < limits.nesting)
+    × (start : Frame × Memory) × (begun (program_of world limits []) body ≡ Ok start) × (body.param_locals ≢ []))
 
 -- no run of a body began, for want of memory or for a cause that the answer names
 pub record NeverBegins (world : HirDatabase) (def : DefWithBodyId) (body : MirBody) (limits : Limits) (turns : ℕ) (answer : Result Const ConstEvalError) : Type 0 where
@@ -237,8 +249,8 @@ pub record NeverBegins (world : HirDatabase) (def : DefWithBodyId) (body : MirBo
   pub is : answer ≡ Err (from_eval_error fault)
   pub refuses : (fault ≡ error.NoMemory) ⊎ RefusesRun world def body limits fault
 
--- memory ran out in a run of a body, at its end, or at a call for which it had to be told more: no more blocks are counted than
--- the run enters that is told these answers, up to its end or its next question
+-- memory ran out in a run of a body without parameters, at its end, or at a call for which it had to be told more: no more blocks are
+-- counted than the run enters that is told these answers, up to its end or its next question
 pub record RunsOut (kept : Kept) (def : DefWithBodyId) (body : MirBody) (limits : Limits) (turns : ℕ) (answer : Result Const ConstEvalError) : Type 0 where
   pub pointers : pointer_bytes kept.world def ≡ Some 8
   pub nests : 0 < limits.nesting
@@ -246,6 +258,7 @@ pub record RunsOut (kept : Kept) (def : DefWithBodyId) (body : MirBody) (limits 
   pub right : AreRightAnswers kept answers
   pub start : Frame × Memory
   pub began : begun (program_of kept.world limits answers) body ≡ Ok start
+  pub no_params : body.param_locals ≡ []
   pub entered : turns ≤ limits.blocks - (run_of body start limits.blocks).left
   pub is : answer ≡ Err constant.NoMemory
 

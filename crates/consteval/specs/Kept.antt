@@ -1,5 +1,5 @@
 -- What is kept of finished evaluations, as its callers see it.
-use Rattle.std.specs.Prelude.{◌≡◌, ℕ, ◌-◌, ◌<◌, false, List, [], ◌∷◌, ◌++◌, take, Some, Result, Ok, Contains, map, slice_get}
+use Rattle.std.specs.Prelude.{◌≡◌, ◌≢◌, ℕ, ◌-◌, ◌<◌, false, List, [], ◌∷◌, ◌++◌, take, Some, Result, Ok, Contains, map, slice_get}
 use Rattle.world.specs.declared.database.HirDatabase.{HirDatabase}
 use Rattle.world.specs.declared.database.BodyRow.{BodyRow}
 use Rattle.world.specs.declared.limits.Limits.{Limits}
@@ -13,6 +13,7 @@ use Rattle.mir.specs.declared.answers.Query.{Query}
 use Rattle.mir.specs.declared.answers.Query.TheVariants as query
 use Rattle.mir.specs.declared.body.MirBody.{MirBody}
 use Rattle.mir.specs.declared.errors.ConstEvalError.TheVariants as constant
+use Rattle.mir.specs.declared.errors.MirLowerError.TheVariants as refusal
 use Rattle.mir.specs.Memory.{Memory}
 use Rattle.mir.specs.Run.{Program, Frame, Ended, begun, entering}
 use Rattle.mir_eval.specs.Machine.{Machine, Going, Entry as BeforeBlock, outcome_of, pointer_bytes}
@@ -81,10 +82,10 @@ pub record IsLowered (world : HirDatabase) (def : DefWithBodyId) (body : MirBody
   pub simulates : Simulates (source_of world row) body
 
 -- An answer is right by what is kept: for the body of a definition that is given no arguments, the body that is kept for it; for one that
--- can't be lowered, the refusal. Nothing else is a right answer.
+-- can't be lowered, the refusal, which is never want of memory. Nothing else is a right answer.
 abbrev pub IsRightAnswer : Kept → Query → Answer → Type 0
 IsRightAnswer kept (query.Body def args) (answer.Body body) = (args.0 ≡ []) × Contains kept.entries (Lowered def body.value)
-IsRightAnswer kept (query.Body def args) (answer.Failed (constant.MirLowerError e)) = RefusesBody kept.world def args e
+IsRightAnswer kept (query.Body def args) (answer.Failed (constant.MirLowerError e)) = (e ≢ refusal.NoMemory) × RefusesBody kept.world def args e
 IsRightAnswer kept _ _ = ⊥
 
 -- each answer that a run is told is right by what is kept
@@ -99,25 +100,27 @@ program_of world limits answers = record { world = world; nesting = limits.nesti
 abbrev pub run_of : MirBody → Frame × Memory → ℕ → Ended
 run_of body start blocks = entering blocks start.0 start.1 body.start_block.0
 
--- A machine that was told nothing yet is about to enter the body's first block, there is a level of nesting for its run, and the pointers
--- of its owner's crate have 8 bytes. Its cells are within the limit on bytes, since it began.
+-- A machine that was told nothing yet is about to enter the first block of a body without parameters, there is a level of nesting for its
+-- run, and the pointers of its owner's crate have 8 bytes. Its cells are within the limit on bytes, since it began.
 pub record HasBegun (world : HirDatabase) (def : DefWithBodyId) (body : MirBody) (limits : Limits) (machine : Machine) : Type 0 where
   pub pointers : pointer_bytes world def ≡ Some 8
   pub nests : 0 < limits.nesting
   pub start : Frame × Memory
   pub began : begun (program_of world limits []) body ≡ Ok start
+  pub no_params : body.param_locals ≡ []
   pub blocks : machine.blocks ≡ limits.blocks
   pub state : machine.state ≡ Going (record { frame = start.0; memory = start.1; point = BeforeBlock body.start_block.0; left = limits.blocks })
 
--- A run of a kept body, told answers that are right by what is kept, entered `turns` blocks and had this outcome. It took one level of
--- nesting for itself, and handed out its value from those that were left. The cells of the body took no more bytes than the limit, since
--- it began.
+-- A run of a kept body without parameters, told answers that are right by what is kept, entered `turns` blocks and had this outcome. It
+-- took one level of nesting for itself, and handed out its value from those that were left. The cells of the body took no more bytes than
+-- the limit, since it began. A body with parameters has no such run, since nothing gives it arguments.
 pub record Ran (kept : Kept) (body : MirBody) (limits : Limits) (turns : ℕ) (outcome : Result Const _) : Type 0 where
   pub nests : 0 < limits.nesting
   pub answers : List (Query × Answer)
   pub right : AreRightAnswers kept answers
   pub start : Frame × Memory
   pub began : begun (program_of kept.world limits answers) body ≡ Ok start
+  pub no_params : body.param_locals ≡ []
   pub ended : outcome_of (limits.nesting - 1) body (run_of body start limits.blocks).ending ≡ Some outcome
   pub entered : turns ≡ limits.blocks - (run_of body start limits.blocks).left
 

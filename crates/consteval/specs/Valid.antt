@@ -39,10 +39,18 @@ IsPlainItem world (Const id) ty = IsPlainConst world id ty
 IsPlainItem world (Function id) ty = IsPlainFunction world id ty
 IsPlainItem world _ ty = ⊥
 
+-- A body that is called can be run: each of its types that needs a layout has one, inference met no error in it, and no value of it may need
+-- a drop function.
+pub record IsFitBody (source : Source) : Type 0 where
+  pub laid_out : AreLaidOut source
+  pub inferred : source.infer.erroneous ≡ false
+  pub fitting : source.infer.mismatches ≡ []
+  pub dropless : ¬ HasDrops source
+
 -- A definition and its arguments are valid: it is a constant without generic parameters, or a function without generic and value
 -- parameters, has a body of its type without parameters and typing errors, and no value of which may need a drop function, no
--- arguments, and its crate has pointers of 8 bytes. Its body is plain, and so is each body that it reaches by calls. The types of each body
--- that is called have layouts.
+-- arguments, and its crate has pointers of 8 bytes. Its body is plain, and so is each body that it reaches by calls. Each body that is
+-- reached by calls has types with layouts and no typing error, and no value of it may need a drop function.
 pub record IsValid (world : HirDatabase) (def : DefWithBodyId) (args : GenericArgs) (row : BodyRow) : Type 0 where
   pub ty : Ty
   pub item : IsPlainItem world def ty
@@ -53,7 +61,7 @@ pub record IsValid (world : HirDatabase) (def : DefWithBodyId) (args : GenericAr
   pub inferred : row.infer.erroneous ≡ false
   pub fitting : row.infer.mismatches ≡ []
   pub plain : IsPlainThroughout (source_of world row)
-  pub laid_out : (called reached : Source) → Calls (source_of world row) called → Reaches called reached → AreLaidOut reached
+  pub called : (callee reached : Source) → Calls (source_of world row) callee → Reaches callee reached → IsFitBody reached
   pub dropless : ¬ HasDrops (source_of world row)
   pub typed : node_type (source_of world row) (root (source_of world row)) ≡ Some ty
   pub pointers : pointer_bytes world def ≡ Some 8

@@ -73,7 +73,7 @@ impl<'w> Evaluations<'w> {
     ghost use Rattle.consteval.specs.Kept.{Lowered, Value, IsKept, IsLowered, IsSound, IsValueOf, RestsOn, Stays, entry_of, key_of, with_entry};
     ghost use Rattle.consteval.specs.Built.{no_args};
     ghost use Rattle.consteval.specs.Valid.{IsValid};
-    ghost use Rattle.consteval.specs.Answers.{GivesValue, CountsBlocks, GivesPanic, AnswersWithin, AnswersEndless, HasNoEnd, EndsIn, HasCause, panic_word};
+    ghost use Rattle.consteval.specs.Answers.{GivesValue, CountsBlocks, GivesPanic, GivesUndefined, AnswersWithin, AnswersEndless, HasNoEnd, EndsIn, HasCause, panic_word, undefined_text};
     ghost use Rattle.consteval.specs.Refusals.{RefusesBody};
     ghost use Rattle.consteval.specs.Sources.{source_of};
 
@@ -281,6 +281,8 @@ impl<'w> Evaluations<'w> {
         ensures counts { (row : _) (konst : _) → IsValid self.old.world def args.now row → result.result ≡ Ok konst → CountsBlocks (source_of self.old.world row) result.turns }
         ensures panic { (row : _) (e : _) (word : _) → IsValid self.old.world def args.now row → result.result ≡ Err (constant.MirEvalError e) → panic_word e ≡ Some word
             → GivesPanic (source_of self.old.world row) word }
+        ensures undefined { (row : _) (e : _) (text : _) → IsValid self.old.world def args.now row → result.result ≡ Err (constant.MirEvalError e) → undefined_text e ≡ Some text
+            → GivesUndefined (source_of self.old.world row) text }
         ensures closed { (row : _) → IsValid self.old.world def args.now row → HasNoCalls (source_of self.old.world row) → IfErr result.result (EndsIn (source_of self.old.world row) limits.now) }
         ensures complete { (row : _) → IsValid self.old.world def args.now row → HasNoCalls (source_of self.old.world row) → HasDefinedCost (source_of self.old.world row)
             → AnswersWithin (source_of self.old.world row) limits.now result.result }

@@ -10,7 +10,7 @@ use Rattle.source_meaning.specs.Valid.{HasDefinedCost, HasNoCalls}
 use Rattle.consteval.specs.Kept.{Kept, IsSound, Stays, Value}
 use Rattle.consteval.specs.Sources.{source_of}
 use Rattle.consteval.specs.Valid.{IsValid}
-use Rattle.consteval.specs.Answers.{GivesValue, CountsBlocks, GivesPanic, AnswersWithin, AnswersEndless, HasNoEnd, EndsIn, HasCause, panic_word}
+use Rattle.consteval.specs.Answers.{GivesValue, CountsBlocks, GivesPanic, GivesUndefined, AnswersWithin, AnswersEndless, HasNoEnd, EndsIn, HasCause, panic_word, undefined_text}
 use Rattle.consteval.specs.declared.evaluated.Evaluated.{Evaluated}
 use Rattle.world.specs.declared.database.BodyRow.{BodyRow}
 use Rattle.world.specs.declared.database.HirDatabase.{HirDatabase}
@@ -29,6 +29,8 @@ pub record IsAnswer (before after : Kept) (def : DefWithBodyId) (args : GenericA
       CountsBlocks (source_of before.world row) answer.turns
   pub panic : (row : BodyRow) (e : MirEvalError) (word : List ℕ) → IsValid before.world def args row →
       answer.result ≡ Err (constant.MirEvalError e) → panic_word e ≡ Some word → GivesPanic (source_of before.world row) word
+  pub undefined : (row : BodyRow) (e : MirEvalError) (text : List ℕ) → IsValid before.world def args row →
+      answer.result ≡ Err (constant.MirEvalError e) → undefined_text e ≡ Some text → GivesUndefined (source_of before.world row) text
   pub closed : (row : BodyRow) → IsValid before.world def args row → HasNoCalls (source_of before.world row) → IfErr answer.result (EndsIn (source_of before.world row) limits)
   pub complete : (row : BodyRow) → IsValid before.world def args row → HasNoCalls (source_of before.world row) → HasDefinedCost (source_of before.world row) →
       AnswersWithin (source_of before.world row) limits answer.result

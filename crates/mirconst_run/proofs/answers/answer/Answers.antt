@@ -12,6 +12,7 @@ returns c =
       value = evaluated.value;
       counts = evaluated.counts;
       panic = evaluated.panic;
+      undefined = evaluated.undefined;
       closed = evaluated.closed;
       complete = evaluated.complete;
       endless = evaluated.endless;
