@@ -130,16 +130,17 @@ LacksLayout source ty = IsCellType source ty × (layout_of source.world ty ≡ N
 abbrev pub LacksSize : Source → Ty → Type 0
 LacksSize source ty = IsCellType source ty × (layout : Layout) × (layout_of source.world ty ≡ Some layout) × (layout.sized ≡ false)
 
--- how a frame of a valid definition can end: in a panic or in undefined behavior that its source means, or past the limit
--- on blocks
+-- how a frame of a valid definition without calls can end: in a panic or in undefined behavior that its source means, or past the
+-- limit on blocks
 abbrev pub EndsFrame : Source → Limits → MirEvalError → Type 0
 EndsFrame source limits (error.Panic word) = GivesPanic source word
 EndsFrame source limits (error.UndefinedBehavior text) = GivesUndefined source text
 EndsFrame source limits error.ExecutionLimitExceeded = PassesBlocks source limits.blocks
 EndsFrame source limits _ = ⊥
 
--- The cause of a `MirEvalError` in which the evaluation of a valid definition's body ends, by the error's outermost variant.
--- Of `LayoutError` and `TypeIsUnsized` it states that the type in the error is that of a cell, and has no layout, or one without a size.
+-- The cause of a `MirEvalError` in which the evaluation of a valid definition's body ends, where it makes no call, by the error's
+-- outermost variant. Of `LayoutError` and `TypeIsUnsized` it states that the type in the error is that of a cell, and has no layout, or
+-- one without a size.
 abbrev pub EndsLayer : Source → Limits → MirEvalError-F MirEvalError → Type 0
 EndsLayer source limits (layer.InFunction inner trail) = EndsFrame source limits inner
 EndsLayer source limits layer.StackOverflow = PassesNesting source limits.nesting
@@ -148,8 +149,8 @@ EndsLayer source limits (layer.LayoutError e ty) = (e ≡ layout_error_of ty) ×
 EndsLayer source limits (layer.TypeIsUnsized ty text) = LacksSize source ty
 EndsLayer source limits _ = ⊥
 
--- how the evaluation of a valid definition's body can end without a value: with its frame, past the limit on nesting or that
--- on bytes, or with an error that names a type without a layout or without a size
+-- how the evaluation of a valid definition's body, where it makes no call, can end without a value: with its frame, past the limit on
+-- nesting or that on bytes, or with an error that names a type without a layout or without a size
 abbrev pub EndsEvaluation : Source → Limits → MirEvalError → Type 0
 EndsEvaluation source limits e = EndsLayer source limits (out-MirEvalError e)
 
@@ -158,7 +159,7 @@ abbrev pub EndsLowering : Source → MirLowerError → Type 0
 EndsLowering source (refusal.LayoutError e) = RefusesAt source (root source) (refusal.LayoutError e)
 EndsLowering source _ = ⊥
 
--- Every error that a valid definition can end in. Want of memory needs no cause.
+-- Every error that a valid definition without calls can end in. Want of memory needs no cause.
 abbrev pub EndsIn : Source → Limits → ConstEvalError → Type 0
 EndsIn source limits (constant.MirLowerError e) = EndsLowering source e
 EndsIn source limits (constant.MirEvalError e) = EndsEvaluation source limits e
