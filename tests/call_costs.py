@@ -409,10 +409,15 @@ class Reading:
 
     def own_call(self, e, part):
         function = function_in(self.body.infer["expr_types"][part["callee"]])
-        if function is None or self.world["functions"][function].get("special") is not None:
+        if function is None or not is_direct(self.world["functions"][function]):
             raise Refusal(NOT_BUILT)
         for arg in part.get("args", []):
             self.operand(arg)
+
+
+def is_direct(row):
+    """Whether a call of a function enters its own body."""
+    return not row.get("generics") and row.get("in_trait") is None and row.get("special") is None
 
 
 def tuple_of(entry):
