@@ -7,8 +7,6 @@ use Rattle.types.specs.declared.ty.Const.TheVariants.{Value}
 use Rattle.types.specs.declared.ty.GenericArgs.{GenericArgs}
 use Rattle.types.specs.declared.ty.MemoryMap.TheVariants.{Empty}
 use Rattle.types.specs.declared.ty.Ty.{Ty}
-use Rattle.world.specs.Lookups.{layout_of}
-use Rattle.world.specs.declared.layout.Layout.{Layout}
 use Rattle.world.specs.declared.limits.Limits.{Limits}
 use Rattle.mir.specs.declared.body.MirBody.{MirBody}
 use Rattle.mir.specs.declared.errors.ConstEvalError.{ConstEvalError}
@@ -26,13 +24,13 @@ use Rattle.mir.specs.Memory.{Memory}
 use Rattle.mir.specs.Run.{Frame, begun}
 use Rattle.mir_eval.specs.Evaluators.{crate_or_first}
 use Rattle.mir_eval.specs.Machine.{pointer_bytes}
-use Rattle.mir_lower.specs.Growth.{IsUsed}
 use Rattle.mir_lower.specs.Refusals.{RefusesAt}
-use Rattle.source_meaning.specs.Ends.{Cost, no_cost, End, Go, Jumps, Faults, Stuck, More, Panic, Undefined, IsOver}
+use Rattle.mir_lower.specs.Stops.{MakesSomeCall, OfReached, LacksLayout, LacksSize}
+use Rattle.source_meaning.specs.Ends.{Cost, cost_of, Go, Faults, Panic, Undefined, IsOver}
 use Rattle.source_meaning.specs.Entering.{entering}
-use Rattle.source_meaning.specs.Meaning.{Gives, meaning_of}
-use Rattle.source_meaning.specs.Source.{Source, Cell, Store, cell_type, node_type, root}
-use Rattle.source_meaning.specs.Valid.{HasDefinedCost}
+use Rattle.source_meaning.specs.Meaning.{Gives, meaning_from, meaning_of}
+use Rattle.source_meaning.specs.Source.{Source, Store, node_type, root, zeroed}
+use Rattle.source_meaning.specs.Valid.{HasDefinedCost, HasNoCalls}
 use Rattle.consteval.specs.Built.{is_unbuilt}
 use Rattle.consteval.specs.Kept.{AreRightAnswers, IsLowered, Kept, Lowered, Ran, program_of, run_of}
 use Rattle.consteval.specs.Refusals.{RefusesBody}
@@ -48,6 +46,14 @@ IsFrameFault fault answer = (trail : List TrailEntry) × (answer ≡ Err (consta
 -- an answer is a panic that says a word, over some trail
 abbrev pub IsPanicOf : List ℕ → Result Const ConstEvalError → Type 0
 IsPanicOf word = IsFrameFault (error.Panic word)
+
+-- or undefined behavior that a text names
+abbrev pub IsUndefinedOf : List ℕ → Result Const ConstEvalError → Type 0
+IsUndefinedOf text = IsFrameFault (error.UndefinedBehavior text)
+
+-- or the error of a run that may enter no more blocks
+abbrev pub IsPastBlocks : Result Const ConstEvalError → Type 0
+IsPastBlocks = IsFrameFault error.ExecutionLimitExceeded
 
 -- the source means this value: the type of its root, and exactly these bytes
 pub record GivesValue (source : Source) (konst : Const) : Type 0 where
@@ -97,60 +103,55 @@ undefined_layer _ = None
 unfoldable pub undefined_text : MirEvalError → Option (List ℕ)
 undefined_text = fold-MirEvalError (Option (List ℕ)) undefined_layer
 
--- what a part of an evaluation costs
-abbrev pub cost_in : End (List ℕ) → Cost
-cost_in (Go bytes store cost) = cost
-cost_in (Jumps to store cost) = cost
-cost_in (Faults fault cost) = cost
-cost_in Stuck = no_cost
-cost_in (More cost) = cost
-
 -- at some amount of fuel the source counts more blocks than a limit
 abbrev pub PassesBlocks : Source → ℕ → Type 0
-PassesBlocks source blocks = (fuel : ℕ) × (blocks < (cost_in (meaning_of source fuel)).turns)
+PassesBlocks source blocks = (fuel : ℕ) × (blocks < (cost_of (meaning_of source fuel)).turns)
 
 -- at some amount of fuel the source counts deeper nesting than a limit
 abbrev pub PassesNesting : Source → ℕ → Type 0
-PassesNesting source nesting = (fuel : ℕ) × (nesting < (cost_in (meaning_of source fuel)).nesting)
+PassesNesting source nesting = (fuel : ℕ) × (nesting < (cost_of (meaning_of source fuel)).nesting)
+
+-- at some amount of fuel the source counts more bytes than a limit
+abbrev pub PassesBytes : Source → ℕ → Type 0
+PassesBytes source bytes = (fuel : ℕ) × (bytes < (cost_of (meaning_of source fuel)).bytes)
 
 -- on entering it the source counts more bytes for its cells than a limit
-abbrev pub PassesBytes : Source → ℕ → Type 0
-PassesBytes source bytes = bytes < (entering source).bytes
+abbrev pub PassesBytesAtOnce : Source → ℕ → Type 0
+PassesBytesAtOnce source bytes = bytes < (entering source).bytes
 
--- the type of a cell that the evaluation of a source may use: of the result, of a binding that no closure owns, or of an expression that is
--- evaluated, before or after its adjustment
-abbrev pub IsCellType : Source → Ty → Type 0
-IsCellType source ty = (cell : Cell) × IsUsed source cell × (cell_type source cell ≡ Some ty)
+-- at some amount of fuel a body was entered of which a type has no size, so that the cost isn't defined
+abbrev pub HasUndefinedCost : Source → Type 0
+HasUndefinedCost source = (fuel : ℕ) × ((cost_of (meaning_of source fuel)).defined ≡ false)
 
--- such a type without a layout
-abbrev pub LacksLayout : Source → Ty → Type 0
-LacksLayout source ty = IsCellType source ty × (layout_of source.world ty ≡ None)
+-- Why a frame of a valid definition's evaluation ends at a call whose callee isn't entered: the call nests deeper than the limit, or the callee's
+-- cells take more bytes than the limit, or the type of such a cell, which the error names, has no layout, or one without a size.
+abbrev pub EndsAtCall : Source → Limits → MirEvalError → Type 0
+EndsAtCall source limits error.StackOverflow = PassesNesting source limits.nesting
+EndsAtCall source limits error.MemoryLimitExceeded = PassesBytes source limits.bytes
+EndsAtCall source limits (error.LayoutError e ty) = (e ≡ layout_error_of ty) × OfReached source (λ reached. LacksLayout reached ty) × HasUndefinedCost source
+EndsAtCall source limits (error.TypeIsUnsized ty text) = OfReached source (λ reached. LacksSize reached ty) × HasUndefinedCost source
+EndsAtCall source limits _ = ⊥
 
--- or with a layout without a size
-abbrev pub LacksSize : Source → Ty → Type 0
-LacksSize source ty = IsCellType source ty × (layout : Layout) × (layout_of source.world ty ≡ Some layout) × (layout.sized ≡ false)
-
--- how a frame of a valid definition without calls can end: in a panic or in undefined behavior that its source means, or past the
--- limit on blocks
+-- How a frame of a valid definition's evaluation can end: in a panic or in undefined behavior that the definition's source means, past the limit on
+-- blocks, or, where that source makes a call, at one.
 abbrev pub EndsFrame : Source → Limits → MirEvalError → Type 0
 EndsFrame source limits (error.Panic word) = GivesPanic source word
 EndsFrame source limits (error.UndefinedBehavior text) = GivesUndefined source text
 EndsFrame source limits error.ExecutionLimitExceeded = PassesBlocks source limits.blocks
-EndsFrame source limits _ = ⊥
+EndsFrame source limits e = MakesSomeCall source × EndsAtCall source limits e
 
--- The cause of a `MirEvalError` in which the evaluation of a valid definition's body ends, where it makes no call, by the error's
--- outermost variant. Of `LayoutError` and `TypeIsUnsized` it states that the type in the error is that of a cell, and has no layout, or
--- one without a size.
+-- The cause of a `MirEvalError` in which the evaluation of a valid definition's body ends, by the error's outermost variant. Of `LayoutError` and
+-- `TypeIsUnsized` it states that the type in the error is that of a cell, and has no layout, or one without a size.
 abbrev pub EndsLayer : Source → Limits → MirEvalError-F MirEvalError → Type 0
 EndsLayer source limits (layer.InFunction inner trail) = EndsFrame source limits inner
 EndsLayer source limits layer.StackOverflow = PassesNesting source limits.nesting
-EndsLayer source limits layer.MemoryLimitExceeded = PassesBytes source limits.bytes
+EndsLayer source limits layer.MemoryLimitExceeded = PassesBytesAtOnce source limits.bytes
 EndsLayer source limits (layer.LayoutError e ty) = (e ≡ layout_error_of ty) × LacksLayout source ty
 EndsLayer source limits (layer.TypeIsUnsized ty text) = LacksSize source ty
 EndsLayer source limits _ = ⊥
 
--- how the evaluation of a valid definition's body, where it makes no call, can end without a value: with its frame, past the limit on
--- nesting or that on bytes, or with an error that names a type without a layout or without a size
+-- how the evaluation of a valid definition's body can end without a value: with a frame, past the limit on nesting or that on bytes, or with an
+-- error that names a type without a layout or without a size
 abbrev pub EndsEvaluation : Source → Limits → MirEvalError → Type 0
 EndsEvaluation source limits e = EndsLayer source limits (out-MirEvalError e)
 
@@ -159,7 +160,7 @@ abbrev pub EndsLowering : Source → MirLowerError → Type 0
 EndsLowering source (refusal.LayoutError e) = RefusesAt source (root source) (refusal.LayoutError e)
 EndsLowering source _ = ⊥
 
--- Every error that a valid definition without calls can end in. Want of memory needs no cause.
+-- Every error that a valid definition can end in. Want of memory needs no cause.
 abbrev pub EndsIn : Source → Limits → ConstEvalError → Type 0
 EndsIn source limits (constant.MirLowerError e) = EndsLowering source e
 EndsIn source limits (constant.MirEvalError e) = EndsEvaluation source limits e
@@ -169,31 +170,39 @@ EndsIn source limits constant.NoMemory = Unit {0}
 abbrev pub OrNoMemory : Result Const ConstEvalError → (expected : Result Const ConstEvalError → Type 0) → Type 0
 OrNoMemory answer expected = expected answer ⊎ (answer ≡ Err constant.NoMemory)
 
--- a cost is within all limits
-pub record IsWithinLimits (cost : Cost) (limits : Limits) : Type 0 where
-  pub turns : cost.turns ≤ limits.blocks
+-- a cost is defined, and within the limits on nesting and on bytes
+pub record IsWithinRoom (cost : Cost) (limits : Limits) : Type 0 where
+  pub defined : cost.defined ≡ true
   pub nesting : cost.nesting ≤ limits.nesting
   pub bytes : cost.bytes ≤ limits.bytes
 
--- within the limits the answer is what the source means, or want of memory
+-- a cost is defined, and within all limits
+pub record IsWithinLimits (cost : Cost) (limits : Limits) : Type 0 where
+  pub room : IsWithinRoom cost limits
+  pub turns : cost.turns ≤ limits.blocks
+
+-- what a source's body costs at an amount of fuel, without the level of its value
+abbrev pub cost_at : Source → (fuel : ℕ) → Cost
+cost_at source fuel = cost_of (meaning_from source (zeroed source) fuel)
+
+-- Within the limits the answer is what the source means, or want of memory. Where at some amount of fuel the source counts more blocks than the
+-- limit, and up to there is within the other limits, the answer is that there were no more blocks, or want of memory.
 pub record AnswersWithin (source : Source) (limits : Limits) (answer : Result Const ConstEvalError) : Type 0 where
   pub value : (ty : Ty) (bytes : List ℕ) (store : Store) (cost : Cost) → node_type source (root source) ≡ Some ty →
       Gives source (Go bytes store cost) → IsWithinLimits cost limits → OrNoMemory answer (λ a. a ≡ Ok (constant_of ty bytes))
   pub panic : (word : List ℕ) (cost : Cost) → Gives source (Faults (Panic word) cost) → IsWithinLimits cost limits → OrNoMemory answer (IsPanicOf word)
+  pub undefined : (text : List ℕ) (cost : Cost) → Gives source (Faults (Undefined text) cost) → IsWithinLimits cost limits → OrNoMemory answer (IsUndefinedOf text)
+  pub past_blocks : (fuel : ℕ) → limits.blocks < (cost_at source fuel).turns → IsWithinRoom (cost_at source fuel) limits → OrNoMemory answer IsPastBlocks
 
 -- the source has no end, whatever fuel there is
 abbrev pub HasNoEnd : Source → Type 0
 HasNoEnd source = (fuel : ℕ) → ¬ IsOver (meaning_of source fuel)
 
--- an answer is the error of a run that may enter no more blocks, over some trail
-abbrev pub IsPastBlocks : Result Const ConstEvalError → Type 0
-IsPastBlocks = IsFrameFault error.ExecutionLimitExceeded
-
 -- The cause of a `MirEvalError` for which no run of a valid definition's body begins, by the error's outermost variant. Of
 -- `LayoutError` and `TypeIsUnsized` it states that the type in the error is that of a cell, and has no layout, or one without a size.
 abbrev pub NeverRunsLayer : Source → Limits → MirEvalError-F MirEvalError → Type 0
 NeverRunsLayer source limits layer.StackOverflow = limits.nesting ≡ 0
-NeverRunsLayer source limits layer.MemoryLimitExceeded = PassesBytes source limits.bytes
+NeverRunsLayer source limits layer.MemoryLimitExceeded = PassesBytesAtOnce source limits.bytes
 NeverRunsLayer source limits (layer.LayoutError e ty) = (e ≡ layout_error_of ty) × LacksLayout source ty
 NeverRunsLayer source limits (layer.TypeIsUnsized ty text) = LacksSize source ty
 NeverRunsLayer source limits _ = ⊥
@@ -211,12 +220,20 @@ pub record RefusesToRun (source : Source) (limits : Limits) (answer : Result Con
   pub is : answer ≡ Err fault
   pub never : NeverRuns source limits fault
 
--- The answer for a source that has no end: its run enters as many blocks as the limit allows, and no more, or memory ran out,
--- or no run began. Where the types have sizes, there is a level of nesting for the run, and the bytes that the source counts on entering
--- it are within the limit, a run begins, unless memory ran out.
+-- the answer is a frame's fault at a call that the source, or something that it reaches, makes
+pub record IsStoppedAtCall (source : Source) (limits : Limits) (answer : Result Const ConstEvalError) : Type 0 where
+  pub call : MakesSomeCall source
+  pub fault : MirEvalError
+  pub cause : EndsAtCall source limits fault
+  pub is : IsFrameFault fault answer
+
+-- The answer for a source that has no end: its run enters as many blocks as the limit allows, and no more; or it stops at a call; or memory ran
+-- out, or no run began. Where the source makes no call, the types have sizes, there is a level of nesting for the run, and the bytes that
+-- the source counts on entering it are within the limit, it is the first of these, unless memory ran out. With calls `past_blocks` of
+-- `AnswersWithin` tells of this.
 pub record AnswersEndless (source : Source) (limits : Limits) (answer : Result Const ConstEvalError) : Type 0 where
-  pub ends : OrNoMemory answer IsPastBlocks ⊎ RefusesToRun source limits answer
-  pub within : HasDefinedCost source → 0 < limits.nesting → (entering source).bytes ≤ limits.bytes → OrNoMemory answer IsPastBlocks
+  pub ends : OrNoMemory answer IsPastBlocks ⊎ IsStoppedAtCall source limits answer ⊎ RefusesToRun source limits answer
+  pub within : HasNoCalls source → HasDefinedCost source → 0 < limits.nesting → (entering source).bytes ≤ limits.bytes → OrNoMemory answer IsPastBlocks
 
 -- a machine's outcome as an answer
 abbrev pub carried : Result Const MirEvalError → Result Const ConstEvalError

@@ -67,7 +67,7 @@ impl<'w> Evaluations<'w> {
     ghost use Rattle.mir.specs.declared.errors.ConstEvalError.TheVariants as constant;
     ghost use Rattle.mir.specs.declared.errors.MirLowerError.TheVariants as refusal;
     ghost use Rattle.world.specs.Limits.{IsWithin};
-    ghost use Rattle.source_meaning.specs.Valid.{HasDefinedCost, HasNoCalls};
+    ghost use Rattle.source_meaning.specs.Valid.{HasDefinedCost};
     ghost use Rattle.world.specs.Checked.{IsChecked};
     ghost use Rattle.consteval.specs.declared.kept.Key.TheVariants as key;
     ghost use Rattle.consteval.specs.Kept.{Lowered, Value, IsKept, IsLowered, IsSound, IsValueOf, RestsOn, Stays, entry_of, key_of, with_entry};
@@ -283,10 +283,9 @@ impl<'w> Evaluations<'w> {
             → GivesPanic (source_of self.old.world row) word }
         ensures undefined { (row : _) (e : _) (text : _) → IsValid self.old.world def args.now row → result.result ≡ Err (constant.MirEvalError e) → undefined_text e ≡ Some text
             → GivesUndefined (source_of self.old.world row) text }
-        ensures closed { (row : _) → IsValid self.old.world def args.now row → HasNoCalls (source_of self.old.world row) → IfErr result.result (EndsIn (source_of self.old.world row) limits.now) }
-        ensures complete { (row : _) → IsValid self.old.world def args.now row → HasNoCalls (source_of self.old.world row) → HasDefinedCost (source_of self.old.world row)
-            → AnswersWithin (source_of self.old.world row) limits.now result.result }
-        ensures endless { (row : _) → IsValid self.old.world def args.now row → HasNoCalls (source_of self.old.world row) → HasNoEnd (source_of self.old.world row)
+        ensures closed { (row : _) → IsValid self.old.world def args.now row → IfErr result.result (EndsIn (source_of self.old.world row) limits.now) }
+        ensures complete { (row : _) → IsValid self.old.world def args.now row → AnswersWithin (source_of self.old.world row) limits.now result.result }
+        ensures endless { (row : _) → IsValid self.old.world def args.now row → HasNoEnd (source_of self.old.world row)
             → AnswersEndless (source_of self.old.world row) limits.now result.result }
         ensures cause { HasCause self.new def args.now limits.now result.turns result.result }
         ensures turns { result.turns ≤ limits.now.blocks }

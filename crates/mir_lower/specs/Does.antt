@@ -4,7 +4,7 @@ use Rattle.mir.specs.declared.operand.OperandKind.{OperandKind}
 use Rattle.mir.specs.Memory.{Memory}
 use Rattle.mir.specs.Run.{Frame, operand_bytes as mir_bytes, operand_type as mir_type}
 use Rattle.source_meaning.specs.Around.{Around, Target}
-use Rattle.source_meaning.specs.Ends.{End, Go, Jumps, Faults, Stuck, More, Jump, Break, Continue, Return}
+use Rattle.source_meaning.specs.Ends.{Cost, cost_of, End, Go, Jumps, Faults, Stuck, More, Jump, Break, Continue, Return}
 use Rattle.source_meaning.specs.Meaning.{level_at, operands_of, statements_of, tail_into, bind}
 use Rattle.source_meaning.specs.Source.{Source, pattern, target, Cell, Result, Path, Store, Operand, operand_bytes, operand_type}
 use Rattle.world.specs.declared.body.Statement.{Statement}
@@ -12,7 +12,7 @@ use Rattle.types.specs.declared.ids.ExprId.{ExprId}
 use Rattle.mir_lower.specs.Graph.{Shape, OpenTarget, local_of}
 use Rattle.mir_lower.specs.Growth.{Grows, IsSound, count_at}
 use Rattle.mir_lower.specs.Callees.{Serves}
-use Rattle.mir_lower.specs.Stops.{StopsWithin, turns_of}
+use Rattle.mir_lower.specs.Stops.{StopsFrom}
 use Rattle.mir_lower.specs.Runs.{Point, Within, Entry, Exit, run_from, Enters, IsFault, EndsAfter, error_of, AreCellsApart, Comes, Represents}
 
 -- the point behind the last statement of the current block
@@ -38,25 +38,26 @@ pub data Landing : Type 0 where
 abbrev pub Landings : Type 0
 Landings = Jump → Landing
 
--- the run reaches where a jump lands, after exactly `turns` blocks, with a memory that holds the store
-abbrev pub Lands : Shape → Frame → Point → Memory → Store → ℕ → Landing → Type 0
-Lands whole frame from memory store turns Nowhere = Unit {0}
-Lands whole frame from memory store turns (AtPoint point) = (later : Memory) × Comes frame turns from memory point later × Holds whole frame store later
+-- the run reaches where a jump lands, after exactly as many blocks as are counted and over cells of no more bytes, with a memory that holds
+-- the store
+abbrev pub Lands : Shape → Frame → Point → Memory → Store → Cost → Landing → Type 0
+Lands whole frame from memory store cost Nowhere = Unit {0}
+Lands whole frame from memory store cost (AtPoint point) = (later : Memory) × Comes frame cost.turns cost.bytes from memory point later × Holds whole frame store later
 
--- From a point the run does what an end says, over exactly as many blocks as that counts: it reaches another point with a
--- memory that holds the store, and the claim on the value holds; or it reaches where a jump lands; or it ends. Where the fuel
+-- From a point the run does what an end says, over exactly as many blocks as that counts, and over cells of no more bytes: it reaches another
+-- point with a memory that holds the store, and the claim on the value holds; or it reaches where a jump lands; or it ends. Where the fuel
 -- ran out, the run enters as many blocks as were counted up to there.
 abbrev pub Goes : {A : Type 0} → Shape → Landings → Frame → Point → Point → Memory → (A → Type 0) → End A → Type 0
 Goes whole lands frame from to memory claim (Go value store cost) =
-    (later : Memory) × Comes frame cost.turns from memory to later × Holds whole frame store later × claim value
-Goes whole lands frame from to memory claim (Jumps jump store cost) = Lands whole frame from memory store cost.turns (lands jump)
+    (later : Memory) × Comes frame cost.turns cost.bytes from memory to later × Holds whole frame store later × claim value
+Goes whole lands frame from to memory claim (Jumps jump store cost) = Lands whole frame from memory store cost (lands jump)
 Goes whole lands frame from to memory claim (Faults fault cost) = EndsAfter cost.turns (IsFault (error_of fault)) (run_from frame memory from)
 Goes whole lands frame from to memory claim Stuck = Unit {0}
 Goes whole lands frame from to memory claim (More cost) = Enters cost.turns (run_from frame memory from)
 
--- the run does so, or it stops at a call, after no more blocks than the end counts
+-- the run does so, or it stops at a call, within what the end counts
 abbrev pub Reaches : {A : Type 0} → Source → Shape → Landings → Frame → Point → Point → Memory → (A → Type 0) → End A → Type 0
-Reaches source whole lands frame from to memory claim end = StopsWithin source frame.program (turns_of end) (run_from frame memory from) ⊎ Goes whole lands frame from to memory claim end
+Reaches source whole lands frame from to memory claim end = StopsFrom source frame from memory (cost_of end) ⊎ Goes whole lands frame from to memory claim end
 
 -- A loop or a labelled block of the meaning is one of the graph: its value goes to the cell of the graph's local, as many cells
 -- were in use when it was entered, and jumps to it land before the graph's blocks.

@@ -1,10 +1,10 @@
 -- Runs of a frame: from a point of its body to another, or to the end of the run.
-use Rattle.std.specs.Prelude.{◌≡◌, ◌≢◌, ℕ, ◌+◌, ◌<◌, List, Option, Some, slice_get, option_and_then}
+use Rattle.std.specs.Prelude.{◌≡◌, ◌≢◌, ℕ, ◌+◌, ◌<◌, ◌≤◌, List, Option, Some, slice_get, option_and_then}
 use Rattle.mir.specs.declared.errors.MirEvalError.{MirEvalError}
 use Rattle.mir.specs.declared.errors.MirEvalError as error
 use Rattle.mir.specs.declared.errors.TrailEntry.{TrailEntry}
 use Rattle.mir.specs.declared.address.Interval.{Interval}
-use Rattle.mir.specs.Areas.{AreApart}
+use Rattle.mir.specs.Areas.{AreApart, taken}
 use Rattle.mir.specs.Memory.{Memory, cell_bytes}
 use Rattle.mir.specs.Run.{Frame, Ending, Returned, Faulted, Ended, out_of_blocks, after_return, entering, going_on, running}
 use Rattle.source_meaning.specs.Ends.{Fault, Panic, Undefined}
@@ -71,11 +71,18 @@ LiesApart frame interval = (i : ℕ) (cell : Interval) → slice_get frame.cells
 abbrev pub KeepsOthers : Frame → Memory → Memory → Type 0
 KeepsOthers frame memory later = (interval : Interval) (bytes : List ℕ) → LiesApart frame interval → cell_bytes memory interval ≡ Some bytes → cell_bytes later interval ≡ Some bytes
 
--- The run goes from one point to another, and enters `turns` blocks on the way. Of what was there before it changes only the frame's cells.
-pub record Comes (frame : Frame) (turns : ℕ) (from : Point) (memory : Memory) (to : Point) (later : Memory) : Type 0 where
+-- Later the stack has at most so many bytes more, and the limit is the same.
+pub record HasGrown (bytes : ℕ) (memory later : Memory) : Type 0 where
+  pub stack : taken later.stack ≤ taken memory.stack + bytes
+  pub limit : later.limit ≡ memory.limit
+
+-- The run goes from one point to another, enters `turns` blocks on the way, and places cells of at most so many `bytes`. Of what was there
+-- before it changes only the frame's cells.
+pub record Comes (frame : Frame) (turns bytes : ℕ) (from : Point) (memory : Memory) (to : Point) (later : Memory) : Type 0 where
   pub with_more : (more : ℕ) → run_from frame memory from (turns + more) ≡ run_from frame later to more
   pub with_fewer : Enters turns (run_from frame memory from)
   pub others : KeepsOthers frame memory later
+  pub grown : HasGrown bytes memory later
 
 -- The memory represents a store: where a cell of the source has a local, the local's bytes are those that the store has for the cell.
 pub record Represents (allotted : Cell → Option ℕ) (frame : Frame) (store : Store) (memory : Memory) : Type 0 where

@@ -6,7 +6,6 @@ use Rattle.mir.specs.declared.errors.ConstEvalError.TheVariants as constant
 use Rattle.mir.specs.declared.errors.MirEvalError.{MirEvalError}
 use Rattle.world.specs.Limits.{default_limits}
 use Rattle.world.specs.declared.limits.Limits.{Limits}
-use Rattle.source_meaning.specs.Valid.{HasDefinedCost, HasNoCalls}
 use Rattle.consteval.specs.Kept.{Kept, IsSound, Stays, Value}
 use Rattle.consteval.specs.Sources.{source_of}
 use Rattle.consteval.specs.Valid.{IsValid}
@@ -31,11 +30,9 @@ pub record IsAnswer (before after : Kept) (def : DefWithBodyId) (args : GenericA
       answer.result ≡ Err (constant.MirEvalError e) → panic_word e ≡ Some word → GivesPanic (source_of before.world row) word
   pub undefined : (row : BodyRow) (e : MirEvalError) (text : List ℕ) → IsValid before.world def args row →
       answer.result ≡ Err (constant.MirEvalError e) → undefined_text e ≡ Some text → GivesUndefined (source_of before.world row) text
-  pub closed : (row : BodyRow) → IsValid before.world def args row → HasNoCalls (source_of before.world row) → IfErr answer.result (EndsIn (source_of before.world row) limits)
-  pub complete : (row : BodyRow) → IsValid before.world def args row → HasNoCalls (source_of before.world row) → HasDefinedCost (source_of before.world row) →
-      AnswersWithin (source_of before.world row) limits answer.result
-  pub endless : (row : BodyRow) → IsValid before.world def args row → HasNoCalls (source_of before.world row) → HasNoEnd (source_of before.world row) →
-      AnswersEndless (source_of before.world row) limits answer.result
+  pub closed : (row : BodyRow) → IsValid before.world def args row → IfErr answer.result (EndsIn (source_of before.world row) limits)
+  pub complete : (row : BodyRow) → IsValid before.world def args row → AnswersWithin (source_of before.world row) limits answer.result
+  pub endless : (row : BodyRow) → IsValid before.world def args row → HasNoEnd (source_of before.world row) → AnswersEndless (source_of before.world row) limits answer.result
   pub cause : HasCause after def args limits answer.turns answer.result
   pub turns : answer.turns ≤ limits.blocks
   pub stays : Stays before after

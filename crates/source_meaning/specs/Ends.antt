@@ -76,6 +76,14 @@ then_do (Faults fault cost) next = Faults fault cost
 then_do Stuck next = Stuck
 then_do (More cost) next = More cost
 
+-- what is counted up to an end, or up to where the fuel ran out
+abbrev pub cost_of : {A : Type 0} → End A → Cost
+cost_of (Go value store cost) = cost
+cost_of (Jumps to store cost) = cost
+cost_of (Faults fault cost) = cost
+cost_of Stuck = no_cost
+cost_of (More cost) = cost
+
 -- an end, and not a lack of fuel
 abbrev pub IsOver : {A : Type 0} → End A → Type 0
 IsOver (Go value store cost) = Unit {0}
