@@ -39,5 +39,6 @@ pub mod Sparing
 pub mod Stack
 pub mod Standing
 pub mod Steps
+pub mod Stopping
 pub mod Strict
 pub mod Whole
