@@ -1,14 +1,9 @@
 -- The callee of a call as an operand of the graph.
-use Rattle.std.specs.Prelude.{◌≡◌, ℕ, Some}
-use Rattle.types.specs.declared.ty.Const.{Const}
-use Rattle.types.specs.declared.ty.Ty.{Ty}
+use Rattle.std.specs.Prelude.{ℕ, []}
 use Rattle.mir.specs.declared.operand.OperandKind.{OperandKind}
-use Rattle.mir.specs.declared.operand.OperandKind.TheVariants.{Constant}
-use Rattle.source_meaning.specs.Source.{Source, own_type}
+use Rattle.source_meaning.specs.Source.{Source}
+use Rattle.body_forms.specs.Literals.{IsConstantOf}
 
--- an operand is a constant of a callee's own type
-pub record IsCalleeOperand (source : Source) (callee : ℕ) (operand : OperandKind) : Type 0 where
-  pub konst : Const
-  pub ty : Ty
-  pub is : operand ≡ Constant konst ty
-  pub typed : own_type source callee ≡ Some ty
+-- an operand is a constant of no bytes of a callee's own type, which names the function
+abbrev pub IsCalleeOperand : Source → ℕ → OperandKind → Type 0
+IsCalleeOperand source callee operand = IsConstantOf source callee [] operand

@@ -3,7 +3,7 @@
 ghost use Rattle.std.specs.Prelude.{◌≡◌, ℕ, List, Some, IfOk, IfErr, IfSome, IfNone, OnOk};
 ghost use Rattle.std.specs.Option.{option_copied};
 ghost use Rattle.source_meaning.specs.Built.{CallsFunction, is_direct};
-ghost use Rattle.source_meaning.specs.Calls.{function_called, function_in, must_not_return, without_generics};
+ghost use Rattle.source_meaning.specs.Calls.{function_in, must_not_return, without_generics};
 ghost use Rattle.source_meaning.specs.Core as expr;
 ghost use Rattle.source_meaning.specs.Source.{node, own_type};
 ghost use Rattle.body_forms.specs.Callees.{IsCalleeOperand};
@@ -34,17 +34,6 @@ fn function_in(ty: &Ty) -> Option<FunctionId>
     match ty {
         Ty::FnDef(CallableDefId::FunctionId(id), args) => without_generics(*id, &args.0),
         _ => None,
-    }
-}
-
-/// The function that a callee names by its type, where it is given no generic arguments.
-#[tactic(auto, unfolding(source_meaning::specs::Calls::function_called))]
-pub fn function_called(context: &Context<'_>, callee: ExprId) -> Option<FunctionId>
-    ensures { result ≡ function_called (source_of context.now) callee.0 }
-{
-    match own_type(context, callee) {
-        Some(ty) => function_in(ty),
-        None => None,
     }
 }
 

@@ -40,7 +40,7 @@ one-never-mark source e is = ap (λ (test : Bool). cond test (Never e ∷ []) []
 
 -- what an expression does itself it does where it is evaluated into a cell
 does-into : (source : Source) (s0 s1 s2 : Shape) (e : ℕ) (c own : Cell) → own_path source e (record { cell = c }) ≡ record { cell = own } → s1.scope ≡ s0.scope ++ never_marks source e → s1.targets ≡ s0.targets →
-    ((whole : Shape) (frame : Frame) → Grows s1 whole → IsFrameOf whole frame → (memory : Memory) → Comes frame 0 (here s0) memory (here s1) memory) → Grows s1 s2 → DoesOwn source s1 s2 e own → Does source s0 s2 e c
+    ((whole : Shape) (frame : Frame) → Grows s1 whole → IsFrameOf whole frame → (memory : Memory) → Comes frame 0 0 (here s0) memory (here s1) memory) → Grows s1 s2 → DoesOwn source s1 s2 e own → Does source s0 s2 e c
 does-into source s0 s1 s2 e c own path marks targets comes grown does =
     record {
       reaches = λ whole frame grows sound is lands around stands fuel serves store memory holds.

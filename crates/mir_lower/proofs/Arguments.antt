@@ -31,11 +31,11 @@ use Rattle.mir.specs.Memory.{Memory, cell_bytes, cell_before, cell_size_of, size
 use Rattle.mir.specs.Run.{Frame, operand_bytes as mir_bytes, bad_write, read, copied, filled as mir_filled, called_cells, function_of as mir_function_of, function_in as mir_function_in}
 use Rattle.source_meaning.specs.Calls.{without_generics, function_of, function_in, function_called, filled}
 use Rattle.source_meaning.specs.Source.{Source, Cell, Result as Slot, Binding, Store, Operand, operand_bytes, own_type, cell_type, cell_layout, cell_size, zeroed, with_cell_bytes}
-use Rattle.mir_lower.specs.Callees.{AreLocalsOf, without_arguments}
+use Rattle.mir_lower.specs.Callees.{AreLocalsOf}
 use Rattle.mir_lower.specs.Does.{Holds, FitAll}
 use Rattle.mir_lower.specs.Graph.{Shape, local_of}
 use Rattle.mir_lower.specs.Runs.{local_bytes, AreCellsApart, LiesApart, Represents}
-use Rattle.mir_lower.specs.Stops.{LacksRoom}
+use Rattle.mir_lower.specs.Stops.{without_arguments}
 use Rattle.mir_lower.proofs.Holding.{cells, interval-of}
 use Rattle.mir_lower.proofs.Placing.{HasCell, Placing, AreAligned, places-all, apart-sym}
 use Rattle.mir_lower.proofs.Stack.{length-cell_bytes, can_write, read-written, read-apart}
@@ -63,50 +63,6 @@ unfolding function_called
 names-callee source callee ty id own names =
     let of : function_in ty ≡ Some id = sym (ap (option_and_then function_in) own) ∙ names in
     layer-names (out-Ty ty) id of
-
--- Where cells aren't placed, there is no room for them.
-size-lacks : (ty : Ty) (layout : Option Layout) (e : MirEvalError) → cell_size_of ty layout ≡ Err e → LacksRoom e
-unfolding cell_size_of
-size-lacks ty None e is = let same : error.LayoutError (layout_error_of ty) ty ≡ e = cc in subst LacksRoom same tt
-size-lacks ty (Some layout) e is = by_sized layout.sized is where
-  by_sized : (sized : Bool) → ◌≡◌ {A = Result CellSize MirEvalError} (cond sized (Ok (record { size = layout.size; align = layout.align })) (Err (error.TypeIsUnsized ty (codes "no unsized local in extending stack")))) (Err e) → LacksRoom e
-  by_sized true is = absurd cc
-  by_sized false is = let same : error.TypeIsUnsized ty (codes "no unsized local in extending stack") ≡ e = cc in subst LacksRoom same tt
-
-before-lacks : (size : CellSize) (rest : Result (List CellSize) MirEvalError) (e : MirEvalError) → size_before size rest ≡ Err e → rest ≡ Err e
-before-lacks size (Ok sizes) e is = absurd cc
-before-lacks size (Err cause) e is = let same : cause ≡ e = cc in ap Err same
-
-first-lacks : (ty : Ty) (layout : Option Layout) (size : Result CellSize MirEvalError) (rest : Result (List CellSize) MirEvalError) (e : MirEvalError) → cell_size_of ty layout ≡ size → (rest ≡ Err e → LacksRoom e) →
-    ◌≡◌ {A = Result (List CellSize) MirEvalError} (elim size [ Ok s ↦ size_before s rest | Err cause ↦ Err cause ]) (Err e) → LacksRoom e
-first-lacks ty layout (Ok size) rest e of others is = others (before-lacks size rest e is)
-first-lacks ty layout (Err cause) rest e of others is = let same : cause ≡ e = cc in size-lacks ty layout e (of ∙ ap Err same)
-
-sizes-lack : (world : HirDatabase) (locals : List Local) (e : MirEvalError) → sizes_of world locals ≡ Err e → LacksRoom e
-unfolding sizes_of
-sizes-lack world [] e is = absurd cc
-sizes-lack world (local ∷ locals) e is =
-    first-lacks local.ty (layout_of world local.ty) (cell_size_of local.ty (layout_of world local.ty)) (sizes_of world locals) e refl (sizes-lack world locals e) is
-
-pushed-lacks : (placed : Result (List Interval × Memory) MemFault) (e : MirEvalError) → pushed placed ≡ Err e → LacksRoom e
-pushed-lacks (Ok all) e is = absurd cc
-pushed-lacks (Err fault) e is = let same : error.MemoryLimitExceeded ≡ e = cc in subst LacksRoom same tt
-
-cells-lack : (world : HirDatabase) (locals : List Local) (memory : Memory) (e : MirEvalError) → cells_of world locals memory ≡ Err e → LacksRoom e
-unfolding cells_of
-cells-lack world locals memory e is = by_sizes (sizes_of world locals) refl is where
-  by_sizes : (sizes : Result (List CellSize) MirEvalError) → sizes_of world locals ≡ sizes → ◌≡◌ {A = Result (List Interval × Memory) MirEvalError} (elim sizes [ Ok all ↦ pushed (after_push memory all) | Err cause ↦ Err cause ]) (Err e) → LacksRoom e
-  by_sizes (Ok all) of is = pushed-lacks (after_push memory all) e is
-  by_sizes (Err cause) of is = let same : cause ≡ e = cc in sizes-lack world locals e (of ∙ ap Err same)
-
-behind-lacks : (cell : Interval) (rest : Result (List Interval × Memory) MirEvalError) (e : MirEvalError) → cell_before cell rest ≡ Err e → rest ≡ Err e
-behind-lacks cell (Ok all) e is = absurd cc
-behind-lacks cell (Err cause) e is = let same : cause ≡ e = cc in ap Err same
-
-pub called-lacks : (world : HirDatabase) (locals : List Local) (destination : Option Interval) (memory : Memory) (e : MirEvalError) → called_cells world locals destination memory ≡ Err e → LacksRoom e
-called-lacks world [] destination memory e is = cells-lack world [] memory e is
-called-lacks world (slot ∷ locals) None memory e is = cells-lack world (slot ∷ locals) memory e is
-called-lacks world (slot ∷ locals) (Some cell) memory e is = cells-lack world locals memory e (behind-lacks cell (cells_of world locals memory) e is)
 
 -- the bytes of a local whose cell is known
 pub bytes-at : (frame : Frame) (memory : Memory) (l : ℕ) (cell : Interval) → slice_get frame.cells l ≡ Some cell → local_bytes frame memory l ≡ cell_bytes memory cell

@@ -203,9 +203,9 @@ lowers-let source s0 s1 s2 s3 pat e local place idles binding =
     }
 
 -- behind a scope that was left the run goes on
-pub scope-idles : (s : Shape) (outer : List Cell) (source : Source) (new : Shape) (turns : ℕ) → Idles source (with_scope outer s) new turns → (whole : Shape) (frame : Frame) → Grows new whole → IsFrameOf whole frame → (memory : Memory) → Comes frame turns (here s) memory (here new) memory
+pub scope-idles : (s : Shape) (outer : List Cell) (source : Source) (new : Shape) (turns : ℕ) → Idles source (with_scope outer s) new turns → (whole : Shape) (frame : Frame) → Grows new whole → IsFrameOf whole frame → (memory : Memory) → Comes frame turns 0 (here s) memory (here new) memory
 scope-idles s outer source new turns idles whole frame grows is memory =
-    subst (λ (p : Point). Comes frame turns p memory (here new) memory) (here-scope s outer) (idles.comes whole frame grows is memory)
+    subst (λ (p : Point). Comes frame turns 0 p memory (here new) memory) (here-scope s outer) (idles.comes whole frame grows is memory)
 
 -- an expression statement: its place, in a scope of its own, which is then left
 pub lowers-expr-statement : (source : Source) (s0 s1 s2 s3 : Shape) (e : ExprId) (has_semi : _) (local : ℕ) → LowersPlace source s0 s1 e.0 local → Idles source s1 s2 0 → Idles source (with_scope s0.scope s2) s3 (drops source (marked_as_place source e.0)) → LowersStatements source s0 s3 (statement.Expr e has_semi ∷ [])

@@ -106,22 +106,22 @@ module _ {source : Source} {s0 s1 s2 s3 s4 s5 s6 : Shape} {operand : OperandKind
   -- In each graph that the last one grows to:
   module _ (whole : Shape) (frame : Frame) (grows : Grows s6 whole) (is : IsFrameOf whole frame) (memory : Memory) where
     -- the switch leads to the first branch where the operand is the number,
-    pub comes-first : (bytes : List ℕ) → operand_bytes frame memory operand ≡ Some bytes → length bytes ≤ 16 → value_of bytes ≡ number → Comes frame 1 (here s1) memory (here s2) memory
+    pub comes-first : (bytes : List ℕ) → operand_bytes frame memory operand ≡ Some bytes → length bytes ≤ 16 → value_of bytes ≡ number → Comes frame 1 0 (here s1) memory (here s2) memory
     comes-first bytes found short same = branched.forked.taken whole frame (grows-trans s2 s6 whole grows2 grows) is memory bytes found short same
 
     -- and else to the second;
-    pub comes-second : (bytes : List ℕ) → operand_bytes frame memory operand ≡ Some bytes → length bytes ≤ 16 → value_of bytes ≢ number → Comes frame 1 (here s1) memory (here s4) memory
+    pub comes-second : (bytes : List ℕ) → operand_bytes frame memory operand ≡ Some bytes → length bytes ≤ 16 → value_of bytes ≢ number → Comes frame 1 0 (here s1) memory (here s4) memory
     comes-second bytes found short differ =
-        subst (λ (p : Point). Comes frame 1 (here s1) memory p memory) (sym branched.one_ended.begins)
+        subst (λ (p : Point). Comes frame 1 0 (here s1) memory p memory) (sym branched.one_ended.begins)
         (branched.forked.left whole frame (grows-trans s2 s6 whole grows2 grows) is memory bytes found short differ)
 
     -- from the end of either branch the run reaches the join.
-    pub first-joins : Comes frame 1 (here s3) memory (here s6) memory
+    pub first-joins : Comes frame 1 0 (here s3) memory (here s6) memory
     first-joins =
-        subst (λ (p : Point). Comes frame 1 (here s3) memory p memory) (sym branched.two_ended.begins)
+        subst (λ (p : Point). Comes frame 1 0 (here s3) memory p memory) (sym branched.two_ended.begins)
         (branched.one_ended.comes whole frame (grows-trans s4 s6 whole grows4 grows) is memory)
 
-    pub second-joins : Comes frame 1 (here s5) memory (here s6) memory
+    pub second-joins : Comes frame 1 0 (here s5) memory (here s6) memory
     second-joins =
-        subst (λ (p : Point). Comes frame 1 (here s5) memory p memory) (sym branched.two_ended.begins)
+        subst (λ (p : Point). Comes frame 1 0 (here s5) memory p memory) (sym branched.two_ended.begins)
         (branched.two_ended.comes whole frame grows is memory)

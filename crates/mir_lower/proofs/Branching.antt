@@ -29,7 +29,7 @@ one-byte byte = omega arith
 
 module _ {source : Source} {s0 s1 s2 s3 s4 s5 s6 : Shape} {operand : OperandKind} {number other join : ℕ} {tested first second : List Cell} (parts : IsBranched source s0 s1 s2 s3 s4 s5 s6 operand number other join tested first second) (whole : Shape) (frame : Frame) (grows : Grows s6 whole) (is : IsFrameOf whole frame) (lands : Landings) (memory : Memory) where
   -- what a branch does, and a block on the way to it and one on the way to the join
-  one-branch : (from to : Shape) (end : End (Unit {0})) → Comes frame 1 (here s1) memory (here from) memory → ((later : Memory) → Comes frame 1 (here to) later (here s6) later) → Reaches source whole lands frame (here from) (here to) memory (Nothing whole frame) end → Reaches source whole lands frame (here s1) (here s6) memory (Nothing whole frame) (branched end)
+  one-branch : (from to : Shape) (end : End (Unit {0})) → Comes frame 1 0 (here s1) memory (here from) memory → ((later : Memory) → Comes frame 1 0 (here to) later (here s6) later) → Reaches source whole lands frame (here from) (here to) memory (Nothing whole frame) end → Reaches source whole lands frame (here s1) (here s6) memory (Nothing whole frame) (branched end)
   one-branch from to end enters leaves does =
       reaches-after source whole lands frame (here s1) (here from) (here s6) memory memory (Nothing whole frame) (turns_alone 1) enters (then_do end (λ _ last. Go tt last (turns_alone 1)))
       (reaches-then source whole lands frame (here from) (here to) (here s6) memory (Nothing whole frame) (Nothing whole frame) end (λ _ last. Go tt last (turns_alone 1)) does

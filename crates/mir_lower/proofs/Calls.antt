@@ -16,7 +16,7 @@ use Rattle.source_meaning.specs.Around.{Around}
 use Rattle.source_meaning.specs.Built.{CallsFunction}
 use Rattle.source_meaning.specs.Calls.{must_not_return, source_called}
 use Rattle.source_meaning.specs.Core as expr
-use Rattle.source_meaning.specs.Core.{CoreExpr, IsNoCall, is_truth}
+use Rattle.source_meaning.specs.Core.{CoreExpr, is_truth}
 use Rattle.source_meaning.specs.Meaning.{level_at, callees_at, operands_of, entered_into, into_of}
 use Rattle.source_meaning.specs.Source.{Source, node, unadjusted, Cell, Store, Operand, operand_bytes}
 use Rattle.source_meaning.specs.Valid.{own, inside, sized_parts, IsLaidOutNode}
@@ -124,7 +124,7 @@ lays-call source s1 new e callee es form below grows laid plain layouts f (insid
 -- the type of the operand that names the callee
 callee-type : (frame : Frame) (operand : OperandKind) (source : Source) (callee : ℕ) → (is : IsCalleeOperand source callee operand) → mir_type frame.body operand ≡ Some is.ty
 unfolding mir_type
-callee-type frame operand source callee is = ap (mir_type frame.body) is.is
+callee-type frame operand source callee is = ap (mir_type frame.body) is.is_constant
 
 -- a call was lowered: its arguments, and then the call
 pub lowers-call : (source : Source) (s0 s1 new : Shape) (e : ExprId) (callee : ℕ) (es : List ℕ) (func : MirOperand) (args : List MirOperand) (place : Place) (next : BasicBlockId) → IsReady source s0 e.0 → node source e.0 ≡ Some (expr.Call callee es) →
@@ -142,8 +142,8 @@ lowers-call source s0 s1 new e callee es func args place next ready form given i
       does = does-with-callees source s0 new e.0 c (Some (expr.Call callee es)) form reaches;
       laid = lays-call source s1 new e.0 callee es form given.laid called.grows;
     } where
-      makes : MakesCall source
-      makes = record { e = e.0; evaluated = ready.reached; is_call = λ none. subst IsNoCall form none }
+      makes : MakesCall source built.id
+      makes = record { e = e.0; evaluated = ready.reached; callee = callee; args = es; is_call = form; names = built.names }
 
       -- from the call on, by whether its callee must not return
       by-mark : (whole : Shape) (frame : Frame) → Grows new whole → IsSound source whole → IsFrameOf whole frame → (lands : Landings) (fuel : ℕ) → Serves (suc fuel) source frame.program → (values : List Operand) (store : Store) (memory : Memory) → Holds whole frame store memory →
@@ -152,14 +152,14 @@ lowers-call source s0 s1 new e callee es func args place next ready form given i
       by-mark whole frame grows sound frame-is lands fuel serves values store memory holds fit true mark =
           let call : Calling = call_of e func args place (target_of_call true next) in
           let found = local_of-grows s0 whole (grows-trans s0 s1 whole given.keeps.grows (grows-trans s1 new whole called.grows grows)) c place.local.0 local in
-          call-strays source whole frame lands (here s1) memory store sound frame-is holds fuel serves makes call values fit callee is.ty (callee-type frame func.kind source callee is) is.typed built.id built.names c found
+          call-strays source whole frame lands (here s1) memory store sound frame-is holds fuel serves call values fit callee is.ty (callee-type frame func.kind source callee is) is.typed built.id built.names makes c found
           (λ budget. called.does whole frame grows frame-is memory budget ∙ ap (λ (m : Bool). going_on budget (calls frame memory (call_of e func args place (target_of_call m next)))) mark)
           (here new) refl
       by-mark whole frame grows sound frame-is lands fuel serves values store memory holds fit false mark =
           let call : Calling = call_of e func args place (target_of_call false next) in
           let found = local_of-grows s0 whole (grows-trans s0 s1 whole given.keeps.grows (grows-trans s1 new whole called.grows grows)) c place.local.0 local in
           subst (λ (p : Point). Reaches source whole lands frame (here s1) p memory (Nothing whole frame) (entered_into (callees_at fuel) false (source_called source callee) (map (operand_bytes store) values) (record { cell = c }) store)) (ap start_of at ∙ sym called.begins)
-          (call-returns source whole frame lands (here s1) memory store sound frame-is holds fuel serves makes call values fit callee is.ty (callee-type frame func.kind source callee is) is.typed built.id built.names c found
+          (call-returns source whole frame lands (here s1) memory store sound frame-is holds fuel serves call values fit callee is.ty (callee-type frame func.kind source callee is) is.typed built.id built.names makes c found
           (λ budget. called.does whole frame grows frame-is memory budget ∙ ap (λ (m : Bool). going_on budget (calls frame memory (call_of e func args place (target_of_call m next)))) mark)
           next.0 refl)
 

@@ -129,8 +129,8 @@ module _ (source : Source) (s new : Shape) (operand : MirOperand) (place : Place
   reaches-decided : (whole : Shape) (lands : Landings) (frame : Frame) (c : Cell) (given : Operand) (store : Store) (memory : Memory) → Grows new whole → IsSound source whole → IsFrameOf whole frame → local_of whole c ≡ Some place.local.0 → Holds whole frame store memory → Fits source operand.kind whole frame given → Reaches source whole lands frame (here s) (here new) memory (Nothing whole frame) (after (reading_cost source given) (put store (record { cell = c }) (operand_bytes store given)))
   reaches-decided whole lands frame c given store memory grows sound is local holds fits =
       let grown = subst (λ (n : Shape). Grows n whole) same grows in
-      let reads : Comes frame (reading_cost source given).turns (here s) memory (here s) memory =
-      subst (λ (n : ℕ). Comes frame n (here s) memory (here s) memory) (sym (reading-enters-none source given)) (comes-refl frame (here s) memory) in
+      let reads : Comes frame (reading_cost source given).turns (reading_cost source given).bytes (here s) memory (here s) memory =
+      subst (λ (n : ℕ). Comes frame n (reading_cost source given).bytes (here s) memory (here s) memory) (sym (reading-enters-none source given)) (comes-refl frame (here s) memory) in
       subst (λ (n : Shape). Reaches source whole lands frame (here s) (here n) memory (Nothing whole frame) (after (reading_cost source given) (put store (record { cell = c }) (operand_bytes store given)))) (sym same)
       (reaches-after source whole lands frame (here s) (here s) (here (with_statement (assignment place (Use operand) span) s)) memory memory (Nothing whole frame) (reading_cost source given) reads (put store (record { cell = c }) (operand_bytes store given))
       (assigned-bytes source s whole frame place (Use operand) span opened sound is lands grown c local store memory holds (operand_bytes store given) (decided-computes source whole frame operand given store memory holds fits)))

@@ -1,15 +1,14 @@
 -- A call: its callee's body runs in the caller's run, from the arguments on, and the caller goes on with the value.
-use Rattle.std.proofs.Common.{◌≡◌, ℕ, suc, ◌+◌, ◌≤◌, ◌⊎◌, ⊎_elim, inl, inr, Bool, true, false, cond, List, ◌∷◌, length, map, Option, Some, None, Result, Ok, Err, refl, sym, ap, ◌∙◌, subst, arith, eqb}
-use Rattle.std.specs.Prelude.{slice_get, nat_le, if◌then◌else◌, option_map, option_and_then, codes}
+use Rattle.std.proofs.Common.{◌≡◌, ℕ, suc, ◌+◌, ◌-◌, ◌<◌, ◌≤◌, ◌⊎◌, ⊎_elim, inl, inr, Bool, true, false, cond, List, ◌∷◌, length, map, Option, Some, None, Result, Ok, Err, refl, sym, ap, ◌∙◌, subst, arith}
+use Rattle.std.specs.Prelude.{slice_get, nat_le, option_and_then, codes}
+use borrow.Author.Tests.{leb-false}
 use Rattle.std.proofs.lemmas.List.{length-replicate}
 use Rattle.types.specs.declared.ids.FunctionId.{FunctionId}
-use Rattle.types.specs.declared.ty.GenericArgs.{GenericArgs}
 use Rattle.types.specs.declared.ty.Ty.{Ty}
-use Rattle.types.specs.declared.ids.DefWithBodyId.TheVariants.{FunctionId as FunctionBody}
-use Rattle.world.specs.declared.database.BodyRow.{BodyRow}
+use Rattle.world.specs.Checked.{IsChecked, IsCheckedBody}
 use Rattle.world.specs.declared.database.HirDatabase.{HirDatabase}
-use Rattle.world.specs.Lookups.{body_row}
 use Rattle.mir.specs.Answers.{answer_to}
+use Rattle.mir.specs.Areas.{taken}
 use Rattle.mir.specs.declared.address.Interval.{Interval}
 use Rattle.mir.specs.declared.answers.Answer.{Answer as Told}
 use Rattle.mir.specs.declared.answers.Answer.TheVariants as told
@@ -18,23 +17,32 @@ use Rattle.mir.specs.declared.errors.MirEvalError.{MirEvalError}
 use Rattle.mir.specs.declared.errors.MirEvalError as error
 use Rattle.mir.specs.declared.operand.Operand.{Operand as MirOperand}
 use Rattle.mir.specs.Memory.{Memory, cell_bytes}
-use Rattle.mir.specs.Run.{Program, Frame, Calling, GoesTo, Ending, Faulted, Asked, Ended, operand_type as mir_type, function_in as mir_function_in, filled as mir_filled, body_query, bad_write, trail_of, faults, levels_over, waiting, entry_of, callee_error, called_cells, called as mir_called, called_by, calls, entered, resumed, after_return, going_on}
-use Rattle.source_meaning.specs.Calls.{function_called, source_at, source_of, source_called, filled, started}
-use Rattle.source_meaning.specs.Ends.{Cost, no_cost, turns_alone, plus, End, Go, Jumps, Faults, Stuck, More, after, then_do}
-use Rattle.source_meaning.specs.Meaning.{put, gone_on, gone_astray, entered_from, entered_into, callees_at, meaning_from}
-use Rattle.source_meaning.specs.Source.{Source, own_type, Cell, Result as Slot, Binding, cell_size, Path, Store, Operand, operand_bytes, zeroed, with_cell_bytes}
-use Rattle.mir_lower.specs.Callees.{RunsAs, DoesBelow, Serves, without_arguments}
+use Rattle.mir.specs.Run.{Program, Frame, Calling, Ending, Faulted, Asked, Ended, operand_type as mir_type, body_query, trail_of, levels_over, entry_of, callee_error, called_cells, called as mir_called, called_by, calls, entered, going_on}
+use Rattle.source_meaning.specs.Around.{at_root, marking}
+use Rattle.source_meaning.specs.Calls.{function_called, source_of, source_called, parameter_cells, filled, started}
+use Rattle.source_meaning.specs.Ends.{Cost, cost_of, no_cost, turns_alone, one_level_more, plus, End, Go, Jumps, Faults, Stuck, More, after, then_do}
+use Rattle.source_meaning.specs.Entering.{body_room, entering as entering_cost}
+use Rattle.source_meaning.specs.Meaning.{put, call_returned, call_diverged, entered_from, entered_into, level_at, callees_at, meaning_from, returned}
+use Rattle.source_meaning.specs.Source.{Source, own_type, Cell, Result as Slot, Binding, cell_size, Path, Store, Operand, operand_bytes, root, zeroed, with_cell_bytes}
+use Rattle.source_meaning.specs.Valid.{Calls, at_once, through}
+use Rattle.source_meaning.proofs.Calls.{called_by_name, called_row, called_world}
+use Rattle.mir_lower.specs.Callees.{RunsAs, DoesBelow, Serves, cost_once_placed, once_placed}
 use Rattle.mir_lower.specs.Does.{IsFrameOf, Holds, Landings, Reaches, Nothing, FitAll}
 use Rattle.mir_lower.specs.Graph.{Shape, local_of}
 use Rattle.mir_lower.specs.Growth.{IsSound}
-use Rattle.mir_lower.specs.Runs.{Point, Entry, Exit, start_of, run_from, local_bytes, Enters, IsFault, EndsAfter, error_of, LiesApart, Comes}
-use Rattle.mir_lower.specs.Stops.{MakesCall, IsCut, StopsWithin, turns_of}
+use Rattle.mir_lower.specs.Runs.{Point, Entry, Exit, start_of, run_from, local_bytes, Enters, IsFault, EndsAfter, error_of, LiesApart, HasGrown, Comes}
+use Rattle.mir_lower.specs.Stops.{MakesCall, MakesSomeCall, IsCut, StopsWithin, StopsFrom, without_arguments}
 use Rattle.mir_lower.proofs.Aligned.{are-aligned}
-use Rattle.mir_lower.proofs.Arguments.{names-callee, called-lacks, bytes-at, Spares, Shows, ArePlaced, called-places, fills}
+use Rattle.mir_lower.proofs.Arguments.{names-callee, bytes-at, Spares, Shows, ArePlaced, called-places, fills}
+use Rattle.mir_lower.proofs.CallLeads.{frame-of, leads-by, called-into, called-alone, entered-lacks, entered-at, goes-back, goes-astray, levels-same, levels-more}
+use Rattle.mir_lower.proofs.Covering.{Covers, covers-after, covers-on, covers-astray, put-fits}
 use Rattle.mir_lower.proofs.Holding.{cells, interval-of}
+use Rattle.mir_lower.proofs.Lacking.{entering-nests, entering-room, lacks-room, rooms-counted}
 use Rattle.mir_lower.proofs.Leaving.{enters-block}
 use Rattle.mir_lower.proofs.Placing.{AreAligned}
-use Rattle.mir_lower.proofs.Reaching.{none-entered, comes-trans}
+use Rattle.mir_lower.proofs.Reaching.{none-entered, comes-trans, grown-trans, stops-before}
+use Rattle.mir_lower.proofs.Stopping.{IsPart, cut-onward, ends-as, lacks-onward}
+use Rattle.mir_lower.proofs.Taking.{called-cells-take, filling-takes-none, grown-more, rooms}
 
 -- runs that are the same under every budget
 enters-same : (turns : ℕ) (run other : ℕ → Ended) → ((budget : ℕ) → run budget ≡ other budget) → Enters turns other → Enters turns run
@@ -47,15 +55,29 @@ ends-same turns ends run other same after =
       with_fewer = enters-same turns run other same after.with_fewer;
     }
 
+-- a source calls the source of a function that it makes a call of
+calls-into : (source called : Source) (id : FunctionId) → MakesCall source id → source_of source.world id ≡ Some called → Calls source called
+calls-into source called id makes has_body =
+    record { e = makes.e; evaluated = makes.evaluated; callee = makes.callee; args = makes.args; is_call = makes.is_call; enters = called_by_name source makes.callee id called makes.names has_body }
+
 -- where a callee's run stops at a call, so does its caller's
-stops-same : (source called : Source) (program : Program) (turns more : ℕ) (run other : ℕ → Ended) → MakesCall source → ((budget : ℕ) → run budget ≡ other budget) → turns ≤ more → StopsWithin called program turns other → StopsWithin source program more run
-stops-same source called program turns more run other makes same fewer stops =
-    let within : stops.blocks ≤ turns = stops.within in
-    record { call = makes; blocks = stops.blocks; within = omega arith; ends = ends-same stops.blocks (IsCut program) run other same stops.ends }
+stops-same : (source called : Source) (program : Program) (levels : ℕ) (now : Memory) (few : Cost) (more : ℕ) (memory : Memory) (many : Cost) (run other : ℕ → Ended) → MakesSomeCall source → Calls source called → ((budget : ℕ) → run budget ≡ other budget) →
+    few.turns ≤ many.turns → (few.defined ≡ false → many.defined ≡ false) → (now.limit < taken now.stack + few.bytes → memory.limit < taken memory.stack + many.bytes) → levels + few.nesting ≤ more + many.nesting →
+    StopsWithin called program levels now few other → StopsWithin source program more memory many run
+stops-same source called program levels now few more memory many run other makes calls same turns defined bytes nesting stops =
+    let within : stops.blocks ≤ few.turns = stops.within in
+    record {
+      call = makes;
+      blocks = stops.blocks;
+      within = omega arith;
+      ends = ends-as stops.blocks (IsCut called program levels now few) (IsCut source program more memory many) run
+          (cut-onward called source (λ reached on. through calls on) program levels now few more memory many defined bytes nesting)
+          (ends-same stops.blocks (IsCut called program levels now few) run other same stops.ends);
+    }
 
 -- a run that stops at once
-stops-now : (source : Source) (program : Program) (turns : ℕ) (run : ℕ → Ended) (ending : Ending) → MakesCall source → IsCut program ending → ((budget : ℕ) → run budget ≡ record { ending = ending; left = budget }) → StopsWithin source program turns run
-stops-now source program turns run ending makes cut ends =
+stops-now : (source : Source) (program : Program) (levels : ℕ) (memory : Memory) (cost : Cost) (run : ℕ → Ended) (ending : Ending) → MakesSomeCall source → IsCut source program levels memory cost ending → ((budget : ℕ) → run budget ≡ record { ending = ending; left = budget }) → StopsWithin source program levels memory cost run
+stops-now source program levels memory cost run ending makes cut ends =
     record {
       call = makes;
       blocks = 0;
@@ -66,109 +88,37 @@ stops-now source program turns run ending makes cut ends =
       };
     }
 
-by_test : {A : Type 0} (fits not : A) (b : Bool) → (cond b fits not ≡ fits) ⊎ (cond b fits not ≡ not)
-by_test fits not true = inl refl
-by_test fits not false = inr refl
-
--- a write's bytes fit their cell, or the write is stuck
-put-fits : (store : Store) (path : Path) (bytes : List ℕ) → (put store path bytes ≡ Go tt (with_cell_bytes store path.cell bytes) no_cost) ⊎ (put store path bytes ≡ Stuck)
-unfolding put
-put-fits store path bytes = by_test (Go tt (with_cell_bytes store path.cell bytes) no_cost) Stuck (eqb (length bytes) (length (store path.cell)))
-
--- the source of a function stands in its world
-source-world : (world : HirDatabase) (id : FunctionId) (called : Source) → source_of world id ≡ Some called → called.world ≡ world
-unfolding source_of
-source-world world id called is = by_row (body_row world (FunctionBody id)) is where
-  by_row : (row : Option BodyRow) → option_map (source_at world) row ≡ Some called → called.world ≡ world
-  by_row None h = absurd cc
-  by_row (Some row) h = let same : source_at world row ≡ called = cc in ap (λ (s : Source). s.world) (sym same)
-
--- the frame of a called body
-abbrev frame-of : Frame → Calling → FunctionId → MirBody → List Interval → Frame
-frame-of frame call id body intervals = record { program = frame.program; body = body; cells = intervals; below = waiting frame call id ∷ frame.below }
-
--- where a call leads
-module _ (frame : Frame) (memory : Memory) (call : Calling) (id : FunctionId) where
-  leads-by : (ty : Ty) → mir_type frame.body call.func.kind ≡ Some ty → mir_function_in ty ≡ Some (without_arguments id) → calls frame memory call ≡ called_by frame memory call (without_arguments id) (answer_to frame.program.answers (body_query (without_arguments id)))
-  unfolding calls
-  leads-by ty typed names =
-      ap (λ (o : Option (FunctionId × GenericArgs)). elim o [
-        | Some callee ↦ called_by frame memory call callee (answer_to frame.program.answers (body_query callee))
-        | None ↦ faults frame (error.NotSupported (codes "form not built"))
-      ]) (ap (option_and_then mir_function_in) typed ∙ names)
-
-  module _ (body : MirBody) where
-    called-into : (next : ℕ) (cell : Interval) → call.target ≡ Some next → slice_get frame.cells call.destination.local.0 ≡ Some cell → mir_called frame memory call id body ≡ entered frame memory call id body (Some cell)
-    unfolding mir_called
-    called-into next cell target there =
-        ap (λ (o : Option ℕ). elim o [
-          | Some block ↦ elim (slice_get frame.cells call.destination.local.0) [
-            | Some cell ↦ entered frame memory call id body (Some cell)
-            | None ↦ faults frame bad_write
-          ]
-          | None ↦ if nat_le (suc (levels_over frame.below)) frame.program.nesting then entered frame memory call id body None else faults frame error.StackOverflow
-        ]) target
-        ∙ ap (λ (o : Option Interval). elim o [ Some cell ↦ entered frame memory call id body (Some cell) | None ↦ faults frame bad_write ]) there
-
-    called-alone : (deep : Bool) → call.target ≡ None → nat_le (suc (levels_over frame.below)) frame.program.nesting ≡ deep → mir_called frame memory call id body ≡ cond deep (entered frame memory call id body None) (faults frame error.StackOverflow)
-    unfolding mir_called
-    called-alone deep target levels =
-        ap (λ (o : Option ℕ). elim o [
-          | Some block ↦ elim (slice_get frame.cells call.destination.local.0) [
-            | Some cell ↦ entered frame memory call id body (Some cell)
-            | None ↦ faults frame bad_write
-          ]
-          | None ↦ if nat_le (suc (levels_over frame.below)) frame.program.nesting then entered frame memory call id body None else faults frame error.StackOverflow
-        ]) target
-        ∙ ap (λ (b : Bool). cond b (entered frame memory call id body None) (faults frame error.StackOverflow)) levels
-
-    module _ (destination : Option Interval) where
-      entered-lacks : (e : MirEvalError) → called_cells frame.program.world body.locals destination memory ≡ Err e → entered frame memory call id body destination ≡ faults frame e
-      unfolding entered
-      entered-lacks e none =
-          ap (λ (r : Result (List Interval × Memory) MirEvalError). elim r [
-            | Err e ↦ faults frame e
-            | Ok placed ↦ elim (mir_filled frame placed.0 body.param_locals call.args placed.1) [
-              | Err e ↦ faults frame e
-              | Ok after ↦ GoesTo (frame-of frame call id body placed.0) after body.start_block.0
-            ]
-          ]) none
-
-      entered-at : (all : List Interval × Memory) (after : Memory) → called_cells frame.program.world body.locals destination memory ≡ Ok all → mir_filled frame all.0 body.param_locals call.args all.1 ≡ Ok after →
-          entered frame memory call id body destination ≡ GoesTo (frame-of frame call id body all.0) after body.start_block.0
-      unfolding entered
-      entered-at all after placed given =
-          ap (λ (r : Result (List Interval × Memory) MirEvalError). elim r [
-            | Err e ↦ faults frame e
-            | Ok placed ↦ elim (mir_filled frame placed.0 body.param_locals call.args placed.1) [
-              | Err e ↦ faults frame e
-              | Ok after ↦ GoesTo (frame-of frame call id body placed.0) after body.start_block.0
-            ]
-          ]) placed
-          ∙ ap (λ (r : Result Memory MirEvalError). elim r [ Err e ↦ faults frame e | Ok after ↦ GoesTo (frame-of frame call id body all.0) after body.start_block.0 ]) given
-
-    -- a called body that returns goes back to the caller's target block, or, where it must not return, faults
-    goes-back : (next : ℕ) (intervals : List Interval) (later : Memory) (budget : ℕ) → call.target ≡ Some next → run_from (frame-of frame call id body intervals) later Exit budget ≡ run_from frame later (Entry next) budget
-    unfolding going_on after_return resumed
-    goes-back next intervals later budget target =
-        ap (λ (o : Option ℕ). going_on budget (elim o [ Some block ↦ GoesTo frame later block | None ↦ faults frame (error.UndefinedBehavior (codes "Diverging function returned")) ])) target
-
-    goes-astray : (intervals : List Interval) (later : Memory) (budget : ℕ) → call.target ≡ None → run_from (frame-of frame call id body intervals) later Exit budget ≡ record { ending = Faulted (error.UndefinedBehavior (codes "Diverging function returned")) (trail_of frame); left = budget }
-    unfolding going_on after_return resumed
-    goes-astray intervals later budget target =
-        ap (λ (o : Option ℕ). going_on budget (elim o [ Some block ↦ GoesTo frame later block | None ↦ faults frame (error.UndefinedBehavior (codes "Diverging function returned")) ])) target
+-- a called body of a checked world is checked
+checked-callee : (source called : Source) → IsChecked source.world → Calls source called → IsCheckedBody called.body called.infer
+checked-callee source called checked calls =
+    let row = called_row source calls.callee called calls.enters in
+    subst (λ (s : Source). IsCheckedBody s.body s.infer) row.3 (checked.bodies row.0 row.1 row.2)
 
 module _ (source : Source) (whole : Shape) (frame : Frame) (lands : Landings) (from : Point) (memory : Memory) (store : Store)
     (sound : IsSound source whole) (is : IsFrameOf whole frame) (holds : Holds whole frame store memory)
-    (fuel : ℕ) (serves : Serves (suc fuel) source frame.program) (makes : MakesCall source)
+    (fuel : ℕ) (serves : Serves (suc fuel) source frame.program)
     (call : Calling) (values : List Operand) (fit : FitAll source (map (λ (arg : MirOperand). arg.kind) call.args) whole frame values)
     (callee : ℕ) (ty : Ty) (typed : mir_type frame.body call.func.kind ≡ Some ty) (own : own_type source callee ≡ Some ty)
-    (id : FunctionId) (names : function_called source callee ≡ Some id)
+    (id : FunctionId) (names : function_called source callee ≡ Some id) (makes : MakesCall source id)
     (c : Cell) (found : local_of whole c ≡ Some call.destination.local.0)
     (at : (budget : ℕ) → run_from frame memory from budget ≡ going_on budget (calls frame memory call)) where
-  -- the run stops at the call, whatever the meaning counts
-  abbrev Stopped : Type 0
-  Stopped = (turns : ℕ) → StopsWithin source frame.program turns (run_from frame memory from)
+  -- the run stops at the call, whatever is counted
+  abbrev StopsAnyhow : Type 0
+  StopsAnyhow = (cost : Cost) → StopsFrom source frame from memory cost
+
+  -- it does so where at least a cost is counted
+  abbrev StopsFor : Cost → Type 0
+  StopsFor least = (cost : Cost) → IsPart least cost → StopsFrom source frame from memory cost
+
+  anyhow-reaches : (to : Point) (end : End (Unit {0})) → StopsAnyhow → Reaches source whole lands frame from to memory (Nothing whole frame) end
+  anyhow-reaches to end stops = inl (stops (cost_of end))
+
+  stopped-reaches : (to : Point) (least : Cost) (end : End (Unit {0})) → StopsFor least → Covers least end → Reaches source whole lands frame from to memory (Nothing whole frame) end
+  stopped-reaches to least (Go value store cost) stops covers = inl (stops cost covers)
+  stopped-reaches to least (Jumps jump store cost) stops covers = inl (stops cost covers)
+  stopped-reaches to least (Faults fault cost) stops covers = inl (stops cost covers)
+  stopped-reaches to least Stuck stops covers = inr tt
+  stopped-reaches to least (More cost) stops covers = inl (stops cost covers)
 
   -- The callee's body runs in the caller's run, from a store on. What could be read before can be read still, and shares no byte with its
   -- cells but for the destination, which is its return slot.
@@ -177,14 +127,15 @@ module _ (source : Source) (whole : Shape) (frame : Frame) (lands : Landings) (f
     allotted : Cell → Option ℕ
     intervals : List Interval
     now : Memory
-    runs : RunsAs called allotted (frame-of frame call id body intervals) (Entry body.start_block.0) now (meaning_from called start fuel)
+    runs : RunsAs called allotted (frame-of frame call id body intervals) (Entry body.start_block.0) now (once_placed called (meaning_from called start fuel))
+    grown : HasGrown (body_room called) memory now
     same : (budget : ℕ) → run_from frame memory from budget ≡ run_from (frame-of frame call id body intervals) now (Entry body.start_block.0) budget
     kept : (old : Interval) (bytes : List ℕ) → cell_bytes memory old ≡ Some bytes → cell_bytes now old ≡ Some bytes
     others : (old : Interval) (bytes : List ℕ) → cell_bytes memory old ≡ Some bytes → Spares destination old → LiesApart (frame-of frame call id body intervals) old
     slot : (cell : Interval) → destination ≡ Some cell → slice_get intervals 0 ≡ Some cell
 
   -- the body that the run is told for the callee; without one the run stops
-  told-body : (called : Source) → source_of source.world id ≡ Some called → Stopped ⊎ ((body : MirBody) × DoesBelow (suc fuel) frame.program called body × ((budget : ℕ) → run_from frame memory from budget ≡ going_on budget (mir_called frame memory call id body)))
+  told-body : (called : Source) → source_of source.world id ≡ Some called → StopsAnyhow ⊎ ((body : MirBody) × DoesBelow (suc fuel) frame.program called body × ((budget : ℕ) → run_from frame memory from budget ≡ going_on budget (mir_called frame memory call id body)))
   unfolding called_by going_on
   told-body called has_body = by_answer (answer_to frame.program.answers (body_query (without_arguments id))) refl where
     leads : (answer : Option Told) → answer_to frame.program.answers (body_query (without_arguments id)) ≡ answer → (budget : ℕ) → run_from frame memory from budget ≡ going_on budget (called_by frame memory call (without_arguments id) answer)
@@ -193,38 +144,49 @@ module _ (source : Source) (whole : Shape) (frame : Frame) (lands : Landings) (f
         ∙ ap (going_on budget) (leads-by frame memory call id ty typed (names-callee source callee ty id own names))
         ∙ ap (λ (a : Option Told). going_on budget (called_by frame memory call (without_arguments id) a)) known
 
-    asks : (answer : Option Told) → answer_to frame.program.answers (body_query (without_arguments id)) ≡ answer → ((budget : ℕ) → going_on budget (called_by frame memory call (without_arguments id) answer) ≡ record { ending = Asked (body_query (without_arguments id)) frame memory call; left = budget }) → Stopped
-    asks answer known ends turns =
-        stops-now source frame.program turns (run_from frame memory from) (Asked (body_query (without_arguments id)) frame memory call) makes tt (λ budget. leads answer known budget ∙ ends budget)
+    asks : (answer : Option Told) → answer_to frame.program.answers (body_query (without_arguments id)) ≡ answer → ((budget : ℕ) → going_on budget (called_by frame memory call (without_arguments id) answer) ≡ record { ending = Asked (body_query (without_arguments id)) frame memory call; left = budget }) → StopsAnyhow
+    asks answer known ends cost =
+        stops-now source frame.program (levels_over frame.below) memory cost (run_from frame memory from) (Asked (body_query (without_arguments id)) frame memory call) (id, makes) tt (λ budget. leads answer known budget ∙ ends budget)
 
-    by_answer : (answer : Option Told) → answer_to frame.program.answers (body_query (without_arguments id)) ≡ answer → Stopped ⊎ ((body : MirBody) × DoesBelow (suc fuel) frame.program called body × ((budget : ℕ) → run_from frame memory from budget ≡ going_on budget (mir_called frame memory call id body)))
+    by_answer : (answer : Option Told) → answer_to frame.program.answers (body_query (without_arguments id)) ≡ answer → StopsAnyhow ⊎ ((body : MirBody) × DoesBelow (suc fuel) frame.program called body × ((budget : ℕ) → run_from frame memory from budget ≡ going_on budget (mir_called frame memory call id body)))
     by_answer None known = inl (asks None known (λ budget. refl))
     by_answer (Some (told.Konst konst)) known = inl (asks (Some (told.Konst konst)) known (λ budget. refl))
     by_answer (Some (told.Discriminant number)) known = inl (asks (Some (told.Discriminant number)) known (λ budget. refl))
     by_answer (Some (told.Body body)) known = inr (body.value, serves.bodies id called body has_body known, leads (Some (told.Body body)) known)
     by_answer (Some (told.Failed refusal)) known =
-        inl (λ turns.
-        stops-now source frame.program turns (run_from frame memory from) (Faulted (callee_error id refusal) (entry_of frame call id ∷ trail_of frame)) makes
-        (inl (record { callee = without_arguments id; refusal = refusal; told = known; is = refl }))
+        inl (λ cost.
+        stops-now source frame.program (levels_over frame.below) memory cost (run_from frame memory from) (Faulted (callee_error id refusal) (entry_of frame call id ∷ trail_of frame)) (id, makes)
+        (inl (record { caller = source; reached = at_once; id = id; makes = makes; refusal = refusal; told = known; is = refl }))
         (leads (Some (told.Failed refusal)) known))
 
   -- the body is entered: its cells are placed, and the arguments are copied to them; or the run stops
   enters-body : (called : Source) → source_of source.world id ≡ Some called → (body : MirBody) → DoesBelow (suc fuel) frame.program called body → (destination : Option Interval) (result : List ℕ) → Shows called memory destination result →
       ((budget : ℕ) → run_from frame memory from budget ≡ going_on budget (entered frame memory call id body destination)) →
-      Stopped ⊎ ((start : Store) → started called result (map (operand_bytes store) values) ≡ Some start → RunsCallee called destination start)
+      StopsFor (entering_cost called) ⊎ ((start : Store) → started called result (map (operand_bytes store) values) ≡ Some start → RunsCallee called destination start)
   unfolding going_on started
   enters-body called has_body body below destination result shows leads = by_cells (called_cells frame.program.world body.locals destination memory) refl where
-    by_cells : (all : Result (List Interval × Memory) MirEvalError) → called_cells frame.program.world body.locals destination memory ≡ all → Stopped ⊎ ((start : Store) → started called result (map (operand_bytes store) values) ≡ Some start → RunsCallee called destination start)
+    way : Calls source called
+    way = calls-into source called id makes has_body
+
+    world : called.world ≡ source.world
+    world = called_world source way.callee called way.enters
+
+    in-world : HirDatabase → Result (List Interval × Memory) MirEvalError
+    in-world w = called_cells w body.locals destination memory
+
+    by_cells : (all : Result (List Interval × Memory) MirEvalError) → called_cells frame.program.world body.locals destination memory ≡ all → StopsFor (entering_cost called) ⊎ ((start : Store) → started called result (map (operand_bytes store) values) ≡ Some start → RunsCallee called destination start)
     by_cells (Err e) none =
-        inl (λ turns.
-        stops-now source frame.program turns (run_from frame memory from) (Faulted e (trail_of frame)) makes
-        (inr (called-lacks frame.program.world body.locals destination memory e none))
+        inl (λ cost part.
+        let bytes = part.bytes in
+        let nesting = part.nesting in
+        let lacks = lacks-room called frame.program (levels_over frame.below) body.locals destination memory e (checked-callee source called serves.checked way) below.counted (ap in-world (world ∙ sym serves.world) ∙ none) in
+        stops-now source frame.program (levels_over frame.below) memory cost (run_from frame memory from) (Faulted e (trail_of frame)) (id, makes)
+        (inr (lacks-onward called source (λ reached on. through way on) frame.program (levels_over frame.below) memory (entering_cost called) (levels_over frame.below) memory cost part.defined (λ passes. omega arith) (omega arith) e lacks))
         (λ budget. leads budget ∙ ap (going_on budget) (entered-lacks frame memory call id body destination e none)))
     by_cells (Ok all) placed =
         inr (λ start starts.
-        let world : called.world ≡ source.world = source-world source.world id called has_body in
         let aligned : AreAligned called.world = subst AreAligned (sym world) (are-aligned source.world serves.checked) in
-        let there : called_cells called.world body.locals destination memory ≡ Ok all = ap (λ (w : HirDatabase). called_cells w body.locals destination memory) (world ∙ sym serves.world) ∙ placed in
+        let there : called_cells called.world body.locals destination memory ≡ Ok all = ap in-world (world ∙ sym serves.world) ∙ placed in
         let inner : Frame = frame-of frame call id body all.0 in
         let places : ArePlaced called below.allotted inner memory destination result all.1 =
         called-places called aligned below.allotted below.own below.result memory body.locals below.typed destination result shows all there inner refl in
@@ -238,27 +200,54 @@ module _ (source : Source) (whole : Shape) (frame : Frame) (lands : Landings) (f
           intervals = all.0;
           now = full.0;
           runs = below.does fuel (omega arith) start inner full.0 refl refl places.apart full.2.holds;
+          grown = grown-more (rooms called.world body.locals + 0) (body_room called) memory full.0 (let counts = rooms-counted called body.locals below.counted in omega arith)
+              (grown-trans (rooms called.world body.locals) 0 memory all.1 full.0 (called-cells-take called.world body.locals destination memory all there)
+              (filling-takes-none frame all.0 body.param_locals call.args all.1 full.0 full.1));
           same = λ budget. leads budget ∙ ap (going_on budget) (entered-at frame memory call id body destination all full.0 placed full.1);
           kept = full.2.kept;
           others = places.others;
           slot = places.slot;
         })
 
+  -- what the callee's cells and the run of its body take together is what its meaning counts
+  both-grown : (called : Source) (cost : Cost) (now later : Memory) → IsPart (entering_cost called) cost → HasGrown (body_room called) memory now → HasGrown (cost.bytes - body_room called) now later → HasGrown cost.bytes memory later
+  both-grown called cost now later covers placed grown =
+      let bytes = covers.bytes in
+      let room = entering-room called in
+      let first = placed.stack in
+      let second = grown.stack in
+      record { stack = omega arith; limit = grown.limit ∙ placed.limit }
+
+  passes-both : (called : Source) (cost : Cost) (now : Memory) → IsPart (entering_cost called) cost → HasGrown (body_room called) memory now → now.limit < taken now.stack + (cost.bytes - body_room called) → memory.limit < taken memory.stack + cost.bytes
+  passes-both called cost now covers placed passes =
+      let bytes = covers.bytes in
+      let room = entering-room called in
+      let stack = placed.stack in
+      let limit = placed.limit in
+      omega arith
+
   -- the body of a callee that gives a value
-  module _ (called : Source) (next : ℕ) (target : call.target ≡ Some next) (cell : Interval) (there : slice_get frame.cells call.destination.local.0 ≡ Some cell) (start : Store) (into : RunsCallee called (Some cell) start) where
+  module _ (called : Source) (way : Calls source called) (next : ℕ) (target : call.target ≡ Some next) (cell : Interval) (there : slice_get frame.cells call.destination.local.0 ≡ Some cell) (start : Store) (into : RunsCallee called (Some cell) start) where
     abbrev Inner : Frame
     Inner = frame-of frame call id into.body into.intervals
 
     abbrev Returns : End (Unit {0}) → Type 0
     Returns end = Reaches source whole lands frame from (start_of next) memory (Nothing whole frame) end
 
-    module _ (value : List ℕ) (left : Store) (cost : Cost) (later : Memory) (comes : Comes Inner cost.turns (Entry into.body.start_block.0) into.now Exit later) where
-      comes-back : Comes frame cost.turns from memory (Entry next) later
+    stops-back : (cost : Cost) → IsPart (entering_cost called) cost → StopsFrom called Inner (Entry into.body.start_block.0) into.now (cost_once_placed called cost) → StopsFrom source frame from memory cost
+    stops-back cost covers stops =
+        let levels = levels-same frame call id next target in
+        stops-same source called frame.program (levels_over Inner.below) into.now (cost_once_placed called cost) (levels_over frame.below) memory cost (run_from frame memory from) (run_from Inner into.now (Entry into.body.start_block.0)) (id, makes) way into.same
+        (omega arith) (λ is. is) (passes-both called cost into.now covers into.grown) (omega arith) stops
+
+    module _ (value : List ℕ) (left : Store) (cost : Cost) (covers : IsPart (entering_cost called) cost) (later : Memory) (comes : Comes Inner cost.turns (cost.bytes - body_room called) (Entry into.body.start_block.0) into.now Exit later) where
+      comes-back : Comes frame cost.turns cost.bytes from memory (Entry next) later
       comes-back =
           record {
             with_more = λ more. into.same (cost.turns + more) ∙ comes.with_more more ∙ goes-back frame memory call id into.body next into.intervals later more target;
             with_fewer = enters-same cost.turns (run_from frame memory from) (run_from Inner into.now (Entry into.body.start_block.0)) into.same comes.with_fewer;
             others = λ interval bytes apart read. comes.others interval bytes (into.others interval bytes read (apart call.destination.local.0 cell there)) (into.kept interval bytes read);
+            grown = both-grown called cost into.now later covers into.grown comes.grown;
           }
 
       holds-back : local_bytes Inner later 0 ≡ Some value → Holds whole frame (with_cell_bytes store c value) later
@@ -281,47 +270,48 @@ module _ (source : Source) (whole : Shape) (frame : Frame) (lands : Landings) (f
                 (cells c d);
           }
 
-    gives-value : (value : List ℕ) (left : Store) (cost : Cost) → RunsAs called into.allotted Inner (Entry into.body.start_block.0) into.now (Go value left cost) → Returns (gone_on (record { cell = c }) store (Go value left cost))
+    gives-value : (value : List ℕ) (left : Store) (cost : Cost) → IsPart (entering_cost called) cost → RunsAs called into.allotted Inner (Entry into.body.start_block.0) into.now (once_placed called (Go value left cost)) → Returns (call_returned (record { cell = c }) store (Go value left cost))
     unfolding after then_do plus
-    gives-value value left cost does = by_put (put-fits store (record { cell = c }) value) does where
-      by_put : (put store (record { cell = c }) value ≡ Go tt (with_cell_bytes store c value) no_cost) ⊎ (put store (record { cell = c }) value ≡ Stuck) → RunsAs called into.allotted Inner (Entry into.body.start_block.0) into.now (Go value left cost) → Returns (after cost (then_do (put store (record { cell = c }) value) (λ _ last. Go tt last (turns_alone 1))))
+    gives-value value left cost covers does = by_put (put-fits store (record { cell = c }) value) does where
+      by_put : (put store (record { cell = c }) value ≡ Go tt (with_cell_bytes store c value) no_cost) ⊎ (put store (record { cell = c }) value ≡ Stuck) → RunsAs called into.allotted Inner (Entry into.body.start_block.0) into.now (once_placed called (Go value left cost)) → Returns (after cost (then_do (put store (record { cell = c }) value) (λ _ last. Go tt last (turns_alone 1))))
       by_put (inl fits) (inl stops) =
           subst (λ (written : End (Unit {0})). Returns (after cost (then_do written (λ _ last. Go tt last (turns_alone 1))))) (sym fits)
-          (inl (stops-same source called frame.program cost.turns (cost.turns + 1) (run_from frame memory from) (run_from Inner into.now (Entry into.body.start_block.0)) makes into.same (omega arith) stops))
+          (inl (stops-before source frame from memory cost (plus no_cost (turns_alone 1)) (stops-back cost covers stops)))
       by_put (inl fits) (inr done) =
           subst (λ (written : End (Unit {0})). Returns (after cost (then_do written (λ _ last. Go tt last (turns_alone 1))))) (sym fits)
-          (inr (done.0, comes-trans frame cost.turns 1 from (Entry next) memory done.0 (comes-back value left cost done.0 done.1) (start_of next) done.0 (enters-block frame done.0 next), holds-back value left cost done.0 done.1 done.3, tt))
+          (inr (done.0, comes-trans frame cost.turns 1 from (Entry next) memory done.0 (comes-back value left cost covers done.0 done.1) (start_of next) done.0 (enters-block frame done.0 next), holds-back value left cost covers done.0 done.1 done.3, tt))
       by_put (inr stuck) either =
           subst (λ (written : End (Unit {0})). Returns (after cost (then_do written (λ _ last. Go tt last (turns_alone 1))))) (sym stuck) (inr tt)
 
-    gives-back : (end : End (List ℕ)) → RunsAs called into.allotted Inner (Entry into.body.start_block.0) into.now end → Returns (gone_on (record { cell = c }) store end)
-    gives-back (Go value left cost) does = gives-value value left cost does
-    gives-back (Jumps to left cost) does = inr tt
-    gives-back Stuck does = inr tt
-    gives-back (Faults fault cost) (inl stops) =
-        inl (stops-same source called frame.program cost.turns cost.turns (run_from frame memory from) (run_from Inner into.now (Entry into.body.start_block.0)) makes into.same (omega arith) stops)
-    gives-back (Faults fault cost) (inr ends) =
+    gives-back : (end : End (List ℕ)) → Covers (entering_cost called) end → RunsAs called into.allotted Inner (Entry into.body.start_block.0) into.now (once_placed called end) → Returns (call_returned (record { cell = c }) store end)
+    gives-back (Go value left cost) covers does = gives-value value left cost covers does
+    gives-back (Jumps to left cost) covers does = inr tt
+    gives-back Stuck covers does = inr tt
+    gives-back (Faults fault cost) covers (inl stops) = inl (stops-back cost covers stops)
+    gives-back (Faults fault cost) covers (inr ends) =
         inr (ends-same cost.turns (IsFault (error_of fault)) (run_from frame memory from) (run_from Inner into.now (Entry into.body.start_block.0)) into.same ends)
-    gives-back (More cost) (inl stops) =
-        inl (stops-same source called frame.program cost.turns cost.turns (run_from frame memory from) (run_from Inner into.now (Entry into.body.start_block.0)) makes into.same (omega arith) stops)
-    gives-back (More cost) (inr enters) = inr (enters-same cost.turns (run_from frame memory from) (run_from Inner into.now (Entry into.body.start_block.0)) into.same enters)
+    gives-back (More cost) covers (inl stops) = inl (stops-back cost covers stops)
+    gives-back (More cost) covers (inr enters) = inr (enters-same cost.turns (run_from frame memory from) (run_from Inner into.now (Entry into.body.start_block.0)) into.same enters)
 
   -- the body of a callee that must not return
-  module _ (called : Source) (target : call.target ≡ None) (start : Store) (into : RunsCallee called None start) (to : Point) where
+  module _ (called : Source) (way : Calls source called) (target : call.target ≡ None) (start : Store) (into : RunsCallee called None start) (to : Point) where
     abbrev Own : Frame
     Own = frame-of frame call id into.body into.intervals
 
     abbrev Strays : End (Unit {0}) → Type 0
     Strays end = Reaches source whole lands frame from to memory (Nothing whole frame) end
 
-    stops-astray : (turns : ℕ) → StopsWithin called frame.program turns (run_from Own into.now (Entry into.body.start_block.0)) → StopsWithin source frame.program turns (run_from frame memory from)
-    stops-astray turns stops = stops-same source called frame.program turns turns (run_from frame memory from) (run_from Own into.now (Entry into.body.start_block.0)) makes into.same (omega arith) stops
+    stops-astray : (cost : Cost) → IsPart (entering_cost called) cost → StopsFrom called Own (Entry into.body.start_block.0) into.now (cost_once_placed called cost) → StopsFrom source frame from memory (one_level_more cost)
+    stops-astray cost covers stops =
+        let levels = levels-more frame call id target in
+        stops-same source called frame.program (levels_over Own.below) into.now (cost_once_placed called cost) (levels_over frame.below) memory (one_level_more cost) (run_from frame memory from) (run_from Own into.now (Entry into.body.start_block.0)) (id, makes) way into.same
+        (omega arith) (λ is. is) (passes-both called cost into.now covers into.grown) (omega arith) stops
 
-    gives-astray : (end : End (List ℕ)) → RunsAs called into.allotted Own (Entry into.body.start_block.0) into.now end → Strays (gone_astray end)
-    gives-astray (Jumps jump left cost) does = inr tt
-    gives-astray Stuck does = inr tt
-    gives-astray (Go value left cost) (inl stops) = inl (stops-astray cost.turns stops)
-    gives-astray (Go value left cost) (inr done) =
+    gives-astray : (end : End (List ℕ)) → Covers (entering_cost called) end → RunsAs called into.allotted Own (Entry into.body.start_block.0) into.now (once_placed called end) → Strays (call_diverged end)
+    gives-astray (Jumps jump left cost) covers does = inr tt
+    gives-astray Stuck covers does = inr tt
+    gives-astray (Go value left cost) covers (inl stops) = inl (stops-astray cost covers stops)
+    gives-astray (Go value left cost) covers (inr done) =
         inr (record {
           with_more = λ more. (
             Faulted (error.UndefinedBehavior (codes "Diverging function returned")) (trail_of frame),
@@ -330,11 +320,11 @@ module _ (source : Source) (whole : Shape) (frame : Frame) (lands : Landings) (f
           );
           with_fewer = enters-same cost.turns (run_from frame memory from) (run_from Own into.now (Entry into.body.start_block.0)) into.same done.1.with_fewer;
         })
-    gives-astray (Faults fault cost) (inl stops) = inl (stops-astray cost.turns stops)
-    gives-astray (Faults fault cost) (inr ends) =
+    gives-astray (Faults fault cost) covers (inl stops) = inl (stops-astray cost covers stops)
+    gives-astray (Faults fault cost) covers (inr ends) =
         inr (ends-same cost.turns (IsFault (error_of fault)) (run_from frame memory from) (run_from Own into.now (Entry into.body.start_block.0)) into.same ends)
-    gives-astray (More cost) (inl stops) = inl (stops-astray cost.turns stops)
-    gives-astray (More cost) (inr enters) = inr (enters-same cost.turns (run_from frame memory from) (run_from Own into.now (Entry into.body.start_block.0)) into.same enters)
+    gives-astray (More cost) covers (inl stops) = inl (stops-astray cost covers stops)
+    gives-astray (More cost) covers (inr enters) = inr (enters-same cost.turns (run_from frame memory from) (run_from Own into.now (Entry into.body.start_block.0)) into.same enters)
 
   -- the bytes of the arguments
   abbrev Given : List (List ℕ)
@@ -347,24 +337,32 @@ module _ (source : Source) (whole : Shape) (frame : Frame) (lands : Landings) (f
   unfolding source_called
   callee-is = ap (option_and_then (source_of source.world)) names
 
+  -- what a callee's body means, and what its call does by that
+  meant-covers : (called : Source) (start : Store) → Covers (entering_cost called) (callees_at fuel called start)
+  meant-covers called start = covers-after (entering_cost called) (returned called ((level_at called fuel (marking (parameter_cells called) (at_root (record { cell = Slot })))).into (root called) (record { cell = Slot }) start))
+
   module _ (next : ℕ) (target : call.target ≡ Some next) where
     abbrev Returning : End (Unit {0}) → Type 0
     Returning end = Reaches source whole lands frame from (start_of next) memory (Nothing whole frame) end
 
-    returns-started : (called : Source) (cell : Interval) → slice_get frame.cells call.destination.local.0 ≡ Some cell → Stopped ⊎ ((start : Store) → started called (store c) Given ≡ Some start → RunsCallee called (Some cell) start) →
+    returning-covers : (called : Source) (start : Option Store) → Covers (entering_cost called) (entered_from (callees_at fuel) false called start place store)
+    returning-covers called None = tt
+    returning-covers called (Some start) = covers-on (entering_cost called) place store (callees_at fuel called start) (meant-covers called start)
+
+    returns-started : (called : Source) → Calls source called → (cell : Interval) → slice_get frame.cells call.destination.local.0 ≡ Some cell → StopsFor (entering_cost called) ⊎ ((start : Store) → started called (store c) Given ≡ Some start → RunsCallee called (Some cell) start) →
         (start : Option Store) → started called (store c) Given ≡ start → Returning (entered_from (callees_at fuel) false called start place store)
     unfolding meaning_from
-    returns-started called cell there (inl stopped) start starts = inl (stopped (turns_of {A = Unit {0}} (entered_from (callees_at fuel) false called start place store)))
-    returns-started called cell there (inr runs) None starts = inr tt
-    returns-started called cell there (inr runs) (Some start) starts =
-        gives-back called next target cell there start (runs start starts) (callees_at fuel called start) (runs start starts).runs
+    returns-started called way cell there (inl stopped) start starts = stopped-reaches (start_of next) (entering_cost called) (entered_from (callees_at fuel) false called start place store) stopped (returning-covers called start)
+    returns-started called way cell there (inr runs) None starts = inr tt
+    returns-started called way cell there (inr runs) (Some start) starts =
+        gives-back called way next target cell there start (runs start starts) (callees_at fuel called start) (meant-covers called start) (runs start starts).runs
 
-    returns-told : (called : Source) → source_of source.world id ≡ Some called → Stopped ⊎ ((body : MirBody) × DoesBelow (suc fuel) frame.program called body × ((budget : ℕ) → run_from frame memory from budget ≡ going_on budget (mir_called frame memory call id body))) →
+    returns-told : (called : Source) → source_of source.world id ≡ Some called → StopsAnyhow ⊎ ((body : MirBody) × DoesBelow (suc fuel) frame.program called body × ((budget : ℕ) → run_from frame memory from budget ≡ going_on budget (mir_called frame memory call id body))) →
         Returning (entered_into (callees_at fuel) false (Some called) Given place store)
-    returns-told called has_body (inl stopped) = inl (stopped (turns_of {A = Unit {0}} (entered_into (callees_at fuel) false (Some called) Given place store)))
+    returns-told called has_body (inl stopped) = anyhow-reaches (start_of next) (entered_into (callees_at fuel) false (Some called) Given place store) stopped
     returns-told called has_body (inr told) =
         let there = interval-of frame memory call.destination.local.0 (store c) (holds.shows c call.destination.local.0 found) in
-        returns-started called there.0 there.1
+        returns-started called (calls-into source called id makes has_body) there.0 there.1
         (enters-body called has_body told.0 told.1 (Some there.0) (store c) there.2
         (λ budget. told.2 budget ∙ ap (going_on budget) (called-into frame memory call id told.0 next there.0 target there.1)))
         (started called (store c) Given) refl
@@ -384,25 +382,41 @@ module _ (source : Source) (whole : Shape) (frame : Frame) (lands : Landings) (f
     abbrev Straying : End (Unit {0}) → Type 0
     Straying end = Reaches source whole lands frame from to memory (Nothing whole frame) end
 
-    strays-started : (called : Source) → Stopped ⊎ ((start : Store) → started called (zeroed called Slot) Given ≡ Some start → RunsCallee called None start) →
+    straying-covers : (called : Source) (start : Option Store) → Covers (one_level_more (entering_cost called)) (entered_from (callees_at fuel) true called start place store)
+    straying-covers called None = tt
+    straying-covers called (Some start) = covers-astray (entering_cost called) (callees_at fuel called start) (meant-covers called start)
+
+    -- a level more than what entering counts is counted where that is
+    for-more : (called : Source) → StopsFor (entering_cost called) → StopsFor (one_level_more (entering_cost called))
+    for-more called stopped cost part = let nesting = part.nesting in stopped cost (record { turns = part.turns; bytes = part.bytes; nesting = omega arith; defined = part.defined })
+
+    strays-started : (called : Source) → Calls source called → StopsFor (entering_cost called) ⊎ ((start : Store) → started called (zeroed called Slot) Given ≡ Some start → RunsCallee called None start) →
         (start : Option Store) → started called (zeroed called Slot) Given ≡ start → Straying (entered_from (callees_at fuel) true called start place store)
     unfolding meaning_from
-    strays-started called (inl stopped) start starts = inl (stopped (turns_of {A = Unit {0}} (entered_from (callees_at fuel) true called start place store)))
-    strays-started called (inr runs) None starts = inr tt
-    strays-started called (inr runs) (Some start) starts = gives-astray called target start (runs start starts) to (callees_at fuel called start) (runs start starts).runs
+    strays-started called way (inl stopped) start starts = stopped-reaches to (one_level_more (entering_cost called)) (entered_from (callees_at fuel) true called start place store) (for-more called stopped) (straying-covers called start)
+    strays-started called way (inr runs) None starts = inr tt
+    strays-started called way (inr runs) (Some start) starts = gives-astray called way target start (runs start starts) to (callees_at fuel called start) (meant-covers called start) (runs start starts).runs
 
-    strays-told : (called : Source) → source_of source.world id ≡ Some called → Stopped ⊎ ((body : MirBody) × DoesBelow (suc fuel) frame.program called body × ((budget : ℕ) → run_from frame memory from budget ≡ going_on budget (mir_called frame memory call id body))) →
-        (deep : Bool) → nat_le (suc (levels_over frame.below)) frame.program.nesting ≡ deep → Straying (entered_into (callees_at fuel) true (Some called) Given place store)
+    -- no level is left for the call
+    too-deep : (called : Source) (body : MirBody) → ((budget : ℕ) → run_from frame memory from budget ≡ going_on budget (mir_called frame memory call id body)) → nat_le (suc (levels_over frame.below)) frame.program.nesting ≡ false → StopsFor (one_level_more (entering_cost called))
     unfolding going_on
-    strays-told called has_body (inl stopped) deep levels = inl (stopped (turns_of {A = Unit {0}} (entered_into (callees_at fuel) true (Some called) Given place store)))
+    too-deep called body leads levels cost part =
+        let less = leb-false (suc (levels_over frame.below)) frame.program.nesting levels in
+        let nesting = part.nesting in
+        let one = entering-nests called in
+        stops-now source frame.program (levels_over frame.below) memory cost (run_from frame memory from) (Faulted error.StackOverflow (trail_of frame)) (id, makes) (inr (omega arith))
+        (λ budget. leads budget ∙ ap (going_on budget) (called-alone frame memory call id body false target levels))
+
+    strays-told : (called : Source) → source_of source.world id ≡ Some called → StopsAnyhow ⊎ ((body : MirBody) × DoesBelow (suc fuel) frame.program called body × ((budget : ℕ) → run_from frame memory from budget ≡ going_on budget (mir_called frame memory call id body))) →
+        (deep : Bool) → nat_le (suc (levels_over frame.below)) frame.program.nesting ≡ deep → Straying (entered_into (callees_at fuel) true (Some called) Given place store)
+    strays-told called has_body (inl stopped) deep levels = anyhow-reaches to (entered_into (callees_at fuel) true (Some called) Given place store) stopped
     strays-told called has_body (inr told) true levels =
-        strays-started called
+        strays-started called (calls-into source called id makes has_body)
         (enters-body called has_body told.0 told.1 None (zeroed called Slot) refl
         (λ budget. told.2 budget ∙ ap (going_on budget) (called-alone frame memory call id told.0 true target levels)))
         (started called (zeroed called Slot) Given) refl
     strays-told called has_body (inr told) false levels =
-        inl (stops-now source frame.program (turns_of {A = Unit {0}} (entered_into (callees_at fuel) true (Some called) Given place store)) (run_from frame memory from) (Faulted error.StackOverflow (trail_of frame)) makes (inr tt)
-        (λ budget. told.2 budget ∙ ap (going_on budget) (called-alone frame memory call id told.0 false target levels)))
+        stopped-reaches to (one_level_more (entering_cost called)) (entered_into (callees_at fuel) true (Some called) Given place store) (too-deep called told.0 told.2 levels) (straying-covers called (started called (zeroed called Slot) Given))
 
     strays-source : (o : Option Source) → source_of source.world id ≡ o → Straying (entered_into (callees_at fuel) true o Given place store)
     strays-source None has_body = inr tt

@@ -110,8 +110,8 @@ forks source s0 s1 s2 s3 new discr targets span number taken other join sound op
       taken = λ whole frame grows is memory bytes found short equal.
           let to : GoesTo frame memory (target_of targets (value_of bytes)).0 ≡ GoesTo frame memory taken = ap (λ n. GoesTo frame memory (target_of targets n).0) equal ∙ ap (GoesTo frame memory) parts.same in
           let comes = leads.comes whole frame grows is memory taken (switch-leads frame memory discr targets span bytes found short ∙ to) in
-          subst (λ (p : Point). Comes frame 1 p memory (here new) memory) begins (subst (λ (p : Point). Comes frame 1 (here s3) memory p memory) (sym leads.begins) comes);
+          subst (λ (p : Point). Comes frame 1 0 p memory (here new) memory) begins (subst (λ (p : Point). Comes frame 1 0 (here s3) memory p memory) (sym leads.begins) comes);
       left = λ whole frame grows is memory bytes found short differ.
           let comes = leads.comes whole frame grows is memory other (switch-leads frame memory discr targets span bytes found short ∙ ap (GoesTo frame memory) (parts.differ (value_of bytes) differ)) in
-          subst (λ (p : Point). Comes frame 1 p memory (start_of other) memory) begins comes;
+          subst (λ (p : Point). Comes frame 1 0 p memory (start_of other) memory) begins comes;
     }

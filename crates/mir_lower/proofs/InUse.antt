@@ -125,7 +125,7 @@ given-marked source s0 s1 s2 c local span marked same =
       };
       found = local_of-grows s1 (with_statement live s1) grown c local.0 marked.found;
       comes = λ whole frame grows is memory.
-          subst (λ (p : Point). Comes frame 0 p memory (here (with_statement live s1)) memory) marked.same_here
+          subst (λ (p : Point). Comes frame 0 0 p memory (here (with_statement live s1)) memory) marked.same_here
           (comes-statement live s1 whole frame memory marked.«open» grows is memory (live-does-nothing frame memory local) (keeps-refl frame memory));
     })
 

@@ -105,8 +105,8 @@ module _ (source : Source) (s0 s1 s2 : Shape) (e : ℕ) (label : Option LabelId)
       (subst (λ (p : Path). Reaches source whole lands frame (here s0) (here s1) memory (Nothing whole frame) (tail_into (level_at source fuel around) value p store)) same-path
       (tail.does.reaches whole frame grown1 sound is lands around stands fuel serves store memory holds))
       (λ done store1 memory1 claims.
-      inr (subst (Lands whole frame (here s1) memory1 store1 (leaving source around value front)) (sym landing)
-      (memory1, subst (λ (n : ℕ). Comes frame n (here s1) memory1 (Entry target.end_block) memory1) (sym counted) (jumped.heads whole frame grows is memory1), claims.0))))
+      inr (subst (Lands whole frame (here s1) memory1 store1 (turns_alone (leaving source around value front))) (sym landing)
+      (memory1, subst (λ (n : ℕ). Comes frame n 0 (here s1) memory1 (Entry target.end_block) memory1) (sym counted) (jumped.heads whole frame grows is memory1), claims.0))))
 
   lays-value : (child : ℕ) (given : Option ExprId) → value ≡ given → Contains (flat_map (sized_part source) (tail_steps given)) child → IsLaidOutNode source e → IsPlainWithin source e → IsPlainWithin source child → HasLayouts source s2 → (f : ℕ) → NeedsLayout source child f → IsLaidOutNode source f
   lays-value child None is within laid plain below layouts f needs = absurd (let bound = within.1 in omega arith)
@@ -150,8 +150,8 @@ module _ (source : Source) (s0 s1 : Shape) (e : ℕ) (label : Option LabelId) (t
       ∙ ap (λ (more : List Cell). drops source (drop target.kept (s0.scope ++ more))) (no_tail_marks source)
       ∙ ap (λ (scope : List Cell). drops source (drop target.kept scope)) (append-nil s0.scope) in
       subst (λ (t : Option Target). Reaches source whole lands frame (here s0) (here s1) memory (Nothing whole frame) (continue_to source around t store)) (sym found.1)
-      (inr (subst (Lands whole frame (here s0) memory store (leaving source around None front)) (sym landing)
-      (memory, subst (λ (n : ℕ). Comes frame n (here s0) memory (Entry target.begin_block) memory) (sym counted) (jumped.heads whole frame grows is memory), holds)))
+      (inr (subst (Lands whole frame (here s0) memory store (turns_alone (leaving source around None front))) (sym landing)
+      (memory, subst (λ (n : ℕ). Comes frame n 0 (here s0) memory (Entry target.begin_block) memory) (sym counted) (jumped.heads whole frame grows is memory), holds)))
 
   pub lowers-continue : (c : Cell) → LowersOwn source s0 s1 e c
   lowers-continue c =

@@ -81,7 +81,7 @@ enters source s0 r1 r2 p new target sound opened at1 same1 at2 same2 kept same3 
       end_reserved = reserved-gone gone (λ same. omega arith) (with_targets-reserved (target ∷ r2.targets) r2 target.end_block second.reserved);
       end_new = omega arith;
       heads = λ whole frame grows is memory.
-          subst (λ (p : Point). Comes frame 0 p memory (Entry target.begin_block) memory) (here-targets (target ∷ r2.targets) r2 ∙ second.same_here ∙ first.same_here)
+          subst (λ (p : Point). Comes frame 0 0 p memory (Entry target.begin_block) memory) (here-targets (target ∷ r2.targets) r2 ∙ second.same_here ∙ first.same_here)
           (gone.heads whole frame grows is memory);
     }
 

@@ -21,7 +21,7 @@ use Rattle.mir_lower.specs.Leaving.{Idles}
 use Rattle.mir_lower.specs.Runs.{Point, Within, Entry, Exit, start_of, run_from, Comes}
 use Rattle.mir_lower.proofs.Growing.{current_of, grows-refl, grows-trans, with_statement-grows, with_terminator-is, with_terminator-grows, with_block-grows, with_scope-grows}
 use Rattle.mir_lower.proofs.Lists.{slice_get-last, slice_get-set_same}
-use Rattle.mir_lower.proofs.Reaching.{none-entered, keeps-refl, comes-refl, comes-trans, comes-from}
+use Rattle.mir_lower.proofs.Reaching.{none-entered, keeps-refl, comes-refl, comes-trans, comes-from, not-grown}
 use Rattle.mir_lower.proofs.Running.{here-is, comes-statement}
 use Rattle.mir_lower.proofs.Sound.{with_statement-sound, with_statement-open, with_statement-scope, with_terminator-sound, with_terminator-scope, with_block-sound, with_block-open, with_block-scope, with_scope-sound, with_scope-open}
 use Rattle.mir_lower.proofs.Sparing.{spares-refl, spares-trans, with_statement-spares, with_terminator-spares, with_block-spares, with_scope-spares}
@@ -71,7 +71,7 @@ unfolding entering
 entering-none frame memory block = refl
 
 -- where the terminator leads to a block, the run is about to enter it
-pub heads-ended : (t : Terminator) (s whole : Shape) (frame : Frame) → IsOpen s → Grows (with_terminator t s) whole → IsFrameOf whole frame → (memory : Memory) (target : ℕ) → terminated frame memory (Some t) ≡ GoesTo frame memory target → Comes frame 0 (here s) memory (Entry target) memory
+pub heads-ended : (t : Terminator) (s whole : Shape) (frame : Frame) → IsOpen s → Grows (with_terminator t s) whole → IsFrameOf whole frame → (memory : Memory) (target : ℕ) → terminated frame memory (Some t) ≡ GoesTo frame memory target → Comes frame 0 0 (here s) memory (Entry target) memory
 unfolding going_on
 heads-ended t s whole frame opened grows is memory target goes =
     record {
@@ -82,10 +82,11 @@ heads-ended t s whole frame opened grows is memory target goes =
           ∙ ap (going_on more) goes;
       with_fewer = none-entered (run_from frame memory (here s));
       others = keeps-refl frame memory;
+      grown = not-grown memory 0;
     }
 
 -- and enters it
-pub enters-block : (frame : Frame) (memory : Memory) (block : ℕ) → Comes frame 1 (Entry block) memory (start_of block) memory
+pub enters-block : (frame : Frame) (memory : Memory) (block : ℕ) → Comes frame 1 0 (Entry block) memory (start_of block) memory
 enters-block frame memory block =
     record {
       with_more = λ more.
@@ -95,10 +96,11 @@ enters-block frame memory block =
           let none : fewer ≡ 0 = omega arith in
           (trail_of frame, ap (run_from frame memory (Entry block)) none ∙ entering-none frame memory block);
       others = keeps-refl frame memory;
+      grown = not-grown memory 0;
     }
 
 -- where the terminator leads to a block, the run reaches its start
-pub comes-ended : (t : Terminator) (s whole : Shape) (frame : Frame) → IsOpen s → Grows (with_terminator t s) whole → IsFrameOf whole frame → (memory : Memory) (target : ℕ) → terminated frame memory (Some t) ≡ GoesTo frame memory target → Comes frame 1 (here s) memory (start_of target) memory
+pub comes-ended : (t : Terminator) (s whole : Shape) (frame : Frame) → IsOpen s → Grows (with_terminator t s) whole → IsFrameOf whole frame → (memory : Memory) (target : ℕ) → terminated frame memory (Some t) ≡ GoesTo frame memory target → Comes frame 1 0 (here s) memory (start_of target) memory
 comes-ended t s whole frame opened grows is memory target goes =
     comes-from frame 1 (here s) (Entry target) (start_of target) memory memory memory (heads-ended t s whole frame opened grows is memory target goes) (enters-block frame memory target)
 
@@ -124,7 +126,7 @@ idles-drop source s new place target unwind span sound opened at same =
           let grown = grows-trans (with_terminator t s) (with_block (with_terminator t s)) whole (with_block-grows (with_terminator t s)) grows in
           let to : here (with_block (with_terminator t s)) ≡ Within target.0 0 =
           here-with_block (with_terminator t s) ∙ ap (λ n. Within n 0) (many ∙ sym at) in
-          subst (λ (p : Point). Comes frame 1 (here s) memory p memory) (sym to)
+          subst (λ (p : Point). Comes frame 1 0 (here s) memory p memory) (sym to)
           (comes-ended t s whole frame opened grown is memory target.0 (drop-leads frame memory place target unwind span));
     })
 
@@ -163,7 +165,7 @@ idles-trans source a b c first second one two =
     }
 
 -- a run that reaches the end of a block that returns comes to where the body returns
-pub comes-return : (s whole : Shape) (frame : Frame) (span : MirSpan) (memory : Memory) → IsOpen s → Grows (with_terminator (record { span = span; kind = Return }) s) whole → IsFrameOf whole frame → Comes frame 0 (here s) memory Exit memory
+pub comes-return : (s whole : Shape) (frame : Frame) (span : MirSpan) (memory : Memory) → IsOpen s → Grows (with_terminator (record { span = span; kind = Return }) s) whole → IsFrameOf whole frame → Comes frame 0 0 (here s) memory Exit memory
 unfolding terminated
 comes-return s whole frame span memory opened grows is =
     record {
@@ -173,6 +175,7 @@ comes-return s whole frame span memory opened grows is =
           ∙ run-terminator (record { span = span; kind = Return }) s whole frame opened grows is memory more;
       with_fewer = none-entered (run_from frame memory (here s));
       others = keeps-refl frame memory;
+      grown = not-grown memory 0;
     }
 
 -- the scope itself counts for nothing

@@ -7,8 +7,10 @@ pub mod Blocks
 pub mod Branches
 pub mod Branching
 pub mod Building
+pub mod CallLeads
 pub mod Calls
 pub mod Conditions
+pub mod Covering
 pub mod Drops
 pub mod Entering
 pub mod Forking
@@ -17,6 +19,7 @@ pub mod Holding
 pub mod InUse
 pub mod Jumps
 pub mod Jumping
+pub mod Lacking
 pub mod Laid
 pub mod Leaving
 pub mod Lists
@@ -41,4 +44,5 @@ pub mod Standing
 pub mod Steps
 pub mod Stopping
 pub mod Strict
+pub mod Taking
 pub mod Whole

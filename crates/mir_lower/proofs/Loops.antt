@@ -29,7 +29,7 @@ use Rattle.mir_lower.proofs.Jumps.{with_targets-grows, here-targets, spares-reta
 use Rattle.mir_lower.proofs.Branches.{spares-gone}
 use Rattle.mir_lower.proofs.Laid.{layouts-before, plain-part, one-of}
 use Rattle.mir_lower.proofs.Leaving.{enters-block}
-use Rattle.mir_lower.proofs.Reaching.{none-entered, comes-on, comes-trans, stops-within, stopped-before, reaches-after, reaches-then}
+use Rattle.mir_lower.proofs.Reaching.{none-entered, comes-on, comes-trans, stops-before, stopped-before, reaches-after, reaches-then}
 use Rattle.mir_lower.proofs.Sparing.{spares-trans, scoped-spares}
 use Rattle.mir_lower.proofs.Steps.{local_of-grows, reaches-from, does-form}
 use Rattle.source_meaning.specs.Steps.{parts_of, statement_parts}
@@ -37,7 +37,7 @@ use Rattle.world.specs.declared.body.Statement.{Statement}
 use Rattle.types.specs.declared.ids.ExprId.{ExprId}
 use Rattle.mir_lower.specs.Callees.{Serves}
 use Rattle.mir_lower.proofs.Serving.{serves-less}
-use Rattle.mir_lower.specs.Stops.{StopsWithin}
+use Rattle.mir_lower.specs.Stops.{StopsFrom}
 
 -- what a loop or a labelled block evaluates is a part of it
 pub body-part : (source : Source) (e : ℕ) (label : Option LabelId) (body : ℕ) → node source e ≡ Some (expr.Loop label body) → Contains (parts_of (node source e)) body
@@ -58,20 +58,20 @@ lands_inside e begin end lands Return = lands Return
 module _ (source : Source) (whole : Shape) (frame : Frame) (lands : Landings) (e begin end : ℕ) (from at to : Point) (memory : Memory) where
   -- what a loop or a labelled block catches leads behind it or to its beginning
   pub reaches-caught : (again ended : Store → End (Unit {0})) → ((store : Store) (later : Memory) → Holds whole frame store later → Reaches source whole lands frame (Entry begin) to later (Nothing whole frame) (again store)) →
-      ((store : Store) (later : Memory) → Holds whole frame store later → Reaches source whole lands frame at to later (Nothing whole frame) (ended store)) → ((later : Memory) → Comes frame 1 (Entry end) later to later) →
+      ((store : Store) (later : Memory) → Holds whole frame store later → Reaches source whole lands frame at to later (Nothing whole frame) (ended store)) → ((later : Memory) → Comes frame 1 0 (Entry end) later to later) →
       (turn : End (Unit {0})) → Reaches source whole (lands_inside e begin end lands) frame from at memory (Nothing whole frame) turn → Reaches source whole lands frame from to memory (Nothing whole frame) (caught e again ended turn)
   unfolding plus
   reaches-caught again ended again-does ended-does leaves (Go done store cost) (inl stops) = stopped-before source whole lands frame from to memory (Nothing whole frame) cost stops (ended store)
   reaches-caught again ended again-does ended-does leaves (Go done store cost) (inr does) =
       reaches-after source whole lands frame from at to memory does.0 (Nothing whole frame) cost does.1 (ended store) (ended-does store does.0 does.2)
   reaches-caught again ended again-does ended-does leaves (Jumps (Break target) store cost) does = by-test (target == e) does where
-    by-test : (test : Bool) → StopsWithin source frame.program cost.turns (run_from frame memory from) ⊎ Lands whole frame from memory store cost.turns (if test then AtPoint (Entry end) else lands (Break target)) → Reaches source whole lands frame from to memory (Nothing whole frame) (if test then Go tt store (plus cost (turns_alone 1)) else Jumps (Break target) store cost)
-    by-test true (inl stops) = inl (stops-within source frame.program cost.turns (cost.turns + 1) (run_from frame memory from) (omega arith) stops)
+    by-test : (test : Bool) → StopsFrom source frame from memory cost ⊎ Lands whole frame from memory store cost (if test then AtPoint (Entry end) else lands (Break target)) → Reaches source whole lands frame from to memory (Nothing whole frame) (if test then Go tt store (plus cost (turns_alone 1)) else Jumps (Break target) store cost)
+    by-test true (inl stops) = inl (stops-before source frame from memory cost (turns_alone 1) stops)
     by-test true (inr lands-there) = inr (lands-there.0, comes-trans frame cost.turns 1 from (Entry end) memory lands-there.0 lands-there.1 to lands-there.0 (leaves lands-there.0), lands-there.2, tt)
     by-test false (inl stops) = inl stops
     by-test false (inr lands-there) = inr lands-there
   reaches-caught again ended again-does ended-does leaves (Jumps (Continue target) store cost) does = by-test (target == e) does where
-    by-test : (test : Bool) → StopsWithin source frame.program cost.turns (run_from frame memory from) ⊎ Lands whole frame from memory store cost.turns (if test then AtPoint (Entry begin) else lands (Continue target)) → Reaches source whole lands frame from to memory (Nothing whole frame) (if test then after cost (again store) else Jumps (Continue target) store cost)
+    by-test : (test : Bool) → StopsFrom source frame from memory cost ⊎ Lands whole frame from memory store cost (if test then AtPoint (Entry begin) else lands (Continue target)) → Reaches source whole lands frame from to memory (Nothing whole frame) (if test then after cost (again store) else Jumps (Continue target) store cost)
     by-test true (inl stops) = stopped-before source whole lands frame from to memory (Nothing whole frame) cost stops (again store)
     by-test true (inr lands-there) = reaches-after source whole lands frame from (Entry begin) to memory lands-there.0 (Nothing whole frame) cost lands-there.1 (again store) (again-does store lands-there.0 lands-there.2)
     by-test false (inl stops) = inl stops
@@ -82,7 +82,7 @@ module _ (source : Source) (whole : Shape) (frame : Frame) (lands : Landings) (e
   reaches-caught again ended again-does ended-does leaves (More cost) does = does
 
 -- a point that leads on over no block, where the evaluation ends with a value
-reaches-on : (source : Source) (whole : Shape) (lands : Landings) (frame : Frame) (from at to : Point) (memory : Memory) (claim : Unit {0} → Type 0) → ((later : Memory) → Comes frame 0 at later to later) → (end : End (Unit {0})) → Reaches source whole lands frame from at memory claim end → Reaches source whole lands frame from to memory claim end
+reaches-on : (source : Source) (whole : Shape) (lands : Landings) (frame : Frame) (from at to : Point) (memory : Memory) (claim : Unit {0} → Type 0) → ((later : Memory) → Comes frame 0 0 at later to later) → (end : End (Unit {0})) → Reaches source whole lands frame from at memory claim end → Reaches source whole lands frame from to memory claim end
 reaches-on source whole lands frame from at to memory claim on (Go value store cost) (inl stops) = inl stops
 reaches-on source whole lands frame from at to memory claim on (Go value store cost) (inr does) = inr (does.0, comes-on frame cost.turns from at to memory does.0 does.0 does.1 (on does.0), does.2, does.3)
 reaches-on source whole lands frame from at to memory claim on (Jumps jump store cost) does = does
@@ -158,13 +158,13 @@ module _ (source : Source) (s0 s1 s2 s3 s4 : Shape) (to : ℕ) (target : OpenTar
   inner-scope = gone.scope ∙ left.scope ∙ entered.scope
 
   -- the end of the inner code leads on
-  pub inner-heads : (whole : Shape) (frame : Frame) → Grows s4 whole → IsFrameOf whole frame → (memory : Memory) → Comes frame 0 (here s3) memory (Entry to) memory
+  pub inner-heads : (whole : Shape) (frame : Frame) → Grows s4 whole → IsFrameOf whole frame → (memory : Memory) → Comes frame 0 0 (here s3) memory (Entry to) memory
   inner-heads whole frame grows is memory =
-      subst (λ (p : Point). Comes frame 0 p memory (Entry to) memory) (here-targets s0.targets s3) (gone.heads whole frame grows is memory)
+      subst (λ (p : Point). Comes frame 0 0 p memory (Entry to) memory) (here-targets s0.targets s3) (gone.heads whole frame grows is memory)
 
   -- and the block behind is entered
-  pub inner-leaves : (frame : Frame) (memory : Memory) → Comes frame 1 (Entry target.end_block) memory (here s4) memory
-  inner-leaves frame memory = subst (λ (p : Point). Comes frame 1 (Entry target.end_block) memory p memory) (sym gone.begins) (enters-block frame memory target.end_block)
+  pub inner-leaves : (frame : Frame) (memory : Memory) → Comes frame 1 0 (Entry target.end_block) memory (here s4) memory
+  inner-leaves frame memory = subst (λ (p : Point). Comes frame 1 0 (Entry target.end_block) memory p memory) (sym gone.begins) (enters-block frame memory target.end_block)
 
 -- A loop: it was entered, its body lowered to a place, the scope of the turn left, and the end leads to the beginning.
 module _ (source : Source) (s0 s1 s2 s3 s4 : Shape) (e : ℕ) (label : Option LabelId) (body local : ℕ) (target : OpenTarget) (c : Cell) (form : node source e ≡ Some (expr.Loop label body)) (ready : IsReady source s0 e) (entered : IsEntered source s0 s1 target) (opened : target.opened ≡ record { node = e; label = label }) (found : local_of s0 c ≡ Some target.local) (place : LowersPlace source s1 s2 body local) (left : Idles source (with_scope s1.scope s2) s3 (drops source (marked_as_place source body))) (gone : HasGoneOn source (with_targets s0.targets s3) s4 target.begin_block target.end_block) where

@@ -118,7 +118,7 @@ lowers-place-operand source old new e place lowers form =
     }
 
 -- an expression that is evaluated into a local of its own
-into-place : (source : Source) (from middle new whole : Shape) (frame : Frame) (e : ℕ) → is_path (unadjusted source e) ≡ false → Does source middle new e (Node e) → Grows new whole → IsSound source whole → IsFrameOf whole frame → Keeps source from middle (Node e ∷ []) → ((memory : Memory) → Comes frame 0 (here from) memory (here middle) memory) → (lands : Landings) (around : Around) → Stands whole from lands around → (fuel : ℕ) → Serves fuel source frame.program → (store : Store) (memory : Memory) → Holds whole frame store memory → Reaches source whole lands frame (here from) (here new) memory (LeadsTo (Node e) whole frame) ((level_at source fuel around).place e store)
+into-place : (source : Source) (from middle new whole : Shape) (frame : Frame) (e : ℕ) → is_path (unadjusted source e) ≡ false → Does source middle new e (Node e) → Grows new whole → IsSound source whole → IsFrameOf whole frame → Keeps source from middle (Node e ∷ []) → ((memory : Memory) → Comes frame 0 0 (here from) memory (here middle) memory) → (lands : Landings) (around : Around) → Stands whole from lands around → (fuel : ℕ) → Serves fuel source frame.program → (store : Store) (memory : Memory) → Holds whole frame store memory → Reaches source whole lands frame (here from) (here new) memory (LeadsTo (Node e) whole frame) ((level_at source fuel around).place e store)
 unfolding level_at
 into-place source from middle new whole frame e form does grows sound is marks live lands around stands zero serves store memory holds = inr (none-entered (run_from frame memory (here from)))
 into-place source from middle new whole frame e form does grows sound is marks live lands around stands (suc fuel) serves store memory holds =

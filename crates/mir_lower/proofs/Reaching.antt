@@ -19,8 +19,8 @@ none-entered run fewer less = absurd (omega arith)
 pub keeps-refl : (frame : Frame) (memory : Memory) → KeepsOthers frame memory memory
 keeps-refl frame memory interval bytes apart found = found
 
-pub not-grown : (memory : Memory) → HasGrown 0 memory memory
-not-grown memory = record { stack = omega arith; limit = refl }
+pub not-grown : (memory : Memory) (bytes : ℕ) → HasGrown bytes memory memory
+not-grown memory bytes = record { stack = omega arith; limit = refl }
 
 pub grown-trans : (first second : ℕ) (memory middle later : Memory) → HasGrown first memory middle → HasGrown second middle later → HasGrown (first + second) memory later
 grown-trans first second memory middle later grown more =
@@ -28,13 +28,13 @@ grown-trans first second memory middle later grown more =
     let two = more.stack in
     record { stack = omega arith; limit = more.limit ∙ grown.limit }
 
-pub comes-refl : (frame : Frame) (at : Point) (memory : Memory) → Comes frame 0 0 at memory at memory
-comes-refl frame at memory =
+pub comes-refl : (frame : Frame) (at : Point) (memory : Memory) {bytes : ℕ} → Comes frame 0 bytes at memory at memory
+comes-refl frame at memory {bytes = bytes} =
     record {
       with_more = λ more. let plain : 0 + more ≡ more = omega arith in ap (run_from frame memory at) plain;
       with_fewer = none-entered (run_from frame memory at);
       others = keeps-refl frame memory;
-      grown = not-grown memory;
+      grown = not-grown memory bytes;
     }
 
 module _ (frame : Frame) (first second : ℕ) (from at : Point) (memory middle : Memory) {bytes : ℕ} (comes : Comes frame first bytes from memory at middle) where

@@ -109,8 +109,8 @@ pub record LeadsOn (source : Source) (old new : Shape) (t : Terminator) (next : 
   pub current : new.current ≡ next
   pub begins : here new ≡ start_of next
   -- the run is about to enter the block that the terminator leads to, and then enters it
-  pub heads : (whole : Shape) (frame : Frame) → Grows new whole → IsFrameOf whole frame → (memory : Memory) (target : ℕ) → terminated frame memory (Some t) ≡ GoesTo frame memory target → Comes frame 0 (here old) memory (Entry target) memory
-  pub comes : (whole : Shape) (frame : Frame) → Grows new whole → IsFrameOf whole frame → (memory : Memory) (target : ℕ) → terminated frame memory (Some t) ≡ GoesTo frame memory target → Comes frame 1 (here old) memory (start_of target) memory
+  pub heads : (whole : Shape) (frame : Frame) → Grows new whole → IsFrameOf whole frame → (memory : Memory) (target : ℕ) → terminated frame memory (Some t) ≡ GoesTo frame memory target → Comes frame 0 0 (here old) memory (Entry target) memory
+  pub comes : (whole : Shape) (frame : Frame) → Grows new whole → IsFrameOf whole frame → (memory : Memory) (target : ℕ) → terminated frame memory (Some t) ≡ GoesTo frame memory target → Comes frame 1 0 (here old) memory (start_of target) memory
 
 with_terminator-others : (t : Terminator) (s : Shape) → IsOpen s → (at : ℕ) → at ≢ s.current → slice_get (with_terminator t s).blocks at ≡ slice_get s.blocks at
 with_terminator-others t s opened at apart =

@@ -50,7 +50,7 @@ returns source s0 s1 s2 new span turns idles same2 same3 =
       scope = with_block-scope done ∙ with_terminator-scope t s1 opened ∙ idles.scope;
       leaves = λ whole frame grows is memory.
           let grown : Grows done whole = grows-trans done (with_block done) whole (with_block-grows done) grows in
-          let comes : Comes frame turns (here s0) memory (here s1) memory = idles.comes whole frame (grows-trans s1 done whole (with_terminator-grows t s1 opened) grown) is memory in
+          let comes : Comes frame turns 0 (here s0) memory (here s1) memory = idles.comes whole frame (grows-trans s1 done whole (with_terminator-grows t s1 opened) grown) is memory in
           comes-on frame turns (here s0) (here s1) Exit memory memory memory comes (comes-return s1 whole frame span memory opened grown is);
     })
 
@@ -71,8 +71,8 @@ module _ (source : Source) (s0 s1 s2 : Shape) (e : ℕ) (value : Option ExprId) 
       (subst (λ (p : Path). Reaches source whole lands frame (here s0) (here s1) memory (Nothing whole frame) (tail_into (level_at source fuel around) value p store)) (sym stands.result)
       (tail.does.reaches whole frame grown1 sound is lands around stands fuel serves store memory holds))
       (λ done store1 memory1 claims.
-      inr (subst (Lands whole frame (here s1) memory1 store1 leaving) (sym stands.returns)
-      (memory1, subst (λ (n : ℕ). Comes frame n (here s1) memory1 Exit memory1) (sym counted) (returned.leaves whole frame grows is memory1), claims.0)))
+      inr (subst (Lands whole frame (here s1) memory1 store1 (turns_alone leaving)) (sym stands.returns)
+      (memory1, subst (λ (n : ℕ). Comes frame n 0 (here s1) memory1 Exit memory1) (sym counted) (returned.leaves whole frame grows is memory1), claims.0)))
 
   -- the value has the type of the result, which has a local
   lays-value : (child : ℕ) (given : Option ExprId) → value ≡ given → Contains (flat_map (sized_part source) (tail_steps given)) child → IsPlainWithin source e → IsPlainWithin source child → HasLayouts source s2 → (f : ℕ) → NeedsLayout source child f → IsLaidOutNode source f

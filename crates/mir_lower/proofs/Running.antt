@@ -13,6 +13,7 @@ use Rattle.mir_lower.specs.Growth.{statement_at, count_at, Grows, IsOpen}
 use Rattle.mir_lower.specs.Runs.{KeepsOthers, Point, Within, run_from, Comes, IsFault, EndsAfter}
 use Rattle.mir_lower.proofs.Growing.{current_of, with_statement-is}
 use Rattle.mir_lower.proofs.Lists.{slice_get-last, slice_get-set_same, drop-at}
+use Rattle.mir_lower.proofs.Taking.{statement-takes-none}
 
 -- the rest of a block after one of its statements
 after-first : (frame : Frame) (memory later : Memory) (statement : Statement) (rest : List Statement) → after_statement frame memory statement.kind ≡ Ok later → after_statements frame (statement ∷ rest) memory ≡ after_statements frame rest later
@@ -87,7 +88,7 @@ module _ (statement : Statement) (s whole : Shape) (frame : Frame) (memory : Mem
   there b = grows.statements s.current (length b.0.statements) statement (statement-added statement s b.0 b.1 opened.there)
 
   -- the run from the open block's end goes on behind the statement that was added, where that changes nothing but the frame's cells
-  pub comes-statement : (later : Memory) → after_statement frame memory statement.kind ≡ Ok later → KeepsOthers frame memory later → Comes frame 0 (here s) memory (here (with_statement statement s)) later
+  pub comes-statement : (later : Memory) → after_statement frame memory statement.kind ≡ Ok later → KeepsOthers frame memory later → Comes frame 0 0 (here s) memory (here (with_statement statement s)) later
   comes-statement later ok others =
       let b = current_of s opened in
       record {
@@ -99,6 +100,7 @@ module _ (statement : Statement) (s whole : Shape) (frame : Frame) (memory : Mem
             ∙ ap (λ (p : Point). run_from frame later p more) (sym (here-with_statement statement s b.0 b.1 opened.there));
         with_fewer = λ fewer less. absurd (omega arith);
         others = others;
+        grown = statement-takes-none frame memory later statement.kind ok;
       }
 
   -- or ends in its fault

@@ -13,6 +13,7 @@ does-less fuel program called body does =
       own = does.own;
       typed = does.typed;
       params = does.params;
+      counted = does.counted;
       does = λ less below store frame memory goes_by is apart represents. does.does less (omega arith) store frame memory goes_by is apart represents;
     }
 

@@ -45,7 +45,7 @@ can_write memory cell old bytes found same = by_size (cases_eq (length bytes) 0)
         let made = some-fits memory cell.addr cell.size old bytes there long in
         (made.0, with_bytes-some memory cell.addr bytes some ∙ made.1)
 
-as-write : (memory later : Memory) (address : Address) (bytes : List ℕ) → with_bytes memory address bytes ≡ Some later → after_write memory address bytes ≡ Ok later
+pub as-write : (memory later : Memory) (address : Address) (bytes : List ℕ) → with_bytes memory address bytes ≡ Some later → after_write memory address bytes ≡ Ok later
 unfolding after_write
 as-write memory later address bytes written = ap (λ o. ok_or o (bad_write address (length bytes))) written
 

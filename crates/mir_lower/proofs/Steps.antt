@@ -74,7 +74,7 @@ module _ (source : Source) (s whole : Shape) (frame : Frame) (place : Place) (rv
   assigned-answer Undefined computes = inr tt
 
 -- what an end does from a point on, it does from one that leads there over no block
-pub reaches-from : {A : Type 0} (source : Source) (whole : Shape) (lands : Landings) (frame : Frame) (p q to : Point) (memory : Memory) (claim : A → Type 0) → Comes frame 0 p memory q memory → (end : End A) → Reaches source whole lands frame q to memory claim end → Reaches source whole lands frame p to memory claim end
+pub reaches-from : {A : Type 0} (source : Source) (whole : Shape) (lands : Landings) (frame : Frame) (p q to : Point) (memory : Memory) (claim : A → Type 0) → Comes frame 0 0 p memory q memory → (end : End A) → Reaches source whole lands frame q to memory claim end → Reaches source whole lands frame p to memory claim end
 reaches-from source whole lands frame p q to memory claim comes end reaches =
     subst (Reaches source whole lands frame p to memory claim) (after-none end)
     (reaches-after source whole lands frame p q to memory memory claim no_cost comes end reaches)

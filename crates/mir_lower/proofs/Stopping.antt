@@ -27,7 +27,7 @@ module _ (called source : Source) (onward : (reached : Source) → Reaches calle
   of-reached : (Holds : Source → Type 0) → OfReached called Holds → OfReached source Holds
   of-reached Holds of = (of.0, onward of.0 of.1, of.2)
 
-  lacks-onward : (e : MirEvalError) → LacksRoom called program levels memory few e → LacksRoom source program more other many e
+  pub lacks-onward : (e : MirEvalError) → LacksRoom called program levels memory few e → LacksRoom source program more other many e
   lacks-onward (error.LayoutError cause ty) lacks = (lacks.0, of-reached (λ reached. LacksLayout reached ty) lacks.1, defined lacks.2)
   lacks-onward (error.TypeIsUnsized ty text) lacks = (of-reached (λ reached. LacksSize reached ty) lacks.0, defined lacks.1)
   lacks-onward error.MemoryLimitExceeded lacks = bytes lacks

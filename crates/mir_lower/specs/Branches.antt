@@ -30,9 +30,9 @@ pub record IsForked (source : Source) (old new : Shape) (operand : OperandKind) 
   pub other_new : length old.blocks ≤ other
   pub join_new : length old.blocks ≤ join
   pub taken : (whole : Shape) (frame : Frame) → Grows new whole → IsFrameOf whole frame → (memory : Memory) (bytes : List ℕ) →
-      operand_bytes frame memory operand ≡ Some bytes → length bytes ≤ 16 → value_of bytes ≡ number → Comes frame 1 (here old) memory (here new) memory
+      operand_bytes frame memory operand ≡ Some bytes → length bytes ≤ 16 → value_of bytes ≡ number → Comes frame 1 0 (here old) memory (here new) memory
   pub left : (whole : Shape) (frame : Frame) → Grows new whole → IsFrameOf whole frame → (memory : Memory) (bytes : List ℕ) →
-      operand_bytes frame memory operand ≡ Some bytes → length bytes ≤ 16 → value_of bytes ≢ number → Comes frame 1 (here old) memory (start_of other) memory
+      operand_bytes frame memory operand ≡ Some bytes → length bytes ≤ 16 → value_of bytes ≢ number → Comes frame 1 0 (here old) memory (start_of other) memory
 
 -- The current block was ended and leads to a block without a test, and a block that was reserved is the current one now.
 pub record HasGoneOn (source : Source) (old new : Shape) (to next : ℕ) : Type 0 where
@@ -45,5 +45,5 @@ pub record HasGoneOn (source : Source) (old new : Shape) (to next : ℕ) : Type 
   pub targets : new.targets ≡ old.targets
   pub current : new.current ≡ next
   pub begins : here new ≡ start_of next
-  pub heads : (whole : Shape) (frame : Frame) → Grows new whole → IsFrameOf whole frame → (memory : Memory) → Comes frame 0 (here old) memory (Entry to) memory
-  pub comes : (whole : Shape) (frame : Frame) → Grows new whole → IsFrameOf whole frame → (memory : Memory) → Comes frame 1 (here old) memory (start_of to) memory
+  pub heads : (whole : Shape) (frame : Frame) → Grows new whole → IsFrameOf whole frame → (memory : Memory) → Comes frame 0 0 (here old) memory (Entry to) memory
+  pub comes : (whole : Shape) (frame : Frame) → Grows new whole → IsFrameOf whole frame → (memory : Memory) → Comes frame 1 0 (here old) memory (start_of to) memory

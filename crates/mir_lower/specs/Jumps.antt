@@ -25,7 +25,7 @@ pub record IsEntered (source : Source) (old new : Shape) (target : OpenTarget) :
   pub begins : here new ≡ start_of target.begin_block
   pub end_reserved : IsReserved new target.end_block
   pub end_new : length old.blocks ≤ target.end_block
-  pub heads : (whole : Shape) (frame : Frame) → Grows new whole → IsFrameOf whole frame → (memory : Memory) → Comes frame 0 (here old) memory (Entry target.begin_block) memory
+  pub heads : (whole : Shape) (frame : Frame) → Grows new whole → IsFrameOf whole frame → (memory : Memory) → Comes frame 0 0 (here old) memory (Entry target.begin_block) memory
 
 -- A jump was added: from where it stands the run leaves all scopes inside the target, over a number of blocks, and is then about
 -- to enter another block. The code behind it stands in a new block.
@@ -35,7 +35,7 @@ pub record HasJumped (source : Source) (old new : Shape) (to turns : ℕ) : Type
   pub sound : IsSound source new
   pub «open» : IsOpen new
   pub scope : new.scope ≡ old.scope
-  pub heads : (whole : Shape) (frame : Frame) → Grows new whole → IsFrameOf whole frame → (memory : Memory) → Comes frame turns (here old) memory (Entry to) memory
+  pub heads : (whole : Shape) (frame : Frame) → Grows new whole → IsFrameOf whole frame → (memory : Memory) → Comes frame turns 0 (here old) memory (Entry to) memory
 
 -- A return was added: from where it stands the run leaves all open scopes, over a number of blocks, and comes to where the body
 -- returns. The code behind it stands in a new block.
@@ -45,7 +45,7 @@ pub record HasReturned (source : Source) (old new : Shape) (turns : ℕ) : Type 
   pub sound : IsSound source new
   pub «open» : IsOpen new
   pub scope : new.scope ≡ old.scope
-  pub leaves : (whole : Shape) (frame : Frame) → Grows new whole → IsFrameOf whole frame → (memory : Memory) → Comes frame turns (here old) memory Exit memory
+  pub leaves : (whole : Shape) (frame : Frame) → Grows new whole → IsFrameOf whole frame → (memory : Memory) → Comes frame turns 0 (here old) memory Exit memory
 
 -- the refusal of a jump without a target: `UnresolvedLabel` if it has a label, else the given one
 abbrev pub without_target : Option LabelId → MirLowerError → MirLowerError

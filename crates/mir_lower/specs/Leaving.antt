@@ -19,4 +19,4 @@ pub record Idles (source : Source) (old new : Shape) (turns : ℕ) : Type 0 wher
   pub sound : IsSound source new
   pub «open» : IsOpen new
   pub scope : new.scope ≡ old.scope
-  pub comes : (whole : Shape) (frame : Frame) → Grows new whole → IsFrameOf whole frame → (memory : Memory) → Comes frame turns (here old) memory (here new) memory
+  pub comes : (whole : Shape) (frame : Frame) → Grows new whole → IsFrameOf whole frame → (memory : Memory) → Comes frame turns 0 (here old) memory (here new) memory

@@ -78,7 +78,7 @@ pub record LowersOperands (source : Source) (old new : Shape) (es : List ℕ) (o
 pub record IsGiven (source : Source) (old new : Shape) (cell : Cell) (local : ℕ) : Type 0 where
   pub keeps : Keeps source old new (cell ∷ [])
   pub found : local_of new cell ≡ Some local
-  pub comes : (whole : Shape) (frame : Frame) → Grows new whole → IsFrameOf whole frame → (memory : Memory) → Comes frame 0 (here old) memory (here new) memory
+  pub comes : (whole : Shape) (frame : Frame) → Grows new whole → IsFrameOf whole frame → (memory : Memory) → Comes frame 0 0 (here old) memory (here new) memory
 
 -- a path was lowered: the local of the binding that it names
 pub record IsNamed (source : Source) (s : Shape) (e local : ℕ) : Type 0 where

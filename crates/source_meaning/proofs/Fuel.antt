@@ -12,7 +12,7 @@ use Rattle.source_meaning.specs.Core as expr
 use Rattle.source_meaning.specs.Core.{CoreExpr, Operation}
 use Rattle.source_meaning.specs.Ends.{Cost, turns_alone, End, Go, Jumps, Break, Continue, Return, Faults, Stuck, More, IsOver, after, then_do}
 use Rattle.source_meaning.specs.Events.{marked, marked_as_operand, marked_by_statement}
-use Rattle.source_meaning.specs.Meaning.{Levels, Callees, no_fuel, place_of, operand_of, operands_of, strict_into, is_byte, deciding_byte, decided_into, branched, logic_into, tail_into, branch_into, if_into, assign_into, statement_of, statements_of, block_into, caught, again_into, labelled_into, turn_of, loop_into, break_to, return_into, gone_on, gone_astray, call_ended, entered_from, entered_into, into_of, level_above, level_at, returned, body_meaning, callees_at, meaning_from}
+use Rattle.source_meaning.specs.Meaning.{Levels, Callees, no_fuel, place_of, operand_of, operands_of, strict_into, is_byte, deciding_byte, decided_into, branched, logic_into, tail_into, branch_into, if_into, assign_into, statement_of, statements_of, block_into, caught, again_into, labelled_into, turn_of, loop_into, break_to, return_into, call_returned, call_diverged, call_ended, entered_from, entered_into, into_of, level_above, level_at, returned, body_meaning, callees_at, meaning_from}
 use Rattle.source_meaning.specs.Source.{Source, Store, Path, Result, Node, Operand, operand_bytes, zeroed, node, unadjusted, never_marks, own_path, target, root}
 
 -- what is over after a cost is over
@@ -71,23 +71,23 @@ returned_agrees source Stuck second same over = ap (returned source) (same tt)
 returned_agrees source (More cost) second same over = absurd over
 
 -- where the end of a callee agrees with another, so do those of the calls
-gone_on_agrees : (path : Path) (store : Store) (first second : End (List ℕ)) → (IsOver first → second ≡ first) → IsOver (gone_on path store first) → gone_on path store second ≡ gone_on path store first
-gone_on_agrees path store (Go value left cost) second same over = ap (gone_on path store) (same tt)
-gone_on_agrees path store (Jumps to left cost) second same over = ap (gone_on path store) (same tt)
-gone_on_agrees path store (Faults fault cost) second same over = ap (gone_on path store) (same tt)
-gone_on_agrees path store Stuck second same over = ap (gone_on path store) (same tt)
-gone_on_agrees path store (More cost) second same over = absurd over
+call_returned_agrees : (path : Path) (store : Store) (first second : End (List ℕ)) → (IsOver first → second ≡ first) → IsOver (call_returned path store first) → call_returned path store second ≡ call_returned path store first
+call_returned_agrees path store (Go value left cost) second same over = ap (call_returned path store) (same tt)
+call_returned_agrees path store (Jumps to left cost) second same over = ap (call_returned path store) (same tt)
+call_returned_agrees path store (Faults fault cost) second same over = ap (call_returned path store) (same tt)
+call_returned_agrees path store Stuck second same over = ap (call_returned path store) (same tt)
+call_returned_agrees path store (More cost) second same over = absurd over
 
-gone_astray_agrees : (first second : End (List ℕ)) → (IsOver first → second ≡ first) → IsOver (gone_astray first) → gone_astray second ≡ gone_astray first
-gone_astray_agrees (Go value left cost) second same over = ap gone_astray (same tt)
-gone_astray_agrees (Jumps to left cost) second same over = ap gone_astray (same tt)
-gone_astray_agrees (Faults fault cost) second same over = ap gone_astray (same tt)
-gone_astray_agrees Stuck second same over = ap gone_astray (same tt)
-gone_astray_agrees (More cost) second same over = absurd over
+call_diverged_agrees : (first second : End (List ℕ)) → (IsOver first → second ≡ first) → IsOver (call_diverged first) → call_diverged second ≡ call_diverged first
+call_diverged_agrees (Go value left cost) second same over = ap call_diverged (same tt)
+call_diverged_agrees (Jumps to left cost) second same over = ap call_diverged (same tt)
+call_diverged_agrees (Faults fault cost) second same over = ap call_diverged (same tt)
+call_diverged_agrees Stuck second same over = ap call_diverged (same tt)
+call_diverged_agrees (More cost) second same over = absurd over
 
 call_agrees : (diverging : Bool) (path : Path) (store : Store) (first second : End (List ℕ)) → (IsOver first → second ≡ first) → IsOver (call_ended diverging path store first) → call_ended diverging path store second ≡ call_ended diverging path store first
-call_agrees true path store first second same over = gone_astray_agrees first second same over
-call_agrees false path store first second same over = gone_on_agrees path store first second same over
+call_agrees true path store first second same over = call_diverged_agrees first second same over
+call_agrees false path store first second same over = call_returned_agrees path store first second same over
 
 -- wherever the ends of some callees are over, those of others are the same
 abbrev CalleesAgree : Callees → Callees → Type 0

@@ -22,7 +22,7 @@ use Rattle.source_meaning.specs.Core.{CoreExpr, Operation}
 use Rattle.source_meaning.specs.Ends.{Cost, plus, turns_alone, End, Go, Jumps, Break, Continue, Return, Faults, Stuck, More, GoesOn, after, then_do}
 use Rattle.source_meaning.specs.Entering.{entering}
 use Rattle.source_meaning.specs.Events.{marked, marked_as_operand, marked_by_statement}
-use Rattle.source_meaning.specs.Meaning.{Levels, Callees, constant_cost, put, put_literal, put_answer, literal_operand, literal_bytes, named_place, named_into, bind, place_of, operand_of, operands_of, is_byte, deciding_byte, reading_cost, decided_into, branched, logic_into, tail_into, branch_into, if_into, statement_of, statements_of, block_into, caught, again_into, turn_of, break_to, continue_to, return_into, gone_on, gone_astray, call_ended, entered_from, entered_into, into_of, level_at, returned, body_meaning, callees_at, meaning_from}
+use Rattle.source_meaning.specs.Meaning.{Levels, Callees, constant_cost, put, put_literal, put_answer, literal_operand, literal_bytes, named_place, named_into, bind, place_of, operand_of, operands_of, is_byte, deciding_byte, reading_cost, decided_into, branched, logic_into, tail_into, branch_into, if_into, statement_of, statements_of, block_into, caught, again_into, turn_of, break_to, continue_to, return_into, call_returned, call_diverged, call_ended, entered_from, entered_into, into_of, level_at, returned, body_meaning, callees_at, meaning_from}
 use Rattle.source_meaning.specs.Source.{Source, Store, Path, Result, Node, Binding, Operand, Literally, operand_bytes, zeroed, node, unadjusted, never_marks, own_path, own_type, named_by, pattern, target, root}
 use Rattle.source_meaning.specs.Steps.{parts_of, statement_parts}
 use Rattle.source_meaning.proofs.Calls.{called_row, above_roots, root_is_below}
@@ -154,23 +154,23 @@ module _ (limit : ℕ) where
   bind_lasts None path store = tt
 
   -- a call lasts where its callee does
-  gone_on_lasts : (path : Path) (store : Store) (end : End (List ℕ)) → Lasts limit end → Lasts limit (gone_on path store end)
-  gone_on_lasts path store (Go value left cost) lasts = lasts_after limit cost _ (then_do_lasts (put store path value) _ (put_lasts store path value) (λ done last. tt))
-  gone_on_lasts path store (Jumps to left cost) lasts = tt
-  gone_on_lasts path store (Faults fault cost) lasts = tt
-  gone_on_lasts path store Stuck lasts = tt
-  gone_on_lasts path store (More cost) lasts = lasts
+  call_returned_lasts : (path : Path) (store : Store) (end : End (List ℕ)) → Lasts limit end → Lasts limit (call_returned path store end)
+  call_returned_lasts path store (Go value left cost) lasts = lasts_after limit cost _ (then_do_lasts (put store path value) _ (put_lasts store path value) (λ done last. tt))
+  call_returned_lasts path store (Jumps to left cost) lasts = tt
+  call_returned_lasts path store (Faults fault cost) lasts = tt
+  call_returned_lasts path store Stuck lasts = tt
+  call_returned_lasts path store (More cost) lasts = lasts
 
-  gone_astray_lasts : (end : End (List ℕ)) → Lasts limit end → Lasts limit (gone_astray end)
-  gone_astray_lasts (Go value left cost) lasts = tt
-  gone_astray_lasts (Jumps to left cost) lasts = tt
-  gone_astray_lasts (Faults fault cost) lasts = tt
-  gone_astray_lasts Stuck lasts = tt
-  gone_astray_lasts (More cost) lasts = lasts
+  call_diverged_lasts : (end : End (List ℕ)) → Lasts limit end → Lasts limit (call_diverged end)
+  call_diverged_lasts (Go value left cost) lasts = tt
+  call_diverged_lasts (Jumps to left cost) lasts = tt
+  call_diverged_lasts (Faults fault cost) lasts = tt
+  call_diverged_lasts Stuck lasts = tt
+  call_diverged_lasts (More cost) lasts = lasts
 
   call_lasts : (diverging : Bool) (path : Path) (store : Store) (end : End (List ℕ)) → Lasts limit end → Lasts limit (call_ended diverging path store end)
-  call_lasts true path store end lasts = gone_astray_lasts end lasts
-  call_lasts false path store end lasts = gone_on_lasts path store end lasts
+  call_lasts true path store end lasts = call_diverged_lasts end lasts
+  call_lasts false path store end lasts = call_returned_lasts path store end lasts
 
   entered_from_lasts : (callees : Callees) (diverging : Bool) (callee : Source) (start : Option Store) (path : Path) (store : Store) → ((s : Store) → Lasts limit (callees callee s)) → Lasts limit (entered_from callees diverging callee start path store)
   entered_from_lasts callees diverging callee (Some start) path store lasts = call_lasts diverging path store (callees callee start) (lasts start)

@@ -279,38 +279,38 @@ return_into source below around value store =
 
 -- How a call ends whose callee may return: where the callee gives a value, its bytes are put at the destination, and one block is counted,
 -- the target of the call's terminator. A fault of the callee is one of the call. No jump leads out of a body.
-abbrev pub gone_on : Path → Store → End (List ℕ) → End (Unit {0})
-gone_on path store (Go value left cost) = after cost (then_do (put store path value) (λ _ last. Go tt last (turns_alone 1)))
-gone_on path store (Jumps to left cost) = Stuck
-gone_on path store (Faults fault cost) = Faults fault cost
-gone_on path store Stuck = Stuck
-gone_on path store (More cost) = More cost
+abbrev pub call_returned : Path → Store → End (List ℕ) → End (Unit {0})
+call_returned path store (Go value left cost) = after cost (then_do (put store path value) (λ _ last. Go tt last (turns_alone 1)))
+call_returned path store (Jumps to left cost) = Stuck
+call_returned path store (Faults fault cost) = Faults fault cost
+call_returned path store Stuck = Stuck
+call_returned path store (More cost) = More cost
 
 -- How a call ends whose callee must not return: its terminator has no target, so that the callee gives a value is undefined behavior. While
 -- the callee runs, it takes one more level of nesting.
-abbrev pub gone_astray : End (List ℕ) → End (Unit {0})
-gone_astray (Go value left cost) = Faults (UndefinedBehavior (codes "Diverging function returned")) (one_level_more cost)
-gone_astray (Jumps to left cost) = Stuck
-gone_astray (Faults fault cost) = Faults fault (one_level_more cost)
-gone_astray Stuck = Stuck
-gone_astray (More cost) = More (one_level_more cost)
+abbrev pub call_diverged : End (List ℕ) → End (Unit {0})
+call_diverged (Go value left cost) = Faults (UndefinedBehavior (codes "Diverging function returned")) (one_level_more cost)
+call_diverged (Jumps to left cost) = Stuck
+call_diverged (Faults fault cost) = Faults fault (one_level_more cost)
+call_diverged Stuck = Stuck
+call_diverged (More cost) = More (one_level_more cost)
 
--- how a call ends by the end of its callee; `marked`: the callee must not return
-abbrev pub call_ended : (marked : Bool) → Path → Store → End (List ℕ) → End (Unit {0})
-call_ended true path store end = gone_astray end
-call_ended false path store end = gone_on path store end
+-- how a call ends by the end of its callee; `diverging`: the callee must not return
+abbrev pub call_ended : (diverging : Bool) → Path → Store → End (List ℕ) → End (Unit {0})
+call_ended true path store end = call_diverged end
+call_ended false path store end = call_returned path store end
 
 -- a callee's body is entered, where the arguments fit its parameters
-abbrev pub entered_from : Callees → (marked : Bool) → (callee : Source) → Option Store → Path → Store → End (Unit {0})
-entered_from callees marked callee (Some start) path store = call_ended marked path store (callees callee start)
-entered_from callees marked callee None path store = Stuck
+abbrev pub entered_from : Callees → (diverging : Bool) → (callee : Source) → Option Store → Path → Store → End (Unit {0})
+entered_from callees diverging callee (Some start) path store = call_ended diverging path store (callees callee start)
+entered_from callees diverging callee None path store = Stuck
 
 -- The body that a call enters. Its return place is the call's destination, and holds what that holds; where the callee must not return,
 -- it is a new cell of the callee's result type.
-abbrev pub entered_into : Callees → (marked : Bool) → (callee : Option Source) → (given : List (List ℕ)) → Path → Store → End (Unit {0})
-entered_into callees marked (Some callee) given path store =
-    entered_from callees marked callee (started callee (cond marked (zeroed callee Result) (store path.cell)) given) path store
-entered_into callees marked None given path store = Stuck
+abbrev pub entered_into : Callees → (diverging : Bool) → (callee : Option Source) → (given : List (List ℕ)) → Path → Store → End (Unit {0})
+entered_into callees diverging (Some callee) given path store =
+    entered_from callees diverging callee (started callee (cond diverging (zeroed callee Result) (store path.cell)) given) path store
+entered_into callees diverging None given path store = Stuck
 
 -- A call: its arguments' operands from left to right, and then its terminator, which reads them all, late, and enters the callee's body.
 abbrev pub call_into : Source → Levels → Callees → Around → ℕ → (callee : ℕ) → (args : List ℕ) → Path → Store → End (Unit {0})

@@ -33,7 +33,7 @@ tail_steps None = []
 abbrev pub block_steps : List Statement → Option ExprId → List Step
 block_steps statements tail = flat_map statement_steps statements ++ tail_steps tail
 
--- The steps of each form, in order of lowering. The callee of a call isn't evaluated: it is a path of a function's own type.
+-- The steps of each form, in order of lowering. The callee of a call isn't evaluated: it is named by a path, whose type is a function's own.
 abbrev pub steps_of : CoreExpr → List Step
 steps_of (expr.Literal given) = []
 steps_of (expr.Path name) = []
