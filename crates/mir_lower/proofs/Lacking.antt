@@ -82,8 +82,8 @@ lacks-room called program levels locals destination memory e checked counted not
     let of : IsCellType called lacks.1.ty = (cell.0, cell.1, cell.2) in
     let undefined = undefined-cost called checked (λ cost. has-no-cell called lacks.1 e lacks.3 (sized-cell called cost lacks.1.ty cell.0 cell.1 cell.2)) in
     ⊎_elim
-    (λ none. subst (LacksRoom called program levels memory (entering_cost called)) (sym none.0) (refl, (called, at_once, of, none.1), undefined))
-    (λ unsized. subst (LacksRoom called program levels memory (entering_cost called)) (sym unsized.0) ((called, at_once, of, unsized.1, unsized.2, unsized.3), undefined)) lacks.3)
+    (λ none. subst (LacksRoom called program levels memory (entering_cost called)) (sym none.0) (refl, (called, at_once, (of, none.1)), undefined))
+    (λ unsized. subst (LacksRoom called program levels memory (entering_cost called)) (sym unsized.0) ((called, at_once, (of, unsized.1, unsized.2, unsized.3)), undefined)) lacks.3)
     (λ passes.
     let more = passes.1 in
     let takes = rooms-counted called locals counted in

@@ -1,5 +1,5 @@
 -- How many bytes the stack takes: none more after a statement, and for cells no more than their sizes and alignments.
-use Rattle.std.proofs.Common.{◌≡◌, ◌≢◌, ℕ, ◌+◌, ◌-◌, ◌%◌, ◌<◌, ◌≤◌, ◌⊎◌, inl, inr, Bool, true, false, cond, List, [], ◌∷◌, length, Option, Some, None, Result, Ok, Err, refl, sym, ap, ◌∙◌, subst, arith, length-append}
+use Rattle.std.proofs.Common.{◌≡◌, ℕ, suc, ◌+◌, ◌-◌, ◌%◌, ◌<◌, ◌≤◌, ◌⊎◌, inl, inr, Bool, true, false, cond, List, [], ◌∷◌, length, Option, Some, None, Result, Ok, Err, refl, sym, ap, ◌∙◌, subst, arith, length-append}
 use Rattle.std.specs.Prelude.{codes, nat_le, replicate, slice_get, sum_by}
 use borrow.Author.Tests.{leb-false}
 use Rattle.std.proofs.Math.Nat.{mod-le}
@@ -188,7 +188,7 @@ abbrev pub SomeHasNoCell : HirDatabase → List Local → MirEvalError → Type 
 SomeHasNoCell world locals e = (l : ℕ) × (local : Local) × (slice_get locals l ≡ Some local) × HasNoCell world local e
 
 later-lacks : (world : HirDatabase) (first : Local) (locals : List Local) (e : MirEvalError) → SomeHasNoCell world locals e → SomeHasNoCell world (first ∷ locals) e
-later-lacks world first locals e lacks = (lacks.0 + 1, lacks.1, lacks.2, lacks.3)
+later-lacks world first locals e lacks = (suc lacks.0, lacks.1, lacks.2, lacks.3)
 
 first-lacks : (world : HirDatabase) (local : Local) (locals : List Local) (size : Result CellSize MirEvalError) (rest : Result (List CellSize) MirEvalError) (e : MirEvalError) → cell_size_of local.ty (layout_of world local.ty) ≡ size → (rest ≡ Err e → SomeHasNoCell world locals e) →
     ◌≡◌ {A = Result (List CellSize) MirEvalError} (elim size [ Ok s ↦ size_before s rest | Err cause ↦ Err cause ]) (Err e) → SomeHasNoCell world (local ∷ locals) e

@@ -128,7 +128,7 @@ module _ (source : Source) (program : Program) (memory : Memory) (run : ℕ → 
   Alone end = StopsWithin source program (levels_over []) (first_areas program.bytes) (cost_of end) run ⊎ EndsOn (after run_cost end) run
 
   ends-alone : (end : End (List ℕ)) → Covers (entering_cost source) end → StopsWithin source program (levels_over []) memory (cost_of (once_placed source end)) run ⊎ EndsOn (once_placed source end) run → Alone end
-  unfolding run_cost
+  unfolding run_cost after
   ends-alone (Go bytes store cost) covers (inl stops) = inl (stops-alone cost covers stops)
   ends-alone (Go bytes store cost) covers (inr on) = inr (ends-on-costed run_cost (Go bytes store cost) run refl on)
   ends-alone (Jumps to store cost) covers either = inr tt
