@@ -36,20 +36,20 @@ source_of_row world id called is =
     (there.0, from.0, there.2, from.2)
 
 -- and so is that of a callee
-pub called_row : (source : Source) (callee : ℕ) (called : Source) → source_called source callee ≡ Some called → (i : ℕ) × (row : BodyRow) × (slice_get source.world.bodies i ≡ Some row) × (source_at source.world row ≡ called)
+pub called_row : (source : Source) (e : ℕ) (callee : Option ℕ) (called : Source) → source_called source e callee ≡ Some called → (i : ℕ) × (row : BodyRow) × (slice_get source.world.bodies i ≡ Some row) × (source_at source.world row ≡ called)
 unfolding source_called
-called_row source callee called is =
-    let from = bound_from (source_of source.world) (function_called source callee) called is in
+called_row source e callee called is =
+    let from = bound_from (source_of source.world) (function_called source e callee) called is in
     source_of_row source.world from.0 called from.2
 
 -- a callee stands in the world of its caller
-pub called_world : (source : Source) (callee : ℕ) (called : Source) → source_called source callee ≡ Some called → called.world ≡ source.world
-called_world source callee called is = let from = called_row source callee called is in ap (λ (s : Source). s.world) (sym from.3)
+pub called_world : (source : Source) (e : ℕ) (callee : Option ℕ) (called : Source) → source_called source e callee ≡ Some called → called.world ≡ source.world
+called_world source e callee called is = let from = called_row source e callee called is in ap (λ (s : Source). s.world) (sym from.3)
 
 -- a call enters the body of the function that its callee names
-pub called_by_name : (source : Source) (callee : ℕ) (id : FunctionId) (called : Source) → function_called source callee ≡ Some id → source_of source.world id ≡ Some called → source_called source callee ≡ Some called
+pub called_by_name : (source : Source) (e : ℕ) (callee : Option ℕ) (id : FunctionId) (called : Source) → function_called source e callee ≡ Some id → source_of source.world id ≡ Some called → source_called source e callee ≡ Some called
 unfolding source_called
-called_by_name source callee id called names has_body = ap (option_and_then (source_of source.world)) names ∙ has_body
+called_by_name source e callee id called names has_body = ap (option_and_then (source_of source.world)) names ∙ has_body
 
 -- a number above the root of each body
 pub above_roots : List BodyRow → ℕ

@@ -77,8 +77,11 @@ part_is_child item (whole.Return value) core is child within =
     let same : core ≡ Return value = cc in
     subst (λ parts. Contains parts child) (ap (λ c. parts_of (Some c)) same ∙ tail_part value) within
 part_is_child item (whole.Call callee args) core is child within =
-    let same : core ≡ Call callee.0 (expr_numbers args) = cc in
-    rest_is_contained callee.0 (expr_numbers args) child (subst (λ parts. Contains parts child) (ap (λ c. parts_of (Some c)) same ∙ call_parts callee.0 (expr_numbers args)) within)
+    let same : core ≡ Call (Some callee.0) (expr_numbers args) = cc in
+    rest_is_contained callee.0 (expr_numbers args) child (subst (λ parts. Contains parts child) (ap (λ c. parts_of (Some c)) same ∙ call_parts (Some callee.0) (expr_numbers args)) within)
+part_is_child item (whole.MethodCall receiver args name) core is child within =
+    let same : core ≡ Call None (receiver.0 ∷ expr_numbers args) = cc in
+    subst (λ parts. Contains parts child) (ap (λ c. parts_of (Some c)) same ∙ call_parts None (receiver.0 ∷ expr_numbers args)) within
 part_is_child item _ core is child within = absurd cc
 
 node_from : (adjusted item : Bool) (found : Option Expr) (core : CoreExpr) → if adjusted then None else option_and_then (core_of item) found ≡ Some core →

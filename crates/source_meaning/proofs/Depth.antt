@@ -36,7 +36,7 @@ operand_is_part source e operation operands child is within =
     subst (λ form. Contains (parts_of form) child) (sym is) (subst (λ parts. Contains parts child) (sym (strict_parts operation operands)) within)
 
 -- a call evaluates its arguments
-pub argument_is_part : (source : Source) (e callee : ℕ) (args : List ℕ) (child : ℕ) → node source e ≡ Some (Call callee args) → Contains args child → Contains (parts_of (node source e)) child
+pub argument_is_part : (source : Source) (e : ℕ) (callee : Option ℕ) (args : List ℕ) (child : ℕ) → node source e ≡ Some (Call callee args) → Contains args child → Contains (parts_of (node source e)) child
 argument_is_part source e callee args child is within =
     subst (λ form. Contains (parts_of form) child) (sym is) (subst (λ parts. Contains parts child) (sym (call_parts callee args)) within)
 

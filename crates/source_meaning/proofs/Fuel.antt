@@ -219,7 +219,7 @@ module _ (source : Source) (below above : Levels) (agrees : Agrees below above) 
     into_agrees around e (Some (expr.Return value)) path store over = return_agrees around value store over
     into_agrees around e (Some (expr.Call callee args)) path store over =
         then_do_agrees (operands_of source below around args store) (operands_of source above around args store) _ _ (operands_agree around args store) (λ given later o.
-        entered_agrees callees others callees_agree (must_not_return source e) (source_called source callee) (map (operand_bytes later) given) path later o) over
+        entered_agrees callees others callees_agree (must_not_return source e) (source_called source e callee) (map (operand_bytes later) given) path later o) over
     into_agrees around e _ path store over = refl
 
     above_agrees : Agrees (level_above source below callees) (level_above source above others)

@@ -282,7 +282,7 @@ module _ (limit : ℕ) where
     return_lasts : (around : Around) (value : Option ExprId) (store : Store) → ((child : ℕ) → Contains (optional value) child → LastsIn below child) → Lasts limit (return_into source below around value store)
     return_lasts around value store ends = then_do_lasts (tail_into (below around) value around.result store) _ (tail_lasts around value around.result store ends) (λ done later. tt)
 
-    into_lasts : (callees : Callees) (around : Around) (e : ℕ) (form : Option CoreExpr) (path : Path) (store : Store) → node source e ≡ form → Repeats below e → ((callee : ℕ) (called : Source) → source_called source callee ≡ Some called → (start : Store) → Lasts limit (callees called start)) → ((child : ℕ) → Contains (parts_of form) child → LastsIn below child) → Lasts limit (into_of source below callees around e form path store)
+    into_lasts : (callees : Callees) (around : Around) (e : ℕ) (form : Option CoreExpr) (path : Path) (store : Store) → node source e ≡ form → Repeats below e → ((callee : Option ℕ) (called : Source) → source_called source e callee ≡ Some called → (start : Store) → Lasts limit (callees called start)) → ((child : ℕ) → Contains (parts_of form) child → LastsIn below child) → Lasts limit (into_of source below callees around e form path store)
     into_lasts callees around e (Some (expr.Literal literal)) path store is repeats enters ends = put_literal_lasts source e store path (literal_bytes source e literal)
     into_lasts callees around e (Some (expr.Path name)) path store is repeats enters ends = named_into_lasts (named_by source e) path store
     into_lasts callees around e (Some (expr.Strict operation operands)) path store is repeats enters ends =
@@ -310,7 +310,7 @@ module _ (limit : ℕ) where
     into_lasts callees around e (Some (expr.Call callee args)) path store is repeats enters ends =
         then_do_lasts (operands_of source below around args store) _ (operands_lasts around args store (λ child within.
         ends child (subst (λ parts. Contains parts child) (sym (call_parts callee args)) within))) (λ given later.
-        entered_lasts callees (must_not_return source e) (source_called source callee) (map (operand_bytes later) given) path later (enters callee))
+        entered_lasts callees (must_not_return source e) (source_called source e callee) (map (operand_bytes later) given) path later (enters callee))
     into_lasts callees around e None path store is repeats enters ends = tt
 
 -- The fuel with which each expression numbered below `bound` ends, or enters at least `many` blocks, where the root of each body that a
@@ -378,7 +378,7 @@ own_goes_on top source below checked (suc many) (suc bound) e (suc (suc (suc fue
     let same : many ≡ fewer = cc in
     subst (λ n. Lasts n ((level_at source (suc (suc fuel)) around').own e path' later)) same (own_goes_on top source below checked many (suc bound) e (suc (suc fuel)) less (omega arith) around' path' later))
     (λ callee called is start.
-    let from = called_row source callee called is in
+    let from = called_row source e callee called is in
     subst (λ (s : Source). Lasts (suc many) (body_meaning s (level_at s (suc (suc fuel))) start)) from.3
     (body_lasts (source_at source.world from.1) start many (suc (suc fuel))
     (own_goes_on top (source_at source.world from.1) below (below.checked from.0 from.1 from.2) many top (root (source_at source.world from.1)) (suc (suc fuel)) (below.root from.0 from.1 from.2) (omega arith))))

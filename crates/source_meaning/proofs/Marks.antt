@@ -292,7 +292,7 @@ module _ (source : Source) (checked : IsCheckedBody source.body source.infer) (e
   pub strict_marks : (operation : Operation) (operands : List ℕ) → node source e ≡ Some (Strict operation operands) → marked_itself source e ≡ flat_map (marked_as_operand source) operands
   strict_marks operation operands is = form_marks (Some (Strict operation operands)) is ∙ operands_mark source operands
 
-  pub call_marks : (callee : ℕ) (args : List ℕ) → node source e ≡ Some (Call callee args) → marked_itself source e ≡ flat_map (marked_as_operand source) args
+  pub call_marks : (callee : Option ℕ) (args : List ℕ) → node source e ≡ Some (Call callee args) → marked_itself source e ≡ flat_map (marked_as_operand source) args
   call_marks callee args is = form_marks (Some (Call callee args)) is ∙ operands_mark source args
 
   pub logic_marks : (op : LogicOp) (left right : ℕ) → node source e ≡ Some (Logic op left right) → marked_itself source e ≡ marked_as_operand source left ++ marked source right

@@ -53,7 +53,7 @@ pub strict_parts : (operation : Operation) (operands : List ℕ) → parts_of (S
 strict_parts operation operands = operand_parts operands
 
 -- a call evaluates its arguments
-pub call_parts : (callee : ℕ) (args : List ℕ) → parts_of (Some (Call callee args)) ≡ args
+pub call_parts : (callee : Option ℕ) (args : List ℕ) → parts_of (Some (Call callee args)) ≡ args
 call_parts callee args = operand_parts args
 
 pub tail_part : (tail : Option ExprId) → flat_map step_part (tail_steps tail) ≡ optional tail

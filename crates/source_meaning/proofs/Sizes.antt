@@ -610,13 +610,13 @@ module _ (source : Source) (checked : IsChecked source.world) where
         part_is_fine outer e child (Some (expr.Return value)) is (sized_tail source value child contained) fine) sized) (λ done later sized' is'. (sized', tt))
 
     -- a callee is entered with arguments that fit its parameters, and gives a value of the call's type
-    call_into_is_sound : (callees : Callees) → AreSoundCallees source callees → (outer : List Opened) (around : Around) (stands : Stands outer around) (e callee : ℕ) (args : List ℕ) (path : Path) (store : Store) → node source e ≡ Some (expr.Call callee args) → IsFine source outer e → IsSized source store → OwnFits e path → IsSound source around.targets Nothing (call_into source below callees around e callee args path store)
+    call_into_is_sound : (callees : Callees) → AreSoundCallees source callees → (outer : List Opened) (around : Around) (stands : Stands outer around) (e : ℕ) (callee : Option ℕ) (args : List ℕ) (path : Path) (store : Store) → node source e ≡ Some (expr.Call callee args) → IsFine source outer e → IsSized source store → OwnFits e path → IsSound source around.targets Nothing (call_into source below callees around e callee args path store)
     call_into_is_sound callees callees_are outer around stands e callee args path store is fine sized fits =
         let plain = fine.plain e itself in
         let form = form_of e _ is plain in
-        let enters = called_by_name source callee form.id form.called form.names form.has_body in
+        let enters = called_by_name source e callee form.id form.called form.names form.has_body in
         let calls : Calls source form.called = record { e = e; evaluated = fine.evaluated; callee = callee; args = args; is_call = is; enters = enters } in
-        let world = called_world source callee form.called enters in
+        let world = called_world source e callee form.called enters in
         let same : cell_size form.called Result ≡ cell_size source path.cell =
         ap (size_at form.called) form.body_has ∙ same_size form.called world (Some form.row.sig.ret) ∙ ap (size_at source) (sym (fits ∙ plain.has_type ∙ ap Some form.typed)) in
         then_do_is_sound source around.targets (OperandsFit args) Nothing (operands_of source below around args store) _ (operands_are_sound outer around stands args store (λ child within.
@@ -700,7 +700,7 @@ laid_out_called : (source called : Source) → Calls source called → AreLaidOu
 laid_out_called source called calls laid_out = record { each = λ reached on. laid_out.each reached (through calls on) }
 
 checked_called : (source called : Source) → Calls source called → IsChecked source.world → IsChecked called.world
-checked_called source called calls checked = subst IsChecked (sym (called_world source calls.callee called calls.enters)) checked
+checked_called source called calls checked = subst IsChecked (sym (called_world source calls.e calls.callee called calls.enters)) checked
 
 level_is_sound : (fuel : ℕ) (source : Source) (checked : IsChecked source.world) → IsPlainThroughout source → AreLaidOutThroughout source → (outer : List Opened) (around : Around) → Stands source checked outer around → IsSoundLevel source checked outer around.targets (level_at source fuel around)
 unfolding level_at

@@ -55,10 +55,10 @@ abbrev pub is_direct : Option FunctionRow → Bool
 is_direct (Some row) = are_none row.generics && not (is_some row.in_trait) && not (is_some row.special)
 is_direct None = false
 
--- A call that is built: by its type, its callee is a function that is given no generic arguments, and whose own body a call enters.
-pub record CallsFunction (source : Source) (callee : ℕ) : Type 0 where
+-- A call that is built: it names a function that is given no generic arguments, and whose own body a call enters.
+pub record CallsFunction (source : Source) (e : ℕ) (callee : Option ℕ) : Type 0 where
   pub id : FunctionId
-  pub names : function_called source callee ≡ Some id
+  pub names : function_called source e callee ≡ Some id
   pub direct : is_direct (function_row source.world id) ≡ true
 
 -- An expression of a form that is built, whatever its parts are.
@@ -75,5 +75,5 @@ IsBuiltForm source e (Some (expr.Loop label body)) = Unit {0}
 IsBuiltForm source e (Some (expr.Break label value)) = Unit {0}
 IsBuiltForm source e (Some (expr.Continue label)) = Unit {0}
 IsBuiltForm source e (Some (expr.Return value)) = Unit {0}
-IsBuiltForm source e (Some (expr.Call callee args)) = CallsFunction source callee
+IsBuiltForm source e (Some (expr.Call callee args)) = CallsFunction source e callee
 IsBuiltForm source e None = ⊥

@@ -1,6 +1,9 @@
 -- Which function a call enters, and what its body starts from.
 use Rattle.std.specs.Prelude.{◌==◌, ◌++◌, ℕ, Bool, List, [], ◌∷◌, length, Option, Some, None, option_map, option_and_then, if◌then◌else◌, flat_map}
+use Rattle.std.specs.BTreeMap.{is_at}
 use Rattle.std.specs.List.{list_any}
+use Rattle.std.specs.Map.{lookup}
+use Rattle.types.specs.contracts.ids.ExprIdOrd.TheImpl as ExprIdOrd
 use Rattle.types.specs.declared.ids.BindingId.{BindingId}
 use Rattle.types.specs.declared.ids.CallableDefId.TheVariants.{FunctionId as CalledFunction}
 use Rattle.types.specs.declared.ids.DefWithBodyId.TheVariants.{FunctionId as FunctionBody}
@@ -19,6 +22,7 @@ use Rattle.types.specs.declared.ty.UnevaluatedConst.{UnevaluatedConst}
 use Rattle.types.specs.declared.ty.ValueConst.{ValueConst}
 use Rattle.world.specs.declared.database.BodyRow.{BodyRow}
 use Rattle.world.specs.declared.database.HirDatabase.{HirDatabase}
+use Rattle.world.specs.declared.infer.MethodRes.{MethodRes}
 use Rattle.world.specs.Lookups.{body_row}
 use Rattle.source_meaning.specs.Source.{Source, Store, Cell, Result, Binding, bound_by, own_type, pattern, cell_size, zeroed, with_cell_bytes}
 
@@ -39,10 +43,19 @@ function_of _ = None
 abbrev pub function_in : Ty → Option FunctionId
 function_in ty = function_of (out-Ty ty)
 
--- The function that an expression names as a callee: that of its own type, a function definition's. In MIR such a callee is a constant of
--- no bytes, so the expression isn't evaluated.
-unfoldable pub function_called : Source → ℕ → Option FunctionId
-function_called source callee = option_and_then function_in (own_type source callee)
+-- what a method call is resolved to, where it is
+abbrev pub method_of : Source → ℕ → Option MethodRes
+method_of source e = lookup (is_at (ExprIdOrd.ghosts.cmp (record { 0 = e }))) source.infer.method_res
+
+-- the function that a method call is resolved to, where it is given no generic arguments
+abbrev pub method_function : MethodRes → Option FunctionId
+method_function method = without_generics method.function method.args.0
+
+-- The function that a call names: that of its callee's own type, a function definition's, or, without a callee, the one that the call is
+-- resolved to, as a method call is. In MIR a callee is a constant of no bytes, so the expression isn't evaluated.
+unfoldable pub function_called : Source → ℕ → (callee : Option ℕ) → Option FunctionId
+function_called source e (Some callee) = option_and_then function_in (own_type source callee)
+function_called source e None = option_and_then method_function (method_of source e)
 
 -- a row of the table of bodies, as a source in its world
 abbrev pub source_at : HirDatabase → BodyRow → Source
@@ -53,8 +66,8 @@ unfoldable pub source_of : HirDatabase → FunctionId → Option Source
 source_of world id = option_map (source_at world) (body_row world (FunctionBody id))
 
 -- the source of the body that a call with this callee enters
-unfoldable pub source_called : Source → ℕ → Option Source
-source_called source callee = option_and_then (source_of source.world) (function_called source callee)
+unfoldable pub source_called : Source → ℕ → (callee : Option ℕ) → Option Source
+source_called source e callee = option_and_then (source_of source.world) (function_called source e callee)
 
 -- Whether a call is one whose callee must not return: those that inference found diverging. In MIR the call's terminator has no target
 -- block then.

@@ -48,8 +48,8 @@ pub data Operation : Type 0 where
 -- computes one operation. `&&` and `||` evaluate their right operand only where the left one doesn't decide, and `if` one of
 -- its branches. An assignment writes a value to what its target names. A `loop` evaluates its body again and again. A `break`
 -- ends a loop or a labelled block around it, with a value or without, and a `continue` starts it again. A `return` ends the
--- body, with a value or without. A call evaluates its arguments from left to right, and then enters the body of the function that
--- its callee's type names.
+-- body, with a value or without. A call evaluates its arguments from left to right, and then enters the body of a function: the one that
+-- its callee's type names, or, where it is a method call, the one that it is resolved to; the receiver is its first argument.
 pub data CoreExpr : Type 0 where
   Literal : CoreLiteral → CoreExpr
   Path : (name : List ℕ) → CoreExpr
@@ -63,7 +63,7 @@ pub data CoreExpr : Type 0 where
   Break : (label : Option LabelId) → (value : Option ExprId) → CoreExpr
   Continue : (label : Option LabelId) → CoreExpr
   Return : (value : Option ExprId) → CoreExpr
-  Call : (callee : ℕ) → (args : List ℕ) → CoreExpr
+  Call : (callee : Option ℕ) → (args : List ℕ) → CoreExpr
 
 -- a literal of a kind that has a meaning: a truth value or a whole number
 abbrev pub core_literal : SomeLiteral → Option CoreLiteral
@@ -108,7 +108,8 @@ core_of names_item (expr.Loop body label) = Some (Loop label body.0)
 core_of names_item (expr.Break value label) = Some (Break label value)
 core_of names_item (expr.Continue label) = Some (Continue label)
 core_of names_item (expr.Return value) = Some (Return value)
-core_of names_item (expr.Call callee args) = Some (Call callee.0 (expr_numbers args))
+core_of names_item (expr.Call callee args) = Some (Call (Some callee.0) (expr_numbers args))
+core_of names_item (expr.MethodCall receiver args name) = Some (Call None (receiver.0 ∷ expr_numbers args))
 core_of names_item _ = None
 
 -- the type that a step leads to, where it is `NeverToAny`, the one from `!` to any type

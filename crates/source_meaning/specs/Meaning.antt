@@ -313,10 +313,10 @@ entered_into callees diverging (Some callee) given path store =
 entered_into callees diverging None given path store = Stuck
 
 -- A call: its arguments' operands from left to right, and then its terminator, which reads them all, late, and enters the callee's body.
-abbrev pub call_into : Source → Levels → Callees → Around → ℕ → (callee : ℕ) → (args : List ℕ) → Path → Store → End (Unit {0})
+abbrev pub call_into : Source → Levels → Callees → Around → ℕ → (callee : Option ℕ) → (args : List ℕ) → Path → Store → End (Unit {0})
 call_into source below callees around e callee args path store =
     then_do (operands_of source below around args store) (λ given later.
-    entered_into callees (must_not_return source e) (source_called source callee) (map (operand_bytes later) given) path later)
+    entered_into callees (must_not_return source e) (source_called source e callee) (map (operand_bytes later) given) path later)
 
 -- an expression itself evaluated into a path: the forms that have a meaning so far
 abbrev pub into_of : Source → Levels → Callees → Around → ℕ → Option CoreExpr → Path → Store → End (Unit {0})

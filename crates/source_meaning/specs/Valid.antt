@@ -162,14 +162,18 @@ AreBound source [] [] = Unit {0}
 AreBound source (b ∷ rest) (ty ∷ others) = (binding_type source b ≡ Some ty) × AreBound source rest others
 AreBound source _ _ = ⊥
 
--- The callee is a path of the type of a function that has a body, has no generics, is declared by no trait and isn't special, as an
--- intrinsic is, and whose parameters are plain names. There are as many arguments as parameters, each of its parameter's type, and the call and the callee's
--- body have the type of the function's result.
-pub record IsPlainCall (source : Source) (callee : ℕ) (args : List ℕ) (ty : Ty) : Type 0 where
-  pub name : List ℕ
-  pub by_path : expr_of source.body callee ≡ Some (whole.Path name)
+-- a callee is a path; a method call has none
+abbrev pub IsNamedByPath : Source → (callee : Option ℕ) → Type 0
+IsNamedByPath source (Some callee) = (name : List ℕ) × (expr_of source.body callee ≡ Some (whole.Path name))
+IsNamedByPath source None = Unit {0}
+
+-- A call of a function that has a body, has no generics, is declared by no trait and isn't special, as an intrinsic is, and whose
+-- parameters are plain names: its callee is a path of the function's type, or it is a method call that is resolved to it. There are as
+-- many arguments as parameters, each of its parameter's type, and the call and the callee's body have the type of the function's result.
+pub record IsPlainCall (source : Source) (e : ℕ) (callee : Option ℕ) (args : List ℕ) (ty : Ty) : Type 0 where
+  pub by_path : IsNamedByPath source callee
   pub id : FunctionId
-  pub names : function_called source callee ≡ Some id
+  pub names : function_called source e callee ≡ Some id
   pub row : FunctionRow
   pub found : function_row source.world id ≡ Some row
   pub no_generics : row.generics ≡ []
@@ -198,7 +202,7 @@ HasPlainForm source e (Some (expr.Loop label body)) ty = Unit {0}
 HasPlainForm source e (Some (expr.Break label value)) ty = Unit {0}
 HasPlainForm source e (Some (expr.Continue label)) ty = Unit {0}
 HasPlainForm source e (Some (expr.Return value)) ty = HasPlainReturn source value
-HasPlainForm source e (Some (expr.Call callee args)) ty = IsPlainCall source callee args ty
+HasPlainForm source e (Some (expr.Call callee args)) ty = IsPlainCall source e callee args ty
 HasPlainForm source e None ty = ⊥
 
 -- an expression itself has a plain form, at its own type, which is `!` where `NeverToAny` adjusts it
@@ -304,10 +308,10 @@ pub record AreLaidOut (source : Source) : Type 0 where
 pub record Calls (source called : Source) : Type 0 where
   pub e : ℕ
   pub evaluated : Evaluates source (root source) e
-  pub callee : ℕ
+  pub callee : Option ℕ
   pub args : List ℕ
   pub is_call : node source e ≡ Some (expr.Call callee args)
-  pub enters : source_called source callee ≡ Some called
+  pub enters : source_called source e callee ≡ Some called
 
 -- `Reaches source reached`: `reached` is `source`, or is called in what `source` reaches
 pub data Reaches : Source → Source → Type 0 where
