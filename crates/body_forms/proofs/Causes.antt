@@ -56,8 +56,8 @@ target-is-no-unbuilt source assigned built unbuilt =
     ⊎_elim names.0 (λ other. let one = ap (option_and_then local_named) (sym other.1) ∙ names.1 in let none = other.2 in absurd cc) unbuilt
 
 -- a call that is built names a function, and enters its own body
-call-is-no-unbuilt : (source : Source) (callee : ℕ) → CallsFunction source callee → IsUnbuiltCall source callee → ⊥
-call-is-no-unbuilt source callee built unbuilt =
+call-is-no-unbuilt : (source : Source) (e : ℕ) (callee : Option ℕ) → CallsFunction source e callee → IsUnbuiltCall source e callee → ⊥
+call-is-no-unbuilt source e callee built unbuilt =
     ⊎_elim (λ none. let names = built.names in absurd cc) (λ other.
     let names = built.names in
     let is = other.1 in
@@ -85,7 +85,7 @@ built-is-no-unbuilt source e (Some (expr.Loop label body)) built unbuilt = unbui
 built-is-no-unbuilt source e (Some (expr.Break label value)) built unbuilt = unbuilt
 built-is-no-unbuilt source e (Some (expr.Continue label)) built unbuilt = unbuilt
 built-is-no-unbuilt source e (Some (expr.Return value)) built unbuilt = unbuilt
-built-is-no-unbuilt source e (Some (expr.Call callee args)) built unbuilt = call-is-no-unbuilt source callee built unbuilt
+built-is-no-unbuilt source e (Some (expr.Call callee args)) built unbuilt = call-is-no-unbuilt source e callee built unbuilt
 built-is-no-unbuilt source e None built unbuilt = built
 
 -- two bindings that stand in one place are one

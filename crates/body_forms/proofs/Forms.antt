@@ -10,21 +10,22 @@ use Rattle.body_forms.specs.declared.form.Form.TheVariants as form
 use Rattle.body_forms.specs.Form.{IsFormOf, IsCauseAt, HasForm, core_form}
 
 -- an expression of none of the forms that have a meaning
-pub otherwise : (item : Bool) (e : Expr) → ((l : _) → e ≡ whole.Literal l → ⊥) → ((name : _) → e ≡ whole.Path name → ⊥) → ((operand : _) (op : _) → e ≡ whole.UnaryOp operand op → ⊥) → ((lhs : _) (rhs : _) (op : _) → e ≡ whole.BinaryOp lhs rhs op → ⊥) → ((condition : _) (then_branch : _) (else_branch : _) → e ≡ whole.If condition then_branch else_branch → ⊥) → ((target : _) (value : _) → e ≡ whole.Assignment target value → ⊥) → ((statements : _) (tail : _) (label : _) → e ≡ whole.Block statements tail label → ⊥) → ((body : _) (label : _) → e ≡ whole.Loop body label → ⊥) → ((value : _) (label : _) → e ≡ whole.Break value label → ⊥) → ((label : _) → e ≡ whole.Continue label → ⊥) → ((value : _) → e ≡ whole.Return value → ⊥) → ((callee : _) (args : _) → e ≡ whole.Call callee args → ⊥) → (e ≡ whole.Missing → ⊥) → IsFormOf item e form.Unbuilt
-otherwise item (whole.Literal l) literal path unary binary either assigned block loop break continue return call missing = absurd (literal l refl)
-otherwise item (whole.Path name) literal path unary binary either assigned block loop break continue return call missing = absurd (path name refl)
-otherwise item (whole.UnaryOp operand op) literal path unary binary either assigned block loop break continue return call missing = absurd (unary operand op refl)
-otherwise item (whole.BinaryOp lhs rhs op) literal path unary binary either assigned block loop break continue return call missing = absurd (binary lhs rhs op refl)
-otherwise item (whole.If condition then_branch else_branch) literal path unary binary either assigned block loop break continue return call missing = absurd (either condition then_branch else_branch refl)
-otherwise item (whole.Assignment target value) literal path unary binary either assigned block loop break continue return call missing = absurd (assigned target value refl)
-otherwise item (whole.Block statements tail label) literal path unary binary either assigned block loop break continue return call missing = absurd (block statements tail label refl)
-otherwise item (whole.Loop body label) literal path unary binary either assigned block loop break continue return call missing = absurd (loop body label refl)
-otherwise item (whole.Break value label) literal path unary binary either assigned block loop break continue return call missing = absurd (break value label refl)
-otherwise item (whole.Continue label) literal path unary binary either assigned block loop break continue return call missing = absurd (continue label refl)
-otherwise item (whole.Return value) literal path unary binary either assigned block loop break continue return call missing = absurd (return value refl)
-otherwise item (whole.Call callee args) literal path unary binary either assigned block loop break continue return call missing = absurd (call callee args refl)
-otherwise item whole.Missing literal path unary binary either assigned block loop break continue return call missing = absurd (missing refl)
-otherwise item _ literal path unary binary either assigned block loop break continue return call missing = record { core = refl; cause = λ lacks. lacks }
+pub otherwise : (item : Bool) (e : Expr) → ((l : _) → e ≡ whole.Literal l → ⊥) → ((name : _) → e ≡ whole.Path name → ⊥) → ((operand : _) (op : _) → e ≡ whole.UnaryOp operand op → ⊥) → ((lhs : _) (rhs : _) (op : _) → e ≡ whole.BinaryOp lhs rhs op → ⊥) → ((condition : _) (then_branch : _) (else_branch : _) → e ≡ whole.If condition then_branch else_branch → ⊥) → ((target : _) (value : _) → e ≡ whole.Assignment target value → ⊥) → ((statements : _) (tail : _) (label : _) → e ≡ whole.Block statements tail label → ⊥) → ((body : _) (label : _) → e ≡ whole.Loop body label → ⊥) → ((value : _) (label : _) → e ≡ whole.Break value label → ⊥) → ((label : _) → e ≡ whole.Continue label → ⊥) → ((value : _) → e ≡ whole.Return value → ⊥) → ((callee : _) (args : _) → e ≡ whole.Call callee args → ⊥) → ((receiver : _) (args : _) (name : _) → e ≡ whole.MethodCall receiver args name → ⊥) → (e ≡ whole.Missing → ⊥) → IsFormOf item e form.Unbuilt
+otherwise item (whole.Literal l) literal path unary binary either assigned block loop break continue return call method missing = absurd (literal l refl)
+otherwise item (whole.Path name) literal path unary binary either assigned block loop break continue return call method missing = absurd (path name refl)
+otherwise item (whole.UnaryOp operand op) literal path unary binary either assigned block loop break continue return call method missing = absurd (unary operand op refl)
+otherwise item (whole.BinaryOp lhs rhs op) literal path unary binary either assigned block loop break continue return call method missing = absurd (binary lhs rhs op refl)
+otherwise item (whole.If condition then_branch else_branch) literal path unary binary either assigned block loop break continue return call method missing = absurd (either condition then_branch else_branch refl)
+otherwise item (whole.Assignment target value) literal path unary binary either assigned block loop break continue return call method missing = absurd (assigned target value refl)
+otherwise item (whole.Block statements tail label) literal path unary binary either assigned block loop break continue return call method missing = absurd (block statements tail label refl)
+otherwise item (whole.Loop body label) literal path unary binary either assigned block loop break continue return call method missing = absurd (loop body label refl)
+otherwise item (whole.Break value label) literal path unary binary either assigned block loop break continue return call method missing = absurd (break value label refl)
+otherwise item (whole.Continue label) literal path unary binary either assigned block loop break continue return call method missing = absurd (continue label refl)
+otherwise item (whole.Return value) literal path unary binary either assigned block loop break continue return call method missing = absurd (return value refl)
+otherwise item (whole.Call callee args) literal path unary binary either assigned block loop break continue return call method missing = absurd (call callee args refl)
+otherwise item (whole.MethodCall receiver args name) literal path unary binary either assigned block loop break continue return call method missing = absurd (method receiver args name refl)
+otherwise item whole.Missing literal path unary binary either assigned block loop break continue return call method missing = absurd (missing refl)
+otherwise item _ literal path unary binary either assigned block loop break continue return call method missing = record { core = refl; cause = λ lacks. lacks }
 
 node-adjusted : (source : Source) (e : ℕ) → is_adjusted_otherwise source.infer (record { 0 = e }) ≡ true → node source e ≡ None
 unfolding node

@@ -39,7 +39,8 @@ core_form (form.Loop label body) = Some (expr.Loop label body.0)
 core_form (form.Break label value) = Some (expr.Break label value)
 core_form (form.Continue label) = Some (expr.Continue label)
 core_form (form.Return value) = Some (expr.Return value)
-core_form (form.Call callee args) = Some (expr.Call callee.0 (expr_numbers args.now))
+core_form (form.Call callee args) = Some (expr.Call (Some callee.0) (expr_numbers args.now))
+core_form (form.MethodCall receiver args) = Some (expr.Call None (receiver.0 ∷ expr_numbers args.now))
 core_form form.Incomplete = None
 core_form form.Unbuilt = None
 

@@ -52,8 +52,8 @@ pub record IsUnbuiltExpr (source : Source) (e : ℕ) : Type 0 where
 
 -- An expression of a form that isn't built yet, whatever its parts are: one that is adjusted otherwise than by `NeverToAny`
 -- alone, whatever its form is, and one to which `core_of` gives no form, other than an incomplete one: `*`, `+=` and its like,
--- a literal that is neither a truth value nor a whole number, a path to an associated item or a variant, a method's call, a
--- closure, a `match` and so on.
+-- a literal that is neither a truth value nor a whole number, a path to an associated item or a variant, a closure, a `match`
+-- and so on.
 abbrev pub IsUnbuiltForm : Source → ℕ → Type 0
 IsUnbuiltForm source e = (is_adjusted_otherwise source.infer (record { 0 = e }) ≡ true) ⊎ IsUnbuiltExpr source e
 
@@ -74,11 +74,11 @@ IsUnbuiltTarget source p =
     (target_path source p ≡ None)
     ⊎ ((named : ValueNs) × (pattern_named_by source p ≡ Some named) × (local_named named ≡ None))
 
--- a call that isn't built yet: its callee is no function, or one that is given generic arguments, or whose own body a call doesn't enter
-abbrev pub IsUnbuiltCall : Source → ℕ → Type 0
-IsUnbuiltCall source callee =
-    (function_called source callee ≡ None)
-    ⊎ ((id : FunctionId) × (function_called source callee ≡ Some id) × (is_direct (function_row source.world id) ≡ false))
+-- a call that isn't built yet: it names no function, or one that is given generic arguments, or whose own body a call doesn't enter
+abbrev pub IsUnbuiltCall : Source → ℕ → (callee : Option ℕ) → Type 0
+IsUnbuiltCall source e callee =
+    (function_called source e callee ≡ None)
+    ⊎ ((id : FunctionId) × (function_called source e callee ≡ Some id) × (is_direct (function_row source.world id) ≡ false))
 
 -- an expression that isn't built yet: by its form, as a path by what it names, as an assignment by its target, as a block by one
 -- of its statements, or as a call by what it calls
@@ -95,7 +95,7 @@ IsUnbuilt source e (Some (expr.Loop label body)) = ⊥
 IsUnbuilt source e (Some (expr.Break label value)) = ⊥
 IsUnbuilt source e (Some (expr.Continue label)) = ⊥
 IsUnbuilt source e (Some (expr.Return value)) = ⊥
-IsUnbuilt source e (Some (expr.Call callee args)) = IsUnbuiltCall source callee
+IsUnbuilt source e (Some (expr.Call callee args)) = IsUnbuiltCall source e callee
 IsUnbuilt source e None = IsUnbuiltForm source e
 
 -- a name pattern of a binding that the body lacks

@@ -36,6 +36,8 @@ pub enum Form<'a> {
     Continue(Option<LabelId>),
     Return(Option<ExprId>),
     Call(ExprId, &'a List<ExprId>),
+    /// A method call: its receiver, and its other arguments.
+    MethodCall(ExprId, &'a List<ExprId>),
     /// An expression that is missing, or whose operator is.
     Incomplete,
     Unbuilt,
@@ -124,6 +126,7 @@ fn form_of<'a>(names_item: bool, expr: &'a Expr) -> Form<'a>
         Expr::Continue { label } => Form::Continue(*label),
         Expr::Return { expr } => Form::Return(*expr),
         Expr::Call { callee, args } => Form::Call(*callee, args),
+        Expr::MethodCall { receiver, args, .. } => Form::MethodCall(*receiver, args),
         Expr::Missing => Form::Incomplete,
         _ => Form::Unbuilt,
     }

@@ -29,7 +29,7 @@ use Rattle.mir.specs.Areas.{AreApart, after_push}
 use Rattle.mir.specs.Errors.{layout_error_of}
 use Rattle.mir.specs.Memory.{Memory, cell_bytes, cell_before, cell_size_of, size_before, sizes_of, pushed, cells_of}
 use Rattle.mir.specs.Run.{Frame, operand_bytes as mir_bytes, bad_write, read, copied, filled as mir_filled, called_cells, function_of as mir_function_of, function_in as mir_function_in}
-use Rattle.source_meaning.specs.Calls.{without_generics, function_of, function_in, function_called, filled}
+use Rattle.source_meaning.specs.Calls.{without_generics, function_of, function_in, filled}
 use Rattle.source_meaning.specs.Source.{Source, Cell, Result as Slot, Binding, Store, Operand, operand_bytes, own_type, cell_type, cell_layout, cell_size, zeroed, with_cell_bytes}
 use Rattle.mir_lower.specs.Callees.{AreLocalsOf}
 use Rattle.mir_lower.specs.Does.{Holds, FitAll}
@@ -58,11 +58,8 @@ layer-names (layer.FnDef (StructId named) args) id is = absurd cc
 layer-names (layer.FnDef (EnumVariantId named) args) id is = absurd cc
 layer-names of id is = absurd cc
 
-pub names-callee : (source : Source) (callee : ℕ) (ty : Ty) (id : FunctionId) → own_type source callee ≡ Some ty → function_called source callee ≡ Some id → mir_function_in ty ≡ Some (without_arguments id)
-unfolding function_called
-names-callee source callee ty id own names =
-    let of : function_in ty ≡ Some id = sym (ap (option_and_then function_in) own) ∙ names in
-    layer-names (out-Ty ty) id of
+pub names-callee : (ty : Ty) (id : FunctionId) → function_in ty ≡ Some id → mir_function_in ty ≡ Some (without_arguments id)
+names-callee ty id named = layer-names (out-Ty ty) id named
 
 -- the bytes of a local whose cell is known
 pub bytes-at : (frame : Frame) (memory : Memory) (l : ℕ) (cell : Interval) → slice_get frame.cells l ≡ Some cell → local_bytes frame memory l ≡ cell_bytes memory cell

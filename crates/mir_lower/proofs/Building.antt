@@ -55,7 +55,7 @@ pub built-strict : (source : Source) (e : ℕ) (operation : Operation) (operands
 built-strict source e operation operands is built =
     built-node source e (Some (expr.Strict operation operands)) is tt (subst (All (IsBuilt source)) (sym (strict_parts operation operands)) built)
 
-pub built-call : (source : Source) (e callee : ℕ) (args : List ℕ) → node source e ≡ Some (expr.Call callee args) → CallsFunction source callee → All (IsBuilt source) args → IsBuilt source e
+pub built-call : (source : Source) (e : ℕ) (callee : Option ℕ) (args : List ℕ) → node source e ≡ Some (expr.Call callee args) → CallsFunction source e callee → All (IsBuilt source) args → IsBuilt source e
 built-call source e callee args is calls built =
     built-node source e (Some (expr.Call callee args)) is calls (subst (All (IsBuilt source)) (sym (call_parts callee args)) built)
 

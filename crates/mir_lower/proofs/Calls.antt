@@ -115,20 +115,20 @@ has-called source s new e func args destination target sound opened same =
           run-terminator t s whole frame opened grown is memory budget ∙ ap (going_on budget) (call-leads frame memory e func args destination target);
     })
 
-lays-call : (source : Source) (s1 new : Shape) (e callee : ℕ) (es : List ℕ) → node source e ≡ Some (expr.Call callee es) → ((child : ℕ) → Contains es child → is_truth (unadjusted source child) ≡ false → LaysOut source s1 child) → Grows s1 new → IsLaidOutNode source e → LaysOut source new e
+lays-call : (source : Source) (s1 new : Shape) (e : ℕ) (callee : Option ℕ) (es : List ℕ) → node source e ≡ Some (expr.Call callee es) → ((child : ℕ) → Contains es child → is_truth (unadjusted source child) ≡ false → LaysOut source s1 child) → Grows s1 new → IsLaidOutNode source e → LaysOut source new e
 lays-call source s1 new e callee es form below grows laid plain layouts f own = laid
 lays-call source s1 new e callee es form below grows laid plain layouts f (inside {child = child} within rest) =
     let operand = sized_operand source es child (subst (λ n. Contains (sized_parts source n) child) form within) in
     below child operand.0 operand.1 (plain-part source e child (argument_is_part source e callee es child form operand.0) laid plain) (layouts-before source s1 new grows layouts) f rest
 
 -- the type of the operand that names the callee
-callee-type : (frame : Frame) (operand : OperandKind) (source : Source) (callee : ℕ) → (is : IsCalleeOperand source callee operand) → mir_type frame.body operand ≡ Some is.ty
+callee-type : (frame : Frame) (operand : OperandKind) (source : Source) (e : ℕ) (callee : Option ℕ) → (is : IsCalleeOperand source e callee operand) → mir_type frame.body operand ≡ Some is.ty
 unfolding mir_type
-callee-type frame operand source callee is = ap (mir_type frame.body) is.is_constant
+callee-type frame operand source e callee is = ap (mir_type frame.body) is.is
 
 -- a call was lowered: its arguments, and then the call
-pub lowers-call : (source : Source) (s0 s1 new : Shape) (e : ExprId) (callee : ℕ) (es : List ℕ) (func : MirOperand) (args : List MirOperand) (place : Place) (next : BasicBlockId) → IsReady source s0 e.0 → node source e.0 ≡ Some (expr.Call callee es) →
-    LowersOperands source s0 s1 es (map (λ (arg : MirOperand). arg.kind) args) → IsCalleeOperand source callee func.kind → CallsFunction source callee → next.0 ≡ length s1.blocks →
+pub lowers-call : (source : Source) (s0 s1 new : Shape) (e : ExprId) (callee : Option ℕ) (es : List ℕ) (func : MirOperand) (args : List MirOperand) (place : Place) (next : BasicBlockId) → IsReady source s0 e.0 → node source e.0 ≡ Some (expr.Call callee es) →
+    LowersOperands source s0 s1 es (map (λ (arg : MirOperand). arg.kind) args) → IsCalleeOperand source e.0 callee func.kind → CallsFunction source e.0 callee → next.0 ≡ length s1.blocks →
     HasCalled source s1 new (call_of e func args place (target_of_call (must_not_return source e.0) next)) (length s1.blocks) → (c : Cell) → local_of s0 c ≡ Some place.local.0 → LowersOwn source s0 new e.0 c
 lowers-call source s0 s1 new e callee es func args place next ready form given is built at called c local =
     record {
@@ -148,18 +148,18 @@ lowers-call source s0 s1 new e callee es func args place next ready form given i
       -- from the call on, by whether its callee must not return
       by-mark : (whole : Shape) (frame : Frame) → Grows new whole → IsSound source whole → IsFrameOf whole frame → (lands : Landings) (fuel : ℕ) → Serves (suc fuel) source frame.program → (values : List Operand) (store : Store) (memory : Memory) → Holds whole frame store memory →
           FitAll source (map (λ (arg : MirOperand). arg.kind) args) whole frame values → (marked : Bool) → must_not_return source e.0 ≡ marked →
-          Reaches source whole lands frame (here s1) (here new) memory (Nothing whole frame) (entered_into (callees_at fuel) marked (source_called source callee) (map (operand_bytes store) values) (record { cell = c }) store)
+          Reaches source whole lands frame (here s1) (here new) memory (Nothing whole frame) (entered_into (callees_at fuel) marked (source_called source e.0 callee) (map (operand_bytes store) values) (record { cell = c }) store)
       by-mark whole frame grows sound frame-is lands fuel serves values store memory holds fit true mark =
           let call : Calling = call_of e func args place (target_of_call true next) in
           let found = local_of-grows s0 whole (grows-trans s0 s1 whole given.keeps.grows (grows-trans s1 new whole called.grows grows)) c place.local.0 local in
-          call-strays source whole frame lands (here s1) memory store sound frame-is holds fuel serves call values fit callee is.ty (callee-type frame func.kind source callee is) is.typed built.id built.names makes c found
+          call-strays source whole frame lands (here s1) memory store sound frame-is holds fuel serves call values fit e.0 callee is.ty (callee-type frame func.kind source e.0 callee is) built.id (is.names ∙ built.names) built.names makes c found
           (λ budget. called.does whole frame grows frame-is memory budget ∙ ap (λ (m : Bool). going_on budget (calls frame memory (call_of e func args place (target_of_call m next)))) mark)
           (here new) refl
       by-mark whole frame grows sound frame-is lands fuel serves values store memory holds fit false mark =
           let call : Calling = call_of e func args place (target_of_call false next) in
           let found = local_of-grows s0 whole (grows-trans s0 s1 whole given.keeps.grows (grows-trans s1 new whole called.grows grows)) c place.local.0 local in
-          subst (λ (p : Point). Reaches source whole lands frame (here s1) p memory (Nothing whole frame) (entered_into (callees_at fuel) false (source_called source callee) (map (operand_bytes store) values) (record { cell = c }) store)) (ap start_of at ∙ sym called.begins)
-          (call-returns source whole frame lands (here s1) memory store sound frame-is holds fuel serves call values fit callee is.ty (callee-type frame func.kind source callee is) is.typed built.id built.names makes c found
+          subst (λ (p : Point). Reaches source whole lands frame (here s1) p memory (Nothing whole frame) (entered_into (callees_at fuel) false (source_called source e.0 callee) (map (operand_bytes store) values) (record { cell = c }) store)) (ap start_of at ∙ sym called.begins)
+          (call-returns source whole frame lands (here s1) memory store sound frame-is holds fuel serves call values fit e.0 callee is.ty (callee-type frame func.kind source e.0 callee is) built.id (is.names ∙ built.names) built.names makes c found
           (λ budget. called.does whole frame grows frame-is memory budget ∙ ap (λ (m : Bool). going_on budget (calls frame memory (call_of e func args place (target_of_call m next)))) mark)
           next.0 refl)
 

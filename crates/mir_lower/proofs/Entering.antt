@@ -19,11 +19,11 @@ use Rattle.mir.specs.declared.operand.Operand.{Operand as MirOperand}
 use Rattle.mir.specs.Memory.{Memory, cell_bytes}
 use Rattle.mir.specs.Run.{Program, Frame, Calling, Ending, Faulted, Asked, Ended, operand_type as mir_type, body_query, trail_of, levels_over, entry_of, callee_error, called_cells, called as mir_called, called_by, calls, entered, going_on}
 use Rattle.source_meaning.specs.Around.{at_root, marking}
-use Rattle.source_meaning.specs.Calls.{function_called, source_of, source_called, parameter_cells, filled, started}
+use Rattle.source_meaning.specs.Calls.{function_called, function_in, source_of, source_called, parameter_cells, filled, started}
 use Rattle.source_meaning.specs.Ends.{Cost, cost_of, no_cost, turns_alone, one_level_more, plus, End, Go, Jumps, Faults, Stuck, More, after, then_do}
 use Rattle.source_meaning.specs.Entering.{body_room, entering as entering_cost}
 use Rattle.source_meaning.specs.Meaning.{put, call_returned, call_diverged, entered_from, entered_into, level_at, callees_at, meaning_from, returned}
-use Rattle.source_meaning.specs.Source.{Source, own_type, Cell, Result as Slot, Binding, cell_size, Path, Store, Operand, operand_bytes, root, zeroed, with_cell_bytes}
+use Rattle.source_meaning.specs.Source.{Source, Cell, Result as Slot, Binding, cell_size, Path, Store, Operand, operand_bytes, root, zeroed, with_cell_bytes}
 use Rattle.source_meaning.specs.Valid.{Calls, at_once, through}
 use Rattle.source_meaning.proofs.Calls.{called_by_name, called_row, called_world}
 use Rattle.mir_lower.specs.Callees.{RunsAs, DoesBelow, Serves, cost_once_placed, once_placed}
@@ -31,7 +31,7 @@ use Rattle.mir_lower.specs.Does.{IsFrameOf, Holds, Landings, Reaches, Nothing, F
 use Rattle.mir_lower.specs.Graph.{Shape, local_of}
 use Rattle.mir_lower.specs.Growth.{IsSound}
 use Rattle.mir_lower.specs.Runs.{Point, Entry, Exit, start_of, run_from, local_bytes, Enters, IsFault, EndsAfter, error_of, LiesApart, HasGrown, Comes}
-use Rattle.mir_lower.specs.Stops.{MakesCall, MakesSomeCall, IsCut, StopsWithin, StopsFrom, without_arguments}
+use Rattle.mir_lower.specs.Stops.{MakesCall, MakesSomeCall, ReachesCall, IsCut, StopsWithin, StopsFrom, without_arguments}
 use Rattle.mir_lower.proofs.Aligned.{are-aligned}
 use Rattle.mir_lower.proofs.Arguments.{names-callee, bytes-at, Spares, Shows, ArePlaced, called-places, fills}
 use Rattle.mir_lower.proofs.CallLeads.{frame-of, leads-by, called-into, called-alone, entered-lacks, entered-at, goes-back, goes-astray, levels-same, levels-more}
@@ -58,7 +58,7 @@ ends-same turns ends run other same after =
 -- a source calls the source of a function that it makes a call of
 calls-into : (source called : Source) (id : FunctionId) → MakesCall source id → source_of source.world id ≡ Some called → Calls source called
 calls-into source called id makes has_body =
-    record { e = makes.e; evaluated = makes.evaluated; callee = makes.callee; args = makes.args; is_call = makes.is_call; enters = called_by_name source makes.callee id called makes.names has_body }
+    record { e = makes.e; evaluated = makes.evaluated; callee = makes.callee; args = makes.args; is_call = makes.is_call; enters = called_by_name source makes.e makes.callee id called makes.names has_body }
 
 -- where a callee's run stops at a call, so does its caller's
 stops-same : (source called : Source) (program : Program) (levels : ℕ) (now : Memory) (few : Cost) (more : ℕ) (memory : Memory) (many : Cost) (run other : ℕ → Ended) → MakesSomeCall source → Calls source called → ((budget : ℕ) → run budget ≡ other budget) →
@@ -91,15 +91,15 @@ stops-now source program levels memory cost run ending makes cut ends =
 -- a called body of a checked world is checked
 checked-callee : (source called : Source) → IsChecked source.world → Calls source called → IsCheckedBody called.body called.infer
 checked-callee source called checked calls =
-    let row = called_row source calls.callee called calls.enters in
+    let row = called_row source calls.e calls.callee called calls.enters in
     subst (λ (s : Source). IsCheckedBody s.body s.infer) row.3 (checked.bodies row.0 row.1 row.2)
 
 module _ (source : Source) (whole : Shape) (frame : Frame) (lands : Landings) (from : Point) (memory : Memory) (store : Store)
     (sound : IsSound source whole) (is : IsFrameOf whole frame) (holds : Holds whole frame store memory)
     (fuel : ℕ) (serves : Serves (suc fuel) source frame.program)
     (call : Calling) (values : List Operand) (fit : FitAll source (map (λ (arg : MirOperand). arg.kind) call.args) whole frame values)
-    (callee : ℕ) (ty : Ty) (typed : mir_type frame.body call.func.kind ≡ Some ty) (own : own_type source callee ≡ Some ty)
-    (id : FunctionId) (names : function_called source callee ≡ Some id) (makes : MakesCall source id)
+    (e : ℕ) (callee : Option ℕ) (ty : Ty) (typed : mir_type frame.body call.func.kind ≡ Some ty)
+    (id : FunctionId) (named : function_in ty ≡ Some id) (names : function_called source e callee ≡ Some id) (makes : MakesCall source id)
     (c : Cell) (found : local_of whole c ≡ Some call.destination.local.0)
     (at : (budget : ℕ) → run_from frame memory from budget ≡ going_on budget (calls frame memory call)) where
   -- the run stops at the call, whatever is counted
@@ -134,6 +134,9 @@ module _ (source : Source) (whole : Shape) (frame : Frame) (lands : Landings) (f
     others : (old : Interval) (bytes : List ℕ) → cell_bytes memory old ≡ Some bytes → Spares destination old → LiesApart (frame-of frame call id body intervals) old
     slot : (cell : Interval) → destination ≡ Some cell → slice_get intervals 0 ≡ Some cell
 
+  own-call : ReachesCall source id
+  own-call = record { caller = source; reached = at_once; makes = makes }
+
   -- the body that the run is told for the callee; without one the run stops
   told-body : (called : Source) → source_of source.world id ≡ Some called → StopsAnyhow ⊎ ((body : MirBody) × DoesBelow (suc fuel) frame.program called body × ((budget : ℕ) → run_from frame memory from budget ≡ going_on budget (mir_called frame memory call id body)))
   unfolding called_by going_on
@@ -141,12 +144,12 @@ module _ (source : Source) (whole : Shape) (frame : Frame) (lands : Landings) (f
     leads : (answer : Option Told) → answer_to frame.program.answers (body_query (without_arguments id)) ≡ answer → (budget : ℕ) → run_from frame memory from budget ≡ going_on budget (called_by frame memory call (without_arguments id) answer)
     leads answer known budget =
         at budget
-        ∙ ap (going_on budget) (leads-by frame memory call id ty typed (names-callee source callee ty id own names))
+        ∙ ap (going_on budget) (leads-by frame memory call id ty typed (names-callee ty id named))
         ∙ ap (λ (a : Option Told). going_on budget (called_by frame memory call (without_arguments id) a)) known
 
     asks : (answer : Option Told) → answer_to frame.program.answers (body_query (without_arguments id)) ≡ answer → ((budget : ℕ) → going_on budget (called_by frame memory call (without_arguments id) answer) ≡ record { ending = Asked (body_query (without_arguments id)) frame memory call; left = budget }) → StopsAnyhow
     asks answer known ends cost =
-        stops-now source frame.program (levels_over frame.below) memory cost (run_from frame memory from) (Asked (body_query (without_arguments id)) frame memory call) (id, makes) tt (λ budget. leads answer known budget ∙ ends budget)
+        stops-now source frame.program (levels_over frame.below) memory cost (run_from frame memory from) (Asked (body_query (without_arguments id)) frame memory call) (id, makes) (record { id = id; call = own-call; is = refl }) (λ budget. leads answer known budget ∙ ends budget)
 
     by_answer : (answer : Option Told) → answer_to frame.program.answers (body_query (without_arguments id)) ≡ answer → StopsAnyhow ⊎ ((body : MirBody) × DoesBelow (suc fuel) frame.program called body × ((budget : ℕ) → run_from frame memory from budget ≡ going_on budget (mir_called frame memory call id body)))
     by_answer None known = inl (asks None known (λ budget. refl))
@@ -156,7 +159,7 @@ module _ (source : Source) (whole : Shape) (frame : Frame) (lands : Landings) (f
     by_answer (Some (told.Failed refusal)) known =
         inl (λ cost.
         stops-now source frame.program (levels_over frame.below) memory cost (run_from frame memory from) (Faulted (callee_error id refusal) (entry_of frame call id ∷ trail_of frame)) (id, makes)
-        (inl (record { caller = source; reached = at_once; id = id; makes = makes; refusal = refusal; told = known; is = refl }))
+        (inl (record { id = id; call = own-call; refusal = refusal; told = known; is = refl }))
         (leads (Some (told.Failed refusal)) known))
 
   -- the body is entered: its cells are placed, and the arguments are copied to them; or the run stops
@@ -169,7 +172,7 @@ module _ (source : Source) (whole : Shape) (frame : Frame) (lands : Landings) (f
     way = calls-into source called id makes has_body
 
     world : called.world ≡ source.world
-    world = called_world source way.callee called way.enters
+    world = called_world source way.e way.callee called way.enters
 
     in-world : HirDatabase → Result (List Interval × Memory) MirEvalError
     in-world w = called_cells w body.locals destination memory
@@ -333,7 +336,7 @@ module _ (source : Source) (whole : Shape) (frame : Frame) (lands : Landings) (f
   abbrev place : Path
   place = record { cell = c }
 
-  callee-is : source_called source callee ≡ source_of source.world id
+  callee-is : source_called source e callee ≡ source_of source.world id
   unfolding source_called
   callee-is = ap (option_and_then (source_of source.world)) names
 
@@ -374,7 +377,7 @@ module _ (source : Source) (whole : Shape) (frame : Frame) (lands : Landings) (f
   -- a call with a target: the callee's body runs, its value lies at the destination, and the target block is entered; or the run stops at
   -- the call, or in the callee
   pub call-returns : (next : ℕ) → call.target ≡ Some next →
-      Reaches source whole lands frame from (start_of next) memory (Nothing whole frame) (entered_into (callees_at fuel) false (source_called source callee) (map (operand_bytes store) values) (record { cell = c }) store)
+      Reaches source whole lands frame from (start_of next) memory (Nothing whole frame) (entered_into (callees_at fuel) false (source_called source e callee) (map (operand_bytes store) values) (record { cell = c }) store)
   call-returns next target =
       subst (λ (o : Option Source). Returning next target (entered_into (callees_at fuel) false o Given place store)) (sym callee-is) (returns-source next target (source_of source.world id) refl)
 
@@ -424,6 +427,6 @@ module _ (source : Source) (whole : Shape) (frame : Frame) (lands : Landings) (f
 
   -- a call without a target, whose callee must not return
   pub call-strays : (to : Point) → call.target ≡ None →
-      Reaches source whole lands frame from to memory (Nothing whole frame) (entered_into (callees_at fuel) true (source_called source callee) (map (operand_bytes store) values) (record { cell = c }) store)
+      Reaches source whole lands frame from to memory (Nothing whole frame) (entered_into (callees_at fuel) true (source_called source e callee) (map (operand_bytes store) values) (record { cell = c }) store)
   call-strays to target =
       subst (λ (o : Option Source). Straying to target (entered_into (callees_at fuel) true o Given place store)) (sym callee-is) (strays-source to target (source_of source.world id) refl)

@@ -1,7 +1,9 @@
 -- A run that stops at a call does so within what is counted from a point before, and within more.
 use Rattle.std.proofs.Common.{◌≡◌, ℕ, suc, ◌+◌, ◌<◌, ◌≤◌, ⊎_elim, inl, inr, Bool, true, false, refl, arith}
 use Rattle.std.specs.Prelude.{◌&&◌}
+use Rattle.types.specs.declared.ids.FunctionId.{FunctionId}
 use Rattle.types.specs.declared.ty.Ty.{Ty}
+use Rattle.mir.specs.declared.answers.Query.{Query}
 use Rattle.mir.specs.Areas.{taken}
 use Rattle.mir.specs.declared.errors.MirEvalError.{MirEvalError}
 use Rattle.mir.specs.declared.errors.MirEvalError as error
@@ -11,7 +13,7 @@ use Rattle.source_meaning.specs.Ends.{Cost, plus}
 use Rattle.source_meaning.specs.Source.{Source}
 use Rattle.source_meaning.specs.Valid.{Reaches}
 use Rattle.mir_lower.specs.Runs.{EndsAfter, HasGrown}
-use Rattle.mir_lower.specs.Stops.{OfReached, LacksLayout, LacksSize, LacksRoom, WasRefused, IsCut, StopsWithin}
+use Rattle.mir_lower.specs.Stops.{OfReached, LacksLayout, LacksSize, LacksRoom, ReachesCall, IsAsked, WasRefused, IsCut, StopsWithin}
 
 -- an end of another kind
 pub ends-as : (turns : ℕ) (some other : Ending → Type 0) (run : ℕ → Ended) → ((ending : Ending) → some ending → other ending) → EndsAfter turns some run → EndsAfter turns other run
@@ -34,13 +36,19 @@ module _ (called source : Source) (onward : (reached : Source) → Reaches calle
   lacks-onward error.StackOverflow lacks = omega arith
   lacks-onward _ lacks = absurd lacks
 
+  call-onward : (id : FunctionId) → ReachesCall called id → ReachesCall source id
+  call-onward id call = record { caller = call.caller; reached = onward call.caller call.reached; makes = call.makes }
+
   refused-onward : (e : MirEvalError) → WasRefused called program e → WasRefused source program e
-  refused-onward e was = record { caller = was.caller; reached = onward was.caller was.reached; id = was.id; makes = was.makes; refusal = was.refusal; told = was.told; is = was.is }
+  refused-onward e was = record { id = was.id; call = call-onward was.id was.call; refusal = was.refusal; told = was.told; is = was.is }
+
+  asked-onward : (q : Query) → IsAsked called q → IsAsked source q
+  asked-onward q asked = record { id = asked.id; call = call-onward asked.id asked.call; is = asked.is }
 
   pub cut-onward : (ending : Ending) → IsCut called program levels memory few ending → IsCut source program more other many ending
   cut-onward (Returned bytes) cut = absurd cut
   cut-onward (Faulted e trail) cut = ⊎_elim (λ refused. inl (refused-onward e refused)) (λ lacks. inr (lacks-onward e lacks)) cut
-  cut-onward (Asked q frame memory call) cut = tt
+  cut-onward (Asked q frame memory call) cut = asked-onward q cut
 
 -- a cost is part of another
 pub record IsPart (few many : Cost) : Type 0 where

@@ -1,5 +1,5 @@
 -- Runs that stop at a call, since its callee isn't entered.
-use Rattle.std.specs.Prelude.{◌≡◌, ℕ, suc, ◌+◌, ◌<◌, ◌≤◌, ◌⊎◌, false, List, [], Some, None}
+use Rattle.std.specs.Prelude.{◌≡◌, ℕ, suc, ◌+◌, ◌<◌, ◌≤◌, ◌⊎◌, false, List, [], Option, Some, None}
 use Rattle.types.specs.declared.ids.FunctionId.{FunctionId}
 use Rattle.types.specs.declared.ty.GenericArgs.{GenericArgs}
 use Rattle.types.specs.declared.ty.Ty.{Ty}
@@ -8,6 +8,7 @@ use Rattle.world.specs.Lookups.{layout_of}
 use Rattle.mir.specs.Answers.{answer_to}
 use Rattle.mir.specs.Areas.{taken}
 use Rattle.mir.specs.declared.answers.Answer.TheVariants as told
+use Rattle.mir.specs.declared.answers.Query.{Query}
 use Rattle.mir.specs.declared.errors.ConstEvalError.{ConstEvalError}
 use Rattle.mir.specs.declared.errors.MirEvalError.{MirEvalError}
 use Rattle.mir.specs.declared.errors.MirEvalError as error
@@ -30,17 +31,27 @@ without_arguments id = (id, record { 0 = [] })
 pub record MakesCall (source : Source) (id : FunctionId) : Type 0 where
   pub e : ℕ
   pub evaluated : Evaluates source (root source) e
-  pub callee : ℕ
+  pub callee : Option ℕ
   pub args : List ℕ
   pub is_call : node source e ≡ Some (expr.Call callee args)
-  pub names : function_called source callee ≡ Some id
+  pub names : function_called source e callee ≡ Some id
+
+-- something that a source reaches makes a call of a function
+pub record ReachesCall (source : Source) (id : FunctionId) : Type 0 where
+  pub caller : Source
+  pub reached : Reaches source caller
+  pub makes : MakesCall caller id
+
+-- a run asks for the body of a function that is called in what a source reaches
+pub record IsAsked (source : Source) (q : Query) : Type 0 where
+  pub id : FunctionId
+  pub call : ReachesCall source id
+  pub is : q ≡ body_query (without_arguments id)
 
 -- the error of a call in what a source reaches, where the run was told why the callee's body can't be got
 pub record WasRefused (source : Source) (program : Program) (e : MirEvalError) : Type 0 where
-  pub caller : Source
-  pub reached : Reaches source caller
   pub id : FunctionId
-  pub makes : MakesCall caller id
+  pub call : ReachesCall source id
   pub refusal : ConstEvalError
   pub told : answer_to program.answers (body_query (without_arguments id)) ≡ Some (told.Failed refusal)
   pub is : e ≡ callee_error id refusal
@@ -62,10 +73,10 @@ LacksSize source ty = IsCellType source ty × (layout : Layout) × (layout_of so
 abbrev pub OfReached : Source → (Source → Type 0) → Type 0
 OfReached source Holds = (reached : Source) × Reaches source reached × Holds reached
 
--- Why a call's callee isn't placed. `memory` is what the run has, and `levels` how many levels of nesting it holds, where `cost` is counted from:
--- a cell's type has no layout or no size, and then the cost isn't defined; or the stack would take more bytes than the limit, and then so many
--- are counted; or the call would nest deeper than the limit, and then so many levels are counted. The level that the run itself is on is
--- held, and counted too.
+-- Why a call's callee isn't entered, within a cost that is counted from a moment on at which the run has this memory, and holds so many levels
+-- of nesting, its own among them. The type of a cell has no layout, or no size, and then the cost isn't defined. Or the stack would take
+-- more bytes than the limit, and then it takes more with those of the cost. Or the call would nest deeper than the limit, and then the levels
+-- pass it with those of the cost, in which the run's own is counted again.
 abbrev pub LacksRoom : Source → Program → (levels : ℕ) → Memory → Cost → MirEvalError → Type 0
 LacksRoom source program levels memory cost (error.LayoutError cause ty) = (cause ≡ layout_error_of ty) × OfReached source (λ reached. LacksLayout reached ty) × (cost.defined ≡ false)
 LacksRoom source program levels memory cost (error.TypeIsUnsized ty text) = OfReached source (λ reached. LacksSize reached ty) × (cost.defined ≡ false)
@@ -73,11 +84,11 @@ LacksRoom source program levels memory cost error.MemoryLimitExceeded = memory.l
 LacksRoom source program levels memory cost error.StackOverflow = suc program.nesting < levels + cost.nesting
 LacksRoom source program levels memory cost _ = ⊥
 
--- a run ended at a call: it asks for the callee's body, or the callee can't be entered
+-- a run ended at a call: it asks for the callee's body, or the callee can't be entered, or isn't
 abbrev pub IsCut : Source → Program → (levels : ℕ) → Memory → Cost → Ending → Type 0
 IsCut source program levels memory cost (Returned bytes) = ⊥
 IsCut source program levels memory cost (Faulted e trail) = WasRefused source program e ⊎ LacksRoom source program levels memory cost e
-IsCut source program levels memory cost (Asked q frame then call) = Unit {0}
+IsCut source program levels memory cost (Asked q frame then call) = IsAsked source q
 
 -- a source evaluates a call
 abbrev pub MakesSomeCall : Source → Type 0

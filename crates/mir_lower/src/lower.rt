@@ -8,6 +8,7 @@ ghost use Rattle.source_meaning.specs.Core as expr;
 ghost use Rattle.source_meaning.specs.Meaning.{deciding_byte};
 ghost use Rattle.source_meaning.specs.Steps.{parts_of};
 ghost use Rattle.world.specs.declared.body.Statement.TheVariants as statement_kind;
+ghost use Rattle.body_forms.specs.Callees.{callee_number};
 ghost use Rattle.body_forms.specs.Contexts.{source_of};
 ghost use Rattle.body_forms.specs.Form.{core_value, operation_of};
 ghost use Rattle.mir_lower.specs.Graph.{shape, local_of};
@@ -26,7 +27,7 @@ use crate::leave::leave_scope;
 use crate::locals::{assign, assign_target, bind, fake_read, new_never, new_temp, place_named};
 use body_forms::{
     Context, Form, LiteralValue, diverges, form_at, form_not_built, literal_at, lower_callee,
-    lower_literal, path_at,
+    lower_literal, method_args, path_at,
 };
 use mir::{BinOp, LocalId, MirLowerError, MirSpan, Operand, OperandKind, Place, Rvalue, UnOp};
 use world::{ExprId, LabelId, List, LogicOp, PatId, Statement, Text, TryClone};
@@ -207,7 +208,12 @@ fn lower_own(
         Form::Break(label, value) => lower_break(context, graph, e, label, value),
         Form::Continue(label) => lower_continue(context, graph, e, label),
         Form::Return(value) => lower_return(context, graph, e, value),
-        Form::Call(callee, args) => lower_call(context, graph, e, callee, args, place),
+        Form::Call(callee, args) => {
+            lower_call(context, graph, e, Some(callee), args.as_slice(), place)
+        }
+        Form::MethodCall(receiver, args) => {
+            lower_method_call(context, graph, e, receiver, args.as_slice(), place)
+        }
         Form::Incomplete => Err(MirLowerError::IncompleteExpr),
         Form::Unbuilt => Err(form_not_built(context.alloc)),
     }
@@ -478,25 +484,46 @@ fn lower_return(
     Ok(())
 }
 
+/// A method call: a call of the function that it is resolved to, whose first argument is the receiver.
+#[cycle(lower)]
+fn lower_method_call(
+    context: &Context<'_>,
+    graph: &mut Graph,
+    e: ExprId,
+    receiver: ExprId,
+    args: &[ExprId],
+    place: Place,
+) -> Result<(), MirLowerError>
+    requires ready { IsReady (source_of context.now) (shape graph.old) e.0 }
+    requires form { node (source_of context.now) e.0 ≡ Some (expr.Call None (receiver.0 ∷ expr_numbers args.now)) }
+    ensures lowered { OnOk result ((cell : Cell) → local_of (shape graph.old) cell ≡ Some place.local.0
+        → LowersOwn (source_of context.now) (shape graph.old) (shape graph.new) e.0 cell) }
+    ensures built { OnOk result (IsBuilt (source_of context.now) e.0) }
+    ensures refused { IfErr result (RefusesAt (source_of context.now) e.0) }
+{
+    let all = method_args(context.alloc, receiver, args)?;
+    lower_call(context, graph, e, None, all.as_slice(), place)
+}
+
 /// A call: the operand that names the callee, the arguments' operands from left to right, and then the call, which reads them all.
 #[cycle(lower)]
 fn lower_call(
     context: &Context<'_>,
     graph: &mut Graph,
     e: ExprId,
-    callee: ExprId,
-    args: &List<ExprId>,
+    callee: Option<ExprId>,
+    args: &[ExprId],
     place: Place,
 ) -> Result<(), MirLowerError>
     requires ready { IsReady (source_of context.now) (shape graph.old) e.0 }
-    requires form { node (source_of context.now) e.0 ≡ Some (expr.Call callee.0 (expr_numbers args.now)) }
+    requires form { node (source_of context.now) e.0 ≡ Some (expr.Call (callee_number callee) (expr_numbers args.now)) }
     ensures lowered { OnOk result ((cell : Cell) → local_of (shape graph.old) cell ≡ Some place.local.0
         → LowersOwn (source_of context.now) (shape graph.old) (shape graph.new) e.0 cell) }
     ensures built { OnOk result (IsBuilt (source_of context.now) e.0) }
     ensures refused { IfErr result (RefusesAt (source_of context.now) e.0) }
 {
     let func = lower_callee(context, e, callee)?;
-    let operands = lower_operands(context, graph, e, args.as_slice())?;
+    let operands = lower_operands(context, graph, e, args)?;
     call(context, graph, e, func, operands, place)?;
     Ok(())
 }

@@ -7,6 +7,7 @@ use Rattle.mir.specs.declared.span.MirSpan.TheVariants.{ExprId}
 use Rattle.source_meaning.specs.Events.{marked_as_place, marked_in_block}
 use Rattle.source_meaning.specs.Source.{Result, Node, Never, node}
 use Rattle.source_meaning.proofs.Never.{unadjusted-plain}
+use Rattle.body_forms.specs.Callees.{callee_number}
 use Rattle.body_forms.specs.Contexts.{source_of}
 use Rattle.mir_lower.specs.Graph.{shape, target_of_blocks}
 use Rattle.mir_lower.specs.Growth.{Grows, IsPlaced, IsInside}
@@ -1065,7 +1066,7 @@ lower_call-lower_operands-requires t c =
       omega arith,
       (
         parts-ready source (shape c.args.graph.now) c.args.e.0 (λ outer. ap (λ n. opened_in c.args.e.0 n outer) c.requires.form) c.requires.ready,
-        ap parts_of c.requires.form ∙ call_parts c.args.callee.0 (expr_numbers c.args.args.now) ∙ ap expr_numbers (sym c.as_slice.ensures),
+        ap parts_of c.requires.form ∙ call_parts (callee_number c.args.callee) (expr_numbers c.args.args.now),
       ),
     )
 
@@ -1089,17 +1090,15 @@ lower_call-returns-clause-lowered t c =
     let s0 = shape c.args.graph.now in
     let s1 = shape c.lower_operands.new.graph in
     let es = expr_numbers c.args.args.now in
-    let given : LowersOperands source s0 s1 es (map (λ (operand : Operand). operand.kind) c.in_ok-operands.operands) =
-    subst (λ (args : List _). LowersOperands source s0 s1 (expr_numbers args) (map (λ (operand : Operand). operand.kind) c.in_ok-operands.operands)) c.as_slice.ensures c.in_ok-operands.ensures.lowered in
+    let given : LowersOperands source s0 s1 es (map (λ (operand : Operand). operand.kind) c.in_ok-operands.operands) = c.in_ok-operands.ensures.lowered in
     let next = c.in_ok-call.ensures in
-    lowers-call source s0 s1 (shape c.call.new.graph) c.args.e c.args.callee.0 es c.in_ok-func.func c.in_ok-operands.operands c.args.place next.0 c.requires.ready c.requires.form given c.in_ok-func.ensures.callee c.in_ok-func.ensures.built next.1
+    lowers-call source s0 s1 (shape c.call.new.graph) c.args.e (callee_number c.args.callee) es c.in_ok-func.func c.in_ok-operands.operands c.args.place next.0 c.requires.ready c.requires.form given c.in_ok-func.ensures.callee c.in_ok-func.ensures.built next.1
     (has-called source s1 (shape c.call.new.graph) c.args.e c.in_ok-func.func c.in_ok-operands.operands c.args.place _ given.keeps.sound given.keeps.«open» next.2) cell found
 
 pub lower_call-returns-clause-built : goal.lower_call-returns-clause-built
 lower_call-returns-clause-built t c =
     let source = source_of c.args.context.now in
-    built-call source c.args.e.0 c.args.callee.0 (expr_numbers c.args.args.now) c.requires.form c.in_ok-func.ensures.built
-    (subst (λ (args : List _). All (IsBuilt source) (expr_numbers args)) c.as_slice.ensures c.in_ok-operands.ensures.built)
+    built-call source c.args.e.0 (callee_number c.args.callee) (expr_numbers c.args.args.now) c.requires.form c.in_ok-func.ensures.built c.in_ok-operands.ensures.built
 
 -- the operands of a call
 

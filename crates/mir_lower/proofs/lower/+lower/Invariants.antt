@@ -13,70 +13,73 @@ use Rattle.mir_lower.specs.Lowered.{LowersStatements}
 use Rattle.mir_lower.proofs.lower.+lower.Given as goal
 
 abbrev pub decreases-lower_operand : goal.decreases-lower_operand
-decreases-lower_operand l = 10 * l.e.0 + 9
+decreases-lower_operand l = 11 * l.e.0 + 10
 
 abbrev pub decreases-lower_place : goal.decreases-lower_place
-decreases-lower_place l = 10 * l.e.0 + 8
+decreases-lower_place l = 11 * l.e.0 + 9
 
 abbrev pub decreases-lower_temp : goal.decreases-lower_temp
-decreases-lower_temp l = 10 * l.e.0 + 7
+decreases-lower_temp l = 11 * l.e.0 + 8
 
 abbrev pub decreases-lower_into : goal.decreases-lower_into
-decreases-lower_into l = 10 * l.e.0 + 6
+decreases-lower_into l = 11 * l.e.0 + 7
 
 abbrev pub decreases-lower_own : goal.decreases-lower_own
-decreases-lower_own l = 10 * l.e.0 + 5
+decreases-lower_own l = 11 * l.e.0 + 6
 
 abbrev pub decreases-lower_unary : goal.decreases-lower_unary
-decreases-lower_unary l = 10 * l.e.0 + 4
+decreases-lower_unary l = 11 * l.e.0 + 4
 
 abbrev pub decreases-lower_binary : goal.decreases-lower_binary
-decreases-lower_binary l = 10 * l.e.0 + 4
+decreases-lower_binary l = 11 * l.e.0 + 4
 
 abbrev pub decreases-lower_logic : goal.decreases-lower_logic
-decreases-lower_logic l = 10 * l.e.0 + 4
+decreases-lower_logic l = 11 * l.e.0 + 4
 
 abbrev pub decreases-lower_if : goal.decreases-lower_if
-decreases-lower_if l = 10 * l.e.0 + 4
+decreases-lower_if l = 11 * l.e.0 + 4
 
 abbrev pub decreases-lower_assignment : goal.decreases-lower_assignment
-decreases-lower_assignment l = 10 * l.e.0 + 4
+decreases-lower_assignment l = 11 * l.e.0 + 4
 
 abbrev pub decreases-lower_block : goal.decreases-lower_block
-decreases-lower_block l = 10 * l.e.0 + 4
+decreases-lower_block l = 11 * l.e.0 + 4
 
 abbrev pub decreases-lower_labelled : goal.decreases-lower_labelled
-decreases-lower_labelled l = 10 * l.e.0 + 4
+decreases-lower_labelled l = 11 * l.e.0 + 4
 
 abbrev pub decreases-lower_loop : goal.decreases-lower_loop
-decreases-lower_loop l = 10 * l.e.0 + 4
+decreases-lower_loop l = 11 * l.e.0 + 4
 
 abbrev pub decreases-lower_break : goal.decreases-lower_break
-decreases-lower_break l = 10 * l.e.0 + 4
+decreases-lower_break l = 11 * l.e.0 + 4
 
 abbrev pub decreases-lower_return : goal.decreases-lower_return
-decreases-lower_return l = 10 * l.e.0 + 4
+decreases-lower_return l = 11 * l.e.0 + 4
+
+abbrev pub decreases-lower_method_call : goal.decreases-lower_method_call
+decreases-lower_method_call l = 11 * l.e.0 + 5
 
 abbrev pub decreases-lower_call : goal.decreases-lower_call
-decreases-lower_call l = 10 * l.e.0 + 4
+decreases-lower_call l = 11 * l.e.0 + 4
 
 abbrev pub decreases-lower_operands : goal.decreases-lower_operands
-decreases-lower_operands l = 10 * l.e.0 + 3
+decreases-lower_operands l = 11 * l.e.0 + 3
 
 abbrev pub decreases-lower_statements : goal.decreases-lower_statements
-decreases-lower_statements l = 10 * l.e.0 + 3
+decreases-lower_statements l = 11 * l.e.0 + 3
 
 abbrev pub decreases-lower_tail : goal.decreases-lower_tail
-decreases-lower_tail l = 10 * l.e.0 + 3
+decreases-lower_tail l = 11 * l.e.0 + 3
 
 abbrev pub decreases-lower_statement : goal.decreases-lower_statement
-decreases-lower_statement l = 10 * l.e.0 + 2
+decreases-lower_statement l = 11 * l.e.0 + 2
 
 abbrev pub decreases-lower_let : goal.decreases-lower_let
-decreases-lower_let l = 10 * l.e.0 + 1
+decreases-lower_let l = 11 * l.e.0 + 1
 
 abbrev pub decreases-lower_expr_statement : goal.decreases-lower_expr_statement
-decreases-lower_expr_statement l = 10 * l.e.0 + 1
+decreases-lower_expr_statement l = 11 * l.e.0 + 1
 
 -- the statements so far were lowered, and are built
 abbrev pub invariant-lower_statements-loop-statement : goal.invariant-lower_statements-loop-statement
