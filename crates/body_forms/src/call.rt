@@ -86,11 +86,7 @@ fn callee_type<'a>(context: &Context<'a>, callee: ExprId) -> Option<&'a Ty>
 }
 
 /// The callee that a call has, as an operand: a constant of no bytes of the callee's type, which names the function.
-fn named_callee(
-    context: &Context<'_>,
-    e: ExprId,
-    callee: ExprId,
-) -> Result<Operand, MirLowerError>
+fn named_callee(context: &Context<'_>, e: ExprId, callee: ExprId) -> Result<Operand, MirLowerError>
     requires form { (args : List ℕ) × (node (source_of context.now) e.0 ≡ Some (expr.Call (Some callee.0) args)) }
     ensures callee { IfOk result (λ operand. IsCalleeOperand (source_of context.now) e.0 (Some callee.0) operand.kind) }
     ensures built { OnOk result (CallsFunction (source_of context.now) e.0 (Some callee.0)) }
@@ -131,10 +127,7 @@ fn built_method(context: &Context<'_>, e: ExprId) -> Option<FunctionId>
 fn function_type(alloc: Global, id: FunctionId) -> Ty
     ensures { (args : GenericArgs) × (result ≡ FnDef (CalledFunction id) args) × (args.0 ≡ []) }
 {
-    Ty::FnDef(
-        CallableDefId::FunctionId(id),
-        GenericArgs(List::new(alloc)),
-    )
+    Ty::FnDef(CallableDefId::FunctionId(id), GenericArgs(List::new(alloc)))
 }
 
 /// The callee of a method call as an operand: a constant of no bytes, whose type is that of the function that the call is resolved to.
