@@ -29,7 +29,7 @@ use Rattle.source_meaning.proofs.Calls.{called_by_name, called_world}
 use Rattle.source_meaning.specs.Calls.{source_at, source_of as function_source}
 use Rattle.source_meaning.specs.Core as expr
 use Rattle.source_meaning.specs.Core.{CoreExpr, Number, is_truth}
-use Rattle.source_meaning.specs.Source.{Source, diverges, node, root, unadjusted}
+use Rattle.source_meaning.specs.Source.{Source, diverges, node, unadjusted}
 use Rattle.source_meaning.specs.Steps.{Step, steps_of, step_part, parts_of}
 use Rattle.source_meaning.specs.Steps as step
 use Rattle.source_meaning.specs.Valid.{Evaluates, itself, part, NeedsLayout, own, inside, sized_part, sized_parts, HasPlainForm, IsPlain, IsPlainCall, AreLaidOut, Calls, Reaches, at_once, through}

@@ -18,7 +18,7 @@ use Rattle.consteval.proofs.Costs.{run-of}
 -- it is handed out in a frame
 pub wrapped-lack : (source : Source) (program : Program) (levels : ℕ) (memory : Memory) (cost : Cost) (e : MirEvalError) (trail : List TrailEntry) → LacksRoom source program levels memory cost e → wrapped e trail ≡ error.InFunction e trail
 wrapped-lack source program levels memory cost error.NoMemory trail lacks = absurd lacks
-wrapped-lack source program levels memory cost _ trail lacks = refl
+wrapped-lack source program levels memory cost e trail lacks = refl
 
 module _ (source : Source) (program : Program) (limits : Limits) (nesting : program.nesting ≡ limits.nesting) (bytes : program.bytes ≡ limits.bytes) (fuel : ℕ) where
   -- the callee isn't placed in the run of a body that none called

@@ -142,7 +142,7 @@ module _ (source : Source) (kept : Kept) (limits : Limits) (turns : ℕ) (outcom
       ⊎_elim (λ refused. absurd (unrefused e refused))
       (λ lacks.
       let framed_lack = wrapped-lack source GoesBy (levels_over []) (first_areas GoesBy.bytes) (cost_at source fuel) e trail lacks in
-      (e, lacks, trail, handed-out (Err (error.InFunction e trail)) (ap (outcome_of Levels body) is ∙ faulted-outcome Levels body e trail ∙ ap (λ w. Some (Err w)) framed_lack)))
+      (e, lacks, (trail, handed-out (Err (error.InFunction e trail)) (ap (outcome_of Levels body) is ∙ faulted-outcome Levels body e trail ∙ ap (λ w. Some (Err w)) framed_lack))))
       cut
   cut-faults fuel (Asked q frame memory call) is cut = absurd (nothing-handed-out outcome (sym (ap (outcome_of Levels body) is ∙ asked-outcome Levels body q frame memory call) ∙ ran.ended))
 

@@ -1,5 +1,5 @@
 -- What the answer to a definition says of its source.
-use Rattle.std.proofs.Common.{◌≡◌, ◌≢◌, ℕ, suc, ◌≤◌, ◌⊎◌, ⊎_elim, inl, inr, List, Option, Some, None, Result, Ok, Err, refl, sym, ap, ◌∙◌, subst, arith}
+use Rattle.std.proofs.Common.{◌≡◌, ◌≢◌, ℕ, suc, ◌⊎◌, ⊎_elim, inl, inr, List, Option, Some, None, Result, Ok, Err, refl, sym, ap, ◌∙◌, subst, arith}
 use Rattle.std.specs.Prelude.{Contains, IfErr, slice_get, option_and_then}
 use Rattle.world.specs.declared.database.BodyRow.{BodyRow}
 use Rattle.world.specs.declared.database.HirDatabase.{HirDatabase}
@@ -26,8 +26,8 @@ use Rattle.mir_lower.specs.Runs.{error_of}
 use Rattle.mir_lower.specs.Simulates.{Simulates}
 use Rattle.mir_lower.specs.Stops.{MakesCall, WasRefused}
 use Rattle.source_meaning.proofs.Runs.{run_goes_on, run_is_never_stuck, run_jumps_nowhere}
-use Rattle.source_meaning.specs.Core.{CoreExpr, IsNoCall}
-use Rattle.source_meaning.specs.Ends.{cost_of, End, Go, Faults, Fault, Panic, Undefined, Stuck, JumpsNowhere}
+use Rattle.source_meaning.specs.Core.{IsNoCall}
+use Rattle.source_meaning.specs.Ends.{cost_of, End, Go, Faults, Fault, Panic, Undefined, Stuck}
 use Rattle.source_meaning.specs.Meaning.{Gives, meaning_from, meaning_of}
 use Rattle.source_meaning.specs.Source.{Source, zeroed}
 use Rattle.source_meaning.specs.Valid.{AreLaidOut, Calls, Reaches, at_once, through, AreLaidOutThroughout, HasNoCalls}
@@ -165,10 +165,10 @@ module _ (world : HirDatabase) (checked : IsChecked world) (def : DefWithBodyId)
           (gives-no-end Of kept limits turns outcome body ran (served ran.answers ran.right) (simulated body lowered) unrefused (meaning_of Of end.0) end.1 (none end.0))
 
     run-value : (body : MirBody) → IsLowered world def body → RunsTo kept def body limits turns answer → (konst : Const) → answer ≡ Ok konst → GivesValue Of konst
-    run-value body lowered runs konst is = ran-value body lowered runs.outcome runs.ran konst (carried-value runs.outcome konst (sym is ∙ runs.is))
+    run-value body lowered runs konst is = ran-value body lowered runs.outcome runs.ran konst (sym (carried-value runs.outcome konst (sym is ∙ runs.is)))
 
     run-counts : (body : MirBody) → IsLowered world def body → RunsTo kept def body limits turns answer → (konst : Const) → answer ≡ Ok konst → CountsBlocks Of turns
-    run-counts body lowered runs konst is = ran-counts body lowered runs.outcome runs.ran konst (carried-value runs.outcome konst (sym is ∙ runs.is))
+    run-counts body lowered runs konst is = ran-counts body lowered runs.outcome runs.ran konst (sym (carried-value runs.outcome konst (sym is ∙ runs.is)))
 
     abbrev Closed : Result Const ConstEvalError → Type 0
     Closed a = IfErr a (EndsIn Of limits)

@@ -1,5 +1,5 @@
 -- Answers that are right by what is kept.
-use Rattle.std.proofs.Common.{◌≡◌, ℕ, Bool, true, false, List, [], Option, Some, None, refl, sym, ap, ◌∙◌, subst}
+use Rattle.std.proofs.Common.{◌≡◌, Bool, true, false, List, [], Option, Some, refl, sym, ap, ◌∙◌, subst}
 use Rattle.mir.proofs.Queries.{query_decides}
 use Rattle.mir.specs.Answers.{IsAfterPut, answer_to, answers_kind}
 use Rattle.mir.specs.contracts.answers.QueryPartialEq.TheImpl as QueryPartialEq
