@@ -54,6 +54,7 @@ step-needs source (step.Bind pat) child within = absurd (nothing-within child wi
 step-needs source step.Open child within = absurd (nothing-within child within)
 step-needs source step.Close child within = absurd (nothing-within child within)
 
+-- so is a part of a form's steps
 steps-need : (source : Source) (steps : List Step) (child : ℕ) → Contains (flat_map step_part steps) child → (is_truth (unadjusted source child) ≡ true) ⊎ Contains (flat_map (sized_part source) steps) child
 steps-need source [] child within = absurd (nothing-within child within)
 steps-need source (first ∷ rest) child within =
@@ -61,6 +62,7 @@ steps-need source (first ∷ rest) child within =
     (λ there. ⊎_elim inl (λ sized. inr (Contains-append_right (sized_part source first) (flat_map (sized_part source) rest) child sized)) (steps-need source rest child there))
     (Contains-append_cases (step_part first) (flat_map step_part rest) child within)
 
+-- and of a form
 parts-need : (source : Source) (form : Option CoreExpr) (child : ℕ) → Contains (parts_of form) child → (is_truth (unadjusted source child) ≡ true) ⊎ Contains (sized_parts source form) child
 parts-need source (Some form) child within = steps-need source (steps_of form) child within
 parts-need source None child within = absurd (nothing-within child within)
@@ -77,6 +79,7 @@ truth-has-no-parts true form child truth within = cc
 truth-has-no-parts false (Some (expr.Literal given)) child truth within = nothing-within child within
 truth-has-no-parts false _ child truth within = cc
 
+-- so no number is evaluated within a truth value
 no-number-in-truth : (source : Source) {e f : ℕ} → is_truth (unadjusted source e) ≡ true → Evaluates source e f → IsNumber (node source f) → ⊥
 no-number-in-truth source truth (itself {e = e}) number = truth-is-no-number (diverges source e) (node source e) truth number
 no-number-in-truth source truth (part {e = e} {child = child} within rest) number = truth-has-no-parts (diverges source e) (node source e) child truth within
@@ -111,15 +114,18 @@ row-of : (world : HirDatabase) (found : Option BodyRow) (called : Source) → op
 row-of world (Some row) called is = (row, refl, (let same : source_at world row ≡ called = cc in same))
 row-of world None called is = absurd cc
 
+-- and that row is the one that is found for it
 function-row : (world : HirDatabase) (id : FunctionId) (called : Source) → function_source world id ≡ Some called → (row : BodyRow) × (body_row world (FunctionBody id) ≡ Some row) × (source_at world row ≡ called)
 unfolding function_source
 function-row world id called is = row-of world (body_row world (FunctionBody id)) called is
 
+-- a function that is found is one alone
 same-function : (one other : FunctionId) → Some one ≡ Some other → one ≡ other
 same-function one other h = cc
 
 -- a call of a function in a plain body, whose own body is plain and fit
 module _ (caller : Source) (callee : ℕ) (args : List ℕ) (ty : Ty) (call : IsPlainCall caller callee args ty) (fit : IsFitBody call.called) (plain : IsPlain call.called) where
+  -- the body that is called can be lowered
   called-can : (row : BodyRow) → body_row caller.world (FunctionBody call.id) ≡ Some row → source_at caller.world row ≡ call.called → CanBeLowered caller.world (FunctionBody call.id) no_args row
   called-can row found same =
       record {

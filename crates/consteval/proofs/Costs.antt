@@ -16,14 +16,17 @@ record IsPart (few many : Cost) : Type 0 where
   pub nesting : few.nesting ≤ many.nesting
   pub defined : many.defined ≡ true → few.defined ≡ true
 
+-- where two tests hold, the first does
 first-defined : (one other : Bool) → (one && other) ≡ true → one ≡ true
 first-defined true other is = refl
 first-defined false other is = is
 
+-- a cost is part of what it and another add up to
 first-part : (first second : Cost) → IsPart first (plus first second)
 unfolding plus
 first-part first second = record { bytes = omega arith; nesting = omega arith; defined = first-defined first.defined second.defined }
 
+-- and of that of an end that it stands before
 after-part : (cost : Cost) (end : End (List ℕ)) → after cost end ≢ Stuck → IsPart cost (cost_of (after cost end))
 unfolding after
 after-part cost (Go bytes store rest) there = first-part cost rest
@@ -37,10 +40,12 @@ entering-part : (source : Source) (fuel : ℕ) → meaning_from source (zeroed s
 unfolding meaning_from
 entering-part source fuel there = after-part (entering source) _ there
 
+-- a body that is entered takes one level
 entering-level : (source : Source) → (entering source).nesting ≡ 1
 unfolding entering
 entering-level source = refl
 
+-- and its cost is defined where its types have sizes
 entering-defined : (source : Source) → (entering source).defined ≡ is_cost_defined source
 unfolding entering
 entering-defined source = refl
@@ -52,10 +57,12 @@ pub record IsRunOf (few many : Cost) : Type 0 where
   pub nesting : few.nesting ≤ many.nesting
   pub defined : few.defined ≡ many.defined
 
+-- so it is with a cost
 run-of-cost : (cost : Cost) → IsRunOf cost (plus run_cost cost)
 unfolding plus run_cost
 run-of-cost cost = record { turns = omega arith; bytes = omega arith; nesting = omega arith; defined = refl }
 
+-- with an end
 run-of-end : (end : End (List ℕ)) → IsRunOf (cost_of end) (cost_of (after run_cost end))
 unfolding after
 run-of-end (Go bytes store cost) = run-of-cost cost
@@ -64,9 +71,11 @@ run-of-end (Faults fault cost) = run-of-cost cost
 run-of-end Stuck = record { turns = refl; bytes = refl; nesting = omega arith; defined = refl }
 run-of-end (More cost) = run-of-cost cost
 
+-- and with the meaning at an amount of fuel
 pub run-of : (source : Source) (fuel : ℕ) → IsRunOf (cost_at source fuel) (cost_of (meaning_of source fuel))
 run-of source fuel = run-of-end (meaning_from source (zeroed source) fuel)
 
+-- an end that isn't stuck behind a cost isn't stuck
 stuck-after : (cost : Cost) (end : End (List ℕ)) → after cost end ≢ Stuck → end ≢ Stuck
 unfolding after
 stuck-after cost end there stuck = there (ap (after cost) stuck)
@@ -95,8 +104,9 @@ module _ (source : Source) (limits : Limits) (fuel : ℕ) where
       let bytes = room.bytes in
       record { room = record { defined = run.defined ∙ room.defined; nesting = omega arith; bytes = omega arith }; turns = omega arith }
 
-  -- where what a body costs at some amount of fuel is defined and within the limits, there is a level of nesting for it, and room for its cells
+  -- where what a body costs at some amount of fuel is defined and within the limits
   module _ (there : meaning_from source (zeroed source) fuel ≢ Stuck) (room : IsWithinRoom (cost_at source fuel) limits) where
+    -- there is a level of nesting for it
     pub room-has-level : 0 < limits.nesting
     room-has-level =
         let entered = entering-part source fuel there in
@@ -105,6 +115,7 @@ module _ (source : Source) (limits : Limits) (fuel : ℕ) where
         let bound = room.nesting in
         omega arith
 
+    -- and room for its cells
     pub room-has-bytes : (entering source).bytes ≤ limits.bytes
     room-has-bytes =
         let entered = entering-part source fuel there in

@@ -54,6 +54,7 @@ unfolding outcome_of
 returned-outcome levels body slot bytes there =
     ap (λ (found : Option Local). Some (on_a_level levels (elim found [ Some s ↦ Ok (constant_of s.ty bytes) | None ↦ Err (error.InFunction bad_read []) ]))) there
 
+-- a fault is handed out wrapped
 faulted-outcome : (levels : ℕ) (body : MirBody) (e : MirEvalError) (trail : List TrailEntry) → outcome_of levels body (Faulted e trail) ≡ Some (Err (wrapped e trail))
 unfolding outcome_of
 faulted-outcome levels body e trail = refl
@@ -68,6 +69,7 @@ asked-outcome : (levels : ℕ) (body : MirBody) (q : Query) (frame : Frame) (mem
 unfolding outcome_of
 asked-outcome levels body q frame memory call = refl
 
+-- what hands out nothing has no outcome
 nothing-handed-out : (outcome : Result Const MirEvalError) → ◌≡◌ {A = Option (Result Const MirEvalError)} None (Some outcome) → ⊥
 nothing-handed-out outcome h = cc
 
@@ -75,9 +77,11 @@ nothing-handed-out outcome h = cc
 value-is-no-fault : (konst : Const) (e : MirEvalError) → ◌≡◌ {A = Result Const MirEvalError} (Ok konst) (Err e) → ⊥
 value-is-no-fault konst e h = cc
 
+-- a fault is one alone
 same-fault : (e other : MirEvalError) → ◌≡◌ {A = Result Const MirEvalError} (Err e) (Err other) → e ≡ other
 same-fault e other h = cc
 
+-- and so is an outcome
 same-outcome : (one other : Result Const MirEvalError) → ◌≡◌ {A = Option (Result Const MirEvalError)} (Some one) (Some other) → one ≡ other
 same-outcome one other h = cc
 
@@ -112,14 +116,17 @@ module _ (source : Source) (kept : Kept) (limits : Limits) (turns : ℕ) (outcom
   handed-out : (result : Result Const MirEvalError) → outcome_of Levels body (Run limits.blocks).ending ≡ Some result → outcome ≡ result
   handed-out result is = same-outcome outcome result (sym ran.ended ∙ is)
 
+  -- a run out of blocks has that fault
   out-of-blocks : IsOutOfBlocks (Run limits.blocks) → FaultsWith error.ExecutionLimitExceeded
   out-of-blocks out =
       (out.0, handed-out (Err (error.InFunction error.ExecutionLimitExceeded out.0)) (ap (λ (ended : Ended). outcome_of Levels body ended.ending) out.1 ∙ faulted-outcome Levels body error.ExecutionLimitExceeded out.0))
 
+  -- one that ends in a fault has that
   faulted : (fault : Fault) → IsFault (error_of fault) (Run limits.blocks).ending → FaultsWith (error_of fault)
   faulted fault is =
       (is.0, handed-out (Err (error.InFunction (error_of fault) is.0)) (ap (outcome_of Levels body) is.1 ∙ faulted-outcome Levels body (error_of fault) is.0 ∙ ap (λ e. Some (Err e)) (wrapped-fault fault is.0)))
 
+  -- and one that returns bytes has the value of these, where there is a level for it
   returned : (bytes : List ℕ) → IsReturned bytes (Run limits.blocks).ending → outcome ≡ on_a_level Levels (Ok (constant_of simulates.slot.0.ty bytes))
   returned bytes is = handed-out (on_a_level Levels (Ok (constant_of simulates.slot.0.ty bytes))) (ap (outcome_of Levels body) is ∙ returned-outcome Levels body simulates.slot.0 bytes simulates.slot.1)
 
@@ -177,6 +184,7 @@ module _ (source : Source) (kept : Kept) (limits : Limits) (turns : ℕ) (outcom
       let less : limits.blocks < cost.turns = omega arith in
       (less, out-of-blocks (ends limits.blocks less))
 
+  -- a value of a run that ends as its source's meaning is what the source means
   value-of-end : (end : End (List ℕ)) → Comes end → EndsOn end Run → EndsWell end → (konst : Const) → outcome ≡ Ok konst → GivesValue source konst
   value-of-end (Go bytes store cost) comes ends well konst h =
       ⊎_elim (λ out. no-fault konst error.ExecutionLimitExceeded h (out-of-blocks out.1))
@@ -231,6 +239,7 @@ module _ (source : Source) (kept : Kept) (limits : Limits) (turns : ℕ) (outcom
   frame-of (Panic word) cost gives = record { cost = cost; gives = gives }
   frame-of (Undefined text) cost gives = record { cost = cost; gives = gives }
 
+  -- a fault of such a run is one that the source means, or a limit that it passes
   fault-of-end : (end : End (List ℕ)) → Comes end → EndsOn end Run → EndsWell end → (e : MirEvalError) → outcome ≡ Err e → EndsEvaluation source limits e
   fault-of-end (Go bytes store cost) comes ends well e h =
       ⊎_elim (λ out. passes (Go bytes store cost) e comes out.0 (out-of-blocks out.1) h) (λ is. too-deep (constant_of simulates.slot.0.ty bytes) e (sym h ∙ returned bytes is))
@@ -312,6 +321,7 @@ module _ (source : Source) (kept : Kept) (limits : Limits) (turns : ℕ) (outcom
   past-end Stuck ends well less = absurd (well.0 refl)
   past-end (More cost) ends well less = ends limits.blocks less
 
+  -- and where the rest is within the limits, such a run does so, whatever calls it makes
   pub passes-blocks : (fuel : ℕ) → EndsWell (meaning_of source fuel) → limits.blocks < (cost_at source fuel).turns → IsWithinRoom (cost_at source fuel) limits → FaultsWith error.ExecutionLimitExceeded
   passes-blocks fuel well less room =
       ⊎_elim (λ stops. (stops-in-room fuel room stops).1)

@@ -110,7 +110,7 @@ word-at-call source limits error.MemoryLimitExceeded ends = ap panic_word (sym r
 word-at-call source limits error.StackOverflow ends = ap panic_word (sym rolls-StackOverflow) ∙ fold-roll-MirEvalError (Option (List ℕ)) panic_layer layer.StackOverflow
 word-at-call source limits _ ends = absurd ends
 
--- a panic that a valid definition ends in is one that its source means
+-- a panic in which a frame ends is one that its source means
 frame-panic : (source : Source) (limits : Limits) (inner : MirEvalError) (word : List ℕ) → EndsFrame source limits inner → panic_word inner ≡ Some word → GivesPanic source word
 frame-panic source limits (error.Panic said) word ends says =
     let both : Some said ≡ Some word = sym (word-panic said) ∙ says in
@@ -125,6 +125,7 @@ word-by-layer : (e : MirEvalError) → panic_word e ≡ panic_layer (map-MirEval
 unfolding panic_word
 word-by-layer e = ap panic_word (sym (roll-out-MirEvalError e)) ∙ fold-roll-MirEvalError (Option (List ℕ)) panic_layer (out-MirEvalError e)
 
+-- a panic in which a valid definition ends is one that its source means
 pub ends-in-panic : (source : Source) (limits : Limits) (e : MirEvalError) (word : List ℕ) → EndsEvaluation source limits e → panic_word e ≡ Some word → GivesPanic source word
 ends-in-panic source limits e word ends says = by (out-MirEvalError e) ends (sym (word-by-layer e) ∙ says) where
   by : (l : MirEvalError-F MirEvalError) → EndsLayer source limits l → panic_layer (map-MirEvalError MirEvalError (Option (List ℕ)) panic_word l) ≡ Some word → GivesPanic source word
@@ -156,7 +157,7 @@ text-at-call source limits error.MemoryLimitExceeded ends = ap undefined_text (s
 text-at-call source limits error.StackOverflow ends = ap undefined_text (sym rolls-StackOverflow) ∙ fold-roll-MirEvalError (Option (List ℕ)) undefined_layer layer.StackOverflow
 text-at-call source limits _ ends = absurd ends
 
--- undefined behavior that a valid definition ends in is what its source means
+-- undefined behavior in which a frame ends is what its source means
 frame-undefined : (source : Source) (limits : Limits) (inner : MirEvalError) (text : List ℕ) → EndsFrame source limits inner → undefined_text inner ≡ Some text → GivesUndefined source text
 frame-undefined source limits (error.Panic word) text ends says = absurd (none-some text (sym (text-panic word) ∙ says))
 frame-undefined source limits error.ExecutionLimitExceeded text ends says = absurd (none-some text (sym text-limit ∙ says))
@@ -171,6 +172,7 @@ text-by-layer : (e : MirEvalError) → undefined_text e ≡ undefined_layer (map
 unfolding undefined_text
 text-by-layer e = ap undefined_text (sym (roll-out-MirEvalError e)) ∙ fold-roll-MirEvalError (Option (List ℕ)) undefined_layer (out-MirEvalError e)
 
+-- undefined behavior in which a valid definition ends is what its source means
 pub ends-in-undefined : (source : Source) (limits : Limits) (e : MirEvalError) (text : List ℕ) → EndsEvaluation source limits e → undefined_text e ≡ Some text → GivesUndefined source text
 ends-in-undefined source limits e text ends says = by (out-MirEvalError e) ends (sym (text-by-layer e) ∙ says) where
   by : (l : MirEvalError-F MirEvalError) → EndsLayer source limits l → undefined_layer (map-MirEvalError MirEvalError (Option (List ℕ)) undefined_text l) ≡ Some text → GivesUndefined source text

@@ -96,11 +96,13 @@ module _ (world : HirDatabase) (checked : IsChecked world) (def : DefWithBodyId)
     abbrev LacksMemory : Type 0
     LacksMemory = (fuel : ℕ) → meaning_from Of (zeroed Of) fuel ≢ Stuck → IsWithinRoom (cost_at Of fuel) limits → answer ≡ Err constant.NoMemory
 
+    -- such an end comes for want of memory
     ends-without : LacksMemory → (end : End (List ℕ)) → Gives Of end → end ≢ Stuck → IsWithinLimits (cost_of end) limits → answer ≡ Err constant.NoMemory
     ends-without lacks end gives there within =
         let inner = body-within Of limits gives.fuel end gives.reached within in
         lacks gives.fuel (body-has-end Of gives.fuel end gives.reached there) inner.room
 
+    -- so each answer is want of memory
     answers-without : LacksMemory → AnswersWithin Of limits answer
     answers-without lacks =
         record {
@@ -120,17 +122,20 @@ module _ (world : HirDatabase) (checked : IsChecked world) (def : DefWithBodyId)
       laid-out : AreLaidOut Of
       laid-out = has-layouts Of (program_of kept.world limits ran.answers) body ran.start same (simulated body lowered) ran.began (valid.plain.each Of at_once)
 
+      -- its value is what the source means
       ran-value : (konst : Const) → outcome ≡ Ok konst → GivesValue Of konst
       ran-value konst is =
           let end = comes limits in
           gives-value Of kept limits turns outcome body ran (served ran.answers ran.right) (simulated body lowered) unrefused (meaning_of Of end.0) end.1 (ends-well laid-out end.0) konst is
 
+      -- over as many blocks as that counts
       ran-counts : (konst : Const) → outcome ≡ Ok konst → CountsBlocks Of turns
       ran-counts konst is =
           let end = comes limits in
           subst (CountsBlocks Of) (sym ran.entered)
           (counts-value Of kept limits turns outcome body ran (served ran.answers ran.right) (simulated body lowered) unrefused (meaning_of Of end.0) end.1 (ends-well laid-out end.0) konst is)
 
+      -- its fault is one in which the source can end
       ran-fault : (e : MirEvalError) → outcome ≡ Err e → EndsEvaluation Of limits e
       ran-fault e is =
           let end = comes limits in
@@ -140,6 +145,7 @@ module _ (world : HirDatabase) (checked : IsChecked world) (def : DefWithBodyId)
       frame-fault : (fault : Fault) → answer ≡ carried outcome → (trail : List TrailEntry) × (outcome ≡ Err (error.InFunction (error_of fault) trail)) → IsFrameFault (error_of fault) answer
       frame-fault fault is faults = (faults.0, is ∙ ap carried faults.1)
 
+      -- within the limits its outcome is what the source means
       ran-completes : answer ≡ carried outcome → AnswersWithin Of limits answer
       ran-completes is =
           record {
@@ -154,6 +160,7 @@ module _ (world : HirDatabase) (checked : IsChecked world) (def : DefWithBodyId)
                 inl (faults.0, is ∙ ap carried faults.1);
           }
 
+      -- where the source has no end, it is out of blocks or stopped at a call
       ran-endless : HasNoEnd Of → answer ≡ carried outcome → AnswersEndless Of limits answer
       ran-endless none is =
           let end = comes limits in

@@ -17,9 +17,11 @@ pub only-element : {X : Type 0} (one other : X) → Contains (one ∷ []) other 
 only-element one other (zero, less, is) = is
 only-element one other (suc k, less, is) = absurd (omega arith)
 
+-- no list without elements has one
 pub nothing-within : {X : Type 0} (x : X) → Contains [] x → ⊥
 nothing-within x within = let less = within.1 in omega arith
 
+-- a binding's cell is its own
 same-binding : (one other : ℕ) → ◌≡◌ {A = Cell} (Binding one) (Binding other) → one ≡ other
 same-binding one other h = cc
 
@@ -38,6 +40,7 @@ bound-before self (Some named) cells bound b is later within =
     (Contains-append_cases (bound_by self) cells (Binding b) within))
 bound-before self None cells bound b is later within = absurd cc
 
+-- the same, where the first is a name
 bound-first : (found : Option BindingId) (names : Option (List ℕ)) (cells : List Cell) (bound : List ℕ) (b : ℕ) → option_and_then (λ (id : BindingId). option_map (λ others. id.0 ∷ others) names) found ≡ Some bound →
     ((named : List ℕ) → names ≡ Some named → Contains cells (Binding b) → Contains named b) → Contains (bound_by found ++ cells) (Binding b) → Contains bound b
 bound-first (Some id) names cells bound b is later within = bound-before (Some id) names cells bound b is later within

@@ -197,9 +197,11 @@ module _ (world : HirDatabase) (def : DefWithBodyId) (args : GenericArgs) (row :
       ap (λ (erroneous : Bool). erroneous || not (is_empty row.infer.mismatches)) can.inferred ∙ ap (λ (es : List ExprId). not (is_empty es)) can.fitting in
       cc
 
+  -- and what is built isn't unbuilt
   is-not-unbuilt : is_unbuilt world def args ≡ true → ⊥
   is-not-unbuilt unbuilt = let built = built-without-args world def args can.no_args can.built in cc
 
+  -- so it is refused for a number literal, or for want of memory
   pub refuses-literal : (e : MirLowerError) → IsChecked world → RefusesBody world def args e → (e ≡ refusal.NoMemory) ⊎ EndsLowering (source_of world row) e
   refuses-literal e checked =
       ⊎_elim (λ errors. absurd (has-no-errors errors.errors))
@@ -220,6 +222,7 @@ valid-item-is-built world (FunctionId id) ty item =
 valid-item-is-built world (StaticId id) ty item = absurd item
 valid-item-is-built world (VariantId id) ty item = absurd item
 
+-- the body of a valid definition can be lowered
 valid-can : (world : HirDatabase) (def : DefWithBodyId) (args : GenericArgs) (row : BodyRow) → IsValid world def args row → CanBeLowered world def args row
 valid-can world def args row valid =
     record {
