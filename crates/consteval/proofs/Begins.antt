@@ -19,12 +19,13 @@ use Rattle.mir.specs.Errors.{layout_error_of}
 use Rattle.mir.specs.Memory.{Memory, cell_size_of, cells_of, pushed, size_before, sizes_of}
 use Rattle.mir.specs.Run.{Program, Frame, begun}
 use Rattle.mir_lower.specs.Simulates.{Simulates}
+use Rattle.mir_lower.specs.Stops.{IsCellType, LacksLayout, LacksSize}
 use Rattle.mir_lower.proofs.Placing.{first-ok}
 use Rattle.mir_lower.proofs.Whole.{begun-cells}
 use Rattle.source_meaning.specs.Entering.{entering}
 use Rattle.source_meaning.specs.Source.{Source, Cell, Result as Slot, Node, Binding, Never, cell_type, diverges, own_type, node_type, root}
 use Rattle.mir_lower.specs.Growth.{IsUsed}
-use Rattle.consteval.specs.Answers.{EndsEvaluation, IsCellType, LacksLayout, LacksSize, PassesBytes}
+use Rattle.consteval.specs.Answers.{EndsEvaluation, PassesBytesAtOnce}
 use Rattle.consteval.proofs.Bytes.{before-sizes, taken-within}
 use Rattle.consteval.proofs.Faults.{NeverRunsFor, never-without-layout, never-without-room, never-without-size, overfull, without-layout, without-size}
 use Rattle.source_meaning.specs.Valid.{itself, IsPlain, AreLaidOut, HasSizedLayout, HasDefinedCost}
@@ -165,7 +166,7 @@ begun-err program body e h =
     (first-err (cells_of program.world body.locals (first_areas program.bytes)) (λ all. Ok (record { program = program; body = body; cells = all.0; below = [] }, all.1)) e h)
 
 -- what holds of the refusals for a local's type without a layout or without a size, and for the limit on bytes
-module _ (source : Source) (limits : Limits) (body : MirBody) (Fails : MirEvalError → Type 0) (lacks-layout : (ty : Ty) → LacksLayout source ty → Fails (error.LayoutError (layout_error_of ty) ty)) (lacks-size : (ty : Ty) (text : List ℕ) → LacksSize source ty → Fails (error.TypeIsUnsized ty text)) (lacks-room : PassesBytes source limits.bytes → Fails error.MemoryLimitExceeded) where
+module _ (source : Source) (limits : Limits) (body : MirBody) (Fails : MirEvalError → Type 0) (lacks-layout : (ty : Ty) → LacksLayout source ty → Fails (error.LayoutError (layout_error_of ty) ty)) (lacks-size : (ty : Ty) (text : List ℕ) → LacksSize source ty → Fails (error.TypeIsUnsized ty text)) (lacks-room : PassesBytesAtOnce source limits.bytes → Fails error.MemoryLimitExceeded) where
   -- a refusal is one of these
   abbrev FailsSo : {A : Type 0} → Result A MirEvalError → Type 0
   FailsSo (Ok a) = Unit {0}

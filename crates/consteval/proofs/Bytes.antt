@@ -1,5 +1,5 @@
 -- How many bytes a body's cells take, against what its source counts.
-use Rattle.std.proofs.Common.{◌≡◌, ◌≢◌, ℕ, ◌+◌, ◌-◌, ◌%◌, ◌≤◌, Bool, true, false, cond, List, [], ◌∷◌, Option, Some, None, Result, Ok, Err, refl, sym, ap, subst, arith}
+use Rattle.std.proofs.Common.{◌≡◌, ℕ, ◌+◌, ◌-◌, ◌%◌, ◌≤◌, Bool, true, false, cond, List, [], ◌∷◌, Option, Some, None, Result, Ok, Err, refl, sym, ap, subst, arith}
 use Rattle.std.specs.Prelude.{codes, map, sum, sum_by}
 use Rattle.std.proofs.Math.Nat.{mod-le}
 use Rattle.std.proofs.lemmas.List.Sums.{sum-map, sum_by-cons}
@@ -16,11 +16,8 @@ use Rattle.mir.specs.declared.errors.MirEvalError as error
 use Rattle.mir.specs.Memory.{cell_size_of, size_before, sizes_of}
 use Rattle.mir_lower.specs.Simulates.{Simulates}
 use Rattle.mir_lower.proofs.Placing.{first-ok}
-use Rattle.source_meaning.specs.Ends.{Cost, plus, End, Go, Jumps, Faults, Stuck, More, Fault, after}
-use Rattle.source_meaning.specs.Entering.{body_room, entering, room_of, run_cost}
-use Rattle.source_meaning.specs.Meaning.{Gives, meaning_from, meaning_of}
-use Rattle.source_meaning.specs.Source.{Source, Store, zeroed}
-use Rattle.consteval.specs.Answers.{cost_in}
+use Rattle.source_meaning.specs.Entering.{body_room, entering, room_of}
+use Rattle.source_meaning.specs.Source.{Source}
 
 -- an alignment skips fewer bytes than it has
 start-near : (end : ℕ) (cell : CellSize) → start_behind end cell ≤ end + cell.align
@@ -86,50 +83,3 @@ taken-within source body sizes simulates there =
     let room = simulates.room in
     let same : sum (map (λ (l : Local). room_of (layout_of source.world l.ty)) body.locals) ≡ rooms source.world body.locals = sum-map (λ (l : Local). room_of (layout_of source.world l.ty)) body.locals in
     omega arith
-
--- a cost takes at least the bytes of what stands before it
-plus-takes : (first second : Cost) → first.bytes ≤ (plus first second).bytes
-unfolding plus
-plus-takes first second = omega arith
-
-after-takes : (cost : Cost) (end : End (List ℕ)) → after cost end ≢ Stuck → cost.bytes ≤ (cost_in (after cost end)).bytes
-unfolding after
-after-takes cost (Go bytes store rest) there = plus-takes cost rest
-after-takes cost (Jumps to store rest) there = plus-takes cost rest
-after-takes cost (Faults fault rest) there = plus-takes cost rest
-after-takes cost Stuck there = absurd (there refl)
-after-takes cost (More rest) there = plus-takes cost rest
-
--- and at least those of what stands behind it
-plus-takes-rest : (first second : Cost) → second.bytes ≤ (plus first second).bytes
-unfolding plus
-plus-takes-rest first second = omega arith
-
-after-takes-rest : (cost : Cost) (end : End (List ℕ)) → (cost_in end).bytes ≤ (cost_in (after cost end)).bytes
-unfolding after
-after-takes-rest cost (Go bytes store rest) = plus-takes-rest cost rest
-after-takes-rest cost (Jumps to store rest) = plus-takes-rest cost rest
-after-takes-rest cost (Faults fault rest) = plus-takes-rest cost rest
-after-takes-rest cost Stuck = omega arith
-after-takes-rest cost (More rest) = plus-takes-rest cost rest
-
-stuck-after : (cost : Cost) (end : End (List ℕ)) → after cost end ≢ Stuck → end ≢ Stuck
-unfolding after
-stuck-after cost end there stuck = there (ap (after cost) stuck)
-
-meaning-takes : (source : Source) (fuel : ℕ) → meaning_of source fuel ≢ Stuck → (entering source).bytes ≤ (cost_in (meaning_of source fuel)).bytes
-unfolding meaning_from
-meaning-takes source fuel there =
-    let inner : End (List ℕ) = meaning_from source (zeroed source) fuel in
-    let entered : (entering source).bytes ≤ (cost_in inner).bytes = after-takes (entering source) _ (stuck-after run_cost inner there) in
-    let whole : (cost_in inner).bytes ≤ (cost_in (after run_cost inner)).bytes = after-takes-rest run_cost inner in
-    omega arith
-
--- an end that a source has takes the bytes that are counted on entering it
-pub value-takes : (source : Source) (bytes : List ℕ) (store : Store) (cost : Cost) → Gives source (Go bytes store cost) → (entering source).bytes ≤ cost.bytes
-value-takes source bytes store cost gives =
-    subst (λ (end : End (List ℕ)). end ≢ Stuck → (entering source).bytes ≤ (cost_in end).bytes) gives.reached (meaning-takes source gives.fuel) (λ stuck. cc)
-
-pub fault-takes : (source : Source) (fault : Fault) (cost : Cost) → Gives source (Faults fault cost) → (entering source).bytes ≤ cost.bytes
-fault-takes source fault cost gives =
-    subst (λ (end : End (List ℕ)). end ≢ Stuck → (entering source).bytes ≤ (cost_in end).bytes) gives.reached (meaning-takes source gives.fuel) (λ stuck. cc)

@@ -1,8 +1,11 @@
 pub mod Begins
 pub mod Built
 pub mod Bytes
+pub mod Callees
 pub mod Causes
 pub mod Coming
+pub mod Costs
+pub mod Cuts
 pub mod Elements
 pub mod Ends
 pub mod Faults
@@ -12,6 +15,7 @@ pub mod Headline
 pub mod Keeping
 pub mod Keys
 pub mod Nesting
+pub mod Parameters
 pub mod Refused
 pub mod Right
 pub mod Rows

@@ -4,18 +4,18 @@ use Rattle.types.specs.declared.ty.Const.{Const}
 use Rattle.mir.specs.declared.errors.MirEvalError.{MirEvalError}
 use Rattle.mir.specs.declared.errors.MirEvalError as error
 use Rattle.mir_eval.specs.Machine.{on_a_level}
-use Rattle.source_meaning.specs.Ends.{Cost, no_cost, plus, End, Go, Jumps, Faults, Stuck, More, Fault, after, then_do}
+use Rattle.source_meaning.specs.Ends.{Cost, cost_of, no_cost, plus, End, Go, Jumps, Faults, Stuck, More, after, then_do}
 use Rattle.source_meaning.specs.Entering.{entering, run_cost}
 use Rattle.source_meaning.specs.Meaning.{Gives, level_at, meaning_from, meaning_of}
 use Rattle.source_meaning.specs.Source.{Source, Store, zeroed}
-use Rattle.consteval.specs.Answers.{PassesNesting, cost_in}
+use Rattle.consteval.specs.Answers.{PassesNesting}
 
 -- a cost takes at least the nesting of what stands before it
 plus-nests : (first second : Cost) → first.nesting ≤ (plus first second).nesting
 unfolding plus
 plus-nests first second = omega arith
 
-after-nests : (cost : Cost) (end : End (List ℕ)) → 2 ≤ cost.nesting → after cost end ≢ Stuck → 2 ≤ (cost_in (after cost end)).nesting
+after-nests : (cost : Cost) (end : End (List ℕ)) → 2 ≤ cost.nesting → after cost end ≢ Stuck → 2 ≤ (cost_of (after cost end)).nesting
 unfolding after
 after-nests cost (Go bytes store rest) deep there = let more = plus-nests cost rest in omega arith
 after-nests cost (Jumps to store rest) deep there = let more = plus-nests cost rest in omega arith
@@ -28,17 +28,13 @@ unfolding run_cost
 run-nests = omega arith
 
 -- whatever fuel there is, a meaning nests by two levels
-meaning-nests : (source : Source) (fuel : ℕ) → meaning_of source fuel ≢ Stuck → 2 ≤ (cost_in (meaning_of source fuel)).nesting
+meaning-nests : (source : Source) (fuel : ℕ) → meaning_of source fuel ≢ Stuck → 2 ≤ (cost_of (meaning_of source fuel)).nesting
 meaning-nests source fuel there = after-nests run_cost (meaning_from source (zeroed source) fuel) run-nests there
 
 -- an end that a source has nests by two levels
 pub value-nests : (source : Source) (bytes : List ℕ) (store : Store) (cost : Cost) → Gives source (Go bytes store cost) → 2 ≤ cost.nesting
 value-nests source bytes store cost gives =
-    subst (λ (end : End (List ℕ)). end ≢ Stuck → 2 ≤ (cost_in end).nesting) gives.reached (meaning-nests source gives.fuel) (λ stuck. cc)
-
-pub fault-nests : (source : Source) (fault : Fault) (cost : Cost) → Gives source (Faults fault cost) → 2 ≤ cost.nesting
-fault-nests source fault cost gives =
-    subst (λ (end : End (List ℕ)). end ≢ Stuck → 2 ≤ (cost_in end).nesting) gives.reached (meaning-nests source gives.fuel) (λ stuck. cc)
+    subst (λ (end : End (List ℕ)). end ≢ Stuck → 2 ≤ (cost_of end).nesting) gives.reached (meaning-nests source gives.fuel) (λ stuck. cc)
 
 -- without fuel an evaluation is no further than where it was entered
 no-fuel : (source : Source) → meaning_of source 0 ≡ More (plus run_cost (plus (entering source) no_cost))
@@ -50,7 +46,7 @@ pub passes-nesting : (source : Source) (nesting : ℕ) → nesting < 2 → Passe
 passes-nesting source nesting less =
     let alone = run-nests in
     let nests = plus-nests run_cost (plus (entering source) no_cost) in
-    (0, subst (λ (end : End (List ℕ)). nesting < (cost_in end).nesting) (sym (no-fuel source)) (omega arith))
+    (0, subst (λ (end : End (List ℕ)). nesting < (cost_of end).nesting) (sym (no-fuel source)) (omega arith))
 
 -- where there is a level of nesting, what takes one is as it is
 pub has-level : {A : Type 0} (levels : ℕ) (result : Result A MirEvalError) → 0 < levels → on_a_level levels result ≡ result

@@ -1,6 +1,6 @@
 -- What a valid body is refused for: a type without a layout or without a size, or want of memory, and that alone where its cost is defined.
 use Rattle.std.proofs.Common.{◌≡◌, ℕ, ◌<◌, ◌≤◌, ◌⊎◌, ⊎_elim, inl, inr, eqb-true, Bool, true, false, List, [], ◌∷◌, ◌++◌, Option, Some, Err, refl, sym, ap, ◌∙◌, subst, arith, None}
-use Rattle.std.specs.Prelude.{Contains, flat_map, option_and_then, option_map, not, ◌==◌, ◌||◌}
+use Rattle.std.specs.Prelude.{option_and_then, option_map, not, ◌==◌, ◌||◌}
 use Rattle.std.proofs.lemmas.Bool.{cases_lt}
 use Rattle.source_meaning.specs.Core.{CoreExpr, Number}
 use Rattle.source_meaning.specs.Core as expr
@@ -14,7 +14,7 @@ use Rattle.world.specs.declared.limits.Limits.{Limits}
 use Rattle.types.specs.declared.ids.DefWithBodyId.{DefWithBodyId}
 use Rattle.types.specs.declared.ty.GenericArgs.{GenericArgs}
 use Rattle.types.specs.declared.ty.Ty.{Ty}
-use Rattle.world.specs.Lookups.{layout_of}
+use Rattle.world.specs.Lookups.{body_row, layout_of}
 use Rattle.world.specs.Checked.{IsChecked}
 use Rattle.numbers.specs.Bytes.{is_width}
 use Rattle.mir.specs.declared.body.MirBody.{MirBody}
@@ -25,17 +25,17 @@ use Rattle.mir.specs.declared.errors.MirLowerError.TheVariants as refusal
 use Rattle.mir.specs.Run.{begun}
 use Rattle.mir.specs.declared.ids.LocalId.{LocalId}
 use Rattle.mir_lower.specs.Callees.{AreLocalsOf}
-use Rattle.mir_lower.specs.Refusals.{RefusesInferred, RefusesParameters}
+use Rattle.mir_lower.specs.Refusals.{HasDrops, RefusesInferred, RefusesParameters}
 use Rattle.body_forms.specs.Refusals.{IsNumber, RefusesNode, JumpsTo}
 use Rattle.body_forms.proofs.Causes.{built-is-complete, built-is-no-unbuilt, built-has-local, built-is-resolved}
 use Rattle.mir_lower.specs.Simulates.{Simulates}
 use Rattle.source_meaning.proofs.Built.{plain_is_built}
 use Rattle.source_meaning.specs.Entering.{entering}
 use Rattle.source_meaning.proofs.Layouts.{integer_is_width}
-use Rattle.source_meaning.specs.Calls.{names_bound, parameters, parameter_cells, self_bound}
-use Rattle.source_meaning.specs.Source.{Source, Cell, Binding, bound_by, node, pattern, root}
-use Rattle.source_meaning.specs.Valid.{Evaluates, at_once, IsInteger, HasPlainForm, IsPlainNode, HasDefinedCost, FitsAround, JumpsFit}
-use Rattle.consteval.specs.Answers.{EndsEvaluation, EndsLowering, PassesBytes, RefusesRun}
+use Rattle.source_meaning.specs.Calls.{names_bound, parameters, self_bound}
+use Rattle.source_meaning.specs.Source.{Source, Cell, node, root}
+use Rattle.source_meaning.specs.Valid.{Evaluates, at_once, IsInteger, IsPlain, HasPlainForm, IsPlainNode, HasDefinedCost, FitsAround, JumpsFit}
+use Rattle.consteval.specs.Answers.{EndsEvaluation, EndsLowering, PassesBytesAtOnce, RefusesRun}
 use Rattle.consteval.specs.Refusals.{RefusesBody}
 use Rattle.consteval.specs.Built.{has_errors, has_generics, is_empty, is_erroneous, is_generic_function, is_unbuilt, is_unbuilt_definition}
 use Rattle.source_meaning.specs.Around.{Opened, meant}
@@ -47,6 +47,7 @@ use Rattle.consteval.specs.Valid.{IsPlainItem, IsValid}
 use Rattle.consteval.proofs.Begins.{begins, begun-never, begun-refusal}
 use Rattle.consteval.proofs.Built.{built-without-args}
 use Rattle.consteval.proofs.Faults.{NeverRunsFor, never-without-level, overflowed}
+use Rattle.consteval.proofs.Parameters.{refuses-no-parameters}
 
 -- a body without parameters has none
 no-parameters : (source : Source) → source.body.params ≡ [] → source.body.self_param ≡ None → parameters source ≡ Some []
@@ -61,23 +62,6 @@ same-bound one other h = cc
 no-locals : (allotted : Cell → Option ℕ) (locals : List LocalId) → AreLocalsOf allotted [] locals → locals ≡ []
 no-locals allotted [] are = refl
 no-locals allotted (local ∷ locals) are = absurd are
-
--- so none of its cells is one's
-no-parameter-cells : (source : Source) → source.body.params ≡ [] → source.body.self_param ≡ None → parameter_cells source ≡ []
-unfolding parameter_cells
-no-parameter-cells source no_params no_self =
-    ap (λ (params : List PatId). bound_by source.body.self_param ++ flat_map (λ (pat : PatId). bound_by (pattern source pat.0)) params) no_params
-    ∙ ap (λ (own : Option BindingId). bound_by own ++ []) no_self
-
-none-contained : (cells : List Cell) (cell : Cell) → cells ≡ [] → Contains cells cell → ⊥
-none-contained cells cell none there = let here = subst (λ (all : List Cell). Contains all cell) none there in let below = here.1 in omega arith
-
--- and it isn't refused for them, but for want of memory
-refuses-no-parameters : (source : Source) (e : MirLowerError) → source.body.params ≡ [] → source.body.self_param ≡ None → RefusesParameters source e → e ≡ refusal.NoMemory
-refuses-no-parameters source (refusal.NotSupported text) no_params no_self refuses = absurd (let there = no-parameters source no_params no_self in let none = refuses.1 in cc)
-refuses-no-parameters source refusal.InaccessibleLocal no_params no_self refuses = absurd (none-contained (parameter_cells source) (Binding refuses.0.0) (no-parameter-cells source no_params no_self) refuses.1)
-refuses-no-parameters source refusal.NoMemory no_params no_self refuses = refl
-refuses-no-parameters source _ no_params no_self refuses = absurd refuses
 
 module _ (world : HirDatabase) (def : DefWithBodyId) (args : GenericArgs) (row : BodyRow) (limits : Limits) (body : MirBody) (e : MirEvalError) (valid : IsValid world def args row) (simulates : Simulates (source_of world row) body) where
   -- a valid body has no parameters, so its graph has no parameters' locals
@@ -107,7 +91,7 @@ module _ (world : HirDatabase) (def : DefWithBodyId) (args : GenericArgs) (row :
       (begun-never (source_of world row) (program_of world limits []) limits body e refl refl simulates)
 
   -- a valid body with a defined cost can begin where there is a level of nesting for its run and room for its cells
-  pub run-is-refused-by-limits : HasDefinedCost (source_of world row) → RefusesRun world def body limits e → (limits.nesting ≡ 0) ⊎ PassesBytes (source_of world row) limits.bytes
+  pub run-is-refused-by-limits : HasDefinedCost (source_of world row) → RefusesRun world def body limits e → (limits.nesting ≡ 0) ⊎ PassesBytesAtOnce (source_of world row) limits.bytes
   run-is-refused-by-limits cost refuses =
       refusal-cases refuses (λ is none. inl none) (λ refused.
       ⊎_elim (λ passes. inr passes)
@@ -192,13 +176,42 @@ sized-is-lowered : (source : Source) (e : MirLowerError) → HasDefinedCost sour
 sized-is-lowered source (refusal.LayoutError layout_error) cost ends = let is = ends.2.1 in let sized = cost.nodes ends.0 ends.1 in let there = sized.of_itself.found in cc
 sized-is-lowered source _ cost ends = ends
 
--- there is no typing error where inference found none
-valid-has-no-errors : (world : HirDatabase) (def : DefWithBodyId) (args : GenericArgs) (row : BodyRow) → IsValid world def args row → is_erroneous world def ≡ true → ⊥
-valid-has-no-errors world def args row valid errors =
-    let found : is_erroneous world def ≡ has_errors (Some row.infer) = ap (λ (r : Option BodyRow). has_errors (option_map (λ row. row.infer) r)) valid.body in
-    let none : has_errors (Some row.infer) ≡ false =
-    ap (λ (erroneous : Bool). erroneous || not (is_empty row.infer.mismatches)) valid.inferred ∙ ap (λ (es : List ExprId). not (is_empty es)) valid.fitting in
-    cc
+-- A definition that is built and given no arguments, with a plain body without typing errors and drops: nothing keeps it from being lowered but a number
+-- literal whose type has no layout, or want of memory.
+pub record CanBeLowered (world : HirDatabase) (def : DefWithBodyId) (args : GenericArgs) (row : BodyRow) : Type 0 where
+  pub no_args : args.0 ≡ []
+  pub built : is_unbuilt_definition world def ≡ false
+  pub body : body_row world def ≡ Some row
+  pub inferred : row.infer.erroneous ≡ false
+  pub fitting : row.infer.mismatches ≡ []
+  pub dropless : ¬ HasDrops (source_of world row)
+  pub plain : IsPlain (source_of world row)
+  pub parameters : (e : MirLowerError) → RefusesParameters (source_of world row) e → e ≡ refusal.NoMemory
+
+module _ (world : HirDatabase) (def : DefWithBodyId) (args : GenericArgs) (row : BodyRow) (can : CanBeLowered world def args row) where
+  -- there is no typing error where inference found none
+  has-no-errors : is_erroneous world def ≡ true → ⊥
+  has-no-errors errors =
+      let found : is_erroneous world def ≡ has_errors (Some row.infer) = ap (λ (r : Option BodyRow). has_errors (option_map (λ row. row.infer) r)) can.body in
+      let none : has_errors (Some row.infer) ≡ false =
+      ap (λ (erroneous : Bool). erroneous || not (is_empty row.infer.mismatches)) can.inferred ∙ ap (λ (es : List ExprId). not (is_empty es)) can.fitting in
+      cc
+
+  -- and what is built isn't unbuilt
+  is-not-unbuilt : is_unbuilt world def args ≡ true → ⊥
+  is-not-unbuilt unbuilt = let built = built-without-args world def args can.no_args can.built in cc
+
+  -- so it is refused for a number literal, or for want of memory
+  pub refuses-literal : (e : MirLowerError) → IsChecked world → RefusesBody world def args e → (e ≡ refusal.NoMemory) ⊎ EndsLowering (source_of world row) e
+  refuses-literal e checked =
+      ⊎_elim (λ errors. absurd (has-no-errors errors.errors))
+      (⊎_elim (λ unbuilt. absurd (is-not-unbuilt unbuilt.unbuilt))
+      (⊎_elim (λ none. absurd (let is = none.missing in let there = can.body in cc)) (λ refused.
+      let same : refused.row ≡ row = (let is = refused.found in let there = can.body in cc) in
+      ⊎_elim (λ drops. absurd (can.dropless drops.1))
+      (⊎_elim (λ of_parameters. inl (can.parameters e of_parameters))
+      (λ at. let plain = can.plain in refuses-node (source_of world row) at.0 e checked plain.jumps (plain.nodes at.0 at.1) at.1 at.2))
+      (subst (λ (r : BodyRow). RefusesInferred (source_of world r) e) same refused.refuses))))
 
 -- a constant or a function that is evaluated by a run of its own body is of a kind that is built
 valid-item-is-built : (world : HirDatabase) (def : DefWithBodyId) (ty : Ty) → IsPlainItem world def ty → is_unbuilt_definition world def ≡ false
@@ -209,24 +222,23 @@ valid-item-is-built world (FunctionId id) ty item =
 valid-item-is-built world (StaticId id) ty item = absurd item
 valid-item-is-built world (VariantId id) ty item = absurd item
 
-valid-is-built : (world : HirDatabase) (def : DefWithBodyId) (args : GenericArgs) (row : BodyRow) → IsValid world def args row → is_unbuilt world def args ≡ true → ⊥
-valid-is-built world def args row valid unbuilt =
-    let built = built-without-args world def args valid.no_args (valid-item-is-built world def valid.ty valid.item) in
-    cc
+-- the body of a valid definition can be lowered
+valid-can : (world : HirDatabase) (def : DefWithBodyId) (args : GenericArgs) (row : BodyRow) → IsValid world def args row → CanBeLowered world def args row
+valid-can world def args row valid =
+    record {
+      no_args = valid.no_args;
+      built = valid-item-is-built world def valid.ty valid.item;
+      body = valid.body;
+      inferred = valid.inferred;
+      fitting = valid.fitting;
+      dropless = valid.dropless;
+      plain = valid.plain.each (source_of world row) at_once;
+      parameters = λ e refuses. refuses-no-parameters (source_of world row) [] [] e (no-parameters (source_of world row) valid.no_params valid.no_self) tt refuses;
+    }
 
 -- a valid body is lowered, but for want of memory and for number literals whose types have no layout
 pub lowering-refusal : (world : HirDatabase) (def : DefWithBodyId) (args : GenericArgs) (row : BodyRow) (e : MirLowerError) → IsChecked world → IsValid world def args row → (e ≡ refusal.NoMemory) ⊎ RefusesBody world def args e → (e ≡ refusal.NoMemory) ⊎ EndsLowering (source_of world row) e
-lowering-refusal world def args row e checked valid =
-    let plain = valid.plain.each (source_of world row) at_once in
-    ⊎_elim inl
-    (⊎_elim (λ errors. absurd (valid-has-no-errors world def args row valid errors.errors))
-    (⊎_elim (λ unbuilt. absurd (valid-is-built world def args row valid unbuilt.unbuilt))
-    (⊎_elim (λ none. absurd (let is = none.missing in let there = valid.body in cc)) (λ refused.
-    let same : refused.row ≡ row = (let is = refused.found in let there = valid.body in cc) in
-    ⊎_elim (λ drops. absurd (valid.dropless drops.1))
-    (⊎_elim (λ of_parameters. inl (refuses-no-parameters (source_of world row) e valid.no_params valid.no_self of_parameters))
-    (λ at. refuses-node (source_of world row) at.0 e checked plain.jumps (plain.nodes at.0 at.1) at.1 at.2))
-    (subst (λ (r : BodyRow). RefusesInferred (source_of world r) e) same refused.refuses)))))
+lowering-refusal world def args row e checked valid = ⊎_elim inl (refuses-literal world def args row (valid-can world def args row valid) e checked)
 
 -- a valid body with a defined cost is lowered, but for want of memory
 pub lowering-is-not-refused : (world : HirDatabase) (def : DefWithBodyId) (args : GenericArgs) (row : BodyRow) (e : MirLowerError) → IsChecked world → IsValid world def args row → HasDefinedCost (source_of world row) → (e ≡ refusal.NoMemory) ⊎ RefusesBody world def args e → e ≡ refusal.NoMemory

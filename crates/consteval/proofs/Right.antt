@@ -1,5 +1,5 @@
 -- Answers that are right by what is kept.
-use Rattle.std.proofs.Common.{◌≡◌, ℕ, Bool, true, false, List, [], Option, Some, None, refl, sym, ap, ◌∙◌, subst}
+use Rattle.std.proofs.Common.{◌≡◌, Bool, true, false, List, [], Option, Some, refl, sym, ap, ◌∙◌, subst}
 use Rattle.mir.proofs.Queries.{query_decides}
 use Rattle.mir.specs.Answers.{IsAfterPut, answer_to, answers_kind}
 use Rattle.mir.specs.contracts.answers.QueryPartialEq.TheImpl as QueryPartialEq
@@ -7,16 +7,9 @@ use Rattle.mir.specs.declared.answers.Answer.{Answer}
 use Rattle.mir.specs.declared.answers.Answer.TheVariants as answer
 use Rattle.mir.specs.declared.answers.Query.{Query}
 use Rattle.mir.specs.declared.answers.Query.TheVariants as query
-use Rattle.mir.specs.declared.errors.ConstEvalError.{ConstEvalError}
 use Rattle.mir.specs.declared.errors.ConstEvalError.TheVariants as constant
-use Rattle.mir.specs.declared.errors.MirEvalError.{MirEvalError}
-use Rattle.mir.specs.Run.{body_query, callee_error}
-use Rattle.mir_lower.specs.Stops.{WasRefused}
-use Rattle.source_meaning.specs.Source.{Source}
-use Rattle.world.specs.declared.limits.Limits.{Limits}
-use Rattle.consteval.specs.Kept.{AreRightAnswers, IsRightAnswer, Kept, Lowered, Stays, program_of}
+use Rattle.consteval.specs.Kept.{AreRightAnswers, IsRightAnswer, Kept, Lowered, Stays}
 use Rattle.consteval.specs.Refusals.{RefusesBody}
-use Rattle.consteval.proofs.Faults.{IsReading}
 use Rattle.consteval.proofs.Keeping.{contains-stays}
 
 -- what is right by what is kept is right where more is kept
@@ -53,10 +46,3 @@ put-right kept before after q a put right own = record { each = λ other b is. a
   at other b is false e =
       let apart : (other ≡ q) → ⊥ = (λ same. let both : true ≡ false = sym ((query_decides other q).1 same) ∙ e in absurd cc) in
       right.each other b (sym (put.others other apart) ∙ is)
-
--- the error of a call whose callee's body can't be got by right answers says nothing
-pub refused-silently : (read : MirEvalError → Option (List ℕ)) (Means : Source → List ℕ → Type 0) → IsReading read Means → (kept : Kept) (limits : Limits) (answers : List (Query × Answer)) → AreRightAnswers kept answers → (e : MirEvalError) → WasRefused (program_of kept.world limits answers) e → read e ≡ None
-refused-silently read Means reading kept limits answers right e refused = ap read refused.is ∙ by refused.refusal (right.each (body_query refused.callee) (answer.Failed refused.refusal) refused.told) where
-  by : (refusal : ConstEvalError) → IsRightAnswer kept (body_query refused.callee) (answer.Failed refusal) → read (callee_error refused.callee.0 refusal) ≡ None
-  by (constant.MirLowerError cause) is = reading.unlowered refused.callee.0 cause
-  by _ is = absurd is

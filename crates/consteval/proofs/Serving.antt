@@ -11,8 +11,9 @@ use Rattle.mir.specs.declared.answers.Answer.TheVariants as told
 use Rattle.mir.specs.declared.answers.Query.{Query}
 use Rattle.mir.specs.declared.body.MirBody.{MirBody}
 use Rattle.mir.specs.Run.{Program, body_query}
-use Rattle.mir_lower.specs.Callees.{DoesBelow, Serves, without_arguments}
+use Rattle.mir_lower.specs.Callees.{DoesBelow, Serves}
 use Rattle.mir_lower.specs.Simulates.{Simulates}
+use Rattle.mir_lower.specs.Stops.{without_arguments}
 use Rattle.source_meaning.specs.Calls.{source_at, source_of}
 use Rattle.source_meaning.specs.Source.{Source}
 use Rattle.consteval.specs.Kept.{AreRightAnswers, IsLowered, IsSound, Kept, program_of}
@@ -27,6 +28,7 @@ does-below fuel program source body simulates serves =
       own = simulates.own;
       typed = simulates.typed;
       params = simulates.params;
+      counted = record { cells = λ l local there. (let cell = simulates.cells l local there in (cell.0, cell.1, cell.2)); room = simulates.room };
       does = λ less below store frame memory goes_by is_body apart represents.
           simulates.does less store frame memory is_body (subst (Serves less source) (sym goes_by) (serves less below)) apart represents;
     }

@@ -1,10 +1,10 @@
 -- What an answer says of its source.
 use Rattle.std.proofs.Common.{subst}
 use Rattle.world.specs.Checked.{IsChecked}
-use Rattle.consteval.specs.Answers.{GivesPanic, GivesUndefined, panic_word, undefined_text}
+use Rattle.consteval.specs.Sources.{source_of}
 use Rattle.consteval.proofs.Causes.{cause-out, cause-stays, cause-value}
-use Rattle.consteval.proofs.Faults.{reads-panics, reads-undefined}
-use Rattle.consteval.proofs.Headline.{answer-value, answer-counts, answer-closed, answer-said, answer-completes, answer-endless}
+use Rattle.consteval.proofs.Faults.{ends-in-panic, ends-in-undefined}
+use Rattle.consteval.proofs.Headline.{answer-value, answer-counts, answer-closed, answer-fault, answer-completes, answer-endless}
 use Rattle.consteval.proofs.Keeping.{kept-value, stays-then}
 use Rattle.consteval.proofs.evaluations.Evaluations.eval_def.Goals as goal
 
@@ -31,36 +31,40 @@ pub returns-in-Ok-clause-panic : goal.returns-in-Ok-clause-panic
 returns-in-Ok-clause-panic c row e word valid is says =
     let evaluated = c.answer-evaluated.ensures in
     let answer = c.answer-evaluated.result in
-    answer-said c.args.self.now.world (subst IsChecked evaluated.stays.world evaluated.checked) c.args.def c.args.args.now row valid c.answer-evaluated.new.self evaluated.stays.world evaluated.sound c.args.limits.now answer.turns answer.result
-    panic_word GivesPanic reads-panics evaluated.cause e word is says
+    ends-in-panic (source_of c.args.self.now.world row) c.args.limits.now e word
+    (answer-fault c.args.self.now.world (subst IsChecked evaluated.stays.world evaluated.checked) c.args.def c.args.args.now row valid c.answer-evaluated.new.self evaluated.stays.world evaluated.sound c.args.limits.now answer.turns answer.result
+    evaluated.cause e is)
+    says
 
 pub returns-in-Ok-clause-undefined : goal.returns-in-Ok-clause-undefined
 returns-in-Ok-clause-undefined c row e text valid is says =
     let evaluated = c.answer-evaluated.ensures in
     let answer = c.answer-evaluated.result in
-    answer-said c.args.self.now.world (subst IsChecked evaluated.stays.world evaluated.checked) c.args.def c.args.args.now row valid c.answer-evaluated.new.self evaluated.stays.world evaluated.sound c.args.limits.now answer.turns answer.result
-    undefined_text GivesUndefined reads-undefined evaluated.cause e text is says
+    ends-in-undefined (source_of c.args.self.now.world row) c.args.limits.now e text
+    (answer-fault c.args.self.now.world (subst IsChecked evaluated.stays.world evaluated.checked) c.args.def c.args.args.now row valid c.answer-evaluated.new.self evaluated.stays.world evaluated.sound c.args.limits.now answer.turns answer.result
+    evaluated.cause e is)
+    says
 
 pub returns-in-Ok-clause-closed : goal.returns-in-Ok-clause-closed
-returns-in-Ok-clause-closed c row valid no_calls =
+returns-in-Ok-clause-closed c row valid =
     let evaluated = c.answer-evaluated.ensures in
     let answer = c.answer-evaluated.result in
     answer-closed c.args.self.now.world (subst IsChecked evaluated.stays.world evaluated.checked) c.args.def c.args.args.now row valid c.answer-evaluated.new.self evaluated.stays.world evaluated.sound c.args.limits.now answer.turns answer.result
-    no_calls evaluated.cause
+    evaluated.cause
 
 pub returns-in-Ok-clause-complete : goal.returns-in-Ok-clause-complete
-returns-in-Ok-clause-complete c row valid no_calls cost =
+returns-in-Ok-clause-complete c row valid =
     let evaluated = c.answer-evaluated.ensures in
     let answer = c.answer-evaluated.result in
     answer-completes c.args.self.now.world (subst IsChecked evaluated.stays.world evaluated.checked) c.args.def c.args.args.now row valid c.answer-evaluated.new.self evaluated.stays.world evaluated.sound c.args.limits.now answer.turns answer.result
-    no_calls cost evaluated.cause
+    evaluated.cause
 
 pub returns-in-Ok-clause-endless : goal.returns-in-Ok-clause-endless
-returns-in-Ok-clause-endless c row valid no_calls none =
+returns-in-Ok-clause-endless c row valid none =
     let evaluated = c.answer-evaluated.ensures in
     let answer = c.answer-evaluated.result in
     answer-endless c.args.self.now.world (subst IsChecked evaluated.stays.world evaluated.checked) c.args.def c.args.args.now row valid c.answer-evaluated.new.self evaluated.stays.world evaluated.sound c.args.limits.now answer.turns answer.result
-    no_calls none evaluated.cause
+    none evaluated.cause
 
 pub returns-in-Ok-clause-cause : goal.returns-in-Ok-clause-cause
 returns-in-Ok-clause-cause c =
