@@ -79,10 +79,10 @@ start-near end cell =
     omega arith
 
 -- how many bytes cells take at most: of each its size, and as many as its alignment
-abbrev cell-rooms : List CellSize → ℕ
+abbrev pub cell-rooms : List CellSize → ℕ
 cell-rooms cells = sum_by (λ cell. cell.size + cell.align) cells
 
-behind-near : (end : ℕ) (cells : List CellSize) → length_behind end cells ≤ end + cell-rooms cells
+pub behind-near : (end : ℕ) (cells : List CellSize) → length_behind end cells ≤ end + cell-rooms cells
 unfolding length_behind
 behind-near end [] = omega arith
 behind-near end (cell ∷ cells) =
@@ -103,7 +103,7 @@ unfolding cell_size_of
 size-room ty None size h = absurd cc
 size-room ty (Some layout) size h = sized-room layout size (error.TypeIsUnsized ty (codes "no unsized local in extending stack")) layout.sized h
 
-before-sizes : (size : CellSize) (rest : Result (List CellSize) MirEvalError) (sizes : List CellSize) → size_before size rest ≡ Ok sizes → (others : List CellSize) × (rest ≡ Ok others) × (sizes ≡ size ∷ others)
+pub before-sizes : (size : CellSize) (rest : Result (List CellSize) MirEvalError) (sizes : List CellSize) → size_before size rest ≡ Ok sizes → (others : List CellSize) × (rest ≡ Ok others) × (sizes ≡ size ∷ others)
 before-sizes size (Ok others) sizes h = (others, refl, (let same : ◌≡◌ {A = List CellSize} (size ∷ others) sizes = cc in sym same))
 before-sizes size (Err e) sizes h = absurd cc
 
@@ -111,7 +111,7 @@ before-sizes size (Err e) sizes h = absurd cc
 abbrev pub rooms : HirDatabase → List Local → ℕ
 rooms world locals = sum_by (λ local. room_of (layout_of world local.ty)) locals
 
-sizes-room : (world : HirDatabase) (locals : List Local) (sizes : List CellSize) → sizes_of world locals ≡ Ok sizes → cell-rooms sizes ≡ rooms world locals
+pub sizes-room : (world : HirDatabase) (locals : List Local) (sizes : List CellSize) → sizes_of world locals ≡ Ok sizes → cell-rooms sizes ≡ rooms world locals
 unfolding sizes_of
 sizes-room world [] sizes h = let same : ◌≡◌ {A = List CellSize} [] sizes = cc in sym (ap cell-rooms same)
 sizes-room world (local ∷ locals) sizes h =

@@ -22,7 +22,8 @@ use Rattle.mir_lower.specs.Stops.{StopsFrom, without_arguments}
 -- From a point on, the run of a body does what its meaning says, over exactly as many blocks as that counts, and over cells of no more bytes: it
 -- comes to where the body returns, with a memory that represents the store, and with the value's bytes in the return slot; or it ends in a
 -- fault. Where the fuel of the meaning ran out, the run enters as many blocks as were counted up to there. Of a meaning that is stuck or ends
--- in a jump nothing is said: that of a plain body of a checked world, from a store with as many bytes in each cell as its type has, is neither.
+-- in a jump nothing is said: that of a body of a checked world is neither, where the body and all that it reaches by calls are plain and their
+-- types have layouts, and it begins from a store with as many bytes in each cell as the cell's type has.
 abbrev pub RunsOn : (Cell → Option ℕ) → Frame → Point → Memory → End (List ℕ) → Type 0
 RunsOn allotted frame from memory (Go bytes store cost) =
     (later : Memory) × Comes frame cost.turns cost.bytes from memory Exit later × Represents allotted frame store later × (local_bytes frame later 0 ≡ Some bytes)
@@ -47,8 +48,8 @@ once_placed source (Faults fault cost) = Faults fault (cost_once_placed source c
 once_placed source Stuck = Stuck
 once_placed source (More cost) = More (cost_once_placed source cost)
 
--- each local stands for a cell of its type that the evaluation of a source may use, and all of them take no more bytes than the source counts
--- for its cells
+-- each local has the type of a cell that the evaluation of a source may use, and all of them take no more bytes than the source counts for its
+-- cells
 pub record AreCounted (source : Source) (locals : List Local) : Type 0 where
   pub cells : (l : ℕ) (local : Local) → slice_get locals l ≡ Some local → (cell : Cell) × IsUsed source cell × (cell_type source cell ≡ Some local.ty)
   pub room : sum (map (λ local. room_of (layout_of source.world local.ty)) locals) ≤ body_room source
