@@ -26,7 +26,8 @@ use Rattle.source_meaning.specs.Entering.{entering}
 use Rattle.source_meaning.specs.Source.{Source, Cell, Result as Slot, Node, Binding, Never, cell_type, diverges, own_type, node_type, root}
 use Rattle.mir_lower.specs.Growth.{IsUsed}
 use Rattle.consteval.specs.Answers.{EndsEvaluation, PassesBytesAtOnce}
-use Rattle.consteval.proofs.Bytes.{before-sizes, taken-within}
+use Rattle.mir_lower.proofs.Taking.{before-sizes}
+use Rattle.consteval.proofs.Bytes.{taken-within}
 use Rattle.consteval.proofs.Faults.{NeverRunsFor, never-without-layout, never-without-room, never-without-size, overfull, without-layout, without-size}
 use Rattle.source_meaning.specs.Valid.{itself, IsPlain, AreLaidOut, HasSizedLayout, HasDefinedCost}
 

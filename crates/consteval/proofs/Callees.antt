@@ -107,7 +107,7 @@ reached-through (through {called = first} before on) called calls = let rest = r
 -- what is reached stands in the source's world
 reached-world : {source reached : Source} → Reaches source reached → reached.world ≡ source.world
 reached-world at_once = refl
-reached-world (through {source = source} {called = called} calls on) = reached-world on ∙ called_world source calls.callee called calls.enters
+reached-world (through {source = source} {called = called} calls on) = reached-world on ∙ called_world source calls.e calls.callee called calls.enters
 
 -- the source of a function is a row of its definition
 row-of : (world : HirDatabase) (found : Option BodyRow) (called : Source) → option_map (source_at world) found ≡ Some called → (row : BodyRow) × (found ≡ Some row) × (source_at world row ≡ called)
@@ -124,7 +124,7 @@ same-function : (one other : FunctionId) → Some one ≡ Some other → one ≡
 same-function one other h = cc
 
 -- a call of a function in a plain body, whose own body is plain and fit
-module _ (caller : Source) (callee : ℕ) (args : List ℕ) (ty : Ty) (call : IsPlainCall caller callee args ty) (fit : IsFitBody call.called) (plain : IsPlain call.called) where
+module _ (caller : Source) (e : ℕ) (callee : Option ℕ) (args : List ℕ) (ty : Ty) (call : IsPlainCall caller e callee args ty) (fit : IsFitBody call.called) (plain : IsPlain call.called) where
   -- the body that is called can be lowered
   called-can : (row : BodyRow) → body_row caller.world (FunctionBody call.id) ≡ Some row → source_at caller.world row ≡ call.called → CanBeLowered caller.world (FunctionBody call.id) no_args row
   called-can row found same =
@@ -136,15 +136,15 @@ module _ (caller : Source) (callee : ℕ) (args : List ℕ) (ty : Ty) (call : Is
         fitting = subst (λ (s : Source). s.infer.mismatches ≡ []) (sym same) fit.fitting;
         dropless = subst (λ (s : Source). HasDrops s → ⊥) (sym same) fit.dropless;
         plain = subst IsPlain (sym same) plain;
-        parameters = λ e. subst (λ (s : Source). RefusesParameters s e → e ≡ refusal.NoMemory) (sym same) (refuses-no-parameters call.called call.bound call.row.sig.params e call.binds call.parameters_have);
+        parameters = λ cause. subst (λ (s : Source). RefusesParameters s cause → cause ≡ refusal.NoMemory) (sym same) (refuses-no-parameters call.called call.bound call.row.sig.params cause call.binds call.parameters_have);
       }
 
   -- is refused for want of memory alone
-  called-is-lowered : (e : MirLowerError) → IsChecked caller.world → RefusesBody caller.world (FunctionBody call.id) no_args e → e ≡ refusal.NoMemory
-  called-is-lowered e checked refuses =
+  called-is-lowered : (cause : MirLowerError) → IsChecked caller.world → RefusesBody caller.world (FunctionBody call.id) no_args cause → cause ≡ refusal.NoMemory
+  called-is-lowered cause checked refuses =
       let row = function-row caller.world call.id call.called call.has_body in
-      ⊎_elim (λ none. none) (λ ends. absurd (laid-is-lowered call.called e fit.laid_out (subst (λ (s : Source). EndsLowering s e) row.2 ends)))
-      (refuses-literal caller.world (FunctionBody call.id) no_args row.0 (called-can row.0 row.1 row.2) e checked refuses)
+      ⊎_elim (λ none. none) (λ ends. absurd (laid-is-lowered call.called cause fit.laid_out (subst (λ (s : Source). EndsLowering s cause) row.2 ends)))
+      (refuses-literal caller.world (FunctionBody call.id) no_args row.0 (called-can row.0 row.1 row.2) cause checked refuses)
 
 module _ (world : HirDatabase) (checked : IsChecked world) (def : DefWithBodyId) (args : GenericArgs) (row : BodyRow) (valid : IsValid world def args row) where
   -- so is that of a function that is called in what a valid definition reaches
@@ -152,18 +152,18 @@ module _ (world : HirDatabase) (checked : IsChecked world) (def : DefWithBodyId)
   reached-is-lowered caller id e reached makes refuses =
       let caller_plain = valid.plain.each caller reached in
       let stands = caller_plain.nodes makes.e makes.evaluated in
-      let call : IsPlainCall caller makes.callee makes.args stands.ty = subst (λ (form : Option CoreExpr). HasPlainForm caller makes.e form stands.ty) makes.is_call stands.form in
+      let call : IsPlainCall caller makes.e makes.callee makes.args stands.ty = subst (λ (form : Option CoreExpr). HasPlainForm caller makes.e form stands.ty) makes.is_call stands.form in
       let calls : Calls caller call.called =
-      record { e = makes.e; evaluated = makes.evaluated; callee = makes.callee; args = makes.args; is_call = makes.is_call; enters = called_by_name caller makes.callee call.id call.called call.names call.has_body } in
+      record { e = makes.e; evaluated = makes.evaluated; callee = makes.callee; args = makes.args; is_call = makes.is_call; enters = called_by_name caller makes.e makes.callee call.id call.called call.names call.has_body } in
       let from = reached-through reached call.called calls in
       let in_world : world ≡ caller.world = sym (reached-world reached) in
       let same : id ≡ call.id = same-function id call.id (sym makes.names ∙ call.names) in
-      called-is-lowered caller makes.callee makes.args stands.ty call (valid.called from.0 call.called from.1 from.2) (valid.plain.each call.called (through from.1 from.2)) e (subst IsChecked in_world checked)
+      called-is-lowered caller makes.e makes.callee makes.args stands.ty call (valid.called from.0 call.called from.1 from.2) (valid.plain.each call.called (through from.1 from.2)) e (subst IsChecked in_world checked)
       (subst (λ (called : FunctionId). RefusesBody caller.world (FunctionBody called) no_args e) same (subst (λ (w : HirDatabase). RefusesBody w (FunctionBody id) no_args e) in_world refuses))
 
   -- right answers refuse none of these
   pub none-refused : (kept : Kept) → kept.world ≡ world → (limits : Limits) (answers : List (Query × Answer)) → AreRightAnswers kept answers → (e : MirEvalError) → WasRefused (source_of world row) (program_of kept.world limits answers) e → ⊥
   none-refused kept same limits answers right e was = by was.refusal (right.each (body_query (without_arguments was.id)) (told.Failed was.refusal) was.told) where
     by : (given : ConstEvalError) → IsRightAnswer kept (body_query (without_arguments was.id)) (told.Failed given) → ⊥
-    by (constant.MirLowerError cause) is = is.0 (reached-is-lowered was.caller was.id cause was.reached was.makes (subst (λ (w : HirDatabase). RefusesBody w (FunctionBody was.id) no_args cause) same is.1))
+    by (constant.MirLowerError cause) is = is.0 (reached-is-lowered was.call.caller was.id cause was.call.reached was.call.makes (subst (λ (w : HirDatabase). RefusesBody w (FunctionBody was.id) no_args cause) same is.1))
     by _ is = absurd is

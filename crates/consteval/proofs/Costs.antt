@@ -2,6 +2,7 @@
 use Rattle.std.proofs.Common.{◌≡◌, ◌≢◌, ℕ, ◌<◌, ◌≤◌, Bool, true, false, ◌&&◌, List, refl, sym, ap, ◌∙◌, subst, arith}
 use Rattle.world.specs.Checked.{IsCheckedBody}
 use Rattle.world.specs.declared.limits.Limits.{Limits}
+use Rattle.mir_lower.proofs.Lacking.{entering-nests}
 use Rattle.source_meaning.proofs.Defined.{cost_is_defined}
 use Rattle.source_meaning.specs.Ends.{Cost, cost_of, plus, End, Go, Jumps, Faults, Stuck, More, after}
 use Rattle.source_meaning.specs.Entering.{entering, is_cost_defined, run_cost}
@@ -40,12 +41,7 @@ entering-part : (source : Source) (fuel : ℕ) → meaning_from source (zeroed s
 unfolding meaning_from
 entering-part source fuel there = after-part (entering source) _ there
 
--- a body that is entered takes one level
-entering-level : (source : Source) → (entering source).nesting ≡ 1
-unfolding entering
-entering-level source = refl
-
--- and its cost is defined where its types have sizes
+-- the cost of entering a body is defined where its types have sizes
 entering-defined : (source : Source) → (entering source).defined ≡ is_cost_defined source
 unfolding entering
 entering-defined source = refl
@@ -110,7 +106,7 @@ module _ (source : Source) (limits : Limits) (fuel : ℕ) where
     pub room-has-level : 0 < limits.nesting
     room-has-level =
         let entered = entering-part source fuel there in
-        let level = entering-level source in
+        let level = entering-nests source in
         let counted = entered.nesting in
         let bound = room.nesting in
         omega arith

@@ -35,8 +35,6 @@ module _ (source : Source) (program : Program) (limits : Limits) (nesting : prog
       let passes : program.bytes < 0 + (cost_at source fuel).bytes = lacks in
       (fuel, omega arith)
   lacks-at-call error.StackOverflow lacks =
-      let run = run-of source fuel in
-      let more = run.nesting in
       let passes : suc program.nesting < 1 + (cost_at source fuel).nesting = lacks in
       (fuel, omega arith)
   lacks-at-call _ lacks = absurd lacks

@@ -15,7 +15,7 @@ use Rattle.mir_lower.specs.Stops.{LacksLayout, LacksSize, MakesSomeCall}
 use Rattle.mir.specs.Errors.{from_eval_error, from_lower_error, layout_error_of}
 use Rattle.source_meaning.specs.Source.{Source}
 use Rattle.consteval.specs.Answers.{NeverRuns, NeverRunsLayer, EndsAtCall, EndsEvaluation, EndsFrame, EndsIn, EndsLayer, EndsLowering, GivesPanic, GivesUndefined, PassesBytesAtOnce, panic_layer, panic_word, undefined_layer, undefined_text}
-use Rattle.consteval.proofs.Nesting.{passes-nesting}
+use Rattle.consteval.proofs.Nesting.{run-nests}
 
 -- a frame's fault, wrapped in it
 pub framed : (source : Source) (limits : Limits) (inner : MirEvalError) (trail : List TrailEntry) → EndsFrame source limits inner → EndsEvaluation source limits (error.InFunction inner trail)
@@ -42,7 +42,7 @@ without-size source limits ty text lacks =
 -- a limit on nesting that every run passes
 pub overflowed : (source : Source) (limits : Limits) → limits.nesting < 2 → EndsEvaluation source limits error.StackOverflow
 overflowed source limits less =
-    subst (EndsLayer source limits) (sym (ap out-MirEvalError (sym rolls-StackOverflow) ∙ out-roll-MirEvalError layer.StackOverflow)) (passes-nesting source limits.nesting less)
+    subst (EndsLayer source limits) (sym (ap out-MirEvalError (sym rolls-StackOverflow) ∙ out-roll-MirEvalError layer.StackOverflow)) (let levels = run-nests in omega arith)
 
 -- a limit on bytes that the source's cells pass
 pub overfull : (source : Source) (limits : Limits) → PassesBytesAtOnce source limits.bytes → EndsEvaluation source limits error.MemoryLimitExceeded

@@ -1,14 +1,13 @@
 -- How deep an evaluation nests: a level for the run, and one for its value.
-use Rattle.std.proofs.Common.{◌≡◌, ◌≢◌, ℕ, zero, suc, ◌<◌, ◌≤◌, ◌⊎◌, inl, inr, List, Result, Ok, Err, refl, sym, subst, arith}
+use Rattle.std.proofs.Common.{◌≡◌, ◌≢◌, ℕ, zero, suc, ◌<◌, ◌≤◌, ◌⊎◌, inl, inr, List, Result, Ok, Err, refl, subst, arith}
 use Rattle.types.specs.declared.ty.Const.{Const}
 use Rattle.mir.specs.declared.errors.MirEvalError.{MirEvalError}
 use Rattle.mir.specs.declared.errors.MirEvalError as error
 use Rattle.mir_eval.specs.Machine.{on_a_level}
-use Rattle.source_meaning.specs.Ends.{Cost, cost_of, no_cost, plus, End, Go, Jumps, Faults, Stuck, More, after, then_do}
-use Rattle.source_meaning.specs.Entering.{entering, run_cost}
-use Rattle.source_meaning.specs.Meaning.{Gives, level_at, meaning_from, meaning_of}
+use Rattle.source_meaning.specs.Ends.{Cost, cost_of, plus, End, Go, Jumps, Faults, Stuck, More, after}
+use Rattle.source_meaning.specs.Entering.{run_cost}
+use Rattle.source_meaning.specs.Meaning.{Gives, meaning_from, meaning_of}
 use Rattle.source_meaning.specs.Source.{Source, Store, zeroed}
-use Rattle.consteval.specs.Answers.{PassesNesting}
 
 -- a cost takes at least the nesting of what stands before it
 plus-nests : (first second : Cost) → first.nesting ≤ (plus first second).nesting
@@ -23,7 +22,8 @@ after-nests cost (Faults fault rest) deep there = let more = plus-nests cost res
 after-nests cost Stuck deep there = absurd (there refl)
 after-nests cost (More rest) deep there = let more = plus-nests cost rest in omega arith
 
-run-nests : 2 ≤ run_cost.nesting
+-- a run and its value take two levels
+pub run-nests : 2 ≤ run_cost.nesting
 unfolding run_cost
 run-nests = omega arith
 
@@ -35,18 +35,6 @@ meaning-nests source fuel there = after-nests run_cost (meaning_from source (zer
 pub value-nests : (source : Source) (bytes : List ℕ) (store : Store) (cost : Cost) → Gives source (Go bytes store cost) → 2 ≤ cost.nesting
 value-nests source bytes store cost gives =
     subst (λ (end : End (List ℕ)). end ≢ Stuck → 2 ≤ (cost_of end).nesting) gives.reached (meaning-nests source gives.fuel) (λ stuck. cc)
-
--- without fuel an evaluation is no further than where it was entered
-no-fuel : (source : Source) → meaning_of source 0 ≡ More (plus run_cost (plus (entering source) no_cost))
-unfolding meaning_from level_at then_do after
-no-fuel source = refl
-
--- a limit that is less than two levels is passed
-pub passes-nesting : (source : Source) (nesting : ℕ) → nesting < 2 → PassesNesting source nesting
-passes-nesting source nesting less =
-    let alone = run-nests in
-    let nests = plus-nests run_cost (plus (entering source) no_cost) in
-    (0, subst (λ (end : End (List ℕ)). nesting < (cost_of end).nesting) (sym (no-fuel source)) (omega arith))
 
 -- where there is a level of nesting, what takes one is as it is
 pub has-level : {A : Type 0} (levels : ℕ) (result : Result A MirEvalError) → 0 < levels → on_a_level levels result ≡ result

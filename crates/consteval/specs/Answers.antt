@@ -27,7 +27,7 @@ use Rattle.mir_eval.specs.Machine.{pointer_bytes}
 use Rattle.mir_lower.specs.Refusals.{RefusesAt}
 use Rattle.mir_lower.specs.Stops.{MakesSomeCall, OfReached, LacksLayout, LacksSize}
 use Rattle.source_meaning.specs.Ends.{Cost, cost_of, Go, Faults, Panic, Undefined, IsOver}
-use Rattle.source_meaning.specs.Entering.{entering}
+use Rattle.source_meaning.specs.Entering.{entering, run_cost}
 use Rattle.source_meaning.specs.Meaning.{Gives, meaning_from, meaning_of}
 use Rattle.source_meaning.specs.Source.{Source, Store, node_type, root, zeroed}
 use Rattle.source_meaning.specs.Valid.{HasDefinedCost, HasNoCalls}
@@ -107,9 +107,13 @@ undefined_text = fold-MirEvalError (Option (List ℕ)) undefined_layer
 abbrev pub PassesBlocks : Source → ℕ → Type 0
 PassesBlocks source blocks = (fuel : ℕ) × (blocks < (cost_of (meaning_of source fuel)).turns)
 
--- at some amount of fuel the source counts deeper nesting than a limit
+-- what a source's body costs at an amount of fuel, without the level of its value
+abbrev pub cost_at : Source → (fuel : ℕ) → Cost
+cost_at source fuel = cost_of (meaning_from source (zeroed source) fuel)
+
+-- at some amount of fuel the source counts deeper nesting than a limit for its body, without the level of its value
 abbrev pub PassesNesting : Source → ℕ → Type 0
-PassesNesting source nesting = (fuel : ℕ) × (nesting < (cost_of (meaning_of source fuel)).nesting)
+PassesNesting source nesting = (fuel : ℕ) × (nesting < (cost_at source fuel).nesting)
 
 -- at some amount of fuel the source counts more bytes than a limit
 abbrev pub PassesBytes : Source → ℕ → Type 0
@@ -123,8 +127,8 @@ PassesBytesAtOnce source bytes = bytes < (entering source).bytes
 abbrev pub HasUndefinedCost : Source → Type 0
 HasUndefinedCost source = (fuel : ℕ) × ((cost_of (meaning_of source fuel)).defined ≡ false)
 
--- Why a frame of a valid definition's evaluation ends at a call whose callee isn't entered: the call nests deeper than the limit, or the callee's
--- cells take more bytes than the limit, or the type of such a cell, which the error names, has no layout, or one without a size.
+-- Why a frame of a valid definition's evaluation ends at a call whose callee isn't entered: the source counts deeper nesting or more bytes than a
+-- limit, or a type of a body that is reached, which the error names, has no layout, or one without a size, so that the cost isn't defined.
 abbrev pub EndsAtCall : Source → Limits → MirEvalError → Type 0
 EndsAtCall source limits error.StackOverflow = PassesNesting source limits.nesting
 EndsAtCall source limits error.MemoryLimitExceeded = PassesBytes source limits.bytes
@@ -140,11 +144,12 @@ EndsFrame source limits (error.UndefinedBehavior text) = GivesUndefined source t
 EndsFrame source limits error.ExecutionLimitExceeded = PassesBlocks source limits.blocks
 EndsFrame source limits e = MakesSomeCall source × EndsAtCall source limits e
 
--- The cause of a `MirEvalError` in which the evaluation of a valid definition's body ends, by the error's outermost variant. Of `LayoutError` and
--- `TypeIsUnsized` it states that the type in the error is that of a cell, and has no layout, or one without a size.
+-- The cause of a `MirEvalError` in which the evaluation of a valid definition's body ends, by the error's outermost variant: how its frame ended;
+-- too few levels of nesting for the run and its value; the limit on bytes, which the body's cells pass; or a type of one of these cells, which
+-- the error names, without a layout, for the reason that the error gives, or without a size.
 abbrev pub EndsLayer : Source → Limits → MirEvalError-F MirEvalError → Type 0
 EndsLayer source limits (layer.InFunction inner trail) = EndsFrame source limits inner
-EndsLayer source limits layer.StackOverflow = PassesNesting source limits.nesting
+EndsLayer source limits layer.StackOverflow = limits.nesting < run_cost.nesting
 EndsLayer source limits layer.MemoryLimitExceeded = PassesBytesAtOnce source limits.bytes
 EndsLayer source limits (layer.LayoutError e ty) = (e ≡ layout_error_of ty) × LacksLayout source ty
 EndsLayer source limits (layer.TypeIsUnsized ty text) = LacksSize source ty
@@ -181,10 +186,6 @@ pub record IsWithinLimits (cost : Cost) (limits : Limits) : Type 0 where
   pub room : IsWithinRoom cost limits
   pub turns : cost.turns ≤ limits.blocks
 
--- what a source's body costs at an amount of fuel, without the level of its value
-abbrev pub cost_at : Source → (fuel : ℕ) → Cost
-cost_at source fuel = cost_of (meaning_from source (zeroed source) fuel)
-
 -- Within the limits the answer is what the source means, or want of memory. Where at some amount of fuel the source counts more blocks than the
 -- limit, and up to there is within the other limits, the answer is that there were no more blocks, or want of memory.
 pub record AnswersWithin (source : Source) (limits : Limits) (answer : Result Const ConstEvalError) : Type 0 where
@@ -220,7 +221,7 @@ pub record RefusesToRun (source : Source) (limits : Limits) (answer : Result Con
   pub is : answer ≡ Err fault
   pub never : NeverRuns source limits fault
 
--- the answer is a frame's fault at a call that the source, or something that it reaches, makes
+-- the source makes a call, and the answer is a frame's fault at one
 pub record IsStoppedAtCall (source : Source) (limits : Limits) (answer : Result Const ConstEvalError) : Type 0 where
   pub call : MakesSomeCall source
   pub fault : MirEvalError
@@ -229,8 +230,8 @@ pub record IsStoppedAtCall (source : Source) (limits : Limits) (answer : Result 
 
 -- The answer for a source that has no end: its run enters as many blocks as the limit allows, and no more; or it stops at a call; or memory ran
 -- out, or no run began. Where the source makes no call, the types have sizes, there is a level of nesting for the run, and the bytes that
--- the source counts on entering it are within the limit, it is the first of these, unless memory ran out. With calls `past_blocks` of
--- `AnswersWithin` tells of this.
+-- the source counts on entering it are within the limit, it is the first of these, unless memory ran out. With calls it is so by
+-- `past_blocks` of `AnswersWithin`, where what the source counts up to the limit on blocks is within the other limits.
 pub record AnswersEndless (source : Source) (limits : Limits) (answer : Result Const ConstEvalError) : Type 0 where
   pub ends : OrNoMemory answer IsPastBlocks ⊎ IsStoppedAtCall source limits answer ⊎ RefusesToRun source limits answer
   pub within : HasNoCalls source → HasDefinedCost source → 0 < limits.nesting → (entering source).bytes ≤ limits.bytes → OrNoMemory answer IsPastBlocks
@@ -249,8 +250,8 @@ pub record RunsTo (kept : Kept) (def : DefWithBodyId) (body : MirBody) (limits :
 
 -- A body could not begin: the size of the crate's pointers isn't known, or it is another than 8 bytes, or else there is no
 -- level of nesting for the run, or else a local's type has no layout or no size, or else the cells take more bytes than the limit, or else,
--- where its cells could be placed, the body has parameters, for which a run that nothing calls has no arguments. `begun` tells of the two
--- before the last which it is.
+-- where its cells could be placed, the body has parameters, for which a run that nothing calls has no arguments. Of the types and the bytes of
+-- its cells `begun` tells which it is.
 abbrev pub RefusesRun : HirDatabase → DefWithBodyId → MirBody → Limits → MirEvalError → Type 0
 RefusesRun world def body limits e =
     ((e ≡ error.TargetDataLayoutNotAvailable (crate_or_first world def)) × (pointer_bytes world def ≡ None))
