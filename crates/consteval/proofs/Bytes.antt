@@ -1,5 +1,5 @@
 -- How many bytes a body's cells take, against what its source counts.
-use Rattle.std.proofs.Common.{◌≡◌, ℕ, ◌-◌, ◌≤◌, List, Ok, arith}
+use Rattle.std.proofs.Common.{◌≡◌, ◌-◌, ◌≤◌, List, Ok, arith}
 use Rattle.std.specs.Prelude.{map, sum}
 use Rattle.std.proofs.lemmas.List.Sums.{sum-map}
 use Rattle.world.specs.Lookups.{layout_of}
