@@ -408,10 +408,16 @@ class Reading:
         self.body.drops[e] = self.count(0)
 
     def own_call(self, e, part):
-        function = function_in(self.body.infer["expr_types"][part["callee"]])
+        self.called(function_called(self.body.infer, part), part.get("args", []))
+
+    def own_methodcall(self, e, part):
+        self.called(method_called(self.body.infer, e), method_args(part))
+
+    def called(self, function, args):
+        """A call of a function, where it is known."""
         if function is None or not is_direct(self.world["functions"][function]):
             raise Refusal(NOT_BUILT)
-        for arg in part.get("args", []):
+        for arg in args:
             self.operand(arg)
 
 
@@ -430,6 +436,22 @@ def function_in(ty):
     if name != "FnDef" or variant(part[0])[0] != "FunctionId" or part[1]:
         return None
     return part[0]["FunctionId"]
+
+
+def function_called(infer, part):
+    """The function that a call names: that of its callee's own type."""
+    return function_in(infer["expr_types"][part["callee"]])
+
+
+def method_called(infer, e):
+    """The function that a method call is resolved to, where it is given no generic arguments."""
+    found = dict(map(tuple_of, infer.get("method_res", []))).get(e)
+    return None if found is None or found.get("args") else found["function"]
+
+
+def method_args(part):
+    """The arguments of a method call, its receiver first."""
+    return [part["receiver"], *part.get("args", [])]
 
 
 # Runs.
@@ -744,8 +766,14 @@ class Run:
         raise Jump("return")
 
     def own_call(self, frame, e, part, cell):
-        given = [self.operand(frame, arg) for arg in part.get("args", [])]
-        function = function_in(frame.body.infer["expr_types"][part["callee"]])
+        self.called(frame, e, function_called(frame.body.infer, part), part.get("args", []), cell)
+
+    def own_methodcall(self, frame, e, part, cell):
+        self.called(frame, e, method_called(frame.body.infer, e), method_args(part), cell)
+
+    def called(self, frame, e, function, args, cell):
+        """A call of a function."""
+        given = [self.operand(frame, arg) for arg in args]
         trail = (f"fn#{function} at expr#{e} of {frame.body.owner}", frame.trail)
         marked = e in frame.body.rows["diverging"]
         try:

@@ -4,7 +4,8 @@
 usage: compare_rust.py
 
 The tables of operators and the texts of types are compared with what the programs in `rust_programs` print. Each case
-in `cases` whose values come from `Rust` is compiled as the body of a function, and its value or its panic is compared.
+in `cases` whose values come from `Rust` is compiled as the body of a function, and its value or its panic is compared. A method
+is one of a trait there, with its name, that its type implements.
 Rust checks for overflow here. The exit code is 1 where something differs.
 """
 
@@ -24,9 +25,10 @@ from running import ROOT
 PROGRAMS = Path(__file__).resolve().parent / "rust_programs"
 TYPES = PROGRAMS / "types.rs"
 OPTIONS = ["--edition", "2024", "-C", "overflow-checks=on"]
+METHOD = re.compile(r"fn (\w+)\((mut )?self: (\w+|\(\))")
 
 # What stands around the sources of cases. A case's line is its number and the bytes of its value, or `panic`.
-FRONT = """#![allow(arithmetic_overflow, path_statements, unconditional_panic, unused)]
+FRONT = """#![allow(arithmetic_overflow, non_camel_case_types, path_statements, unconditional_panic, unused)]
 trait Bytes { fn text(self) -> String; }
 macro_rules! integers { ($($ty:ident)*) => { $(impl Bytes for $ty {
     fn text(self) -> String { self.to_le_bytes().iter().map(|byte| format!("{byte:02x}")).collect() }
@@ -65,9 +67,19 @@ def faults_of_types(folder, rows):
     yield from (f"types: Rust doesn't write {text!r}" for text in named if text not in printed)
 
 
+def item_of(text):
+    """A function of a row as an item: a method stands in a trait that its type implements."""
+    found = METHOD.match(text)
+    if found is None:
+        return text
+    name, _, ty = found.groups()
+    declared = METHOD.sub(f"fn {name}(self", text.partition("{")[0]).replace("mut ", "")
+    return f"trait has_{name} {{ {declared}; }} impl has_{name} for {ty} {{ {text} }}"
+
+
 def closure_body(row):
     """The source of a row, behind the functions that it may call."""
-    functions = row.get("functions", [])
+    functions = [item_of(text) for text in row.get("functions", [])]
     return f"{{ {' '.join(functions)} {row['source']} }}" if functions else row["source"]
 
 

@@ -1,5 +1,5 @@
 """Reads bodies that are written in Rust: numbers, truth values, names, operators, blocks, `if`, loops, jumps, `let`,
-assignments, and calls of functions by their names. It reads functions too.
+assignments, calls of functions by their names, and method calls. It reads functions too.
 
 A body is read as a tree of tuples, the first part of which says what it is:
 
@@ -10,7 +10,7 @@ A body is read as a tree of tuples, the first part of which says what it is:
     ("branch", condition, block, block of `else`, another branch, a jump or None)
     ("loop", body, label or None)
     ("leave", value or None, label or None)     ("again", label or None)        ("give_back", value or None)
-    ("call", name, arguments)
+    ("call", name, arguments)               ("method", receiver, name, arguments)
 
 A label is its text, as `'a`. `while c { .. }` is read as the loop with an `if` that it stands for,
 `loop { if c { .. } else { break } }`, where the loop's body is the `if` itself. An operator is one of the worlds' JSON, as
@@ -18,7 +18,8 @@ A label is its text, as `'a`. `while c { .. }` is read as the loop with an `if` 
 
     ("let", name, type or None, initializer or None, block of `else` or None)        ("expr", expression)
 
-A function is read as a `Function`. Its parameters are plain names.
+A function is read as a `Function`. Its parameters are plain names. One whose first parameter is `self`, with its type, is a method of
+that type, as `fn minus(self: u8, other: u8) -> u8 { self - other }` is.
 """
 
 import re
@@ -44,7 +45,7 @@ LEVELS = (("||",), ("&&",), tuple(COMPARISONS), ("|",), ("^",), ("&",), ("<<", "
 ENDS = (";", "}", ")", ",", "")
 
 TOKEN = re.compile(
-    r"\s*(\d+(?:[iu](?:8|16|32|64|128|size))?|'?[A-Za-z_]\w*|<<=|>>=|&&|\|\||<<|>>|->|[-+*/%&|^=!<>]=|[-+*/%&|^=!<>(){};:,])"
+    r"\s*(\d+(?:[iu](?:8|16|32|64|128|size))?|'?[A-Za-z_]\w*|<<=|>>=|&&|\|\||<<|>>|->|[-+*/%&|^=!<>]=|[-+*/%&|^=!<>(){};:,.])"
 )
 
 
@@ -60,6 +61,10 @@ class Function:
     params: list
     ret: str
     tree: tuple
+
+    def is_method(self):
+        """Whether it is called as a method."""
+        return bool(self.params) and self.params[0][0] == "self"
 
 
 def operator_of(token):
@@ -131,7 +136,16 @@ class Reader:
         return left
 
     def operand(self):
-        """An expression without operators of two operands."""
+        """An expression without operators of two operands. A method call binds stronger than an operator of one operand."""
+        if self.next() in UNARY:
+            return ("unary", UNARY[self.need()], self.operand())
+        found = self.simple()
+        while self.take("."):
+            found = ("method", found, self.need(), self.arguments())
+        return found
+
+    def simple(self):
+        """An expression without operators, and no method call."""
         if self.next() == "{":
             return self.block()
         if self.next() == "if":
@@ -149,8 +163,6 @@ class Reader:
             return ("again", self.label())
         if token == "return":
             return ("give_back", None if self.next() in ENDS else self.expr())
-        if token in UNARY:
-            return ("unary", UNARY[token], self.operand())
         if token == "(":
             inside = self.expr()
             self.need(")")

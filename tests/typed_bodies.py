@@ -4,7 +4,7 @@ Types are found as Rust finds them: a literal without a suffix has the type that
 does. A block without a tail may have any type that is asked for, as where its end isn't reached. A jump, and a loop that
 no `break` leaves, are of type `!`, and become of the type that is asked for, where one is.
 
-A call of a function that returns `!` is one that inference marks as diverging.
+A call of a function that returns `!` is one that inference marks as diverging. A method is found by its name alone.
 
 A jump means what it means here: one without a label the innermost loop or labelled block, where Rust refuses the block. A
 `return` leaves the body, as it does in a function. Rust refuses it in a constant.
@@ -116,8 +116,9 @@ class Draft:
 
     def __init__(self, ty, functions=()):
         self.ty = ty
-        self.functions = {one.name: (place, one) for place, one in enumerate(functions)}
-        self.params, self.diverging = [], []
+        self.functions = {one.name: (place, one) for place, one in enumerate(functions) if not one.is_method()}
+        self.methods = {one.name: (place, one) for place, one in enumerate(functions) if one.is_method()}
+        self.params, self.self_param, self.diverging, self.method_res = [], None, [], []
         self.exprs, self.pats, self.bindings = [], [], []
         self.expr_types, self.pat_types, self.binding_types = [], [], []
         self.value_res, self.pat_value_res, self.binding_modes = [], [], []
@@ -164,10 +165,26 @@ class Draft:
         number, called = self.functions[name]
         callee = self.add(path(name), fn_def(number))
         self.value_res.append([callee, {"FunctionId": number}])
+        return self.called({"Call": {"callee": callee, "args": self.given(called, args)}}, called, ty)
+
+    def method(self, receiver, name, args, ty):
+        """A method call."""
+        if name not in self.methods:
+            raise NoBody(f"no method is called {name}")
+        number, called = self.methods[name]
+        first, *others = self.given(called, [receiver, *args])
+        place = self.called({"MethodCall": {"receiver": first, "args": others, "method_name": name}}, called, ty)
+        self.method_res.append([place, {"function": number, "args": []}])
+        return place
+
+    def given(self, called, args):
+        """The arguments of a call."""
         if len(args) != len(called.params):
-            raise NoBody(f"{name} takes {len(called.params)} arguments")
-        given = [self.expr(arg, param) for arg, (_, param) in zip(args, called.params)]
-        node = filled(Call={"callee": callee, "args": given})
+            raise NoBody(f"{called.name} takes {len(called.params)} arguments")
+        return [self.expr(arg, param) for arg, (_, param) in zip(args, called.params)]
+
+    def called(self, node, called, ty):
+        """Adds a call of a function."""
         if called.ret == "!":
             place = self.add_endless(node, ty)
             self.diverging.append(place)
@@ -176,8 +193,11 @@ class Draft:
         return self.add(node, ty)
 
     def param(self, name, ty):
-        """A parameter, whose name is known in the whole body."""
-        self.params.append(self.name(name, ty))
+        """A parameter, whose name is known in the whole body. `self` has no pattern."""
+        if name == "self":
+            self.self_param = self.bound(name, ty)
+        else:
+            self.params.append(self.name(name, ty))
 
     def unary(self, op, operand, ty):
         inside = self.expr(operand, ty)
@@ -304,12 +324,16 @@ class Draft:
         instead = None if other is None else self.expr(other, Unknown())
         return let_statement(self.name(name, ty), value, instead)
 
-    def name(self, name, ty):
-        """The pattern of a name that is bound from here on."""
+    def bound(self, name, ty):
+        """The binding of a name that is bound from here on."""
         self.bindings.append({"name": name, "mode": "Unannotated"})
         self.binding_types.append(ty)
         self.scopes[-1][name] = len(self.bindings) - 1
-        pat = self.add_pat(bind(len(self.bindings) - 1), ty)
+        return len(self.bindings) - 1
+
+    def name(self, name, ty):
+        """The pattern of a name that is bound from here on."""
+        pat = self.add_pat(bind(self.bound(name, ty)), ty)
         self.binding_modes.append([pat, "Move"])
         return pat
 
@@ -317,9 +341,11 @@ class Draft:
         """The row of the body, whose root is the last expression."""
         kinds = ("expr_types", "pat_types", "binding_types")
         types = {kind: [settled(ty) for ty in getattr(self, kind)] for kind in kinds}
-        nodes = filled(exprs=self.exprs, pats=self.pats, bindings=self.bindings, labels=self.labels, params=self.params)
-        names = {"value_res": self.value_res, "pat_value_res": self.pat_value_res, "binding_modes": self.binding_modes}
-        found = filled(**types, expr_adjustments=list(self.adjustments()), **names, diverging=self.diverging, copy_types=copy_types)
+        nodes = filled(exprs=self.exprs, pats=self.pats, bindings=self.bindings, labels=self.labels, params=self.params,
+                       self_param=self.self_param)
+        names = {"value_res": self.value_res, "method_res": self.method_res, "pat_value_res": self.pat_value_res}
+        modes = {"binding_modes": self.binding_modes, "diverging": self.diverging}
+        found = filled(**types, expr_adjustments=list(self.adjustments()), **names, **modes, copy_types=copy_types)
         return {"body": {**nodes, "body_expr": len(self.exprs) - 1}, "infer": found}
 
 
