@@ -1,6 +1,6 @@
 -- The cells of a called body, and its arguments in them.
 use Rattle.std.proofs.Common.{◌≡◌, ◌≢◌, ℕ, zero, suc, ⊎_elim, Bool, true, false, cond, List, [], ◌∷◌, length, Option, Some, None, Result, Ok, Err, refl, sym, ap, ◌∙◌, subst, eqb}
-use Rattle.std.specs.Prelude.{slice_get, map, replicate, unwrap_or, option_map, option_and_then, codes}
+use Rattle.std.specs.Prelude.{slice_get, map, replicate, unwrap_or, option_map, option_and_then}
 use borrow.Author.Tests.{eqb-true}
 use Rattle.types.specs.declared.ids.CallableDefId.TheVariants.{FunctionId as CalledFunction, StructId, EnumVariantId}
 use Rattle.types.specs.declared.ids.FunctionId.{FunctionId}
@@ -14,23 +14,18 @@ use Rattle.types.specs.declared.ty.TraitRef.{TraitRef}
 use Rattle.types.specs.declared.ty.Ty.{Ty, Ty-F, out-Ty}
 use Rattle.types.specs.declared.ty.UnevaluatedConst.{UnevaluatedConst}
 use Rattle.types.specs.declared.ty.ValueConst.{ValueConst}
-use Rattle.world.specs.declared.database.HirDatabase.{HirDatabase}
 use Rattle.world.specs.declared.layout.Layout.{Layout}
 use Rattle.world.specs.Lookups.{layout_of}
-use Rattle.mir.specs.declared.address.CellSize.{CellSize}
 use Rattle.mir.specs.declared.address.Interval.{Interval}
 use Rattle.mir.specs.declared.body.Local.{Local}
 use Rattle.mir.specs.declared.errors.MirEvalError.{MirEvalError}
-use Rattle.mir.specs.declared.errors.MirEvalError as error
 use Rattle.mir.specs.declared.ids.LocalId.{LocalId}
-use Rattle.mir.specs.declared.mem_fault.MemFault.{MemFault}
 use Rattle.mir.specs.declared.operand.Operand.{Operand as MirOperand}
-use Rattle.mir.specs.Areas.{AreApart, after_push}
-use Rattle.mir.specs.Errors.{layout_error_of}
-use Rattle.mir.specs.Memory.{Memory, cell_bytes, cell_before, cell_size_of, size_before, sizes_of, pushed, cells_of}
+use Rattle.mir.specs.Areas.{AreApart}
+use Rattle.mir.specs.Memory.{Memory, cell_bytes, cell_before, cells_of}
 use Rattle.mir.specs.Run.{Frame, operand_bytes as mir_bytes, bad_write, read, copied, filled as mir_filled, called_cells, function_of as mir_function_of, function_in as mir_function_in}
 use Rattle.source_meaning.specs.Calls.{without_generics, function_of, function_in, filled}
-use Rattle.source_meaning.specs.Source.{Source, Cell, Result as Slot, Binding, Store, Operand, operand_bytes, own_type, cell_type, cell_layout, cell_size, zeroed, with_cell_bytes}
+use Rattle.source_meaning.specs.Source.{Source, Cell, Result as Slot, Binding, Store, Operand, operand_bytes, cell_type, cell_layout, cell_size, zeroed, with_cell_bytes}
 use Rattle.mir_lower.specs.Callees.{AreLocalsOf}
 use Rattle.mir_lower.specs.Does.{Holds, FitAll}
 use Rattle.mir_lower.specs.Graph.{Shape, local_of}

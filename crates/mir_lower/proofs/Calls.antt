@@ -16,7 +16,7 @@ use Rattle.source_meaning.specs.Around.{Around}
 use Rattle.source_meaning.specs.Built.{CallsFunction}
 use Rattle.source_meaning.specs.Calls.{must_not_return, source_called}
 use Rattle.source_meaning.specs.Core as expr
-use Rattle.source_meaning.specs.Core.{CoreExpr, is_truth}
+use Rattle.source_meaning.specs.Core.{is_truth}
 use Rattle.source_meaning.specs.Meaning.{level_at, callees_at, operands_of, entered_into, into_of}
 use Rattle.source_meaning.specs.Source.{Source, node, unadjusted, Cell, Store, Operand, operand_bytes}
 use Rattle.source_meaning.specs.Valid.{own, inside, sized_parts, IsLaidOutNode}

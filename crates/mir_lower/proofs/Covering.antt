@@ -1,5 +1,5 @@
 -- What the end of a call counts: at least what entering its callee does.
-use Rattle.std.proofs.Common.{◌≡◌, ℕ, ◌≤◌, ◌⊎◌, ⊎_elim, inl, inr, Bool, true, false, cond, List, length, refl, sym, subst, arith, eqb}
+use Rattle.std.proofs.Common.{◌≡◌, ℕ, ◌⊎◌, ⊎_elim, inl, inr, Bool, true, false, cond, List, length, refl, sym, subst, arith, eqb}
 use Rattle.source_meaning.specs.Ends.{Cost, no_cost, turns_alone, one_level_more, plus, End, Go, Jumps, Faults, Stuck, More, after, then_do}
 use Rattle.source_meaning.specs.Meaning.{put, call_returned, call_diverged}
 use Rattle.source_meaning.specs.Source.{Path, Store, with_cell_bytes}

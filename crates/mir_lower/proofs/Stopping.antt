@@ -2,7 +2,6 @@
 use Rattle.std.proofs.Common.{◌≡◌, ℕ, suc, ◌+◌, ◌<◌, ◌≤◌, ⊎_elim, inl, inr, Bool, true, false, refl, arith}
 use Rattle.std.specs.Prelude.{◌&&◌}
 use Rattle.types.specs.declared.ids.FunctionId.{FunctionId}
-use Rattle.types.specs.declared.ty.Ty.{Ty}
 use Rattle.mir.specs.declared.answers.Query.{Query}
 use Rattle.mir.specs.Areas.{taken}
 use Rattle.mir.specs.declared.errors.MirEvalError.{MirEvalError}

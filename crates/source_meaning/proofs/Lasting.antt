@@ -18,7 +18,7 @@ use Rattle.numbers.specs.Operators.{Answer, Computes, Panics, Undefined}
 use Rattle.source_meaning.specs.Around.{Around, Target, at_root, marking, inside, target_of}
 use Rattle.source_meaning.specs.Calls.{source_at, source_called, must_not_return, parameter_cells, started}
 use Rattle.source_meaning.specs.Core as expr
-use Rattle.source_meaning.specs.Core.{CoreExpr, Operation}
+use Rattle.source_meaning.specs.Core.{CoreExpr}
 use Rattle.source_meaning.specs.Ends.{Cost, plus, turns_alone, End, Go, Jumps, Break, Continue, Return, Faults, Stuck, More, GoesOn, after, then_do}
 use Rattle.source_meaning.specs.Entering.{entering}
 use Rattle.source_meaning.specs.Events.{marked, marked_as_operand, marked_by_statement}

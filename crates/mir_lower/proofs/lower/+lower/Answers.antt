@@ -1049,6 +1049,12 @@ lower_return-returns-clause-lowered t c =
     let source = source_of c.args.context.now in
     lowers-return source (shape c.args.graph.now) (shape c.lower_tail.new.graph) (shape c.return_from.new.graph) c.args.e.0 c.args.value c.requires.form c.requires.ready (c.in_ok-lower_tail.ensures.lowered Result refl) c.in_ok-return_from.ensures cell
 
+-- a method call
+
+pub lower_method_call-returns-in_err-all-clause-refused : goal.lower_method_call-returns-in_err-all-clause-refused
+lower_method_call-returns-in_err-all-clause-refused t c =
+    refused-exit (RefusesAt (source_of c.args.context.now) c.args.e.0) _ c.from_residual.result c.from_residual.ensures.1 (refuses-no-memory (source_of c.args.context.now) c.args.e.0)
+
 -- a call
 
 pub lower_call-lower_callee-requires : goal.lower_call-lower_callee-requires
