@@ -7,8 +7,9 @@ Each source in `SOURCES` is a constant that calls functions, at a number: of Fib
 is measured as `loops.py` measures loops, in `rustc` and in the program, and that of the same source at the number 1 is taken off both.
 
 Then, for each depth, the peak memory of the program for so many calls in one another, of a function whose cells take few bytes, and
-of one with a cell of 65536 bytes (`thin` and `wide`). No call returns before the innermost one is entered, and what the program
-takes for one call is taken off. Where the memory is in proportion to the depth, the bytes of a call are the same at each depth.
+of one with a cell of 65536 bytes (`thin` and `wide`). No call returns before the innermost one is entered. From one depth to the next
+it tells how many bytes a call takes: where the memory is in proportion to the depth, as many each time. The peak of a small run is that of
+the Python that begins it, so the depths are such that the program takes more.
 """
 
 import argparse
@@ -26,7 +27,6 @@ from rust_text import read, read_function  # noqa: E402
 from typed_bodies import body_row, world_of_bodies  # noqa: E402
 from worlds import U8, array_of, sized  # noqa: E402
 
-DEPTHS = (10, 100, 500)
 
 # The name of each source, what it is about, its number, and its text, in which NUMBER is that number.
 SOURCES = {
@@ -46,6 +46,7 @@ FILE = "#![allow(long_running_const_eval, unused)]\n{}\n"
 
 # How many bytes a cell takes that the body of the function has besides those of its names and values.
 CELLS = {"thin": 0, "wide": 65536}
+DEPTHS = {"thin": (100000, 200000, 400000, 800000), "wide": (500, 1000, 2000, 4000)}
 
 
 def source_of(name, number):
@@ -97,12 +98,13 @@ class Calls(Bench):
         return sorted(run[2] for run in runs)[self.runs // 2] * 1e6
 
     def memory(self, name, depths, folder):
-        """Prints the peak memory for each depth."""
-        one = self.peak(chain(1, CELLS[name]), folder)
-        print(f"{name}: one call: {one / 1e6:.1f} MB", flush=True)
-        for depth in depths:
-            more = self.peak(chain(depth, CELLS[name]), folder) - one
-            print(f"  {depth} calls: {more / 1e6:.2f} MB more, {more / (depth - 1):.0f} bytes a call", flush=True)
+        """Prints the peak memory for each depth, and how many bytes a call takes from the depth before."""
+        before, last = 0, None
+        for depth in sorted(depths):
+            peak = self.peak(chain(depth, CELLS[name]), folder)
+            each = "" if last is None else f", {(peak - last) / (depth - before):.0f} bytes a call more"
+            print(f"{name}: {depth} calls: {peak / 1e6:.1f} MB{each}", flush=True)
+            before, last = depth, peak
 
 
 def main(words):
@@ -113,8 +115,8 @@ def main(words):
     parser.add_argument("--only", choices=[*SOURCES, *CELLS], action="append")
     parser.add_argument("--depth", type=int, action="append")
     chosen = parser.parse_args(words)
-    if min(chosen.depth or DEPTHS) < 2:
-        sys.exit("calls: a depth is 2 at least")
+    if min(chosen.depth or [1]) < 1:
+        sys.exit("calls: a depth is 1 at least")
     if not chosen.program.is_file():
         sys.exit(f"calls: there is no program {chosen.program}")
     bench = Calls(chosen.program.resolve(), chosen.rustc, chosen.runs)
@@ -125,7 +127,7 @@ def main(words):
                 bench.compare_calls(name, folder)
         for name in CELLS:
             if chosen.only is None or name in chosen.only:
-                bench.memory(name, chosen.depth or DEPTHS, folder)
+                bench.memory(name, chosen.depth or DEPTHS[name], folder)
     print(f"load after: {load()}")
 
 
