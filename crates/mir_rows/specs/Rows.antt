@@ -1,0 +1,106 @@
+-- What the rows of a body say of its statements and terminators.
+use Rattle.std.specs.Prelude.{◌≡◌, ℕ, Bool, true, false, List, [], ◌∷◌, take, Option, Some, None, slice_get, option_and_then}
+use Rattle.numbers.specs.Operators.{kind_of}
+use Rattle.numbers.specs.declared.operator.Kind.{Kind}
+use Rattle.mir.specs.declared.body.BasicBlock.{BasicBlock}
+use Rattle.mir.specs.declared.body.MirBody.{MirBody}
+use Rattle.mir.specs.declared.body.Terminator.{Terminator}
+use Rattle.mir.specs.declared.body.TerminatorKind.{TerminatorKind}
+use Rattle.mir.specs.declared.body.TerminatorKind.TheVariants as ends
+use Rattle.mir.specs.declared.operand.OperandKind.{OperandKind}
+use Rattle.mir.specs.declared.operand.OperandKind.TheVariants as operand
+use Rattle.mir.specs.declared.operand.Rvalue.TheVariants.{Use, CheckedBinaryOp}
+use Rattle.mir.specs.declared.statement.Statement.{Statement}
+use Rattle.mir.specs.declared.statement.StatementKind.{StatementKind}
+use Rattle.mir.specs.declared.statement.StatementKind.TheVariants.{Assign, FakeRead, StorageLive, StorageDead}
+use Rattle.mir.specs.Run.{constant_bytes, operand_type}
+use Rattle.mir_rows.specs.declared.row.Action.{Action}
+use Rattle.mir_rows.specs.declared.row.Action.TheVariants as action
+use Rattle.mir_rows.specs.declared.row.BlockRows.{BlockRows}
+use Rattle.mir_rows.specs.declared.row.Row.{Row}
+use Rattle.mir_rows.specs.declared.row.Short.{Short}
+use Rattle.mir_rows.specs.declared.row.Source.{Source}
+use Rattle.mir_rows.specs.declared.row.Source.TheVariants as source
+use Rattle.mir_rows.specs.declared.row.Way.{Way}
+use Rattle.mir_rows.specs.declared.row.Way.TheVariants as way
+
+-- whether a statement does nothing when it runs
+abbrev pub is_idle : StatementKind → Bool
+is_idle (Assign place rvalue) = false
+is_idle (FakeRead place) = true
+is_idle (StorageLive local) = true
+is_idle (StorageDead local) = true
+
+-- the bytes that are kept of a constant
+abbrev pub short_bytes : Short → List ℕ
+short_bytes short = take short.count short.room
+
+-- the bytes of an operand that is a constant with a value
+abbrev pub constant_in : OperandKind → Option (List ℕ)
+constant_in (operand.Copy place) = None
+constant_in (operand.Constant konst ty) = constant_bytes konst
+
+-- a source is what an operand says
+abbrev pub IsSource : Source → OperandKind → Type 0
+IsSource (source.Local local) operand = operand ≡ operand.Copy (record { local = local })
+IsSource (source.Constant short) operand = constant_in operand ≡ Some (short_bytes short)
+
+-- two sources are what two operands say, and the bytes of both are of a kind
+pub record AreOperands (body : MirBody) (kind : Kind) (left right : Source) (one other : OperandKind) : Type 0 where
+  pub left : IsSource left one
+  pub right : IsSource right other
+  pub left_kind : option_and_then kind_of (operand_type body one) ≡ Some kind
+  pub right_kind : option_and_then kind_of (operand_type body other) ≡ Some kind
+
+-- an action is what a statement of a body does
+abbrev pub Says : MirBody → Action → StatementKind → Type 0
+Says body (action.Combine op kind to left right) (Assign place (CheckedBinaryOp operator one other)) = (place.local ≡ to) × (operator ≡ op) × AreOperands body kind left right one.kind other.kind
+Says body (action.Copy to from) (Assign place (Use operand)) = (place.local ≡ to) × IsSource (source.Local from) operand.kind
+Says body (action.Put to value) (Assign place (Use operand)) = (place.local ≡ to) × IsSource (source.Constant value) operand.kind
+Says body action.Other statement = Unit {0}
+Says body _ _ = ⊥
+
+-- a row is that of a statement, which stands at its place among those of its block
+pub record IsRow (body : MirBody) (block : List Statement) (statement : Statement) (row : Row) : Type 0 where
+  pub stands : slice_get block row.place ≡ Some statement
+  pub says : Says body row.action statement.kind
+
+-- rows are those of the statements that do something, in order; `block`: all statements of the block that they stand in
+pub AreRows : MirBody → (block : List Statement) → List Statement → List Row → Type 0
+RowsFrom : MirBody → List Statement → Statement → List Statement → Bool → List Row → Type 0
+AreRows body block [] [] = Unit {0}
+AreRows body block [] (row ∷ rows) = ⊥
+AreRows body block (statement ∷ statements) rows = RowsFrom body block statement statements (is_idle statement.kind) rows
+RowsFrom body block statement statements true rows = AreRows body block statements rows
+RowsFrom body block statement statements false [] = ⊥
+RowsFrom body block statement statements false (row ∷ rows) = IsRow body block statement row × AreRows body block statements rows
+
+-- a way is where a terminator leads
+abbrev pub Leads : Way → TerminatorKind → Type 0
+Leads (way.Goto block) (ends.Goto target) = target ≡ block
+Leads (way.Goto block) (ends.Drop place target unwind) = target ≡ block
+Leads (way.Branch local value then otherwise) (ends.SwitchInt discr targets) = IsSource (source.Local local) discr.kind × (targets ≡ ((value, then) ∷ [], otherwise))
+Leads way.Other kind = Unit {0}
+Leads _ _ = ⊥
+
+-- so it is how a block ends
+abbrev pub IsWay : Way → Option Terminator → Type 0
+IsWay way (Some terminator) = Leads way terminator.kind
+IsWay way None = way ≡ way.Other
+
+-- a block's rows
+pub record IsBlock (body : MirBody) (block : BasicBlock) (rows : BlockRows) : Type 0 where
+  pub statements : AreRows body block.statements block.statements rows.rows.items
+  pub terminator : IsWay rows.way block.terminator
+
+-- the rows of blocks of a body, one for each
+abbrev pub AreBlocks : MirBody → List BasicBlock → List BlockRows → Type 0
+AreBlocks body [] [] = Unit {0}
+AreBlocks body (block ∷ blocks) (rows ∷ others) = IsBlock body block rows × AreBlocks body blocks others
+AreBlocks body _ _ = ⊥
+
+-- a block that a body has at a place has these rows
+pub record HasRows (body : MirBody) (place : ℕ) (rows : BlockRows) : Type 0 where
+  pub block : BasicBlock
+  pub found : slice_get body.basic_blocks place ≡ Some block
+  pub are : IsBlock body block rows
