@@ -67,6 +67,7 @@ pub record IsRow (body : MirBody) (block : List Statement) (statement : Statemen
 
 -- rows are those of the statements that do something, in order; `block`: all statements of the block that they stand in
 pub AreRows : MirBody → (block : List Statement) → List Statement → List Row → Type 0
+
 RowsFrom : MirBody → List Statement → Statement → List Statement → Bool → List Row → Type 0
 AreRows body block [] [] = Unit {0}
 AreRows body block [] (row ∷ rows) = ⊥

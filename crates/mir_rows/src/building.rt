@@ -41,13 +41,7 @@ fn source(operand: &OperandKind) -> Option<Source>
 }
 
 /// The assignment of what an operator makes of two operands, where these are of one kind and have sources.
-fn combine(
-    body: &MirBody,
-    to: Place,
-    op: BinOp,
-    left: &Operand,
-    right: &Operand,
-) -> Option<Action>
+fn combine(body: &MirBody, to: Place, op: BinOp, left: &Operand, right: &Operand) -> Option<Action>
     ensures { IfSome result (λ action. Says body.now action (Assign to (CheckedBinaryOp op left.now right.now))) }
 {
     let kind = operand_kind(body, &left.kind)?;
@@ -69,10 +63,7 @@ fn put(body: &MirBody, to: Place, operand: &Operand) -> Option<Action>
     ensures { IfSome result (λ action. Says body.now action (Assign to (Use operand.now))) }
 {
     match source(&operand.kind)? {
-        Source::Local(from) => Some(Action::Copy {
-            to: to.local,
-            from,
-        }),
+        Source::Local(from) => Some(Action::Copy { to: to.local, from }),
         Source::Constant(value) => Some(Action::Put {
             to: to.local,
             value,
@@ -102,11 +93,7 @@ fn is_idle(statement: &StatementKind) -> bool
 }
 
 /// The rows of a block's statements.
-fn rows(
-    alloc: Global,
-    body: &MirBody,
-    statements: &[Statement],
-) -> Result<Vec<Row>, NoMemory>
+fn rows(alloc: Global, body: &MirBody, statements: &[Statement]) -> Result<Vec<Row>, NoMemory>
     ensures { IfOk result (λ rows. AreRows body.now statements.now statements.now rows.items) }
 {
     let mut rows = Vec::new(alloc);

@@ -42,9 +42,15 @@ pub enum Action {
         right: Source,
     },
     /// It copies a local to another one.
-    Copy { to: LocalId, from: LocalId },
+    Copy {
+        to: LocalId,
+        from: LocalId,
+    },
     /// It assigns a constant to a local.
-    Put { to: LocalId, value: Short },
+    Put {
+        to: LocalId,
+        value: Short,
+    },
     /// What the statement itself says.
     Other,
 }
