@@ -10,7 +10,7 @@ use Rattle.mir.specs.declared.errors.TrailEntry.{TrailEntry}
 use Rattle.mir.specs.declared.address.Interval.{Interval}
 use Rattle.mir.specs.Areas.{Areas}
 use Rattle.mir.specs.Memory.{Memory, cell_bytes}
-use Rattle.mir_eval.proofs.Blocks.{enter_one}
+use Rattle.mir_eval.proofs.Entering.{enter_one}
 use Rattle.mir.specs.Run.{Program, Frame, Waiting, Ending, Returned, Faulted, Asked, Next, Stops, GoesTo, Asks, Ended, after_return, entering, faults, first_body, going_on, next_from, resumed, returned, trail_of}
 use Rattle.mir_eval.specs.declared.faults.Fault.{Fault}
 use Rattle.mir_eval.specs.declared.runs.Run.{Run}

@@ -1,5 +1,5 @@
 pub mod Alignments
-pub mod Blocks
+pub mod Entering
 pub mod Callers
 pub mod Filling
 pub mod Laying

@@ -1,4 +1,5 @@
 pub mod Alignments
+pub mod Callees
 pub mod Calls
 pub mod Evaluators
 pub mod Frames

@@ -1,18 +1,20 @@
 //! Calls: what is called, the cells of its body, and its arguments.
 
-ghost use Rattle.std.specs.Prelude.{◌≡◌, ◌⊎◌, Ok, Err, IfOk, IfErr, option_map, option_and_then, slice_get};
+ghost use Rattle.std.specs.Prelude.{◌≡◌, ◌⊎◌, Ok, Err, IfOk, IfErr, IfSome, option_map, option_and_then, slice_get};
 ghost use Rattle.mir.specs.declared.errors.MirEvalError as error;
 ghost use Rattle.mir_eval.specs.Alignments.{HasAlignments};
+ghost use Rattle.mir_eval.specs.Callees.{AreSizes};
 ghost use Rattle.mir.specs.Run.{called_cells, copied, filled, function_in, operand_bytes, operand_type, read};
 ghost use Rattle.mir_eval.specs.Calls.{call_is, function_is};
 ghost use Rattle.mir_eval.specs.Frames.{frame_of};
 ghost use Rattle.mir_eval.specs.Machine.{call_at};
 ghost use Rattle.mir_eval.specs.Steps.{left_with};
 
+use crate::callees::Callee;
 use crate::cells::cell_of;
 use crate::faults::Fault;
 use crate::frames::{Program, StackFrame};
-use crate::places::{lay_out, listed};
+use crate::places::{lay_out, listed, push};
 use crate::steps::assign_operand;
 use mir::{
     BasicBlockId, Interval, LocalId, MirBody, MirEvalError, MirSpan, Operand, OperandKind, Place,
@@ -93,29 +95,32 @@ pub(crate) fn callee<'r>(body: &'r MirBody, func: &'r OperandKind) -> Option<Fun
 }
 
 /// The cells of a called body: its return slot is the destination, where there is one, and the others are new ones at the end of
-/// the stack.
+/// the stack. They are listed in `room`.
 pub(crate) fn callee_cells<M: Memory>(
     alloc: Global,
     program: &Program<'_>,
-    body: &MirBody,
+    callee: &Callee,
     destination: Option<Interval>,
+    room: Vec<Interval>,
     memory: &mut M,
 ) -> Result<Vec<Interval>, MirEvalError>
-    requires { HasAlignments program.now.db.now }
-    ensures ok { IfOk result (λ cells. called_cells program.now.db.now body.now.locals destination (M.areas memory.old) ≡ Ok (cells.items, M.areas memory.new)) }
-    ensures err { IfErr result (λ e. (e ≡ error.NoMemory) ⊎ (called_cells program.now.db.now body.now.locals destination (M.areas memory.old) ≡ Err e)) }
+    requires aligned { HasAlignments program.now.db.now }
+    requires sizes { IfSome callee.now.sizes (λ sizes. AreSizes program.now.db.now callee.now.body.value.locals sizes.value) }
+    ensures ok { IfOk result (λ cells. called_cells program.now.db.now callee.now.body.value.locals destination (M.areas memory.old) ≡ Ok (cells.items, M.areas memory.new)) }
+    ensures err { IfErr result (λ e. (e ≡ error.NoMemory) ⊎ (called_cells program.now.db.now callee.now.body.value.locals destination (M.areas memory.old) ≡ Err e)) }
 {
-    let locals = body.locals.as_slice();
+    let locals = callee.body.as_ref().body().locals.as_slice();
     let slot = if locals.is_empty() { None } else { destination };
-    let others = match slot {
-        Some(_) => &locals[1..],
-        None => locals,
+    let placed = match (slot, &callee.sizes) {
+        (Some(_), Some(sizes)) => push(memory, sizes.as_ref()),
+        (Some(_), None) => lay_out(alloc, program.db, &locals[1..], memory),
+        (None, _) => lay_out(alloc, program.db, locals, memory),
     };
-    let placed = match lay_out(alloc, program.db, others, memory) {
+    let placed = match placed {
         Ok(placed) => placed,
         Err(error) => return Err(error),
     };
-    match listed(alloc, slot, placed.as_slice()) {
+    match listed(room, slot, placed.as_slice()) {
         Ok(cells) => Ok(cells),
         Err(_) => Err(MirEvalError::NoMemory),
     }

@@ -13,6 +13,7 @@ use crate::runs::{Phase, Run};
 use mir::{Answer, Answers, MirBody, MirEvalError, Query};
 use mir_mem::Memory;
 use std::alloc::Global;
+use std::collections::BTreeMap;
 use std::mem;
 use std::rc::Rc;
 use world::{Const, Crate, DefWithBodyId, HirDatabase, Limits, NoMemory, Text};
@@ -143,6 +144,7 @@ impl<'a, M: Memory + Drop> Evaluator<'a, M> {
                 nesting: self.nesting,
                 bytes: self.bytes,
                 answers: Answers::new(self.alloc),
+                callees: BTreeMap::new(self.alloc),
             },
             body,
             self.blocks,
@@ -216,9 +218,10 @@ impl<'a, M: Memory + Drop> Evaluator<'a, M> {
         ensures over { OnErr result ((machine_of M.areas self.new).state ≡ Over (Err error.NoMemory) (blocks_left 0 (machine_of M.areas self.old).state)) }
         ensures kept { machine_of M.areas self.new ≡ in_state (machine_of M.areas self.new).state (machine_of M.areas self.old) }
     {
+        let alloc = self.alloc;
         let mut told = Ok(());
         self.phase = match mem::replace(&mut self.phase, Phase::Fresh) {
-            Phase::Asking(query, mut run) => match run.program.answers.put(query, answer) {
+            Phase::Asking(query, mut run) => match run.take(alloc, query, answer) {
                 Ok(()) => Phase::Going(run),
                 Err(error) => {
                     told = Err(error);

@@ -1,8 +1,13 @@
 //! Bodies that run, and callers that wait for them.
 
-use mir::{Answers, BasicBlockId, Interval, MirBody, TrailEntry};
+ghost use Rattle.mir_eval.specs.Callees.{AreCallees};
+
+use crate::callees::Callee;
+use mir::{Answers, BasicBlockId, Interval, TrailEntry};
+use mir_rows::Code;
+use std::collections::BTreeMap;
 use std::rc::Rc;
-use world::HirDatabase;
+use world::{FunctionId, HirDatabase};
 
 /// What a run goes by: its world, its limits, and what it was told.
 #[derive(Drop)]
@@ -13,12 +18,15 @@ pub(crate) struct Program<'a> {
     /// How many bytes the stack may take, and how many the heap.
     pub bytes: u64,
     pub answers: Answers,
+    /// What can be entered of the functions that are given no generic arguments and whose bodies it was told.
+    pub callees: BTreeMap<FunctionId, Option<Callee>>,
+    ghost called: { AreCallees db.now answers callees.entries },
 }
 
 /// A caller that waits for its callee.
 #[derive(Drop)]
 pub(crate) struct Suspended {
-    pub body: Rc<MirBody>,
+    pub body: Rc<Code>,
     /// One for each local of the body.
     pub cells: Vec<Interval>,
     /// The block to go on in; none where the callee must not return.
@@ -31,7 +39,7 @@ pub(crate) struct Suspended {
 #[derive(Clone, Copy)]
 pub(crate) struct StackFrame<'r, 'a> {
     pub program: &'r Program<'a>,
-    pub body: &'r MirBody,
+    pub body: &'r Code,
     pub cells: &'r [Interval],
     pub below: &'r [Suspended],
 }

@@ -2,6 +2,8 @@
 //! block, and gives the end that the meaning of the blocks has. It stops where it needs a body that it wasn't told.
 #![tactic(auto)]
 
+mod blocks;
+mod callees;
 mod calls;
 mod cells;
 mod evaluator;
@@ -11,6 +13,7 @@ mod outcomes;
 mod output;
 mod pieces;
 mod places;
+mod rows;
 mod runs;
 mod steps;
 mod words;

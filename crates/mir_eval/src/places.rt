@@ -61,7 +61,11 @@ fn cell_size(alloc: Global, db: &HirDatabase, ty: &Ty) -> Result<CellSize, MirEv
 }
 
 /// How large the cells of locals are, in order.
-fn sizes(alloc: Global, db: &HirDatabase, locals: &[Local]) -> Result<List<CellSize>, MirEvalError>
+pub(crate) fn sizes(
+    alloc: Global,
+    db: &HirDatabase,
+    locals: &[Local],
+) -> Result<List<CellSize>, MirEvalError>
     requires { HasAlignments db.now }
     ensures ok { IfOk result (λ sizes. sizes_of db.now locals.now ≡ Ok sizes) }
     ensures aligned { IfOk result (λ sizes. All (λ cell. IsAlignment cell.align) sizes) }
@@ -78,6 +82,23 @@ fn sizes(alloc: Global, db: &HirDatabase, locals: &[Local]) -> Result<List<CellS
         }
     }
     Ok(sizes)
+}
+
+/// New cells of these sizes, in order, at the end of the stack: all of them, or none.
+pub(crate) fn push<M: Memory>(
+    memory: &mut M,
+    sizes: &List<CellSize>,
+) -> Result<List<Interval>, MirEvalError>
+    requires { All (λ cell. IsAlignment cell.align) sizes.now }
+    ensures ok { IfOk result (λ cells. pushed (after_push (M.areas memory.old) sizes.now) ≡ Ok (cells, M.areas memory.new)) }
+    ensures err { IfErr result (λ e. (e ≡ error.NoMemory) ⊎ (pushed (after_push (M.areas memory.old) sizes.now) ≡ Err e)) }
+    ensures kept { OnErr result (M.areas memory.new ≡ M.areas memory.old) }
+{
+    match memory.push_cells(sizes) {
+        Ok(cells) => Ok(cells),
+        Err(MemFault::NoMemory) => Err(MirEvalError::NoMemory),
+        Err(_) => Err(MirEvalError::MemoryLimitExceeded),
+    }
 }
 
 /// A new cell for each local in order, at the end of the stack: all of them, or none. A local whose type has no layout or no
@@ -98,22 +119,19 @@ pub(crate) fn lay_out<M: Memory>(
         Ok(sizes) => sizes,
         Err(error) => return Err(error),
     };
-    match memory.push_cells(&sizes) {
-        Ok(cells) => Ok(cells),
-        Err(MemFault::NoMemory) => Err(MirEvalError::NoMemory),
-        Err(_) => Err(MirEvalError::MemoryLimitExceeded),
-    }
+    push(memory, &sizes)
 }
 
-/// Cells behind another one, where there is one.
+/// Cells behind another one, where there is one, in a list that is used again.
 pub(crate) fn listed(
-    alloc: Global,
+    room: Vec<Interval>,
     first: Option<Interval>,
     others: &[Interval],
 ) -> Result<Vec<Interval>, NoMemory>
     ensures { IfOk result (λ cells. cells.items ≡ option_to_list first ++ others.now) }
 {
-    let mut cells = Vec::with_capacity(alloc, others.len())?;
+    let mut cells = room;
+    cells.clear();
     if let Some(cell) = first {
         cells.push(cell)?;
     }

@@ -1,22 +1,26 @@
 //! A run that has begun, and the phases of an evaluator.
 
-ghost use Rattle.std.specs.Prelude.{true, ◌≡◌, ◌⊎◌, ◌+◌, ◌^◌, ◌<◌, ◌≤◌, ◌∷◌, ◌++◌, Err, Ok, Some, None, IfOk, IfErr, IsSome, OnOk, map, option_map, slice_get};
+ghost use Rattle.std.specs.Prelude.{true, ◌≡◌, ◌⊎◌, ◌+◌, ◌^◌, ◌<◌, ◌≤◌, ◌∷◌, ◌++◌, Err, Ok, Some, None, IfOk, IfErr, IfSome, IsSome, IsTrue, OnOk, map, option_map, slice_get};
 ghost use Rattle.mir_eval.specs.Alignments.{HasAlignments};
+ghost use Rattle.mir_eval.specs.Callees.{AreSizes};
 ghost use Rattle.mir.specs.Run.{callee_error, levels_over};
 ghost use Rattle.mir_eval.specs.Frames.{callers, stands_at};
 
+use crate::blocks::{enter, enter_all};
+use crate::callees::{Callee, entered_once, ready};
 use crate::calls::{Call, Function, call_at, callee, callee_cells, fill};
 use crate::cells::cell_of;
 use crate::faults::{Fault, to_error};
 use crate::frames::{Point, Program, StackFrame, Suspended};
 use crate::outcomes::{faulted, returned};
 use crate::places::{lay_out, listed};
-use crate::steps::{Exit, Halt, Stop, enter, enter_all};
+use crate::steps::{Exit, Halt, Stop};
 use either::Either;
 use mir::{
     Answer, BasicBlockId, ConstEvalError, Interval, MirBody, MirEvalError, Query, TrailEntry,
 };
 use mir_mem::Memory;
+use mir_rows::Code;
 use std::alloc::Global;
 use std::mem;
 use std::rc::Rc;
@@ -26,11 +30,13 @@ use world::{Const, DefWithBodyId, FunctionId, NoMemory, TryClone};
 #[derive(Drop)]
 pub(crate) struct Run<'a, M> {
     pub program: Program<'a>,
-    pub body: Rc<MirBody>,
+    pub body: Rc<Code>,
     /// One for each local of the body.
     pub cells: Vec<Interval>,
     /// The callers that wait, the nearest last.
     pub below: Vec<Suspended>,
+    /// Lists of cells of bodies that returned, for those that are entered next.
+    pub spare: Vec<Vec<Interval>>,
     /// How many levels of nesting the run holds.
     pub levels: u32,
     pub memory: M,
@@ -66,11 +72,11 @@ pub(crate) enum Went {
 impl<'a, M: Memory + Drop> Run<'a, M> {
     ghost use Rattle.mir.specs.declared.errors.MirEvalError as error;
     ghost use Rattle.mir.specs.Run.{after_return, begun, called, called_by, callee_error, body_query, calls, going_on, next_from, entered, entry_of, entering, faults, terminated, trail_of, Stops, GoesTo, Faulted};
-    ghost use Rattle.mir.specs.Answers.{answer_to};
+    ghost use Rattle.mir.specs.Answers.{answer_to, answers_kind, IsAfterPut};
     ghost use Rattle.mir_eval.specs.Calls.{call_is, called_frame, function_is};
     ghost use Rattle.mir_eval.specs.Frames.{program_of};
     ghost use Rattle.std.specs.Option.{option_to_list};
-    ghost use Rattle.mir_eval.specs.Machine.{Entry, Going, RunsTo, StepsTo, call_at, terminator_at};
+    ghost use Rattle.mir_eval.specs.Machine.{Entry, Going, RunsTo, StepsTo, call_at, terminator_at, with_answers};
     ghost use Rattle.mir_eval.specs.Steps.{error_of, halt_of, next_of, HaltsAtCall};
     ghost use Rattle.mir_eval.specs.declared.steps.Exit.TheVariants.{Calls};
     ghost use Rattle.mir_eval.specs.Start.{started};
@@ -102,15 +108,19 @@ impl<'a, M: Memory + Drop> Run<'a, M> {
                 Err(_) => MirEvalError::NoMemory,
             });
         }
-        let Ok(cells) = listed(alloc, None, placed.as_slice()) else {
+        let Ok(cells) = listed(Vec::new(alloc), None, placed.as_slice()) else {
             return Err(MirEvalError::NoMemory);
         };
         let block = body.start_block;
+        let Ok(body) = ready(alloc, body) else {
+            return Err(MirEvalError::NoMemory);
+        };
         Ok(Run {
             program,
             body,
             cells,
             below: Vec::new(alloc),
+            spare: Vec::new(alloc),
             levels: 1,
             memory,
             point: Point::Entry(block),
@@ -138,6 +148,21 @@ impl<'a, M: Memory + Drop> Run<'a, M> {
                 left: run.left,
             },
         }
+    }
+
+    /// Takes the answer to a query, with which the run goes on where it stands.
+    pub(crate) fn take(
+        &mut self,
+        alloc: Global,
+        query: Query,
+        answer: Answer,
+    ) -> Result<(), NoMemory>
+        requires { IsTrue (answers_kind query answer) }
+        ensures told { OnOk result (IsAfterPut self.old.program.answers self.new.program.answers query answer) }
+        ensures goes { OnOk result (position_of M.areas self.new ≡ with_answers self.new.program.answers (position_of M.areas self.old)) }
+        ensures same { self.new.left ≡ self.old.left }
+    {
+        self.program.take(alloc, query, answer)
     }
 
     /// The end of a run in an error, which passed through the open calls, behind one whose callee's body couldn't be got, if there is one.
@@ -176,7 +201,7 @@ impl<'a, M: Memory + Drop> Run<'a, M> {
                 let levels = self.program.nesting.saturating_sub(1);
                 match returned(
                     alloc,
-                    self.body.as_ref(),
+                    self.body.as_ref().body(),
                     self.cells.as_slice(),
                     &self.memory,
                     levels,
@@ -192,9 +217,11 @@ impl<'a, M: Memory + Drop> Run<'a, M> {
                     next,
                     ..
                 } = caller;
-                self.point = Point::Entry(body.start_block);
+                self.point = Point::Entry(body.as_ref().body().start_block);
                 self.body = body;
-                self.cells = cells;
+                let used = mem::replace(&mut self.cells, cells);
+                // Without memory the list is given up, and the next body makes its own.
+                let _kept = self.spare.push(used);
                 match next {
                     Some(block) => Went::On(block),
                     None => {
@@ -213,20 +240,23 @@ impl<'a, M: Memory + Drop> Run<'a, M> {
         alloc: Global,
         call: Call<'_>,
         id: FunctionId,
-        body: Rc<MirBody>,
+        callee: Callee,
         destination: Option<Interval>,
     ) -> Went
-        requires { call.target ≡ None → self.old.levels < self.old.program.nesting }
-        ensures leads { Leads M.areas (frame_in self.old) (entered (frame_in self.old) (M.areas self.old.memory) (call_is call.entry) id body.value destination) self.new result }
+        requires level { call.target ≡ None → self.old.levels < self.old.program.nesting }
+        requires sizes { IfSome callee.sizes (λ sizes. AreSizes self.old.program.db.now callee.body.value.locals sizes.value) }
+        ensures leads { Leads M.areas (frame_in self.old) (entered (frame_in self.old) (M.areas self.old.memory) (call_is call.entry) id callee.entry.body.value destination) self.new result }
         ensures same { self.new.left ≡ self.old.left }
         ensures run { IsInRun (frame_in self.old) self.new result }
         ensures asks { AsksAtCall self.new result }
     {
+        let room = self.spare.pop().unwrap_or(Vec::new(alloc));
         let cells = match callee_cells(
             alloc,
             &self.program,
-            body.as_ref(),
+            &callee,
             destination,
+            room,
             &mut self.memory,
         ) {
             Ok(cells) => cells,
@@ -242,11 +272,11 @@ impl<'a, M: Memory + Drop> Run<'a, M> {
             },
             &mut self.memory,
             cells.as_slice(),
-            body.param_locals.as_slice(),
+            callee.body.as_ref().body().param_locals.as_slice(),
             call.args,
         );
         match filled {
-            Ok(()) => self.suspend(call, id, body, cells),
+            Ok(()) => self.suspend(call, id, callee.body, cells),
             Err(fault) => self.fault(alloc, fault),
         }
     }
@@ -257,7 +287,7 @@ impl<'a, M: Memory + Drop> Run<'a, M> {
         &mut self,
         call: Call<'_>,
         id: FunctionId,
-        body: Rc<MirBody>,
+        body: Rc<Code>,
         cells: Vec<Interval>,
     ) -> Went
         requires { call.target ≡ None → self.old.levels < self.old.program.nesting }
@@ -269,9 +299,9 @@ impl<'a, M: Memory + Drop> Run<'a, M> {
         let entry = TrailEntry {
             callee: Either::Left(id),
             span: call.span,
-            caller: self.body.owner,
+            caller: self.body.as_ref().body().owner,
         };
-        let block = body.start_block;
+        let block = body.as_ref().body().start_block;
         self.point = Point::Entry(block);
         let levels = match call.target {
             Some(_) => self.levels,
@@ -297,21 +327,22 @@ impl<'a, M: Memory + Drop> Run<'a, M> {
         alloc: Global,
         call: Call<'_>,
         id: FunctionId,
-        body: Rc<MirBody>,
+        callee: Callee,
     ) -> Went
-        ensures leads { Leads M.areas (frame_in self.old) (called (frame_in self.old) (M.areas self.old.memory) (call_is call.entry) id body.value) self.new result }
+        requires { IfSome callee.sizes (λ sizes. AreSizes self.old.program.db.now callee.body.value.locals sizes.value) }
+        ensures leads { Leads M.areas (frame_in self.old) (called (frame_in self.old) (M.areas self.old.memory) (call_is call.entry) id callee.entry.body.value) self.new result }
         ensures same { self.new.left ≡ self.old.left }
         ensures run { IsInRun (frame_in self.old) self.new result }
         ensures asks { AsksAtCall self.new result }
     {
         match call.target {
             Some(_) => match cell_of(self.cells.as_slice(), call.destination.local) {
-                Some(cell) => self.enter_body(alloc, call, id, body, Some(cell)),
+                Some(cell) => self.enter_body(alloc, call, id, callee, Some(cell)),
                 None => self.fault(alloc, Fault::BadWrite),
             },
             None => {
                 if self.levels < self.program.nesting {
-                    self.enter_body(alloc, call, id, body, None)
+                    self.enter_body(alloc, call, id, callee, None)
                 } else {
                     self.fault(alloc, Fault::NoLevel)
                 }
@@ -327,7 +358,7 @@ impl<'a, M: Memory + Drop> Run<'a, M> {
         let entry = TrailEntry {
             callee: Either::Left(id),
             span: call.span,
-            caller: self.body.owner,
+            caller: self.body.as_ref().body().owner,
         };
         match callee_error(alloc, id, error) {
             Ok(error) => self.over(alloc, error, Some(entry)),
@@ -350,13 +381,16 @@ impl<'a, M: Memory + Drop> Run<'a, M> {
         ensures run { IsInRun (frame_in self.old) self.new result }
         ensures asks { AsksAtCall self.new result }
     {
+        if let Some(callee) = self.program.callee(function) {
+            return self.enter_function(alloc, call, function.id, callee);
+        }
         let Ok(args) = function.args.try_clone(alloc) else {
             return Went::Over(Err(MirEvalError::NoMemory));
         };
         let query = Query::Body(DefWithBodyId::FunctionId(function.id), args);
         match self.program.answers.get(&query) {
-            Some(Answer::Body(body)) => match Rc::clone(body) {
-                Ok(body) => self.enter_function(alloc, call, function.id, body),
+            Some(Answer::Body(body)) => match entered_once(alloc, body) {
+                Ok(callee) => self.enter_function(alloc, call, function.id, callee),
                 Err(_) => Went::Over(Err(MirEvalError::NoMemory)),
             },
             Some(Answer::Failed(error)) => self.refuse(alloc, call, function.id, error),
@@ -376,10 +410,10 @@ impl<'a, M: Memory + Drop> Run<'a, M> {
         let Ok(body) = Rc::clone(&self.body) else {
             return Went::Over(Err(MirEvalError::NoMemory));
         };
-        let Some(call) = call_at(body.as_ref(), block) else {
+        let Some(call) = call_at(body.as_ref().body(), block) else {
             unreachable!()
         };
-        match callee(body.as_ref(), &call.func.kind) {
+        match callee(body.as_ref().body(), &call.func.kind) {
             Some(function) => self.call_function(alloc, call, function, block),
             None => self.fault(alloc, Fault::NoFunction),
         }

@@ -1,7 +1,7 @@
 use Rattle.std.proofs.Common.{◌≡◌, ◌≤◌}
 use Rattle.mir.specs.Run.{entering}
 use Rattle.mir_eval.specs.Frames.{frame_of}
-use Rattle.mir_eval.proofs.steps.enter_all.Given as goal
+use Rattle.mir_eval.proofs.blocks.enter_all.Given as goal
 
 -- the run from here is the whole run
 abbrev pub invariant-loop-left : goal.invariant-loop-left

@@ -1,0 +1,147 @@
+//! Blocks: the rows of one, and how it ends, and the blocks of one frame, one after another.
+
+ghost use Rattle.std.specs.Prelude.{◌≡◌, ◌<◌, ◌≤◌, ◌∷◌, [], IfSome, IsSome, OnOk, Ok, Some, slice_get, option_and_then};
+ghost use Rattle.mir.specs.declared.body.Terminator.{Terminator};
+ghost use Rattle.mir.specs.declared.operand.OperandKind.{OperandKind};
+ghost use Rattle.mir.specs.Run.{GoesTo, operand_bytes, terminated, next_from, entering, going_on};
+ghost use Rattle.mir_rows.specs.declared.row.Source.TheVariants.{Local};
+ghost use Rattle.mir_rows.specs.Rows.{IsSource, IsWay};
+ghost use Rattle.mir_eval.specs.Machine.{call_at, call_of, terminator_at};
+ghost use Rattle.mir_eval.specs.declared.steps.Exit.TheVariants.{Calls};
+ghost use Rattle.mir_eval.specs.Frames.{frame_of};
+ghost use Rattle.mir_eval.specs.Steps.{next_of, halt_of, HaltsAtCall};
+
+use crate::cells::{cell_of, read};
+use crate::faults::Fault;
+use crate::frames::StackFrame;
+use crate::pieces::whole;
+use crate::rows::run_rows;
+use crate::steps::{Exit, Halt, Stop, terminate};
+use mir::{BasicBlockId, LocalId, Terminator};
+use mir_mem::Memory;
+use mir_rows::Way;
+
+/// The one byte of a local, where it has one that can be read.
+#[inline(always)]
+fn byte_of_local<M: Memory>(frame: StackFrame<'_, '_>, memory: &M, local: LocalId) -> Option<u8>
+    ensures { IfSome result (λ byte. (operand : OperandKind) → IsSource (Local local) operand → operand_bytes (frame_of frame.entry) (M.areas memory.now) operand ≡ Some (byte ∷ [])) }
+{
+    let cell = cell_of(frame.cells, local)?;
+    let view = read(memory, cell)?;
+    let bytes = whole(&view)?;
+    if bytes.len() == 1 {
+        Some(bytes[0])
+    } else {
+        None
+    }
+}
+
+/// How a block ends, by its way, where that says it.
+#[inline(always)]
+fn follow<M: Memory>(frame: StackFrame<'_, '_>, memory: &M, way: &Way) -> Option<BasicBlockId>
+    ensures { IfSome result (λ block. (terminator : Option Terminator) → IsWay way.now terminator → terminated (frame_of frame.entry) (M.areas memory.now) terminator ≡ GoesTo (frame_of frame.entry) (M.areas memory.now) block.0) }
+{
+    match way {
+        Way::Goto(block) => Some(*block),
+        Way::Branch {
+            local,
+            value,
+            then,
+            otherwise,
+        } => {
+            let byte = byte_of_local(frame, memory, *local)?;
+            Some(if byte == *value { *then } else { *otherwise })
+        }
+        Way::Other => None,
+    }
+}
+
+/// How a block ends.
+#[inline(always)]
+fn end<M: Memory>(
+    frame: StackFrame<'_, '_>,
+    memory: &M,
+    way: &Way,
+    terminator: &Option<Terminator>,
+) -> Result<Exit, Fault>
+    requires { IsWay way.now terminator.now }
+    ensures next { next_of (frame_of frame.entry) (M.areas memory.now) terminator.now result ≡ terminated (frame_of frame.entry) (M.areas memory.now) terminator.now }
+    ensures call { result ≡ Ok Calls → IsSome (option_and_then call_of terminator.now) }
+{
+    match follow(frame, memory, way) {
+        Some(block) => Ok(Exit::GoesTo(block)),
+        None => terminate(frame, memory, terminator),
+    }
+}
+
+/// Runs a block.
+#[inline(always)]
+#[tactic(auto, unfolding(mir::specs::Run::next_from))]
+pub(crate) fn enter<M: Memory>(
+    frame: StackFrame<'_, '_>,
+    memory: &mut M,
+    block: BasicBlockId,
+) -> Result<Exit, Fault>
+    ensures next { next_of (frame_of frame.entry) (M.areas memory.new) (terminator_at frame.entry.body.now block.0) result ≡ next_from (frame_of frame.entry) (M.areas memory.old) (slice_get frame.entry.body.now.basic_blocks block.0) 0 }
+    ensures call { result ≡ Ok Calls → IsSome (call_at frame.entry.body.now block.0) }
+{
+    let Some(rows) = frame.body.block(block) else {
+        return Err(Fault::NoTerminator);
+    };
+    let Some(block) = frame.body.body().basic_blocks.get(block.0 as u64) else {
+        return Err(Fault::NoTerminator);
+    };
+    match run_rows(frame, memory, block, rows.rows.as_slice()) {
+        Ok(()) => end(frame, memory, &rows.way, &block.terminator),
+        Err(fault) => Err(fault),
+    }
+}
+
+/// Runs blocks of a frame, at most `blocks` of them, until the body returns, calls or faults.
+#[tactic(auto, unfolding(mir::specs::Run::entering, mir::specs::Run::going_on), using(crate::proofs::Entering::enter_one))]
+pub(crate) fn enter_all<M: Memory>(
+    frame: StackFrame<'_, '_>,
+    memory: &mut M,
+    start: BasicBlockId,
+    blocks: u64,
+) -> Stop
+    ensures run { going_on result.left (halt_of (frame_of frame.entry) (M.areas memory.new) (terminator_at frame.entry.body.now result.block.0) result.end) ≡ entering blocks (frame_of frame.entry) (M.areas memory.old) start.0 }
+    ensures call { HaltsAtCall frame.entry.body.now result.block.0 result.end }
+    ensures fewer { OnOk result.end (result.left < blocks) }
+    ensures within { result.left ≤ blocks }
+{
+    let mut block = start;
+    let mut left = blocks;
+    while left > 0 {
+        left -= 1;
+        match enter(frame, memory, block) {
+            Ok(Exit::GoesTo(target)) => block = target,
+            Ok(Exit::Returns) => {
+                return Stop {
+                    end: Ok(Halt::Returns),
+                    block,
+                    left,
+                };
+            }
+            Ok(Exit::Calls) => {
+                return Stop {
+                    end: Ok(Halt::Calls),
+                    block,
+                    left,
+                };
+            }
+            Err(fault) => {
+                return Stop {
+                    end: Err(fault),
+                    block,
+                    left,
+                };
+            }
+        }
+    }
+    Stop {
+        end: Err(Fault::OutOfBlocks),
+        block,
+        left: 0,
+    }
+}

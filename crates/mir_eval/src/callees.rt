@@ -1,0 +1,156 @@
+//! What a run was told of the functions that it calls: their bodies, ready to be entered.
+
+ghost use Rattle.std.specs.Prelude.{◌≡◌, ◌≢◌, List, Some, None, IfOk, IfSome, IsTrue, OnOk};
+ghost use Rattle.types.specs.declared.ids.FunctionId.{FunctionId};
+ghost use Rattle.world.specs.declared.database.HirDatabase.{HirDatabase};
+ghost use Rattle.mir.specs.declared.body.Local.{Local};
+ghost use Rattle.mir.specs.Answers.{answer_to, answers_kind, IsAfterPut};
+ghost use Rattle.mir.specs.Run.{body_query};
+ghost use Rattle.mir_eval.specs.Alignments.{HasAlignments};
+ghost use Rattle.mir_eval.specs.Calls.{function_is};
+ghost use Rattle.mir_eval.specs.Callees.{AreSizes, plain_query, told_body};
+
+use crate::calls::Function;
+use crate::frames::Program;
+use crate::places::sizes;
+use mir::{Answer, CellSize, MirBody, MirEvalError, Query};
+use mir_rows::Code;
+use std::alloc::Global;
+use std::rc::Rc;
+use world::{DefWithBodyId, FunctionId, HirDatabase, List, NoMemory};
+
+/// A body that can be entered, and, where each of its locals but the return slot has one, how large their cells are.
+#[derive(Drop)]
+pub(crate) struct Callee {
+    pub body: Rc<Code>,
+    pub sizes: Option<Rc<List<CellSize>>>,
+}
+
+impl Callee {
+    /// The same once more; both share the body and the sizes.
+    pub(crate) fn share(&self) -> Result<Callee, NoMemory>
+        ensures body { IfOk result (λ callee. callee.body.value ≡ self.now.body.value) }
+        ensures sizes { (world : HirDatabase) (locals : List Local) → IfSome self.now.sizes (λ sizes. AreSizes world locals sizes.value) → IfOk result (λ callee. IfSome callee.sizes (λ sizes. AreSizes world locals sizes.value)) }
+    {
+        let sizes = match &self.sizes {
+            Some(sizes) => Some(Rc::clone(sizes)?),
+            None => None,
+        };
+        Ok(Callee {
+            body: Rc::clone(&self.body)?,
+            sizes,
+        })
+    }
+}
+
+/// The sizes of the cells of a body's locals, that of the return slot aside, to be shared; none where one can have none.
+fn shared_sizes(
+    alloc: Global,
+    db: &HirDatabase,
+    body: &MirBody,
+) -> Result<Option<Rc<List<CellSize>>>, NoMemory>
+    requires { HasAlignments db.now }
+    ensures { IfOk result (λ found. IfSome found (λ sizes. AreSizes db.now body.now.locals sizes.value)) }
+{
+    let locals = body.locals.as_slice();
+    if locals.is_empty() {
+        return Ok(None);
+    }
+    match sizes(alloc, db, &locals[1..]) {
+        Ok(sizes) => Ok(Some(Rc::new(alloc, sizes)?)),
+        Err(MirEvalError::NoMemory) => Err(NoMemory),
+        Err(_) => Ok(None),
+    }
+}
+
+/// A body as one that can be entered, with the sizes of its cells.
+fn callee_of(alloc: Global, db: &HirDatabase, body: &Rc<MirBody>) -> Result<Callee, NoMemory>
+    requires { HasAlignments db.now }
+    ensures body { IfOk result (λ callee. callee.body.value ≡ body.now.value) }
+    ensures sizes { IfOk result (λ callee. IfSome callee.sizes (λ sizes. AreSizes db.now callee.body.value.locals sizes.value)) }
+{
+    let sizes = shared_sizes(alloc, db, body.as_ref())?;
+    Ok(Callee {
+        body: ready(alloc, Rc::clone(body)?)?,
+        sizes,
+    })
+}
+
+/// A body with its rows, to be shared.
+pub(crate) fn ready(alloc: Global, body: Rc<MirBody>) -> Result<Rc<Code>, NoMemory>
+    ensures { IfOk result (λ code. code.value ≡ body.value) }
+{
+    let code = Code::new(alloc, body)?;
+    Ok(Rc::new(alloc, code)?)
+}
+
+/// A body as one that can be entered.
+pub(crate) fn entered_once(alloc: Global, body: &Rc<MirBody>) -> Result<Callee, NoMemory>
+    ensures body { IfOk result (λ callee. callee.body.value ≡ body.now.value) }
+    ensures sizes { (world : HirDatabase) (locals : List Local) → IfOk result (λ callee. IfSome callee.sizes (λ sizes. AreSizes world locals sizes.value)) }
+{
+    Ok(Callee {
+        body: ready(alloc, Rc::clone(body)?)?,
+        sizes: None,
+    })
+}
+
+/// The function whose body a query asks for, where it is given no generic arguments.
+fn plain_function(query: &Query) -> Option<FunctionId>
+    ensures some { IfSome result (λ id. query.now ≡ plain_query id) }
+    ensures none { result ≡ None → (id : FunctionId) → query.now ≢ plain_query id }
+{
+    match query {
+        Query::Body(DefWithBodyId::FunctionId(id), args) => {
+            if args.0.as_slice().is_empty() {
+                Some(*id)
+            } else {
+                None
+            }
+        }
+        _ => None,
+    }
+}
+
+impl<'a> Program<'a> {
+    /// What can be entered of a function, where the run was told its body.
+    pub(crate) fn callee(&self, function: Function<'_>) -> Option<Callee>
+        ensures told { IfSome result (λ callee. told_body (answer_to self.now.answers (body_query (function_is function))) ≡ Some callee.body.value) }
+        ensures sizes { IfSome result (λ callee. IfSome callee.sizes (λ sizes. AreSizes self.now.db.now callee.body.value.locals sizes.value)) }
+    {
+        if !function.args.0.as_slice().is_empty() {
+            return None;
+        }
+        match self.callees.get(&function.id) {
+            Some(Some(callee)) => callee.share().ok(),
+            _ => None,
+        }
+    }
+
+    /// Takes the answer to a query.
+    pub(crate) fn take(
+        &mut self,
+        alloc: Global,
+        query: Query,
+        answer: Answer,
+    ) -> Result<(), NoMemory>
+        requires kind { IsTrue (answers_kind query answer) }
+        requires aligned { HasAlignments self.old.db.now }
+        ensures told { OnOk result (IsAfterPut self.old.answers self.new.answers query answer) }
+        ensures db { self.new.db ≡ self.old.db }
+        ensures nesting { self.new.nesting ≡ self.old.nesting }
+        ensures bytes { self.new.bytes ≡ self.old.bytes }
+    {
+        let Some(id) = plain_function(&query) else {
+            return self.answers.put(query, answer);
+        };
+        let callee = match &answer {
+            Answer::Body(body) => Some(callee_of(alloc, self.db, body)?),
+            _ => None,
+        };
+        self.callees.insert(id, None)?;
+        self.answers.put(query, answer)?;
+        self.callees.insert(id, callee)?;
+        Ok(())
+    }
+}

@@ -1,0 +1,199 @@
+//! Statements by their rows: an operator on two operands of one kind, a copy, and a constant are done without a look at the body.
+
+ghost use Rattle.std.specs.Prelude.{◌≡◌, IfNone, IfSome, Ok, Some, option_map, slice_get};
+ghost use Rattle.std.specs.List.{concat};
+ghost use Rattle.mir.specs.declared.body.BasicBlock.{BasicBlock};
+ghost use Rattle.mir.specs.declared.operand.OperandKind.{OperandKind};
+ghost use Rattle.mir.specs.declared.statement.Statement.{Statement};
+ghost use Rattle.mir.specs.declared.statement.StatementKind.{StatementKind};
+ghost use Rattle.mir.specs.Run.{after_statement, after_statements, copied, operand_bytes, operand_type, operated, read};
+ghost use Rattle.mir_ops.specs.Made.{made_bytes};
+ghost use Rattle.mir_rows.specs.declared.row.Source.TheVariants.{Constant, Local};
+ghost use Rattle.mir_rows.specs.Rows.{AreOperands, AreRows, IsRow, IsSource, Says};
+ghost use Rattle.mir_eval.specs.Frames.{frame_of};
+ghost use Rattle.mir_eval.specs.Steps.{left_with};
+
+use crate::cells::{cell_of, copy, read, write};
+use crate::faults::Fault;
+use crate::frames::StackFrame;
+use crate::pieces::whole;
+use crate::steps::execute;
+use mir::{BasicBlock, BinOp, Interval, LocalId};
+use mir_mem::{Memory, View};
+use mir_ops::{Made, byte_of, bytes1, bytes2, bytes4, bytes8, bytes16, made_of};
+use mir_rows::{Action, Row, Short, Source};
+use numbers::Kind;
+
+/// The bytes of a source now, where it has some.
+#[inline(always)]
+fn source<'r, M: Memory>(
+    frame: StackFrame<'_, '_>,
+    memory: &'r M,
+    source: &'r Source,
+) -> Option<View<'r>>
+    ensures { IfSome result (λ view. (operand : OperandKind) → IsSource source.now operand → operand_bytes (frame_of frame.entry) (M.areas memory.now) operand ≡ Some (concat view)) }
+{
+    match source {
+        Source::Local(local) => match cell_of(frame.cells, *local) {
+            Some(cell) => read(memory, cell),
+            None => None,
+        },
+        Source::Constant(short) => Some(View::of(short.bytes())),
+    }
+}
+
+/// What an operator makes of two operands of one kind, without the table. There is none where `made_of` has none, or where the
+/// bytes of one can't be read or don't lie in one piece.
+#[inline(always)]
+fn combine<M: Memory>(
+    frame: StackFrame<'_, '_>,
+    memory: &M,
+    op: BinOp,
+    kind: Kind,
+    left: &Source,
+    right: &Source,
+) -> Option<Made>
+    ensures { IfSome result (λ made. (one other : OperandKind) → AreOperands frame.entry.body.now kind left.now right.now one other → operated op (operand_type frame.entry.body.now one) (operand_type frame.entry.body.now other) (operand_bytes (frame_of frame.entry) (M.areas memory.now) one) (operand_bytes (frame_of frame.entry) (M.areas memory.now) other) ≡ Ok (made_bytes made)) }
+{
+    let left_view = source(frame, memory, left)?;
+    let right_view = source(frame, memory, right)?;
+    let left_bytes = whole(&left_view)?;
+    let right_bytes = whole(&right_view)?;
+    made_of(op, kind, left_bytes, right_bytes)
+}
+
+/// Copies the bytes of a number or of a truth value to a cell.
+#[inline(always)]
+fn assign_word<M: Memory>(memory: &mut M, to: Interval, made: Made) -> Result<(), Fault>
+    ensures { left_with (M.areas memory.new) result ≡ copied (M.areas memory.old) (Some to) (Ok (made_bytes made)) }
+{
+    match made {
+        Made::Word1(word) => write(memory, to, &bytes1(word)),
+        Made::Word2(word) => write(memory, to, &bytes2(word)),
+        Made::Word4(word) => write(memory, to, &bytes4(word)),
+        Made::Word8(word) => write(memory, to, &bytes8(word)),
+        Made::WideWord(word) => write(memory, to, &bytes16(word)),
+        Made::Truth(truth) => write(memory, to, &byte_of(truth)),
+    }
+}
+
+/// Assigns a number or a truth value to a local.
+#[inline(always)]
+#[tactic(auto, unfolding(mir::specs::Run::copied))]
+fn assign_made<M: Memory>(
+    frame: StackFrame<'_, '_>,
+    memory: &mut M,
+    to: LocalId,
+    made: Made,
+) -> Result<(), Fault>
+    ensures { left_with (M.areas memory.new) result ≡ copied (M.areas memory.old) (slice_get frame.entry.cells.now to.0) (Ok (made_bytes made)) }
+{
+    match cell_of(frame.cells, to) {
+        Some(to) => assign_word(memory, to, made),
+        None => Err(Fault::BadWrite),
+    }
+}
+
+/// Copies a local to another one.
+#[inline(always)]
+#[tactic(auto, unfolding(mir::specs::Run::copied, mir::specs::Run::operand_bytes))]
+fn copy_local<M: Memory>(
+    frame: StackFrame<'_, '_>,
+    memory: &mut M,
+    to: LocalId,
+    from: LocalId,
+) -> Result<(), Fault>
+    ensures { (operand : OperandKind) → IsSource (Local from) operand → left_with (M.areas memory.new) result ≡ copied (M.areas memory.old) (slice_get frame.entry.cells.now to.0) (read (operand_bytes (frame_of frame.entry) (M.areas memory.old) operand)) }
+{
+    match cell_of(frame.cells, to) {
+        Some(to) => match cell_of(frame.cells, from) {
+            Some(from) => copy(memory, from, to),
+            None => Err(Fault::BadRead),
+        },
+        None => Err(Fault::BadWrite),
+    }
+}
+
+/// Assigns a constant to a local.
+#[inline(always)]
+#[tactic(auto, unfolding(mir::specs::Run::copied, mir::specs::Run::operand_bytes))]
+fn put<M: Memory>(
+    frame: StackFrame<'_, '_>,
+    memory: &mut M,
+    to: LocalId,
+    value: &Short,
+) -> Result<(), Fault>
+    ensures { (operand : OperandKind) → IsSource (Constant value.now) operand → left_with (M.areas memory.new) result ≡ copied (M.areas memory.old) (slice_get frame.entry.cells.now to.0) (read (operand_bytes (frame_of frame.entry) (M.areas memory.old) operand)) }
+{
+    match cell_of(frame.cells, to) {
+        Some(to) => write(memory, to, value.bytes()),
+        None => Err(Fault::BadWrite),
+    }
+}
+
+/// Does an action, where it can be done without the statement that it is read off. Where it can't, nothing has changed.
+#[inline(always)]
+fn act<M: Memory>(
+    frame: StackFrame<'_, '_>,
+    memory: &mut M,
+    action: &Action,
+) -> Option<Result<(), Fault>>
+    ensures done { IfSome result (λ done. (statement : StatementKind) → Says frame.entry.body.now action.now statement → left_with (M.areas memory.new) done ≡ after_statement (frame_of frame.entry) (M.areas memory.old) statement) }
+    ensures kept { IfNone result (M.areas memory.new ≡ M.areas memory.old) }
+{
+    match action {
+        Action::Combine {
+            op,
+            kind,
+            to,
+            left,
+            right,
+        } => {
+            let made = combine(frame, memory, *op, *kind, left, right)?;
+            Some(assign_made(frame, memory, *to, made))
+        }
+        Action::Copy { to, from } => Some(copy_local(frame, memory, *to, *from)),
+        Action::Put { to, value } => Some(put(frame, memory, *to, value)),
+        Action::Other => None,
+    }
+}
+
+/// Runs the statement of a row.
+#[inline(always)]
+fn run_row<M: Memory>(
+    frame: StackFrame<'_, '_>,
+    memory: &mut M,
+    block: &BasicBlock,
+    row: &Row,
+) -> Result<(), Fault>
+    requires { (statement : Statement) × IsRow frame.body.now block.now.statements statement row.now }
+    ensures { (statement : Statement) → IsRow frame.entry.body.now block.now.statements statement row.now → left_with (M.areas memory.new) result ≡ after_statement (frame_of frame.entry) (M.areas memory.old) statement.kind }
+{
+    match act(frame, memory, &row.action) {
+        Some(done) => done,
+        None => match block.statements.get(row.place) {
+            Some(statement) => execute(frame, memory, &statement.kind),
+            None => unreachable!(),
+        },
+    }
+}
+
+/// Runs the statements of a block in order, up to the first that faults.
+#[inline(always)]
+pub(crate) fn run_rows<M: Memory>(
+    frame: StackFrame<'_, '_>,
+    memory: &mut M,
+    block: &BasicBlock,
+    rows: &[Row],
+) -> Result<(), Fault>
+    requires { AreRows frame.body.now block.now.statements block.now.statements rows.now }
+    ensures { left_with (M.areas memory.new) result ≡ after_statements (frame_of frame.entry) block.now.statements (M.areas memory.old) }
+{
+    for row in rows {
+        match run_row(frame, memory, block, row) {
+            Ok(()) => {}
+            Err(fault) => return Err(fault),
+        }
+    }
+    Ok(())
+}
