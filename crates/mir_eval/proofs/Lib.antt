@@ -7,5 +7,7 @@ pub mod Leading
 pub mod Operated
 pub mod Padded
 pub mod Joined
+pub mod RowRuns
+pub mod SizedCells
 pub mod Starting
 pub mod Wide

@@ -1,8 +1,7 @@
 -- What a run keeps of the functions whose bodies it was told.
-use Rattle.std.specs.Prelude.{◌≡◌, List, [], ◌∷◌, Option, Some, None, Ok, drop, All, IfSome}
+use Rattle.std.specs.Prelude.{◌≡◌, List, [], ◌∷◌, Option, Some, None, Ok, drop, ForSome}
 use Rattle.std.specs.BTreeMap.{is_at}
 use Rattle.std.specs.Map.{lookup}
-use Rattle.world.specs.Checked.{IsAlignment}
 use Rattle.world.specs.declared.database.HirDatabase.{HirDatabase}
 use Rattle.types.specs.contracts.ids.FunctionIdOrd.TheImpl as FunctionIdOrd
 use Rattle.types.specs.declared.ids.FunctionId.{FunctionId}
@@ -27,14 +26,13 @@ told_body (Some (told.Body body)) = Some body.value
 told_body _ = None
 
 -- sizes are those of the cells of these locals, that of the first aside
-pub record AreSizes (world : HirDatabase) (locals : List Local) (sizes : List CellSize) : Type 0 where
-  pub are : sizes_of world (drop 1 locals) ≡ Ok sizes
-  pub aligned : All (λ cell. IsAlignment cell.align) sizes
+abbrev pub AreSizes : HirDatabase → List Local → List CellSize → Type 0
+AreSizes world locals sizes = sizes_of world (drop 1 locals) ≡ Ok sizes
 
 -- what is kept for a function: its body, as the run was told, and the sizes of its cells
 pub record IsCallee (world : HirDatabase) (answers : List (Query × Answer)) (id : FunctionId) (callee : Callee) : Type 0 where
   pub told : told_body (answer_to answers (plain_query id)) ≡ Some callee.body.value
-  pub sizes : IfSome callee.sizes (λ sizes. AreSizes world callee.body.value.locals sizes.value)
+  pub sizes : ForSome callee.sizes (λ sizes. AreSizes world callee.body.value.locals sizes.value)
 
 -- so it is for each function for which something is kept
 abbrev pub AreCallees : HirDatabase → List (Query × Answer) → List (FunctionId × Option Callee) → Type 0

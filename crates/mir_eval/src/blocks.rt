@@ -1,6 +1,6 @@
 //! Blocks: the rows of one, and how it ends, and the blocks of one frame, one after another.
 
-ghost use Rattle.std.specs.Prelude.{◌≡◌, ◌<◌, ◌≤◌, ◌∷◌, [], IfSome, IsSome, OnOk, Ok, Some, slice_get, option_and_then};
+ghost use Rattle.std.specs.Prelude.{◌≡◌, ◌<◌, ◌≤◌, ◌∷◌, [], IfSome, IsSome, OnOk, Ok, Option, Some, slice_get, option_and_then};
 ghost use Rattle.mir.specs.declared.body.Terminator.{Terminator};
 ghost use Rattle.mir.specs.declared.operand.OperandKind.{OperandKind};
 ghost use Rattle.mir.specs.Run.{GoesTo, operand_bytes, terminated, next_from, entering, going_on};

@@ -1,6 +1,6 @@
 //! What a run was told of the functions that it calls: their bodies, ready to be entered.
 
-ghost use Rattle.std.specs.Prelude.{◌≡◌, ◌≢◌, List, Some, None, IfOk, IfSome, IsTrue, OnOk};
+ghost use Rattle.std.specs.Prelude.{◌≡◌, ◌≢◌, List, Some, None, ForSome, IfOk, IfSome, IsTrue, OnOk};
 ghost use Rattle.types.specs.declared.ids.FunctionId.{FunctionId};
 ghost use Rattle.world.specs.declared.database.HirDatabase.{HirDatabase};
 ghost use Rattle.mir.specs.declared.body.Local.{Local};
@@ -30,7 +30,7 @@ impl Callee {
     /// The same once more; both share the body and the sizes.
     pub(crate) fn share(&self) -> Result<Callee, NoMemory>
         ensures body { IfOk result (λ callee. callee.body.value ≡ self.now.body.value) }
-        ensures sizes { (world : HirDatabase) (locals : List Local) → IfSome self.now.sizes (λ sizes. AreSizes world locals sizes.value) → IfOk result (λ callee. IfSome callee.sizes (λ sizes. AreSizes world locals sizes.value)) }
+        ensures sizes { (world : HirDatabase) (locals : List Local) → ForSome self.now.sizes (λ sizes. AreSizes world locals sizes.value) → IfOk result (λ callee. ForSome callee.sizes (λ sizes. AreSizes world locals sizes.value)) }
     {
         let sizes = match &self.sizes {
             Some(sizes) => Some(Rc::clone(sizes)?),
@@ -50,7 +50,7 @@ fn shared_sizes(
     body: &MirBody,
 ) -> Result<Option<Rc<List<CellSize>>>, NoMemory>
     requires { HasAlignments db.now }
-    ensures { IfOk result (λ found. IfSome found (λ sizes. AreSizes db.now body.now.locals sizes.value)) }
+    ensures { IfOk result (λ found. ForSome found (λ sizes. AreSizes db.now body.now.locals sizes.value)) }
 {
     let locals = body.locals.as_slice();
     if locals.is_empty() {
@@ -67,7 +67,7 @@ fn shared_sizes(
 fn callee_of(alloc: Global, db: &HirDatabase, body: &Rc<MirBody>) -> Result<Callee, NoMemory>
     requires { HasAlignments db.now }
     ensures body { IfOk result (λ callee. callee.body.value ≡ body.now.value) }
-    ensures sizes { IfOk result (λ callee. IfSome callee.sizes (λ sizes. AreSizes db.now callee.body.value.locals sizes.value)) }
+    ensures sizes { IfOk result (λ callee. ForSome callee.sizes (λ sizes. AreSizes db.now callee.body.value.locals sizes.value)) }
 {
     let sizes = shared_sizes(alloc, db, body.as_ref())?;
     Ok(Callee {
@@ -87,7 +87,7 @@ pub(crate) fn ready(alloc: Global, body: Rc<MirBody>) -> Result<Rc<Code>, NoMemo
 /// A body as one that can be entered.
 pub(crate) fn entered_once(alloc: Global, body: &Rc<MirBody>) -> Result<Callee, NoMemory>
     ensures body { IfOk result (λ callee. callee.body.value ≡ body.now.value) }
-    ensures sizes { (world : HirDatabase) (locals : List Local) → IfOk result (λ callee. IfSome callee.sizes (λ sizes. AreSizes world locals sizes.value)) }
+    ensures sizes { (world : HirDatabase) (locals : List Local) → IfOk result (λ callee. ForSome callee.sizes (λ sizes. AreSizes world locals sizes.value)) }
 {
     Ok(Callee {
         body: ready(alloc, Rc::clone(body)?)?,
@@ -116,7 +116,7 @@ impl<'a> Program<'a> {
     /// What can be entered of a function, where the run was told its body.
     pub(crate) fn callee(&self, function: Function<'_>) -> Option<Callee>
         ensures told { IfSome result (λ callee. told_body (answer_to self.now.answers (body_query (function_is function))) ≡ Some callee.body.value) }
-        ensures sizes { IfSome result (λ callee. IfSome callee.sizes (λ sizes. AreSizes self.now.db.now callee.body.value.locals sizes.value)) }
+        ensures sizes { IfSome result (λ callee. ForSome callee.sizes (λ sizes. AreSizes self.now.db.now callee.body.value.locals sizes.value)) }
     {
         if !function.args.0.as_slice().is_empty() {
             return None;

@@ -1,6 +1,6 @@
 //! Calls: what is called, the cells of its body, and its arguments.
 
-ghost use Rattle.std.specs.Prelude.{◌≡◌, ◌⊎◌, Ok, Err, IfOk, IfErr, IfSome, option_map, option_and_then, slice_get};
+ghost use Rattle.std.specs.Prelude.{◌≡◌, ◌⊎◌, Ok, Err, IfOk, IfErr, ForSome, option_map, option_and_then, slice_get};
 ghost use Rattle.mir.specs.declared.errors.MirEvalError as error;
 ghost use Rattle.mir_eval.specs.Alignments.{HasAlignments};
 ghost use Rattle.mir_eval.specs.Callees.{AreSizes};
@@ -105,7 +105,7 @@ pub(crate) fn callee_cells<M: Memory>(
     memory: &mut M,
 ) -> Result<Vec<Interval>, MirEvalError>
     requires aligned { HasAlignments program.now.db.now }
-    requires sizes { IfSome callee.now.sizes (λ sizes. AreSizes program.now.db.now callee.now.body.value.locals sizes.value) }
+    requires sizes { ForSome callee.now.sizes (λ sizes. AreSizes program.now.db.now callee.now.body.value.locals sizes.value) }
     ensures ok { IfOk result (λ cells. called_cells program.now.db.now callee.now.body.value.locals destination (M.areas memory.old) ≡ Ok (cells.items, M.areas memory.new)) }
     ensures err { IfErr result (λ e. (e ≡ error.NoMemory) ⊎ (called_cells program.now.db.now callee.now.body.value.locals destination (M.areas memory.old) ≡ Err e)) }
 {

@@ -1,5 +1,9 @@
 //! Bodies that run, and callers that wait for them.
 
+ghost use Rattle.std.proofs.Props.{props};
+ghost use Rattle.std.specs.Coded.{codes};
+ghost use Rattle.mir.specs.contracts.body.MirBody as lowered;
+ghost use Rattle.mir.specs.contracts.errors.MirEvalError as failed;
 ghost use Rattle.mir_eval.specs.Callees.{AreCallees};
 
 use crate::callees::Callee;
@@ -20,7 +24,7 @@ pub(crate) struct Program<'a> {
     pub answers: Answers,
     /// What can be entered of the functions that are given no generic arguments and whose bodies it was told.
     pub callees: BTreeMap<FunctionId, Option<Callee>>,
-    ghost called: { AreCallees db.now answers callees.entries },
+    ghost called: { AreCallees db.now answers callees.entries } by { Prim.hlevel (props, codes, lowered.the_row.coded, failed.the_row.coded) },
 }
 
 /// A caller that waits for its callee.

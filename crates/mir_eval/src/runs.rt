@@ -1,6 +1,6 @@
 //! A run that has begun, and the phases of an evaluator.
 
-ghost use Rattle.std.specs.Prelude.{true, ◌≡◌, ◌⊎◌, ◌+◌, ◌^◌, ◌<◌, ◌≤◌, ◌∷◌, ◌++◌, Err, Ok, Some, None, IfOk, IfErr, IfSome, IsSome, IsTrue, OnOk, map, option_map, slice_get};
+ghost use Rattle.std.specs.Prelude.{true, ◌≡◌, ◌⊎◌, ◌+◌, ◌^◌, ◌<◌, ◌≤◌, ◌∷◌, ◌++◌, Err, Ok, Some, None, IfOk, IfErr, ForSome, IsSome, IsTrue, OnOk, map, option_map, slice_get};
 ghost use Rattle.mir_eval.specs.Alignments.{HasAlignments};
 ghost use Rattle.mir_eval.specs.Callees.{AreSizes};
 ghost use Rattle.mir.specs.Run.{callee_error, levels_over};
@@ -244,7 +244,7 @@ impl<'a, M: Memory + Drop> Run<'a, M> {
         destination: Option<Interval>,
     ) -> Went
         requires level { call.target ≡ None → self.old.levels < self.old.program.nesting }
-        requires sizes { IfSome callee.sizes (λ sizes. AreSizes self.old.program.db.now callee.body.value.locals sizes.value) }
+        requires sizes { ForSome callee.sizes (λ sizes. AreSizes self.old.program.db.now callee.body.value.locals sizes.value) }
         ensures leads { Leads M.areas (frame_in self.old) (entered (frame_in self.old) (M.areas self.old.memory) (call_is call.entry) id callee.entry.body.value destination) self.new result }
         ensures same { self.new.left ≡ self.old.left }
         ensures run { IsInRun (frame_in self.old) self.new result }
@@ -329,7 +329,7 @@ impl<'a, M: Memory + Drop> Run<'a, M> {
         id: FunctionId,
         callee: Callee,
     ) -> Went
-        requires { IfSome callee.sizes (λ sizes. AreSizes self.old.program.db.now callee.body.value.locals sizes.value) }
+        requires { ForSome callee.sizes (λ sizes. AreSizes self.old.program.db.now callee.body.value.locals sizes.value) }
         ensures leads { Leads M.areas (frame_in self.old) (called (frame_in self.old) (M.areas self.old.memory) (call_is call.entry) id callee.entry.body.value) self.new result }
         ensures same { self.new.left ≡ self.old.left }
         ensures run { IsInRun (frame_in self.old) self.new result }
