@@ -42,13 +42,13 @@ constant_in (operand.Constant konst ty) = constant_bytes konst
 
 -- a source is what an operand says
 abbrev pub IsSource : Source → OperandKind → Type 0
-IsSource (source.Local local) operand = operand ≡ operand.Copy (record { local = local })
-IsSource (source.Constant short) operand = constant_in operand ≡ Some (short_bytes short)
+IsSource (source.Local local) kind = kind ≡ operand.Copy (record { local = local })
+IsSource (source.Constant short) kind = constant_in kind ≡ Some (short_bytes short)
 
 -- two sources are what two operands say, and the bytes of both are of a kind
-pub record AreOperands (body : MirBody) (kind : Kind) (left right : Source) (one other : OperandKind) : Type 0 where
-  pub left : IsSource left one
-  pub right : IsSource right other
+pub record AreOperands (body : MirBody) (kind : Kind) (first second : Source) (one other : OperandKind) : Type 0 where
+  pub left : IsSource first one
+  pub right : IsSource second other
   pub left_kind : option_and_then kind_of (operand_type body one) ≡ Some kind
   pub right_kind : option_and_then kind_of (operand_type body other) ≡ Some kind
 
@@ -65,16 +65,17 @@ pub record IsRow (body : MirBody) (block : List Statement) (statement : Statemen
   pub stands : slice_get block row.place ≡ Some statement
   pub says : Says body row.action statement.kind
 
--- rows are those of the statements that do something, in order; `block`: all statements of the block that they stand in
-pub AreRows : MirBody → (block : List Statement) → List Statement → List Row → Type 0
+-- the first of these rows is that of a statement, unless it does nothing (`idle`), and `Rest` holds of the others
+abbrev pub RowsFrom : MirBody → (block : List Statement) → Statement → (idle : Bool) → (Rest : List Row → Type 0) → List Row → Type 0
+RowsFrom body block statement true Rest rows = Rest rows
+RowsFrom body block statement false Rest [] = ⊥
+RowsFrom body block statement false Rest (row ∷ rows) = IsRow body block statement row × Rest rows
 
-RowsFrom : MirBody → List Statement → Statement → List Statement → Bool → List Row → Type 0
+-- rows are those of the statements that do something, in order; `block`: all statements of the block that they stand in
+abbrev pub AreRows : MirBody → (block : List Statement) → List Statement → List Row → Type 0
 AreRows body block [] [] = Unit {0}
 AreRows body block [] (row ∷ rows) = ⊥
-AreRows body block (statement ∷ statements) rows = RowsFrom body block statement statements (is_idle statement.kind) rows
-RowsFrom body block statement statements true rows = AreRows body block statements rows
-RowsFrom body block statement statements false [] = ⊥
-RowsFrom body block statement statements false (row ∷ rows) = IsRow body block statement row × AreRows body block statements rows
+AreRows body block (statement ∷ statements) rows = RowsFrom body block statement (is_idle statement.kind) (AreRows body block statements) rows
 
 -- a way is where a terminator leads
 abbrev pub Leads : Way → TerminatorKind → Type 0
@@ -86,8 +87,8 @@ Leads _ _ = ⊥
 
 -- so it is how a block ends
 abbrev pub IsWay : Way → Option Terminator → Type 0
-IsWay way (Some terminator) = Leads way terminator.kind
-IsWay way None = way ≡ way.Other
+IsWay taken (Some terminator) = Leads taken terminator.kind
+IsWay taken None = taken ≡ way.Other
 
 -- a block's rows
 pub record IsBlock (body : MirBody) (block : BasicBlock) (rows : BlockRows) : Type 0 where

@@ -97,16 +97,14 @@ fn rows(alloc: Global, body: &MirBody, statements: &[Statement]) -> Result<Vec<R
     ensures { IfOk result (λ rows. AreRows body.now statements.now statements.now rows.items) }
 {
     let mut rows = Vec::new(alloc);
-    let mut i: usize = 0;
-    while i < statements.len() {
-        let statement = &statements[i].kind;
-        if !is_idle(statement) {
-            rows.push(Row {
-                place: i as u64,
-                action: action(body, statement),
-            })?;
+    for (i, statement) in statements.iter().enumerate() {
+        if is_idle(&statement.kind) {
+            continue;
         }
-        i += 1;
+        rows.push(Row {
+            place: i as u64,
+            action: action(body, &statement.kind),
+        })?;
     }
     Ok(rows)
 }
@@ -163,8 +161,9 @@ fn block_rows(alloc: Global, body: &MirBody, block: &BasicBlock) -> Result<Block
 pub(crate) fn blocks(alloc: Global, body: &MirBody) -> Result<Vec<BlockRows>, NoMemory>
     ensures { IfOk result (λ blocks. AreBlocks body.now body.now.basic_blocks blocks.items) }
 {
+    let all = body.basic_blocks.as_slice();
     let mut blocks = Vec::new(alloc);
-    for block in body.basic_blocks.as_slice() {
+    for block in all {
         blocks.push(block_rows(alloc, body, block)?)?;
     }
     Ok(blocks)
