@@ -8,6 +8,8 @@ pub mod Operated
 pub mod Padded
 pub mod Joined
 pub mod RowRuns
+pub mod RowSays
 pub mod SizedCells
 pub mod Starting
+pub mod ToldCallees
 pub mod Wide

@@ -1,6 +1,6 @@
 -- Sizes of the cells of locals have alignments.
 use Rattle.std.proofs.Common.{◌≡◌, List, [], ◌∷◌, Option, Some, None, Result, Ok, Err, Bool, true, false, refl, sym, ap, ◌∙◌, subst}
-use Rattle.std.specs.Prelude.{All}
+use Rattle.std.specs.Prelude.{All, if◌then◌else◌}
 use Rattle.std.proofs.lemmas.List.Elements.{All-cons, All-nil}
 use Rattle.world.specs.Checked.{IsAlignment}
 use Rattle.world.specs.declared.database.HirDatabase.{HirDatabase}
@@ -14,7 +14,7 @@ use Rattle.mir.specs.Memory.{cell_size_of, size_before, sizes_of}
 use Rattle.mir_eval.specs.Alignments.{HasAlignments}
 use Rattle.mir_eval.proofs.Alignments.{is_alignment}
 
-abbrev Aligned : CellSize → Type 0
+abbrev pub Aligned : CellSize → Type 0
 Aligned cell = IsAlignment cell.align
 
 -- the layout of a type with a size
@@ -31,14 +31,14 @@ module _ (world : HirDatabase) (aligned : HasAlignments world) where
       subst (λ (s : CellSize). IsAlignment s.align) (if-ok layout.sized (record { size = layout.size; align = layout.align }) size _ is) (is_alignment world ty layout aligned there)
 
   -- the sizes of the cells of locals
-  pub sizes-aligned : (locals : List Local) (sizes : List CellSize) → sizes_of world locals ≡ Ok sizes → All Aligned sizes
+  pub sizes_aligned : (locals : List Local) (sizes : List CellSize) → sizes_of world locals ≡ Ok sizes → All Aligned sizes
   unfolding sizes_of
-  sizes-aligned [] sizes is = let same : [] ≡ sizes = cc in subst (All Aligned) same (All-nil Aligned)
-  sizes-aligned (local ∷ locals) sizes is = by (cell_size_of local.ty (layout_of world local.ty)) refl (sizes_of world locals) refl is where
+  sizes_aligned [] sizes is = let same : [] ≡ sizes = cc in subst (All Aligned) same (All-nil Aligned)
+  sizes_aligned (local ∷ locals) sizes is = by (cell_size_of local.ty (layout_of world local.ty)) refl (sizes_of world locals) refl is (sizes_aligned locals) where
     by : (one : Result CellSize MirEvalError) → cell_size_of local.ty (layout_of world local.ty) ≡ one → (others : Result (List CellSize) MirEvalError) → sizes_of world locals ≡ others →
-        elim one [ Ok size ↦ size_before size others | Err e ↦ Err e ] ≡ Ok sizes → All Aligned sizes
-    by (Ok size) found (Ok rest) there is =
+        elim one [ Ok size ↦ size_before size others | Err e ↦ Err e ] ≡ Ok sizes → ((rest : List CellSize) → sizes_of world locals ≡ Ok rest → All Aligned rest) → All Aligned sizes
+    by (Ok size) found (Ok rest) there is others =
         let same : size ∷ rest ≡ sizes = cc in
-        subst (All Aligned) same (All-cons Aligned size rest (one-aligned local.ty (layout_of world local.ty) size refl found) (sizes-aligned locals rest there))
-    by (Ok size) found (Err e) there is = absurd cc
-    by (Err e) found others there is = absurd cc
+        subst (All Aligned) same (All-cons Aligned size rest (one-aligned local.ty (layout_of world local.ty) size refl found) (others rest there))
+    by (Ok size) found (Err e) there is others = absurd cc
+    by (Err e) found more there is others = absurd cc

@@ -1,6 +1,7 @@
 //! What a run was told of the functions that it calls: their bodies, ready to be entered.
 
-ghost use Rattle.std.specs.Prelude.{◌≡◌, ◌≢◌, List, Some, None, ForSome, IfOk, IfSome, IsTrue, OnOk};
+ghost use Rattle.std.specs.Option.{ForSome};
+ghost use Rattle.std.specs.Prelude.{◌≡◌, ◌≢◌, List, Some, None, IfOk, IfSome, IsTrue, OnOk};
 ghost use Rattle.types.specs.declared.ids.FunctionId.{FunctionId};
 ghost use Rattle.world.specs.declared.database.HirDatabase.{HirDatabase};
 ghost use Rattle.mir.specs.declared.body.Local.{Local};
@@ -115,14 +116,17 @@ fn plain_function(query: &Query) -> Option<FunctionId>
 impl<'a> Program<'a> {
     /// What can be entered of a function, where the run was told its body.
     pub(crate) fn callee(&self, function: Function<'_>) -> Option<Callee>
-        ensures told { IfSome result (λ callee. told_body (answer_to self.now.answers (body_query (function_is function))) ≡ Some callee.body.value) }
+        ensures told { IfSome result (λ callee. told_body (answer_to self.now.answers (body_query (function_is function.entry))) ≡ Some callee.body.value) }
         ensures sizes { IfSome result (λ callee. ForSome callee.sizes (λ sizes. AreSizes self.now.db.now callee.body.value.locals sizes.value)) }
     {
         if !function.args.0.as_slice().is_empty() {
             return None;
         }
         match self.callees.get(&function.id) {
-            Some(Some(callee)) => callee.share().ok(),
+            Some(Some(callee)) => match callee.share() {
+                Ok(callee) => Some(callee),
+                Err(_) => None,
+            },
             _ => None,
         }
     }

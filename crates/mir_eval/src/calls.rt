@@ -1,9 +1,11 @@
 //! Calls: what is called, the cells of its body, and its arguments.
 
-ghost use Rattle.std.specs.Prelude.{◌≡◌, ◌⊎◌, Ok, Err, IfOk, IfErr, ForSome, option_map, option_and_then, slice_get};
+ghost use Rattle.std.specs.Option.{ForSome};
+ghost use Rattle.std.specs.Prelude.{◌≡◌, ◌⊎◌, Ok, Err, IfOk, IfErr, option_map, option_and_then, slice_get};
 ghost use Rattle.mir.specs.declared.errors.MirEvalError as error;
 ghost use Rattle.mir_eval.specs.Alignments.{HasAlignments};
 ghost use Rattle.mir_eval.specs.Callees.{AreSizes};
+ghost use Rattle.mir.specs.Memory.{cells_of, sizes_of};
 ghost use Rattle.mir.specs.Run.{called_cells, copied, filled, function_in, operand_bytes, operand_type, read};
 ghost use Rattle.mir_eval.specs.Calls.{call_is, function_is};
 ghost use Rattle.mir_eval.specs.Frames.{frame_of};
@@ -17,12 +19,13 @@ use crate::frames::{Program, StackFrame};
 use crate::places::{lay_out, listed, push};
 use crate::steps::assign_operand;
 use mir::{
-    BasicBlockId, Interval, LocalId, MirBody, MirEvalError, MirSpan, Operand, OperandKind, Place,
-    TerminatorKind,
+    BasicBlockId, CellSize, Interval, Local, LocalId, MirBody, MirEvalError, MirSpan, Operand,
+    OperandKind, Place, TerminatorKind,
 };
 use mir_mem::Memory;
 use std::alloc::Global;
-use world::{CallableDefId, FunctionId, GenericArgs, Ty};
+use std::rc::Rc;
+use world::{CallableDefId, FunctionId, GenericArgs, HirDatabase, List, Ty};
 
 /// A call, as its terminator says it.
 #[derive(Clone, Copy)]
@@ -94,6 +97,26 @@ pub(crate) fn callee<'r>(body: &'r MirBody, func: &'r OperandKind) -> Option<Fun
     }
 }
 
+/// New cells for locals, whose sizes may be known.
+#[tactic(auto, unfolding(mir::specs::Memory::cells_of), using(crate::proofs::SizedCells::sizes_aligned))]
+fn other_cells<M: Memory>(
+    alloc: Global,
+    db: &HirDatabase,
+    sizes: &Option<Rc<List<CellSize>>>,
+    locals: &[Local],
+    memory: &mut M,
+) -> Result<List<Interval>, MirEvalError>
+    requires aligned { HasAlignments db.now }
+    requires sizes { ForSome sizes.now (λ sizes. sizes_of db.now locals.now ≡ Ok sizes.value) }
+    ensures ok { IfOk result (λ cells. cells_of db.now locals.now (M.areas memory.old) ≡ Ok (cells, M.areas memory.new)) }
+    ensures err { IfErr result (λ e. (e ≡ error.NoMemory) ⊎ (cells_of db.now locals.now (M.areas memory.old) ≡ Err e)) }
+{
+    match sizes {
+        Some(sizes) => push(memory, sizes.as_ref()),
+        None => lay_out(alloc, db, locals, memory),
+    }
+}
+
 /// The cells of a called body: its return slot is the destination, where there is one, and the others are new ones at the end of
 /// the stack. They are listed in `room`.
 pub(crate) fn callee_cells<M: Memory>(
@@ -111,10 +134,9 @@ pub(crate) fn callee_cells<M: Memory>(
 {
     let locals = callee.body.as_ref().body().locals.as_slice();
     let slot = if locals.is_empty() { None } else { destination };
-    let placed = match (slot, &callee.sizes) {
-        (Some(_), Some(sizes)) => push(memory, sizes.as_ref()),
-        (Some(_), None) => lay_out(alloc, program.db, &locals[1..], memory),
-        (None, _) => lay_out(alloc, program.db, locals, memory),
+    let placed = match slot {
+        Some(_) => other_cells(alloc, program.db, &callee.sizes, &locals[1..], memory),
+        None => lay_out(alloc, program.db, locals, memory),
     };
     let placed = match placed {
         Ok(placed) => placed,

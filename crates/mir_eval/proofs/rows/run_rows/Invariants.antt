@@ -7,4 +7,4 @@ use Rattle.mir_eval.proofs.rows.run_rows.Given as goal
 -- the statements of the rows from here on do what all do
 abbrev pub invariant-loop-row : goal.invariant-loop-row
 invariant-loop-row g l =
-    Left (frame_of l.frame) l.initial.frame.body.now l.initial.block.now.statements (drop l.row-index l.rows) (g.M.Memory.areas l.memory) (after_statements (frame_of l.initial.frame) l.initial.block.now.statements (g.M.Memory.areas l.initial.memory))
+    Left (frame_of l.frame) l.initial.frame.body.now l.initial.block.statements (drop l.row-index l.rows) (g.M.Memory.areas l.memory) (after_statements (frame_of l.initial.frame) l.initial.block.statements (g.M.Memory.areas l.initial.memory))

@@ -1,0 +1,25 @@
+use Rattle.std.proofs.Common.{◌≡◌, [], Some, sym, rules, subst}
+use Rattle.std.specs.BTreeMap.{is_at}
+use Rattle.std.specs.Map.{lookup}
+use Rattle.std.specs.Option.{ForSome}
+use Rattle.types.specs.contracts.ids.FunctionIdOrd.TheImpl as FunctionIdOrd
+use Rattle.mir.specs.declared.body.MirBody.{MirBody}
+use Rattle.mir_eval.specs.Callees.{AreSizes}
+use Rattle.mir_eval.proofs.ToldCallees.{shared-told}
+use Rattle.mir_eval.proofs.frames.Program.callee.Goals as goal
+
+pub returns-in-Ok-clause-told : goal.returns-in-Ok-clause-told
+returns-in-Ok-clause-told c =
+    let program = c.args.self.now in
+    let function = c.args.function in
+    let none : function.args.now.0 ≡ [] = search rules in
+    let there : lookup (is_at (FunctionIdOrd.ghosts.cmp function.id)) program.callees.entries ≡ Some (Some c.in-Some-Some.callee) = search rules in
+    shared-told program.db.now program.answers program.callees.entries program.called function.id function.args.now none c.in-Some-Some.callee c.in-Ok.callee there c.in-Ok.ensures.body
+
+pub returns-in-Ok-clause-sizes : goal.returns-in-Ok-clause-sizes
+returns-in-Ok-clause-sizes c =
+    let program = c.args.self.now in
+    let there : lookup (is_at (FunctionIdOrd.ghosts.cmp c.args.function.id)) program.callees.entries ≡ Some (Some c.in-Some-Some.callee) = search rules in
+    let kept = program.called c.args.function.id c.in-Some-Some.callee there in
+    subst (λ (body : MirBody). ForSome c.in-Ok.callee.sizes (λ sizes. AreSizes program.db.now body.locals sizes.value)) (sym c.in-Ok.ensures.body)
+    (c.in-Ok.ensures.sizes program.db.now c.in-Some-Some.callee.body.value.locals kept.sizes)

@@ -1,0 +1,30 @@
+use Rattle.std.proofs.Common.{◌≡◌, drop, refl, sym, ap, ◌∙◌}
+use Rattle.mir.specs.Run.{after_statements}
+use Rattle.mir_eval.specs.Frames.{frame_of}
+use Rattle.mir_eval.proofs.RowRuns.{all-ran, faulted, has-statement, ran}
+use Rattle.mir_eval.proofs.rows.run_rows.Goals as goal
+
+pub loop-row-init : goal.loop-row-init
+loop-row-init g c = record { statements = c.args.block.now.statements; are = c.requires; same = refl }
+
+pub run_row-requires : goal.run_row-requires
+run_row-requires g c =
+    let at = c.loop-row in
+    has-statement (frame_of c.args.frame) c.args.frame.body.now c.args.block.now.statements c.args.rows.now at.row-index c.row-item.result (g.M.Memory.areas at.memory) _ c.loop-row-test.true c.row-item.is at.invariant
+
+pub loop-row-preserved : goal.loop-row-preserved
+loop-row-preserved g c =
+    let at = c.loop-row in
+    ran (frame_of c.args.frame) c.args.frame.body.now c.args.block.now.statements c.args.rows.now at.row-index c.row-item.result (g.M.Memory.areas at.memory) _ c.loop-row-test.true c.row-item.is at.invariant
+    (g.M.Memory.areas c.run_row.new.memory) c.in-Ok.ensures
+
+pub returns-in-Err : goal.returns-in-Err
+returns-in-Err g c =
+    let at = c.loop-row in
+    faulted (frame_of c.args.frame) c.args.frame.body.now c.args.block.now.statements c.args.rows.now at.row-index c.row-item.result (g.M.Memory.areas at.memory) _ c.loop-row-test.true c.row-item.is at.invariant
+    _ c.in-Err.ensures
+
+pub returns : goal.returns
+returns g c =
+    let at = c.loop-row in
+    all-ran (frame_of c.args.frame) c.args.frame.body.now c.args.block.now.statements c.args.rows.now at.row-index (g.M.Memory.areas at.memory) _ c.loop-row-test.false at.invariant
