@@ -1,5 +1,5 @@
 -- Sizes of the cells of locals have alignments.
-use Rattle.std.proofs.Common.{◌≡◌, List, [], ◌∷◌, Option, Some, None, Result, Ok, Err, Bool, true, false, refl, sym, ap, ◌∙◌, subst}
+use Rattle.std.proofs.Common.{◌≡◌, List, [], ◌∷◌, Option, Some, None, Result, Ok, Err, Bool, true, false, refl, subst}
 use Rattle.std.specs.Prelude.{All, if◌then◌else◌}
 use Rattle.std.proofs.lemmas.List.Elements.{All-cons, All-nil}
 use Rattle.world.specs.Checked.{IsAlignment}
@@ -36,7 +36,7 @@ module _ (world : HirDatabase) (aligned : HasAlignments world) where
   sizes_aligned [] sizes is = let same : [] ≡ sizes = cc in subst (All Aligned) same (All-nil Aligned)
   sizes_aligned (local ∷ locals) sizes is = by (cell_size_of local.ty (layout_of world local.ty)) refl (sizes_of world locals) refl is (sizes_aligned locals) where
     by : (one : Result CellSize MirEvalError) → cell_size_of local.ty (layout_of world local.ty) ≡ one → (others : Result (List CellSize) MirEvalError) → sizes_of world locals ≡ others →
-        elim one [ Ok size ↦ size_before size others | Err e ↦ Err e ] ≡ Ok sizes → ((rest : List CellSize) → sizes_of world locals ≡ Ok rest → All Aligned rest) → All Aligned sizes
+        ◌≡◌ {A = Result (List CellSize) MirEvalError} (elim one [ Ok size ↦ size_before size others | Err e ↦ Err e ]) (Ok sizes) → ((rest : List CellSize) → sizes_of world locals ≡ Ok rest → All Aligned rest) → All Aligned sizes
     by (Ok size) found (Ok rest) there is others =
         let same : size ∷ rest ≡ sizes = cc in
         subst (All Aligned) same (All-cons Aligned size rest (one-aligned local.ty (layout_of world local.ty) size refl found) (others rest there))

@@ -1,5 +1,6 @@
 -- What is kept of functions whose bodies were told, as answers come.
-use Rattle.std.proofs.Common.{◌≡◌, ◌≢◌, Bool, true, false, cond, List, [], Option, Some, None, refl, sym, ap, ◌∙◌, subst}
+use Rattle.std.proofs.Common.{◌≡◌, ◌≢◌, Bool, true, false, cond, List, [], Option, Some, None, Result, Ok, Err, refl, sym, ap, ◌∙◌, subst}
+use Rattle.std.specs.Prelude.{OnErr, OnOk}
 use Rattle.std.specs.Ordering.{is_eq}
 use Rattle.std.specs.BTreeMap.{is_at}
 use Rattle.std.specs.Map.{lookup}
@@ -19,7 +20,8 @@ use Rattle.mir.specs.Run.{body_query, called, called_by, Calling, Frame}
 use Rattle.mir.specs.Memory.{Memory}
 use Rattle.mir.specs.declared.answers.Answer.TheVariants as told
 use Rattle.mir_eval.specs.declared.callees.Callee.{Callee}
-use Rattle.mir_eval.specs.Callees.{AreCallees, IsCallee, plain_query, told_body}
+use Rattle.std.specs.Option.{ForSome}
+use Rattle.mir_eval.specs.Callees.{AreCallees, AreSizes, IsCallee, plain_query, told_body}
 
 -- a function without generic arguments
 pub plain-is : (id : FunctionId) (args : GenericArgs) → args.0 ≡ [] → body_query (id, args) ≡ plain_query id
@@ -80,3 +82,15 @@ pub shared-told : (world : HirDatabase) (answers : List (Query × Answer)) (call
     lookup (is_at (FunctionIdOrd.ghosts.cmp id)) callees ≡ Some (Some callee) → shared.body.value ≡ callee.body.value → told_body (answer_to answers (body_query (id, args))) ≡ Some shared.body.value
 shared-told world answers callees are id args none callee shared there same =
     ap (λ (q : Query). told_body (answer_to answers q)) (plain-is id args none) ∙ (are id callee there).told ∙ ap Some (sym same)
+
+-- what is kept after something was to be kept of a function, for which there may have been no memory
+pub after-insert : {R E : Type 0} (U : Type 0) (result : Result R E) (world : HirDatabase) (answers : List (Query × Answer)) (before after : List (FunctionId × Option Callee)) (id : FunctionId) (kept : Option Callee) →
+    OnOk result U → (U → IsUpdated before after id kept) → OnErr result (after ≡ before) → AreCallees world answers before → ((c : Callee) → kept ≡ Some c → IsCallee world answers id c) → AreCallees world answers after
+after-insert U (Ok done) world answers before after id kept updated is same are own = keeps world before after id kept (is updated) answers are own
+after-insert U (Err e) world answers before after id kept updated is same are own = subst (AreCallees world answers) (sym same) are
+
+-- what was told just now
+pub told-now : (world : HirDatabase) (before after : List (Query × Answer)) (q : Query) (answer : Answer) → IsAfterPut before after q answer → (id : FunctionId) → q ≡ plain_query id → (callee : Callee) →
+    told_body (Some answer) ≡ Some callee.body.value → ForSome callee.sizes (λ sizes. AreSizes world callee.body.value.locals sizes.value) → IsCallee world after id callee
+told-now world before after q answer put id is callee told sizes =
+    record { told = ap told_body (ap (answer_to after) (sym is) ∙ put.answered) ∙ told; sizes = sizes }

@@ -1,5 +1,5 @@
 -- What a run keeps of the functions whose bodies it was told.
-use Rattle.std.specs.Prelude.{◌≡◌, List, [], ◌∷◌, Option, Some, None, Ok, drop}
+use Rattle.std.specs.Prelude.{◌≡◌, List, [], Option, Some, None, Ok, drop}
 use Rattle.std.specs.Option.{ForSome}
 use Rattle.std.specs.BTreeMap.{is_at}
 use Rattle.std.specs.Map.{lookup}

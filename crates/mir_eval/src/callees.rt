@@ -77,6 +77,18 @@ fn callee_of(alloc: Global, db: &HirDatabase, body: &Rc<MirBody>) -> Result<Call
     })
 }
 
+/// What can be entered by an answer, where that is a body.
+fn told_callee(alloc: Global, db: &HirDatabase, answer: &Answer) -> Result<Option<Callee>, NoMemory>
+    requires { HasAlignments db.now }
+    ensures body { IfOk result (λ found. ForSome found (λ callee. told_body (Some answer.now) ≡ Some callee.body.value)) }
+    ensures sizes { IfOk result (λ found. ForSome found (λ callee. ForSome callee.sizes (λ sizes. AreSizes db.now callee.body.value.locals sizes.value))) }
+{
+    match answer {
+        Answer::Body(body) => Ok(Some(callee_of(alloc, db, body)?)),
+        _ => Ok(None),
+    }
+}
+
 /// A body with its rows, to be shared.
 pub(crate) fn ready(alloc: Global, body: Rc<MirBody>) -> Result<Rc<Code>, NoMemory>
     ensures { IfOk result (λ code. code.value ≡ body.value) }
@@ -148,10 +160,7 @@ impl<'a> Program<'a> {
         let Some(id) = plain_function(&query) else {
             return self.answers.put(query, answer);
         };
-        let callee = match &answer {
-            Answer::Body(body) => Some(callee_of(alloc, self.db, body)?),
-            _ => None,
-        };
+        let callee = told_callee(alloc, self.db, &answer)?;
         self.callees.insert(id, None)?;
         self.answers.put(query, answer)?;
         self.callees.insert(id, callee)?;

@@ -9,7 +9,6 @@ ghost use Rattle.mir.specs.declared.errors.MirEvalError as error;
 ghost use Rattle.mir.specs.Areas.{after_push};
 ghost use Rattle.mir.specs.Errors.{layout_error_of};
 ghost use Rattle.mir.specs.Memory.{cell_size_of, sizes_of, pushed, cells_of};
-ghost use Rattle.mir.specs.Run.{called_cells};
 
 use mir::{CellSize, Interval, Local, MemFault, MirEvalError, layout_error_of};
 use mir_mem::Memory;

@@ -1,6 +1,6 @@
 //! Statements by their rows: an operator on two operands of one kind, a copy, and a constant are done without a look at the body.
 
-ghost use Rattle.std.specs.Prelude.{◌≡◌, IfNone, IfSome, Ok, Some, option_map, slice_get};
+ghost use Rattle.std.specs.Prelude.{◌≡◌, IfNone, IfSome, Ok, Some, slice_get};
 ghost use Rattle.std.specs.List.{concat};
 ghost use Rattle.mir.specs.declared.body.BasicBlock.{BasicBlock};
 ghost use Rattle.mir.specs.declared.operand.OperandKind.{OperandKind};

@@ -1,7 +1,7 @@
 //! A run that has begun, and the phases of an evaluator.
 
 ghost use Rattle.std.specs.Option.{ForSome};
-ghost use Rattle.std.specs.Prelude.{true, ◌≡◌, ◌⊎◌, ◌+◌, ◌^◌, ◌<◌, ◌≤◌, ◌∷◌, ◌++◌, Err, Ok, Some, None, IfOk, IfErr, IsSome, IsTrue, OnOk, map, option_map, slice_get};
+ghost use Rattle.std.specs.Prelude.{true, ◌≡◌, ◌⊎◌, ◌+◌, ◌^◌, ◌<◌, ◌≤◌, ◌∷◌, ◌++◌, Err, Ok, Some, None, IfOk, IfErr, IsSome, IsTrue, OnOk, slice_get};
 ghost use Rattle.mir_eval.specs.Alignments.{HasAlignments};
 ghost use Rattle.mir_eval.specs.Callees.{AreSizes};
 ghost use Rattle.mir.specs.Run.{callee_error, levels_over};
@@ -220,9 +220,9 @@ impl<'a, M: Memory + Drop> Run<'a, M> {
                 } = caller;
                 self.point = Point::Entry(body.as_ref().body().start_block);
                 self.body = body;
-                let used = mem::replace(&mut self.cells, cells);
-                // Without memory the list is given up, and the next body makes its own.
-                let _kept = self.spare.push(used);
+                let used = mem::replace(&mut self.cells, Vec::new(alloc));
+                set_aside(&mut self.spare, used);
+                self.cells = cells;
                 match next {
                     Some(block) => Went::On(block),
                     None => {
@@ -246,7 +246,7 @@ impl<'a, M: Memory + Drop> Run<'a, M> {
     ) -> Went
         requires level { call.target ≡ None → self.old.levels < self.old.program.nesting }
         requires sizes { ForSome callee.sizes (λ sizes. AreSizes self.old.program.db.now callee.body.value.locals sizes.value) }
-        ensures leads { Leads M.areas (frame_in self.old) (entered (frame_in self.old) (M.areas self.old.memory) (call_is call.entry) id callee.entry.body.value destination) self.new result }
+        ensures leads { Leads M.areas (frame_in self.old) (entered (frame_in self.old) (M.areas self.old.memory) (call_is call.entry) id callee.body.value destination) self.new result }
         ensures same { self.new.left ≡ self.old.left }
         ensures run { IsInRun (frame_in self.old) self.new result }
         ensures asks { AsksAtCall self.new result }
@@ -331,7 +331,7 @@ impl<'a, M: Memory + Drop> Run<'a, M> {
         callee: Callee,
     ) -> Went
         requires { ForSome callee.sizes (λ sizes. AreSizes self.old.program.db.now callee.body.value.locals sizes.value) }
-        ensures leads { Leads M.areas (frame_in self.old) (called (frame_in self.old) (M.areas self.old.memory) (call_is call.entry) id callee.entry.body.value) self.new result }
+        ensures leads { Leads M.areas (frame_in self.old) (called (frame_in self.old) (M.areas self.old.memory) (call_is call.entry) id callee.body.value) self.new result }
         ensures same { self.new.left ≡ self.old.left }
         ensures run { IsInRun (frame_in self.old) self.new result }
         ensures asks { AsksAtCall self.new result }
@@ -542,6 +542,11 @@ impl<'a, M: Memory + Drop> Run<'a, M> {
             Err(fault) => self.go_on(alloc, block, Err(fault)),
         }
     }
+}
+
+/// Sets a list of cells aside. Without memory it is given up, and the next body makes its own.
+fn set_aside(spare: &mut Vec<Vec<Interval>>, used: Vec<Interval>) {
+    if spare.push(used).is_err() {}
 }
 
 /// One level of nesting more, where that is within the limit.

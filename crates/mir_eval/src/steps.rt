@@ -1,16 +1,13 @@
 //! The steps of a run, as the body itself says them: operands, assignments, statements and terminators.
 
-ghost use Rattle.std.specs.Prelude.{◌≡◌, ◌≢◌, ◌<◌, ◌≤◌, IsTrue, IfOk, IfSome, IsSome, OnOk, Ok, Some, slice_get, option_and_then, option_map};
+ghost use Rattle.std.specs.Prelude.{◌≡◌, ◌≢◌, ◌<◌, ◌≤◌, IfOk, IsSome, Ok, Some, option_and_then, option_map};
 ghost use Rattle.std.specs.List.{concat};
-ghost use Rattle.std.specs.Option.{option_copied};
-ghost use Rattle.numbers.specs.Operators.{kind_of};
-ghost use Rattle.mir.specs.Run.{constant_bytes, copied, read, answered, operated, computed_of, operated_on, rvalue_bytes, operand_bytes, operand_type, after_statement, after_statements, switched, terminated, next_from, entering, going_on};
-ghost use Rattle.mir_eval.specs.Machine.{call_at, call_of, terminator_at};
+ghost use Rattle.mir.specs.Run.{copied, read, answered, operated, computed_of, operated_on, rvalue_bytes, operand_bytes, operand_type, after_statement, switched, terminated};
+ghost use Rattle.mir_eval.specs.Machine.{call_of};
 ghost use Rattle.mir_eval.specs.declared.steps.Exit.TheVariants.{Calls};
 ghost use Rattle.numbers.specs.Computed.{answer_of, count_of};
-ghost use Rattle.mir_ops.specs.Made.{made_bytes};
 ghost use Rattle.mir_eval.specs.Frames.{frame_of};
-ghost use Rattle.mir_eval.specs.Steps.{operated_bytes, left_with, next_of, halt_of, HaltsAtCall};
+ghost use Rattle.mir_eval.specs.Steps.{operated_bytes, left_with, next_of};
 
 use crate::cells::{cell_of, copy, read, write};
 use crate::faults::Fault;
@@ -18,8 +15,8 @@ use crate::frames::StackFrame;
 use crate::pieces::{gather, whole};
 use crate::words::unsigned;
 use mir::{
-    BasicBlock, BasicBlockId, BinOp, Interval, MirBody, OperandKind, Place, Rvalue, Statement,
-    StatementKind, SwitchTargets, Terminator, TerminatorKind, UnOp,
+    BasicBlockId, BinOp, Interval, OperandKind, Rvalue, StatementKind, SwitchTargets, Terminator,
+    TerminatorKind, UnOp,
 };
 use mir_mem::{Memory, View};
 use mir_rows::{constant_bytes, operand_kind};

@@ -1,6 +1,6 @@
 //! The rows of a body's blocks, read off the body.
 
-ghost use Rattle.std.specs.Prelude.{◌≡◌, take, IfOk, IfSome};
+ghost use Rattle.std.specs.Prelude.{◌≡◌, IfOk, IfSome};
 ghost use Rattle.mir.specs.declared.operand.Rvalue.TheVariants.{CheckedBinaryOp, Use};
 ghost use Rattle.mir.specs.declared.statement.StatementKind.TheVariants.{Assign};
 ghost use Rattle.mir.specs.declared.body.TerminatorKind.TheVariants.{SwitchInt};

@@ -1,4 +1,4 @@
-use Rattle.std.proofs.Common.{◌≡◌, true, false, ap, sym, ◌∙◌, rules, ℕ, Bool}
+use Rattle.std.proofs.Common.{◌≡◌, true, false, ap, rules, Bool}
 use Rattle.std.specs.Prelude.{◌==◌, if◌then◌else◌}
 use Rattle.mir_eval.specs.Frames.{frame_of}
 use Rattle.mir_eval.proofs.RowSays.{branch-leads, goto-leads}

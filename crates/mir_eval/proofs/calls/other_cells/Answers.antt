@@ -1,4 +1,4 @@
-use Rattle.std.proofs.Common.{sym, ap, ◌∙◌, subst}
+use Rattle.std.proofs.Common.{sym, subst}
 use Rattle.std.specs.Prelude.{All, List}
 use Rattle.mir.specs.declared.address.CellSize.{CellSize}
 use Rattle.mir_eval.proofs.SizedCells.{Aligned, sizes_aligned}

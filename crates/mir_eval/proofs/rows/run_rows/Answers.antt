@@ -1,5 +1,4 @@
-use Rattle.std.proofs.Common.{◌≡◌, drop, refl, sym, ap, ◌∙◌}
-use Rattle.mir.specs.Run.{after_statements}
+use Rattle.std.proofs.Common.{refl}
 use Rattle.mir_eval.specs.Frames.{frame_of}
 use Rattle.mir_eval.proofs.RowRuns.{all-ran, faulted, has-statement, ran}
 use Rattle.mir_eval.proofs.rows.run_rows.Goals as goal

@@ -1,4 +1,4 @@
-use Rattle.std.proofs.Common.{◌≡◌, sym, ap, ◌∙◌}
+use Rattle.std.proofs.Common.{sym, ap, ◌∙◌}
 use Rattle.std.specs.List.{concat}
 use Rattle.mir_eval.specs.Frames.{frame_of}
 use Rattle.mir_eval.proofs.Joined.{concat_pieces_of}

@@ -1,4 +1,5 @@
-use Rattle.std.proofs.Common.{◌≡◌, [], Some, sym, rules, subst}
+use Rattle.std.proofs.Common.{◌≡◌, [], Some, sym, arith, rules, subst}
+use Rattle.std.proofs.lemmas.Grind.{common_steps}
 use Rattle.std.specs.BTreeMap.{is_at}
 use Rattle.std.specs.Map.{lookup}
 use Rattle.std.specs.Option.{ForSome}
@@ -12,7 +13,7 @@ pub returns-in-Ok-clause-told : goal.returns-in-Ok-clause-told
 returns-in-Ok-clause-told c =
     let program = c.args.self.now in
     let function = c.args.function in
-    let none : function.args.now.0 ≡ [] = search rules in
+    let none : function.args.now.0 ≡ [] = grind (arith, common_steps) in
     let there : lookup (is_at (FunctionIdOrd.ghosts.cmp function.id)) program.callees.entries ≡ Some (Some c.in-Some-Some.callee) = search rules in
     shared-told program.db.now program.answers program.callees.entries program.called function.id function.args.now none c.in-Some-Some.callee c.in-Ok.callee there c.in-Ok.ensures.body
 
