@@ -98,6 +98,7 @@ pub(crate) fn enter<M: Memory>(
 }
 
 /// Runs blocks of a frame, at most `blocks` of them, until the body returns, calls or faults.
+#[inline(never)]
 #[tactic(auto, unfolding(mir::specs::Run::entering, mir::specs::Run::going_on), using(crate::proofs::Entering::enter_one))]
 pub(crate) fn enter_all<M: Memory>(
     frame: StackFrame<'_, '_>,

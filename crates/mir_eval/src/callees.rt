@@ -44,33 +44,26 @@ impl Callee {
     }
 }
 
-/// The sizes of the cells of a body's locals, that of the return slot aside, to be shared; none where one can have none.
-fn shared_sizes(
+/// A body as one that can be entered, with the sizes of its cells where each can have one.
+pub(crate) fn callee_of(
     alloc: Global,
     db: &HirDatabase,
-    body: &MirBody,
-) -> Result<Option<Rc<List<CellSize>>>, NoMemory>
-    requires { HasAlignments db.now }
-    ensures { IfOk result (λ found. ForSome found (λ sizes. AreSizes db.now body.now.locals sizes.value)) }
-{
-    let locals = body.locals.as_slice();
-    if locals.is_empty() {
-        return Ok(None);
-    }
-    match sizes(alloc, db, &locals[1..]) {
-        Ok(sizes) => Ok(Some(Rc::new(alloc, sizes)?)),
-        Err(MirEvalError::NoMemory) => Err(NoMemory),
-        Err(_) => Ok(None),
-    }
-}
-
-/// A body as one that can be entered, with the sizes of its cells.
-fn callee_of(alloc: Global, db: &HirDatabase, body: &Rc<MirBody>) -> Result<Callee, NoMemory>
+    body: &Rc<MirBody>,
+) -> Result<Callee, NoMemory>
     requires { HasAlignments db.now }
     ensures body { IfOk result (λ callee. callee.body.value ≡ body.now.value) }
     ensures sizes { IfOk result (λ callee. ForSome callee.sizes (λ sizes. AreSizes db.now callee.body.value.locals sizes.value)) }
 {
-    let sizes = shared_sizes(alloc, db, body.as_ref())?;
+    let locals = body.as_ref().locals.as_slice();
+    let sizes = if locals.is_empty() {
+        None
+    } else {
+        match sizes(alloc, db, &locals[1..]) {
+            Ok(sizes) => Some(Rc::new(alloc, sizes)?),
+            Err(MirEvalError::NoMemory) => return Err(NoMemory),
+            Err(_refusal) => None,
+        }
+    };
     Ok(Callee {
         body: ready(alloc, Rc::clone(body)?)?,
         sizes,
@@ -95,17 +88,6 @@ pub(crate) fn ready(alloc: Global, body: Rc<MirBody>) -> Result<Rc<Code>, NoMemo
 {
     let code = Code::new(alloc, body)?;
     Ok(Rc::new(alloc, code)?)
-}
-
-/// A body as one that can be entered.
-pub(crate) fn entered_once(alloc: Global, body: &Rc<MirBody>) -> Result<Callee, NoMemory>
-    ensures body { IfOk result (λ callee. callee.body.value ≡ body.now.value) }
-    ensures sizes { (world : HirDatabase) (locals : List Local) → IfOk result (λ callee. ForSome callee.sizes (λ sizes. AreSizes world locals sizes.value)) }
-{
-    Ok(Callee {
-        body: ready(alloc, Rc::clone(body)?)?,
-        sizes: None,
-    })
 }
 
 /// The function whose body a query asks for, where it is given no generic arguments.

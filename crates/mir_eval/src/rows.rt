@@ -18,7 +18,7 @@ use crate::faults::Fault;
 use crate::frames::StackFrame;
 use crate::pieces::whole;
 use crate::steps::execute;
-use mir::{BasicBlock, BinOp, Interval, LocalId};
+use mir::{BasicBlock, BinOp, LocalId};
 use mir_mem::{Memory, View};
 use mir_ops::{Made, byte_of, bytes1, bytes2, bytes4, bytes8, bytes16, made_of};
 use mir_rows::{Action, Row, Short, Source};
@@ -62,21 +62,6 @@ fn combine<M: Memory>(
     made_of(op, kind, left_bytes, right_bytes)
 }
 
-/// Copies the bytes of a number or of a truth value to a cell.
-#[inline(always)]
-fn assign_word<M: Memory>(memory: &mut M, to: Interval, made: Made) -> Result<(), Fault>
-    ensures { left_with (M.areas memory.new) result ≡ copied (M.areas memory.old) (Some to) (Ok (made_bytes made)) }
-{
-    match made {
-        Made::Word1(word) => write(memory, to, &bytes1(word)),
-        Made::Word2(word) => write(memory, to, &bytes2(word)),
-        Made::Word4(word) => write(memory, to, &bytes4(word)),
-        Made::Word8(word) => write(memory, to, &bytes8(word)),
-        Made::WideWord(word) => write(memory, to, &bytes16(word)),
-        Made::Truth(truth) => write(memory, to, &byte_of(truth)),
-    }
-}
-
 /// Assigns a number or a truth value to a local.
 #[inline(always)]
 #[tactic(auto, unfolding(mir::specs::Run::copied))]
@@ -88,9 +73,16 @@ fn assign_made<M: Memory>(
 ) -> Result<(), Fault>
     ensures { left_with (M.areas memory.new) result ≡ copied (M.areas memory.old) (slice_get frame.entry.cells.now to.0) (Ok (made_bytes made)) }
 {
-    match cell_of(frame.cells, to) {
-        Some(to) => assign_word(memory, to, made),
-        None => Err(Fault::BadWrite),
+    let Some(to) = cell_of(frame.cells, to) else {
+        return Err(Fault::BadWrite);
+    };
+    match made {
+        Made::Word1(word) => write(memory, to, &bytes1(word)),
+        Made::Word2(word) => write(memory, to, &bytes2(word)),
+        Made::Word4(word) => write(memory, to, &bytes4(word)),
+        Made::Word8(word) => write(memory, to, &bytes8(word)),
+        Made::WideWord(word) => write(memory, to, &bytes16(word)),
+        Made::Truth(truth) => write(memory, to, &byte_of(truth)),
     }
 }
 

@@ -1,14 +1,14 @@
 //! A run that has begun, and the phases of an evaluator.
 
 ghost use Rattle.std.specs.Option.{ForSome};
-ghost use Rattle.std.specs.Prelude.{true, ◌≡◌, ◌⊎◌, ◌+◌, ◌^◌, ◌<◌, ◌≤◌, ◌∷◌, ◌++◌, Err, Ok, Some, None, IfOk, IfErr, IsSome, IsTrue, OnOk, slice_get};
+ghost use Rattle.std.specs.Prelude.{true, ◌≡◌, ◌⊎◌, ◌+◌, ◌^◌, ◌<◌, ◌≤◌, ◌∷◌, ◌++◌, Err, Ok, Some, None, IfOk, IfErr, IsSome, OnOk, slice_get};
 ghost use Rattle.mir_eval.specs.Alignments.{HasAlignments};
 ghost use Rattle.mir_eval.specs.Callees.{AreSizes};
 ghost use Rattle.mir.specs.Run.{callee_error, levels_over};
 ghost use Rattle.mir_eval.specs.Frames.{callers, stands_at};
 
 use crate::blocks::{enter, enter_all};
-use crate::callees::{Callee, entered_once, ready};
+use crate::callees::{Callee, callee_of, ready};
 use crate::calls::{Call, Function, call_at, callee, callee_cells, fill};
 use crate::cells::cell_of;
 use crate::faults::{Fault, to_error};
@@ -73,11 +73,11 @@ pub(crate) enum Went {
 impl<'a, M: Memory + Drop> Run<'a, M> {
     ghost use Rattle.mir.specs.declared.errors.MirEvalError as error;
     ghost use Rattle.mir.specs.Run.{after_return, begun, called, called_by, callee_error, body_query, calls, going_on, next_from, entered, entry_of, entering, faults, terminated, trail_of, Stops, GoesTo, Faulted};
-    ghost use Rattle.mir.specs.Answers.{answer_to, answers_kind, IsAfterPut};
+    ghost use Rattle.mir.specs.Answers.{answer_to};
     ghost use Rattle.mir_eval.specs.Calls.{call_is, called_frame, function_is};
     ghost use Rattle.mir_eval.specs.Frames.{program_of};
     ghost use Rattle.std.specs.Option.{option_to_list};
-    ghost use Rattle.mir_eval.specs.Machine.{Entry, Going, RunsTo, StepsTo, call_at, terminator_at, with_answers};
+    ghost use Rattle.mir_eval.specs.Machine.{Entry, Going, RunsTo, StepsTo, call_at, terminator_at};
     ghost use Rattle.mir_eval.specs.Steps.{error_of, halt_of, next_of, HaltsAtCall};
     ghost use Rattle.mir_eval.specs.declared.steps.Exit.TheVariants.{Calls};
     ghost use Rattle.mir_eval.specs.Start.{started};
@@ -149,21 +149,6 @@ impl<'a, M: Memory + Drop> Run<'a, M> {
                 left: run.left,
             },
         }
-    }
-
-    /// Takes the answer to a query, with which the run goes on where it stands.
-    pub(crate) fn take(
-        &mut self,
-        alloc: Global,
-        query: Query,
-        answer: Answer,
-    ) -> Result<(), NoMemory>
-        requires { IsTrue (answers_kind query answer) }
-        ensures told { OnOk result (IsAfterPut self.old.program.answers self.new.program.answers query answer) }
-        ensures goes { OnOk result (position_of M.areas self.new ≡ with_answers self.new.program.answers (position_of M.areas self.old)) }
-        ensures same { self.new.left ≡ self.old.left }
-    {
-        self.program.take(alloc, query, answer)
     }
 
     /// The end of a run in an error, which passed through the open calls, behind one whose callee's body couldn't be got, if there is one.
@@ -390,7 +375,7 @@ impl<'a, M: Memory + Drop> Run<'a, M> {
         };
         let query = Query::Body(DefWithBodyId::FunctionId(function.id), args);
         match self.program.answers.get(&query) {
-            Some(Answer::Body(body)) => match entered_once(alloc, body) {
+            Some(Answer::Body(body)) => match callee_of(alloc, self.program.db, body) {
                 Ok(callee) => self.enter_function(alloc, call, function.id, callee),
                 Err(_) => Went::Over(Err(MirEvalError::NoMemory)),
             },

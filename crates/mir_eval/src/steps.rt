@@ -193,23 +193,6 @@ fn assign_made<M: Memory>(
     }
 }
 
-/// Copies what an operator makes of two operands to a cell. The table of all operators and types is kept out of the loop
-/// over statements.
-#[inline(never)]
-fn assign_by_table<M: Memory>(
-    frame: StackFrame<'_, '_>,
-    memory: &mut M,
-    to: Interval,
-    op: BinOp,
-    left: &OperandKind,
-    right: &OperandKind,
-) -> Result<(), Fault>
-    ensures { left_with (M.areas memory.new) result ≡ copied (M.areas memory.old) (Some to) (operated op (operand_type frame.entry.body.now left.now) (operand_type frame.entry.body.now right.now) (operand_bytes (frame_of frame.entry) (M.areas memory.old) left.now) (operand_bytes (frame_of frame.entry) (M.areas memory.old) right.now)) }
-{
-    let made = operate(frame, memory, op, left, right);
-    assign_made(memory, to, made)
-}
-
 /// Copies what is computed to a cell.
 #[tactic(auto, unfolding(mir::specs::Run::rvalue_bytes))]
 fn assign<M: Memory>(
@@ -223,7 +206,8 @@ fn assign<M: Memory>(
     match rvalue {
         Rvalue::Use(operand) => assign_operand(frame, memory, to, &operand.kind),
         Rvalue::CheckedBinaryOp(op, left, right) => {
-            assign_by_table(frame, memory, to, *op, &left.kind, &right.kind)
+            let made = operate(frame, memory, *op, &left.kind, &right.kind);
+            assign_made(memory, to, made)
         }
         Rvalue::UnaryOp(op, operand) => {
             let made = operate_on(frame, memory, *op, &operand.kind);
@@ -232,7 +216,8 @@ fn assign<M: Memory>(
     }
 }
 
-/// Runs a statement.
+/// Runs a statement. It stays out of the loop over rows, which has code of its own for the frequent statements.
+#[inline(never)]
 #[tactic(auto, unfolding(mir::specs::Run::after_statement, mir::specs::Run::copied))]
 pub(crate) fn execute<M: Memory>(
     frame: StackFrame<'_, '_>,
@@ -279,7 +264,8 @@ fn branch<M: Memory>(
     Ok(Exit::GoesTo(targets.target_for_value(number)))
 }
 
-/// What a terminator does.
+/// What a terminator does. It stays out of the loop over blocks too.
+#[inline(never)]
 #[tactic(auto, unfolding(mir::specs::Run::terminated))]
 pub(crate) fn terminate<M: Memory>(
     frame: StackFrame<'_, '_>,
