@@ -36,6 +36,11 @@ OPTIONS = ["--edition", "2024", "--crate-type", "lib", "--crate-name", "loops", 
 
 # The name of each source, what it is about, and its text, in which TURNS is how many turns there are.
 SOURCES = {
+    "five": (
+        "five assignments and a condition",
+        "u64 = { let mut i = 0u64; let mut s = 0u64; while i < TURNS "
+        "{ s = s + i; s = s % 1_000_003; s = s ^ i; s = s & 0xffff_ffff; i = i + 1; } s };",
+    ),
     "sum": (
         "three operators and a condition",
         "u64 = { let mut i = 0u64; let mut s = 0u64; while i < TURNS { s = (s ^ i) & 0xffff_ffff; i = i + 1; } s };",
