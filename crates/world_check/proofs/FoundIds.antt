@@ -6,6 +6,7 @@ use Rattle.world.specs.declared.database.BodyRow.{BodyRow}
 use Rattle.world.specs.declared.database.HirDatabase.{HirDatabase}
 use Rattle.check_names.specs.Known.{is_nameable}
 use Rattle.check_ids.specs.Nodes.{is_binding_in_range, is_expr_in_range, is_pat_in_range}
+use Rattle.check_ids.specs.Parts.{unless, wrong_in_list}
 use Rattle.check_ids.specs.declared.part.BodyPart.{BodyPart}
 use Rattle.check_ids.specs.declared.part.BodyPart.TheVariants as part
 use Rattle.check_items.specs.Names.{is_closure_named, is_const_impl_named, is_const_named, is_const_param_named, is_enum_named, is_function_known, is_function_named, is_impl_named, is_layout_named, is_normal_named, is_static_named, is_struct_named, is_variant_named}
@@ -24,8 +25,8 @@ use Rattle.world_check.specs.declared.place.Place.TheVariants.{Table, Row, Nodes
 use Rattle.world_check.specs.declared.place.TableName.{TableName}
 use Rattle.world_check.specs.declared.place.TableName.TheVariants.{Crates, Functions, Consts, Statics, Structs, Unions, Enums, Variants, Traits, Aliases, TypeParams, ConstParams, Closures, Bodies, Layouts, Normals, Impls, ConstImpls}
 use Rattle.world_check.proofs.NewKeys.{new_alias, new_const, new_function, new_type}
-use Rattle.world_check.proofs.Searches.{headed, joined, numbered_silent, numbered_wrong, rows_first}
-use Rattle.world_check.proofs.Segments.{all_places, body_asked, each_body, four, one_body, there_asked}
+use Rattle.world_check.proofs.Searches.{headed, numbered_silent, numbered_wrong, rows_first}
+use Rattle.world_check.proofs.Segments.{adts, all_places, body_asked, code, each_body, items, keyed, names, one_body, there_asked}
 
 -- a table whose length and whose rows are asked
 table_asked : {X : Type 0} (p : Place → Bool) (table : TableName) (test : X → Bool) (rows : List X) → p (Table table) ≡ not (is_nameable (length rows)) → ((i : ℕ) (row : X) → slice_get rows i ≡ Some row → p (Row table i) ≡ not (test row)) → find p (of_table table rows) ≡ wrong_table table test rows
@@ -101,7 +102,18 @@ ids_in_body world b row there =
     (nodes_asked (λ place. not (meets C1 world place)) b Bindings (is_binding_in_range row.body) row.body.bindings (body_asked world b row (is_list_nameable Bindings) there)
     (λ i found at. body_asked world b row (is_node_known Bindings i) there ∙ there_asked (is_binding_in_range row.body) _ found at))
     rest
-    ∙ parts_placed b _ _ _ _ _ _ _ _ _ _ (exprs_part b _ _) (pats_part b _ _) (bindings_part b _ _) (labels_part b _) (rest_part b _)
+    ∙ parts_placed b
+    (wrong_in_list part.Exprs part.Expr (is_expr_in_range row.body) row.body.exprs)
+    (wrong_in_list part.Pats part.Pat (is_pat_in_range row.body) row.body.pats)
+    (wrong_in_list part.Bindings part.Binding (is_binding_in_range row.body) row.body.bindings)
+    (unless (is_nameable (length row.body.labels)) part.Labels)
+    (unless (is_body_known world row) part.Rest)
+    _ _ _ _ _
+    (exprs_part b (is_nameable (length row.body.exprs)) _)
+    (pats_part b (is_nameable (length row.body.pats)) _)
+    (bindings_part b (is_nameable (length row.body.bindings)) _)
+    (labels_part b (is_nameable (length row.body.labels)))
+    (rest_part b (is_body_known world row))
   where
     rest : find (λ place. not (meets C1 world place)) (Nodes b Labels ∷ Row Bodies b ∷ []) ≡ option_or (cond (is_nameable (length row.body.labels)) None (Some (Nodes b Labels))) (cond (is_body_known world row) None (Some (Row Bodies b)))
     rest =
@@ -125,7 +137,7 @@ functions_placed true true true true true true = refl
 items_found : (world : HirDatabase) → find (λ place. not (meets C1 world place)) (of_items world) ≡ wrong_item world
 items_found world =
     let p = λ (place : Place). not (meets C1 world place) in
-    four p _ _ _ _ _ _ _ _
+    items p world _ _ _ _
     (length_asked p Crates world.crates refl (λ i. refl))
     (table_asked p Functions (is_function_named world) world.functions refl (λ i row at. there_asked (is_function_named world) _ row at))
     (table_asked p Consts (is_const_named world) world.consts refl (λ i row at. there_asked (is_const_named world) _ row at))
@@ -134,7 +146,7 @@ items_found world =
 adts_found : (world : HirDatabase) → find (λ place. not (meets C1 world place)) (of_adts world) ≡ wrong_adt world
 adts_found world =
     let p = λ (place : Place). not (meets C1 world place) in
-    four p _ _ _ _ _ _ _ _
+    adts p world _ _ _ _
     (table_asked p Structs (is_struct_named world) world.structs refl (λ i row at. there_asked (is_struct_named world) _ row at))
     (table_asked p Unions (is_struct_named world) world.unions refl (λ i row at. there_asked (is_struct_named world) _ row at))
     (table_asked p Enums (is_enum_named world) world.enums refl (λ i row at. there_asked (is_enum_named world) _ row at))
@@ -143,7 +155,7 @@ adts_found world =
 names_found : (world : HirDatabase) → find (λ place. not (meets C1 world place)) (of_names world) ≡ wrong_trait_or_param world
 names_found world =
     let p = λ (place : Place). not (meets C1 world place) in
-    four p _ _ _ _ _ _ _ _
+    names p world _ _ _ _
     (length_asked p Traits world.traits refl (λ i. refl))
     (length_asked p Aliases world.aliases refl (λ i. refl))
     (length_asked p TypeParams world.type_params refl (λ i. refl))
@@ -152,7 +164,7 @@ names_found world =
 code_found : (world : HirDatabase) → find (λ place. not (meets C1 world place)) (of_code world) ≡ wrong_body world
 code_found world =
     let p = λ (place : Place). not (meets C1 world place) in
-    joined p (of_table Closures world.closures) (Table Bodies ∷ of_bodies 0 world.bodies) _ _
+    code p world _ _
     (table_asked p Closures (is_closure_named world) world.closures refl (λ i row at. there_asked (is_closure_named world) _ row at))
     (headed p (Table Bodies) (of_bodies 0 world.bodies) (is_nameable (length world.bodies)) _ refl (each_body p (wrong_part_in world) world.bodies (ids_in_body world)))
 
@@ -163,7 +175,7 @@ keyed_asked asked named number new e f = e ∙ ap (λ b. not (named && b)) (sym 
 keyed_found : (world : HirDatabase) → find (λ place. not (meets C1 world place)) (of_keyed_rows world) ≡ wrong_keyed_row world
 keyed_found world =
     let p = λ (place : Place). not (meets C1 world place) in
-    four p _ _ _ _ _ _ _ _
+    keyed p world _ _ _ _
     (rows_first p Layouts (walk.is_layout_known world) world.layouts refl
     (λ i row at. keyed_asked (meets C1 world (Row Layouts i)) (is_layout_named world row) _ _ (there_asked (λ r. is_layout_named world r && asked.has_new_type world i r) _ row at) (new_type world i row at)))
     (rows_first p Normals (walk.is_normal_known world) world.normals refl

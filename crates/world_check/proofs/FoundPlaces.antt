@@ -7,7 +7,7 @@ use Rattle.world.specs.declared.database.BodyRow.{BodyRow}
 use Rattle.world.specs.declared.database.HirDatabase.{HirDatabase}
 use Rattle.world.specs.declared.expr.Expr.{Expr}
 use Rattle.world.specs.declared.pat.Pat.{Pat}
-use Rattle.check_items.specs.Agree.{has_all_params, is_closure_row, is_in_place}
+use Rattle.check_items.specs.Agree.{has_all_params, is_closure_row, is_in_place, wrong_variant}
 use Rattle.check_items.specs.Closed.{is_const_impl_closed, is_impl_closed, is_normal_closed}
 use Rattle.check_layouts.specs.Layouts.{is_layout_right}
 use Rattle.check_layouts.specs.Tags.{is_tag_right}
@@ -17,15 +17,15 @@ use Rattle.check_trees.specs.Tree.{is_expr_in_order, is_pat_in_order}
 use Rattle.check_trees.specs.declared.node.BodyNode.TheVariants as node
 use Rattle.world_check.specs.Meets.{if_at, if_there, meets}
 use Rattle.world_check.specs.Rows.{failing_place}
-use Rattle.world_check.specs.Walks.{node_place, wrong_agreement, wrong_ellipsis_in, wrong_jump_in, wrong_label, wrong_layout, wrong_node_in, wrong_resolution, wrong_tag, wrong_tree}
-use Rattle.world_check.specs.WorldPlaces.{of_bodies, of_body, of_code, of_table}
+use Rattle.world_check.specs.Walks.{first_found, node_place, wrong_agreement, wrong_ellipsis_in, wrong_jump_in, wrong_label, wrong_layout, wrong_node_in, wrong_resolution, wrong_row, wrong_tag, wrong_tree}
+use Rattle.world_check.specs.WorldPlaces.{of_body}
 use Rattle.world_check.specs.declared.fault.CheckRow.TheVariants.{C2, C3, C4, C5, C6, C7}
 use Rattle.world_check.specs.declared.place.NodeKind.TheVariants.{Exprs, Pats, Bindings}
 use Rattle.world_check.specs.declared.place.Place.{Place}
-use Rattle.world_check.specs.declared.place.Place.TheVariants.{Node, Table}
+use Rattle.world_check.specs.declared.place.Place.TheVariants.{Node, Row}
 use Rattle.world_check.specs.declared.place.TableName.TheVariants.{Crates, Functions, Consts, Statics, Structs, Unions, Enums, Variants, Closures, Bodies, Layouts, Normals, Impls, ConstImpls}
-use Rattle.world_check.proofs.Searches.{joined, nodes_first, nodes_silent, nodes_wrong, or_both, or_none, rows_first, rows_wrong, table_silent}
-use Rattle.world_check.proofs.Segments.{adts_silent, all_places, bodies_silent, body_asked, each_body, four, items_silent, keyed_silent, names_silent, one_body, there_asked}
+use Rattle.world_check.proofs.Searches.{nodes_first, nodes_silent, nodes_wrong, or_both, or_none, rows_first, rows_wrong, table_silent}
+use Rattle.world_check.proofs.Segments.{adts, adts_silent, all_places, bodies_silent, body_asked, code, each_body, items, items_silent, keyed, keyed_silent, names_silent, one_body, there_asked}
 
 in_nodes : (b : ℕ) (e p : Option ℕ) → option_or (option_map (Node b Exprs) e) (option_or (option_map (Node b Pats) p) None) ≡ option_map (node_place b) (option_or (option_map node.Expr e) (option_map node.Pat p))
 in_nodes b None None = refl
@@ -58,7 +58,7 @@ tree_found world =
     (items_silent p world (λ table. refl) (λ i. refl) (λ i. refl) (λ i. refl) (λ i. refl))
     (adts_silent p world (λ table. refl) (λ i. refl) (λ i. refl) (λ i. refl) (λ i. refl))
     (names_silent p world (λ table. refl) (λ i. refl) (λ i. refl) (λ i. refl) (λ i. refl))
-    (joined p _ _ None (wrong_tree world) (table_silent p Closures world.closures refl (λ i. refl)) (each_body p wrong_node_in world.bodies (tree_in_body world)))
+    (code p world None (wrong_tree world) (table_silent p Closures world.closures refl (λ i. refl)) (each_body p wrong_node_in world.bodies (tree_in_body world)))
     (keyed_silent p world (λ table. refl) (λ i. refl) (λ i. refl) (λ i. refl) (λ i. refl))
     refl
     ∙ or_none (wrong_tree world)
@@ -85,14 +85,10 @@ jump_found world =
     (items_silent p world (λ table. refl) (λ i. refl) (λ i. refl) (λ i. refl) (λ i. refl))
     (adts_silent p world (λ table. refl) (λ i. refl) (λ i. refl) (λ i. refl) (λ i. refl))
     (names_silent p world (λ table. refl) (λ i. refl) (λ i. refl) (λ i. refl) (λ i. refl))
-    (joined p _ _ None (wrong_label world) (table_silent p Closures world.closures refl (λ i. refl)) (each_body p wrong_jump_in world.bodies (jump_in_body world)))
+    (code p world None (wrong_label world) (table_silent p Closures world.closures refl (λ i. refl)) (each_body p wrong_jump_in world.bodies (jump_in_body world)))
     (keyed_silent p world (λ table. refl) (λ i. refl) (λ i. refl) (λ i. refl) (λ i. refl))
     refl
     ∙ or_none (wrong_label world)
-
--- nothing is asked of closures and bodies
-code_silent : (p : Place → Bool) (world : HirDatabase) → find p (of_table Closures world.closures) ≡ None → find p (Table Bodies ∷ of_bodies 0 world.bodies) ≡ None → find p (of_code world) ≡ None
-code_silent p world e f = joined p _ _ None None e f
 
 pub resolution_found : (world : HirDatabase) → failing_place C4 world ≡ wrong_resolution world
 unfolding failing_place
@@ -102,8 +98,8 @@ resolution_found world =
     (items_silent p world (λ table. refl) (λ i. refl) (λ i. refl) (λ i. refl) (λ i. refl))
     (adts_silent p world (λ table. refl) (λ i. refl) (λ i. refl) (λ i. refl) (λ i. refl))
     (names_silent p world (λ table. refl) (λ i. refl) (λ i. refl) (λ i. refl) (λ i. refl))
-    (code_silent p world (table_silent p Closures world.closures refl (λ i. refl)) (bodies_silent p 0 world.bodies (λ b kind. refl) (λ b kind i. refl) (λ b. refl)))
-    (four p _ _ _ _ None _ _ _
+    (code p world None None (table_silent p Closures world.closures refl (λ i. refl)) (bodies_silent p 0 world.bodies (λ b kind. refl) (λ b kind i. refl) (λ b. refl)))
+    (keyed p world None _ _ _
     (table_silent p Layouts world.layouts refl (λ i. refl))
     (rows_wrong p Normals is_normal_closed world.normals refl (λ i row at. there_asked is_normal_closed _ row at))
     (rows_wrong p Impls is_impl_closed world.impls refl (λ i row at. there_asked is_impl_closed _ row at))
@@ -119,8 +115,8 @@ layout_found world =
     (items_silent p world (λ table. refl) (λ i. refl) (λ i. refl) (λ i. refl) (λ i. refl))
     (adts_silent p world (λ table. refl) (λ i. refl) (λ i. refl) (λ i. refl) (λ i. refl))
     (names_silent p world (λ table. refl) (λ i. refl) (λ i. refl) (λ i. refl) (λ i. refl))
-    (code_silent p world (table_silent p Closures world.closures refl (λ i. refl)) (bodies_silent p 0 world.bodies (λ b kind. refl) (λ b kind i. refl) (λ b. refl)))
-    (four p _ _ _ _ _ None None None
+    (code p world None None (table_silent p Closures world.closures refl (λ i. refl)) (bodies_silent p 0 world.bodies (λ b kind. refl) (λ b kind i. refl) (λ b. refl)))
+    (keyed p world _ None None None
     (rows_first p Layouts (is_layout_right world) world.layouts refl (λ i row at. there_asked (is_layout_right world i) _ row at))
     (table_silent p Normals world.normals refl (λ i. refl))
     (table_silent p Impls world.impls refl (λ i. refl))
@@ -137,8 +133,8 @@ tag_found world =
     (items_silent p world (λ table. refl) (λ i. refl) (λ i. refl) (λ i. refl) (λ i. refl))
     (adts_silent p world (λ table. refl) (λ i. refl) (λ i. refl) (λ i. refl) (λ i. refl))
     (names_silent p world (λ table. refl) (λ i. refl) (λ i. refl) (λ i. refl) (λ i. refl))
-    (code_silent p world (table_silent p Closures world.closures refl (λ i. refl)) (bodies_silent p 0 world.bodies (λ b kind. refl) (λ b kind i. refl) (λ b. refl)))
-    (four p _ _ _ _ _ None None None
+    (code p world None None (table_silent p Closures world.closures refl (λ i. refl)) (bodies_silent p 0 world.bodies (λ b kind. refl) (λ b kind i. refl) (λ b. refl)))
+    (keyed p world _ None None None
     (rows_wrong p Layouts (is_tag_right world) world.layouts refl (λ i row at. there_asked (is_tag_right world) _ row at))
     (table_silent p Normals world.normals refl (λ i. refl))
     (table_silent p Impls world.impls refl (λ i. refl))
@@ -169,20 +165,20 @@ unfolding failing_place
 agreement_found world =
     let p = λ (place : Place). not (meets C7 world place) in
     all_places p world _ _ None _ None None
-    (four p _ _ _ _ None _ None None
+    (items p world None _ None None
     (table_silent p Crates world.crates refl (λ i. refl))
     (rows_wrong p Functions (has_all_params world) world.functions refl (λ i row at. there_asked (has_all_params world) _ row at))
     (table_silent p Consts world.consts refl (λ i. refl))
     (table_silent p Statics world.statics refl (λ i. refl)))
-    (four p _ _ _ _ None None None _
+    (adts p world None None None _
     (table_silent p Structs world.structs refl (λ i. refl))
     (table_silent p Unions world.unions refl (λ i. refl))
     (table_silent p Enums world.enums refl (λ i. refl))
     (rows_first p Variants (is_in_place world) world.variants refl (λ i row at. there_asked (is_in_place world i) _ row at)))
     (names_silent p world (λ table. refl) (λ i. refl) (λ i. refl) (λ i. refl) (λ i. refl))
-    (joined p _ _ _ _
+    (code p world _ _
     (rows_wrong p Closures (is_closure_row world) world.closures refl (λ i row at. there_asked (is_closure_row world) _ row at))
     (each_body p wrong_ellipsis_in world.bodies (ellipsis_in_body world)))
     (keyed_silent p world (λ table. refl) (λ i. refl) (λ i. refl) (λ i. refl) (λ i. refl))
     refl
-    ∙ joined_rows _ _ _ _
+    ∙ joined_rows (wrong_row Functions (has_all_params world) world.functions) (option_map (Row Variants) (wrong_variant world)) (wrong_row Closures (is_closure_row world) world.closures) (first_found wrong_ellipsis_in 0 world.bodies)

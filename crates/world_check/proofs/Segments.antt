@@ -17,9 +17,9 @@ use Rattle.world_check.specs.declared.place.TableName.TheVariants.{Crates, Funct
 use Rattle.world_check.proofs.Searches.{joined, nodes_silent, table_silent}
 
 -- four lists
-pub four : (p : Place → Bool) (as bs cs ds : List Place) (a b c d : Option Place) → find p as ≡ a → find p bs ≡ b → find p cs ≡ c → find p ds ≡ d → find p (as ++ (bs ++ (cs ++ ds))) ≡ option_or a (option_or b (option_or c d))
-four p as bs cs ds a b c d e f g h =
-    joined p as (bs ++ (cs ++ ds)) a _ e (joined p bs (cs ++ ds) b _ f (joined p cs ds c d g h))
+pub four : (p : Place → Bool) (ws xs ys zs : List Place) (a b c d : Option Place) → find p ws ≡ a → find p xs ≡ b → find p ys ≡ c → find p zs ≡ d → find p (ws ++ (xs ++ (ys ++ zs))) ≡ option_or a (option_or b (option_or c d))
+four p ws xs ys zs a b c d e f g h =
+    joined p ws (xs ++ (ys ++ zs)) a _ e (joined p xs (ys ++ zs) b _ f (joined p ys zs c d g h))
 
 -- all places
 pub all_places : (p : Place → Bool) (world : HirDatabase) (items adts names code keyed functions : Option Place) → find p (of_items world) ≡ items → find p (of_adts world) ≡ adts → find p (of_names world) ≡ names → find p (of_code world) ≡ code
@@ -31,11 +31,28 @@ all_places p world items adts names code keyed functions e f g h i j =
     (joined p (of_code world) _ code _ h
     (joined p (of_keyed_rows world) named_functions keyed functions i j))))
 
+-- groups of tables
+
+pub items : (p : Place → Bool) (world : HirDatabase) (a b c d : Option Place) → find p (of_table Crates world.crates) ≡ a → find p (of_table Functions world.functions) ≡ b → find p (of_table Consts world.consts) ≡ c → find p (of_table Statics world.statics) ≡ d → find p (of_items world) ≡ option_or a (option_or b (option_or c d))
+items p world a b c d e f g h = four p (of_table Crates world.crates) (of_table Functions world.functions) (of_table Consts world.consts) (of_table Statics world.statics) a b c d e f g h
+
+pub adts : (p : Place → Bool) (world : HirDatabase) (a b c d : Option Place) → find p (of_table Structs world.structs) ≡ a → find p (of_table Unions world.unions) ≡ b → find p (of_table Enums world.enums) ≡ c → find p (of_table Variants world.variants) ≡ d → find p (of_adts world) ≡ option_or a (option_or b (option_or c d))
+adts p world a b c d e f g h = four p (of_table Structs world.structs) (of_table Unions world.unions) (of_table Enums world.enums) (of_table Variants world.variants) a b c d e f g h
+
+pub names : (p : Place → Bool) (world : HirDatabase) (a b c d : Option Place) → find p (of_table Traits world.traits) ≡ a → find p (of_table Aliases world.aliases) ≡ b → find p (of_table TypeParams world.type_params) ≡ c → find p (of_table ConstParams world.const_params) ≡ d → find p (of_names world) ≡ option_or a (option_or b (option_or c d))
+names p world a b c d e f g h = four p (of_table Traits world.traits) (of_table Aliases world.aliases) (of_table TypeParams world.type_params) (of_table ConstParams world.const_params) a b c d e f g h
+
+pub keyed : (p : Place → Bool) (world : HirDatabase) (a b c d : Option Place) → find p (of_table Layouts world.layouts) ≡ a → find p (of_table Normals world.normals) ≡ b → find p (of_table Impls world.impls) ≡ c → find p (of_table ConstImpls world.const_impls) ≡ d → find p (of_keyed_rows world) ≡ option_or a (option_or b (option_or c d))
+keyed p world a b c d e f g h = four p (of_table Layouts world.layouts) (of_table Normals world.normals) (of_table Impls world.impls) (of_table ConstImpls world.const_impls) a b c d e f g h
+
+pub code : (p : Place → Bool) (world : HirDatabase) (a b : Option Place) → find p (of_table Closures world.closures) ≡ a → find p (Table Bodies ∷ of_bodies 0 world.bodies) ≡ b → find p (of_code world) ≡ option_or a b
+code p world a b e f = joined p (of_table Closures world.closures) (Table Bodies ∷ of_bodies 0 world.bodies) a b e f
+
 -- no row of a group of tables is asked anything
 
 pub items_silent : (p : Place → Bool) (world : HirDatabase) → ((table : TableName) → p (Table table) ≡ false) → ((i : ℕ) → p (Row Crates i) ≡ false) → ((i : ℕ) → p (Row Functions i) ≡ false) → ((i : ℕ) → p (Row Consts i) ≡ false) → ((i : ℕ) → p (Row Statics i) ≡ false) → find p (of_items world) ≡ None
 items_silent p world table a b c d =
-    four p _ _ _ _ None None None None
+    items p world None None None None
     (table_silent p Crates world.crates (table Crates) a)
     (table_silent p Functions world.functions (table Functions) b)
     (table_silent p Consts world.consts (table Consts) c)
@@ -43,7 +60,7 @@ items_silent p world table a b c d =
 
 pub adts_silent : (p : Place → Bool) (world : HirDatabase) → ((table : TableName) → p (Table table) ≡ false) → ((i : ℕ) → p (Row Structs i) ≡ false) → ((i : ℕ) → p (Row Unions i) ≡ false) → ((i : ℕ) → p (Row Enums i) ≡ false) → ((i : ℕ) → p (Row Variants i) ≡ false) → find p (of_adts world) ≡ None
 adts_silent p world table a b c d =
-    four p _ _ _ _ None None None None
+    adts p world None None None None
     (table_silent p Structs world.structs (table Structs) a)
     (table_silent p Unions world.unions (table Unions) b)
     (table_silent p Enums world.enums (table Enums) c)
@@ -51,7 +68,7 @@ adts_silent p world table a b c d =
 
 pub names_silent : (p : Place → Bool) (world : HirDatabase) → ((table : TableName) → p (Table table) ≡ false) → ((i : ℕ) → p (Row Traits i) ≡ false) → ((i : ℕ) → p (Row Aliases i) ≡ false) → ((i : ℕ) → p (Row TypeParams i) ≡ false) → ((i : ℕ) → p (Row ConstParams i) ≡ false) → find p (of_names world) ≡ None
 names_silent p world table a b c d =
-    four p _ _ _ _ None None None None
+    names p world None None None None
     (table_silent p Traits world.traits (table Traits) a)
     (table_silent p Aliases world.aliases (table Aliases) b)
     (table_silent p TypeParams world.type_params (table TypeParams) c)
@@ -59,7 +76,7 @@ names_silent p world table a b c d =
 
 pub keyed_silent : (p : Place → Bool) (world : HirDatabase) → ((table : TableName) → p (Table table) ≡ false) → ((i : ℕ) → p (Row Layouts i) ≡ false) → ((i : ℕ) → p (Row Normals i) ≡ false) → ((i : ℕ) → p (Row Impls i) ≡ false) → ((i : ℕ) → p (Row ConstImpls i) ≡ false) → find p (of_keyed_rows world) ≡ None
 keyed_silent p world table a b c d =
-    four p _ _ _ _ None None None None
+    keyed p world None None None None
     (table_silent p Layouts world.layouts (table Layouts) a)
     (table_silent p Normals world.normals (table Normals) b)
     (table_silent p Impls world.impls (table Impls) c)
