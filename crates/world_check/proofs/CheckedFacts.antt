@@ -33,6 +33,7 @@ use Rattle.world_check.specs.declared.place.Place.{Place}
 use Rattle.world_check.specs.declared.place.Place.TheVariants.{Row, Table}
 use Rattle.world_check.specs.declared.place.TableName.{TableName}
 use Rattle.world_check.specs.declared.place.TableName.TheVariants.{Bodies, Consts, Layouts}
+use Rattle.world_check.proofs.AllMet.{all_met}
 use Rattle.world_check.proofs.FoundIds.{id_found}
 use Rattle.world_check.proofs.FoundPlaces.{layout_found, tree_found}
 use Rattle.world_check.proofs.Passing.{all_at, all_pass, both, found_none_at, neither, not_mapped, passes_at, within_table}
@@ -175,7 +176,8 @@ Holds-from_passes world e =
     let fifth = row_passes C5 (failing_place C5 world) (first_failure_among (C6 ∷ C7 ∷ []) world) fourth.1 in
     let sixth = row_passes C6 (failing_place C6 world) (first_failure_among (C7 ∷ []) world) fifth.1 in
     let seventh = row_passes C7 (failing_place C7 world) None sixth.1 in
-    record { at = by_row world first.0 second.0 third.0 fourth.0 fifth.0 sixth.0 seventh.0 }
+    let at = by_row world first.0 second.0 third.0 fourth.0 fifth.0 sixth.0 seventh.0 in
+    record { met = λ row. all_met row world (at row); at = at }
 
 -- each row of a table without a wrong row passes the test
 named_rows : {X : Type 0} (table : TableName) (test : X → Bool) (rows : List X) → wrong_table table test rows ≡ None → (i : ℕ) (row : X) → slice_get rows i ≡ Some row → test row ≡ true

@@ -11,7 +11,7 @@ use Rattle.check_ids.specs.declared.part.BodyPart.{BodyPart}
 use Rattle.check_ids.specs.declared.part.BodyPart.TheVariants as part
 use Rattle.check_items.specs.Names.{is_closure_named, is_const_impl_named, is_const_named, is_const_param_named, is_enum_named, is_function_known, is_function_named, is_impl_named, is_layout_named, is_normal_named, is_static_named, is_struct_named, is_variant_named}
 use Rattle.world_check.specs.Meets as asked
-use Rattle.world_check.specs.Meets.{is_body_known, is_list_nameable, is_node_known, meets}
+use Rattle.world_check.specs.Meets.{is_typed_body_known, is_list_nameable, is_node_known, meets}
 use Rattle.world_check.specs.Rows.{failing_place}
 use Rattle.world_check.specs.Walks as walk
 use Rattle.world_check.specs.Walks.{part_place, wrong_adt, wrong_body, wrong_id, wrong_item, wrong_keyed_row, wrong_part_in, wrong_table, wrong_trait_or_param}
@@ -107,19 +107,19 @@ ids_in_body world b row there =
     (wrong_in_list part.Pats part.Pat (is_pat_in_range row.body) row.body.pats)
     (wrong_in_list part.Bindings part.Binding (is_binding_in_range row.body) row.body.bindings)
     (unless (is_nameable (length row.body.labels)) part.Labels)
-    (unless (is_body_known world row) part.Rest)
+    (unless (is_typed_body_known world row) part.Rest)
     _ _ _ _ _
     (exprs_part b (is_nameable (length row.body.exprs)) _)
     (pats_part b (is_nameable (length row.body.pats)) _)
     (bindings_part b (is_nameable (length row.body.bindings)) _)
     (labels_part b (is_nameable (length row.body.labels)))
-    (rest_part b (is_body_known world row))
+    (rest_part b (is_typed_body_known world row))
   where
-    rest : find (λ place. not (meets C1 world place)) (Nodes b Labels ∷ Row Bodies b ∷ []) ≡ option_or (cond (is_nameable (length row.body.labels)) None (Some (Nodes b Labels))) (cond (is_body_known world row) None (Some (Row Bodies b)))
+    rest : find (λ place. not (meets C1 world place)) (Nodes b Labels ∷ Row Bodies b ∷ []) ≡ option_or (cond (is_nameable (length row.body.labels)) None (Some (Nodes b Labels))) (cond (is_typed_body_known world row) None (Some (Row Bodies b)))
     rest =
         ap (λ c. cond c (Some (Nodes b Labels)) (cond (not (meets C1 world (Row Bodies b))) (Some (Row Bodies b)) None)) (body_asked world b row (is_list_nameable Labels) there)
-        ∙ ap (λ c. cond (not (is_nameable (length row.body.labels))) (Some (Nodes b Labels)) (cond c (Some (Row Bodies b)) None)) (there_asked (is_body_known world) _ row there)
-        ∙ rest_asked (is_nameable (length row.body.labels)) (is_body_known world row) b
+        ∙ ap (λ c. cond (not (is_nameable (length row.body.labels))) (Some (Nodes b Labels)) (cond c (Some (Row Bodies b)) None)) (there_asked (is_typed_body_known world) _ row there)
+        ∙ rest_asked (is_nameable (length row.body.labels)) (is_typed_body_known world row) b
 
 -- the functions that the world names
 functions_placed : (a b c d e f : Bool) → cond (not a) (Some (Function Drop)) (cond (not b) (Some (Function Deref)) (cond (not c) (Some (Function DerefMut)) (cond (not d) (Some (Function Call)) (cond (not e) (Some (Function CallMut)) (cond (not f) (Some (Function CallOnce)) None)))))

@@ -4,6 +4,7 @@ pub mod NewKeys
 pub mod FoundIds
 pub mod FoundPlaces
 pub mod Passing
+pub mod AllMet
 pub mod Sorts
 pub mod Walks
 pub mod CheckedFacts

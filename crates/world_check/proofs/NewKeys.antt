@@ -89,12 +89,12 @@ both_true a b e f = ap (λ c. c && b) e ∙ f
 args_itself : (args : GenericArgs) → args_eq args args ≡ true
 args_itself args = (args_decides args args).1 refl
 
-pub new_type : (world : HirDatabase) (i : ℕ) (row : Ty × Layout) → slice_get world.layouts i ≡ Some row → walk.has_new_type world i row ≡ asked.has_new_type world i row
+pub new_type : (world : HirDatabase) (i : ℕ) (row : Ty × Layout) → slice_get world.layouts i ≡ Some row → walk.is_first_of_type world i row ≡ asked.has_new_type world i row
 new_type world i row at =
     first_is_new (λ (other : Ty × Layout). is_at (ty_cmp row.0) other.0) (λ (other : Ty × Layout). ty_eq row.0 other.0) i world.layouts row at
     (λ other. same_types row.0 other.0) ((type_decides row.0 row.0).1 refl)
 
-pub new_alias : (world : HirDatabase) (i : ℕ) (row : AliasId × GenericArgs × Ty) → slice_get world.normals i ≡ Some row → walk.has_new_alias world i row ≡ asked.has_new_alias world i row
+pub new_alias : (world : HirDatabase) (i : ℕ) (row : AliasId × GenericArgs × Ty) → slice_get world.normals i ≡ Some row → walk.is_first_of_alias world i row ≡ asked.has_new_alias world i row
 new_alias world i row at =
     first_is_new
     (λ (other : AliasId × GenericArgs × Ty). is_at (λ (key : AliasId × GenericArgs). ordering_then (AliasIdOrd.ghosts.cmp row.0 key.0) (args_cmp row.1 key.1)) (other.0, other.1))
@@ -103,7 +103,7 @@ new_alias world i row at =
     (λ other. sym (tied_then (AliasIdOrd.ghosts.cmp row.0 other.0) (args_cmp row.1 other.1)) ∙ both_same _ _ _ _ (same_aliases row.0 other.0) (same_args row.1 other.1))
     (both_true _ _ (itself row.0.0) (args_itself row.1))
 
-pub new_function : (world : HirDatabase) (i : ℕ) (row : ImplRow) → slice_get world.impls i ≡ Some row → walk.has_new_function world i row ≡ asked.has_new_function world i row
+pub new_function : (world : HirDatabase) (i : ℕ) (row : ImplRow) → slice_get world.impls i ≡ Some row → walk.is_first_of_function world i row ≡ asked.has_new_function world i row
 new_function world i row at =
     first_is_new
     (λ (other : ImplRow). is_at (λ (key : FunctionId × GenericArgs). ordering_then (FunctionIdOrd.ghosts.cmp row.function key.0) (args_cmp row.args key.1)) (other.function, other.args))
@@ -112,7 +112,7 @@ new_function world i row at =
     (λ other. sym (tied_then (FunctionIdOrd.ghosts.cmp row.function other.function) (args_cmp row.args other.args)) ∙ both_same _ _ _ _ (same_functions row.function other.function) (same_args row.args other.args))
     (both_true _ _ (itself row.function.0) (args_itself row.args))
 
-pub new_const : (world : HirDatabase) (i : ℕ) (row : ConstImplRow) → slice_get world.const_impls i ≡ Some row → walk.has_new_const world i row ≡ asked.has_new_const world i row
+pub new_const : (world : HirDatabase) (i : ℕ) (row : ConstImplRow) → slice_get world.const_impls i ≡ Some row → walk.is_first_of_const world i row ≡ asked.has_new_const world i row
 new_const world i row at =
     first_is_new
     (λ (other : ConstImplRow). is_at (λ (key : ConstId × GenericArgs). ordering_then (ConstIdOrd.ghosts.cmp row.konst key.0) (args_cmp row.args key.1)) (other.konst, other.args))

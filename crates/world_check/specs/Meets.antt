@@ -84,8 +84,8 @@ has_new_function world i row = none_before (λ (other : ImplRow). row.function.0
 abbrev pub has_new_const : HirDatabase → ℕ → ConstImplRow → Bool
 has_new_const world i row = none_before (λ (other : ConstImplRow). row.konst.0 == other.konst.0 && args_eq row.args other.args) world.const_impls i
 
-abbrev pub is_body_known : HirDatabase → BodyRow → Bool
-is_body_known world row = are_roots_known row.body && is_inferred_right world row.body row.infer
+abbrev pub is_typed_body_known : HirDatabase → BodyRow → Bool
+is_typed_body_known world row = are_roots_known row.body && is_inferred_right world row.body row.infer
 
 abbrev pub is_row_known : HirDatabase → TableName → ℕ → Bool
 is_row_known world Functions i = if_there (is_function_named world) (slice_get world.functions i)
@@ -97,7 +97,7 @@ is_row_known world Enums i = if_there (is_enum_named world) (slice_get world.enu
 is_row_known world Variants i = if_there (is_variant_named world) (slice_get world.variants i)
 is_row_known world ConstParams i = if_there (is_const_param_named world) (slice_get world.const_params i)
 is_row_known world Closures i = if_there (is_closure_named world) (slice_get world.closures i)
-is_row_known world Bodies b = if_there (is_body_known world) (slice_get world.bodies b)
+is_row_known world Bodies b = if_there (is_typed_body_known world) (slice_get world.bodies b)
 is_row_known world Layouts i = if_at (λ j row. is_layout_named world row && has_new_type world j row) world.layouts i
 is_row_known world Normals i = if_at (λ j row. is_normal_named world row && has_new_alias world j row) world.normals i
 is_row_known world Impls i = if_at (λ j row. is_impl_named world row && has_new_function world j row) world.impls i

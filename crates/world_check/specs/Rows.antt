@@ -1,5 +1,5 @@
 -- The rows of the check, and the faults.
-use Rattle.std.specs.Prelude.{◌≡◌, ℕ, not, List, [], ◌∷◌, Option, None, Some}
+use Rattle.std.specs.Prelude.{◌≡◌, ℕ, not, true, List, [], ◌∷◌, Option, None, Some}
 use Rattle.std.specs.List.{find}
 use Rattle.world.specs.Checked.{IsChecked}
 use Rattle.world.specs.declared.database.HirDatabase.{HirDatabase}
@@ -32,8 +32,9 @@ first_failure_among (row ∷ rows) world = row_failure row (failing_place row wo
 unfoldable pub first_failure : HirDatabase → Option (CheckRow × List ℕ)
 first_failure world = first_failure_among all_rows world
 
--- no row of the check fails anywhere
+-- every place meets every row of the check, and so no row has a place where it fails
 pub record Holds (world : HirDatabase) : Type 0 where
+  pub met : (row : CheckRow) (place : Place) → meets row world place ≡ true
   pub at : (row : CheckRow) → failing_place row world ≡ None
 
 -- a fault names the first failure; want of memory is possible in any world

@@ -20,5 +20,5 @@ mod valid;
 pub use checked_world::CheckedWorld;
 pub use fault::{CheckFault, CheckRow, InvalidWorld};
 pub use place::{NamedFunction, NodeKind, Place, TableName};
-pub use rows::{check, probe};
+pub use rows::check;
 pub use typed_body::check_body;

@@ -52,11 +52,3 @@ pub fn check(alloc: Global, db: &HirDatabase) -> Result<(), CheckFault>
     }
     Ok(())
 }
-
-/// A probe.
-#[tactic(auto, using(crate::proofs::FoundPlaces::tree_found, crate::proofs::FoundIds::id_found))]
-pub fn probe(x: u8) -> u8
-    ensures { result ≡ x }
-{
-    x
-}
