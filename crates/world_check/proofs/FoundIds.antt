@@ -15,7 +15,7 @@ use Rattle.world_check.specs.Meets.{is_typed_body_known, is_list_nameable, is_no
 use Rattle.world_check.specs.Rows.{failing_place}
 use Rattle.world_check.specs.Walks as walk
 use Rattle.world_check.specs.Walks.{part_place, wrong_adt, wrong_body, wrong_id, wrong_item, wrong_keyed_row, wrong_part_in, wrong_table, wrong_trait_or_param}
-use Rattle.world_check.specs.WorldPlaces.{named_functions, numbered, of_adts, of_bodies, of_body, of_code, of_items, of_keyed_rows, of_names, of_nodes, of_table}
+use Rattle.world_check.specs.WorldPlaces.{numbered, of_adts, of_bodies, of_body, of_code, of_items, of_keyed_rows, of_names, of_nodes, of_table}
 use Rattle.world_check.specs.declared.fault.CheckRow.TheVariants.{C1}
 use Rattle.world_check.specs.declared.place.NamedFunction.TheVariants.{Drop, Deref, DerefMut, Call, CallMut, CallOnce}
 use Rattle.world_check.specs.declared.place.NodeKind.{NodeKind}

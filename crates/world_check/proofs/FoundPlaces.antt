@@ -1,8 +1,7 @@
 -- The first place that doesn't meet a row of the check is the one that the code finds: the rows on trees, jumps, resolution, layouts, tags and agreement.
-use Rattle.std.proofs.Common.{◌≡◌, ℕ, Bool, not, Option, Some, None, List, [], ◌∷◌, refl, ◌∙◌, ap}
+use Rattle.std.proofs.Common.{◌≡◌, ℕ, not, Option, Some, None, refl, ◌∙◌, ap}
 use Rattle.std.specs.List.{find, slice_get}
 use Rattle.std.specs.Option.{option_map, option_or}
-use Rattle.world.specs.declared.closures.ClosureRow.{ClosureRow}
 use Rattle.world.specs.declared.database.BodyRow.{BodyRow}
 use Rattle.world.specs.declared.database.HirDatabase.{HirDatabase}
 use Rattle.world.specs.declared.expr.Expr.{Expr}
@@ -23,7 +22,7 @@ use Rattle.world_check.specs.declared.fault.CheckRow.TheVariants.{C2, C3, C4, C5
 use Rattle.world_check.specs.declared.place.NodeKind.TheVariants.{Exprs, Pats, Bindings}
 use Rattle.world_check.specs.declared.place.Place.{Place}
 use Rattle.world_check.specs.declared.place.Place.TheVariants.{Node, Row}
-use Rattle.world_check.specs.declared.place.TableName.TheVariants.{Crates, Functions, Consts, Statics, Structs, Unions, Enums, Variants, Closures, Bodies, Layouts, Normals, Impls, ConstImpls}
+use Rattle.world_check.specs.declared.place.TableName.TheVariants.{Crates, Functions, Consts, Statics, Structs, Unions, Enums, Variants, Closures, Layouts, Normals, Impls, ConstImpls}
 use Rattle.world_check.proofs.Searches.{nodes_first, nodes_silent, nodes_wrong, or_both, or_none, rows_first, rows_wrong, table_silent}
 use Rattle.world_check.proofs.Segments.{adts, adts_silent, all_places, bodies_silent, body_asked, code, each_body, items, items_silent, keyed, keyed_silent, names_silent, one_body, there_asked}
 
@@ -45,6 +44,7 @@ tree_in_body world b row there =
     expr e found at =
         body_asked world b row (λ body. if_at (is_expr_in_order body) body.exprs e) there
         ∙ there_asked (is_expr_in_order row.body e) _ found at
+
     pat : (p : ℕ) (found : Pat) → slice_get row.body.pats p ≡ Some found → not (meets C2 world (Node b Pats p)) ≡ not (is_pat_in_order row.body p found)
     pat p found at =
         body_asked world b row (λ body. if_at (is_pat_in_order body) body.pats p) there

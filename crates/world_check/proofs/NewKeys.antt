@@ -1,5 +1,5 @@
 -- A row is the first with its key where no row before has the key.
-use Rattle.std.proofs.Common.{◌≡◌, ℕ, zero, suc, ◌+◌, ◌&&◌, ◌||◌, Bool, true, false, cond, eqb, not, take, Option, Some, List, [], ◌∷◌, refl, sym, ◌∙◌, ap, arith}
+use Rattle.std.proofs.Common.{◌≡◌, ℕ, zero, suc, ◌+◌, ◌&&◌, ◌||◌, Bool, true, false, cond, eqb, not, take, Some, List, [], ◌∷◌, refl, sym, ◌∙◌, ap, arith}
 use Rattle.std.proofs.lemmas.Bool.Decides.{nat_tests}
 use Rattle.std.proofs.lemmas.Iterator.Adapters.{position_from-zero}
 use Rattle.std.specs.BTreeMap.{is_at}
@@ -41,6 +41,7 @@ number_from {X} test j (suc k) (y ∷ ys) x at same = by (test y) (number_from t
   where
     differ : eqb j (j + suc k) ≡ false
     differ = grind (arith, nat_tests)
+
     by : (b : Bool) → is_number (position_from test (j + 1) ys) (j + 1 + k) ≡ not (list_any test (take k ys)) → is_number (cond b (Some j) (position_from test (j + 1) ys)) (j + suc k) ≡ not (b || list_any test (take k ys))
     by true later = differ
     by false later =

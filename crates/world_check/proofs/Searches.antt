@@ -42,6 +42,7 @@ numbered_first {X} p at test i (x ∷ xs) fits =
     later k y there =
         let step : i + suc k ≡ i + 1 + k = omega arith in
         ap (λ j. p (at j)) (sym step) ∙ fits (suc k) y there ∙ ap (λ j. not (test j y)) step
+
     by : (b : Bool) (found : Option Place) (place : Option ℕ) → found ≡ option_map at place → cond (not b) (Some (at i)) found ≡ option_map at (cond b place (Some i))
     by true found place e = e
     by false found place e = refl

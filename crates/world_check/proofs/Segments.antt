@@ -97,6 +97,7 @@ bodies_from p test b (row ∷ rows) fits =
     here =
         let start : b + zero ≡ b = omega arith in
         ap (λ j. find p (of_body j row.body)) (sym start) ∙ fits zero row refl ∙ ap (λ j. test j row) start
+
     later : (k : ℕ) (next : BodyRow) → slice_get rows k ≡ Some next → find p (of_body (b + 1 + k) next.body) ≡ test (b + 1 + k) next
     later k next there =
         let step : b + suc k ≡ b + 1 + k = omega arith in
