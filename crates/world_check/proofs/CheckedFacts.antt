@@ -26,13 +26,16 @@ use Rattle.check_layouts.specs.Layouts.{are_parts_right, is_layout_right, is_siz
 use Rattle.check_layouts.specs.Sizes.{alignments, is_alignment, is_fixed_size, is_multiple_of, known_size}
 use Rattle.check_names.specs.Known.{is_nameable, is_ty_closed}
 use Rattle.world_check.specs.Rows.{Holds, failing_place, first_failure, first_failure_among, row_failure}
-use Rattle.world_check.specs.Tables.{first_found, wrong_adt, wrong_body, wrong_item, wrong_node_in, wrong_part_in, wrong_row, wrong_table, wrong_trait_or_param}
+use Rattle.world_check.specs.Walks.{first_found, wrong_adt, wrong_body, wrong_item, wrong_node_in, wrong_part_in, wrong_row, wrong_table, wrong_trait_or_param}
 use Rattle.world_check.specs.declared.fault.CheckRow.{CheckRow}
 use Rattle.world_check.specs.declared.fault.CheckRow.TheVariants.{C1, C2, C3, C4, C5, C6, C7}
 use Rattle.world_check.specs.declared.place.Place.{Place}
 use Rattle.world_check.specs.declared.place.Place.TheVariants.{Row, Table}
 use Rattle.world_check.specs.declared.place.TableName.{TableName}
 use Rattle.world_check.specs.declared.place.TableName.TheVariants.{Bodies, Consts, Layouts}
+use Rattle.world_check.proofs.AllMet.{all_met}
+use Rattle.world_check.proofs.FoundIds.{id_found}
+use Rattle.world_check.proofs.FoundPlaces.{layout_found, tree_found}
 use Rattle.world_check.proofs.Passing.{all_at, all_pass, both, found_none_at, neither, not_mapped, passes_at, within_table}
 
 is_below : (c i : ℕ) → ltb c i ≡ true → c < i
@@ -173,7 +176,8 @@ Holds-from_passes world e =
     let fifth = row_passes C5 (failing_place C5 world) (first_failure_among (C6 ∷ C7 ∷ []) world) fourth.1 in
     let sixth = row_passes C6 (failing_place C6 world) (first_failure_among (C7 ∷ []) world) fifth.1 in
     let seventh = row_passes C7 (failing_place C7 world) None sixth.1 in
-    record { at = by_row world first.0 second.0 third.0 fourth.0 fifth.0 sixth.0 seventh.0 }
+    let at = by_row world first.0 second.0 third.0 fourth.0 fifth.0 sixth.0 seventh.0 in
+    record { met = λ row. all_met row world (at row); at = at }
 
 -- each row of a table without a wrong row passes the test
 named_rows : {X : Type 0} (table : TableName) (test : X → Bool) (rows : List X) → wrong_table table test rows ≡ None → (i : ℕ) (row : X) → slice_get rows i ≡ Some row → test row ≡ true
@@ -189,17 +193,16 @@ bodies_found world e = (within_table (is_nameable (length world.bodies)) _ (Tabl
 
 -- a world without a failure is a checked world
 pub IsChecked-from_passes : (world : HirDatabase) → first_failure world ≡ None → IsChecked world
-unfolding failing_place
 IsChecked-from_passes world e =
     let holds = Holds-from_passes world e in
-    let tables = neither (wrong_item world) _ (holds.at C1) in
+    let tables = neither (wrong_item world) _ (sym (id_found world) ∙ holds.at C1) in
     let after_adts = neither (wrong_adt world) _ tables.1 in
     let after_names = neither (wrong_trait_or_param world) _ after_adts.1 in
     let bodies = neither (wrong_body world) _ after_names.1 in
     record {
       consts = λ i row at. checked_const world row (named_rows Consts (is_const_named world) world.consts (consts_named world tables.0) i row at);
-      bodies = λ i row at. checked_body world i row (found_none_at (wrong_part_in world) i world.bodies row (bodies_found world bodies.0) at) (found_none_at wrong_node_in i world.bodies row (holds.at C2) at);
-      layouts = λ i row at. checked_layout world i row (passes_at (is_layout_right world) i world.layouts row (not_mapped (Row Layouts) _ (holds.at C5)) at);
+      bodies = λ i row at. checked_body world i row (found_none_at (wrong_part_in world) i world.bodies row (bodies_found world bodies.0) at) (found_none_at wrong_node_in i world.bodies row (sym (tree_found world) ∙ holds.at C2) at);
+      layouts = λ i row at. checked_layout world i row (passes_at (is_layout_right world) i world.layouts row (not_mapped (Row Layouts) _ (sym (layout_found world) ∙ holds.at C5)) at);
     }
 
 -- a world in which no row of the check fails has no failure

@@ -1,4 +1,10 @@
-pub mod CheckedFacts
+pub mod Searches
+pub mod Segments
+pub mod NewKeys
+pub mod FoundIds
+pub mod FoundPlaces
 pub mod Passing
+pub mod AllMet
 pub mod Sorts
 pub mod Walks
+pub mod CheckedFacts

@@ -4,7 +4,7 @@ use Rattle.std.proofs.lemmas.Iterator.Adapters.{position_from-zero}
 use Rattle.std.specs.List.{list_all, position, position_from, slice_get}
 use Rattle.std.specs.Option.{option_map, option_or}
 use Rattle.world.specs.Failing.{first_failing}
-use Rattle.world_check.specs.Tables.{first_found}
+use Rattle.world_check.specs.Walks.{first_found}
 use Rattle.world_check.specs.declared.place.Place.{Place}
 
 -- the two parts of a conjunction

@@ -2,7 +2,7 @@
 use Rattle.std.proofs.Common.{◌≡◌, ℕ, suc, ◌+◌, ◌<◌, ◌≤◌, Option, Some, None, List, length, get_or, drop, sym, ◌∙◌, ap, add-one, drop-cons}
 use Rattle.std.proofs.lemmas.List.{drop_all}
 use Rattle.std.specs.Option.{option_or}
-use Rattle.world_check.specs.Tables.{first_found}
+use Rattle.world_check.specs.Walks.{first_found}
 use Rattle.world_check.specs.declared.place.Place.{Place}
 
 unfold_found : {X : Type 0} (f : ℕ → X → Option Place) (xs : List X) (i : ℕ) (x d : X) → i < length xs → x ≡ get_or xs i d → first_found f i (drop i xs) ≡ option_or (f i x) (first_found f (i + 1) (drop (i + 1) xs))

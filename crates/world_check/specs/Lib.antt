@@ -1,4 +1,6 @@
 pub mod Places
-pub mod Tables
+pub mod WorldPlaces
+pub mod Meets
+pub mod Walks
 pub mod Valid
 pub mod Rows

@@ -1,24 +1,20 @@
 -- The rows of the check, and the faults.
-use Rattle.std.specs.Prelude.{◌≡◌, ℕ, List, [], ◌∷◌, Option, None, Some}
+use Rattle.std.specs.Prelude.{◌≡◌, ℕ, not, true, List, [], ◌∷◌, Option, None, Some}
+use Rattle.std.specs.List.{find}
 use Rattle.world.specs.Checked.{IsChecked}
 use Rattle.world.specs.declared.database.HirDatabase.{HirDatabase}
 use Rattle.world_check.specs.Places.{place_text}
-use Rattle.world_check.specs.Tables.{wrong_agreement, wrong_id, wrong_label, wrong_layout, wrong_resolution, wrong_tag, wrong_tree}
+use Rattle.world_check.specs.Meets.{meets}
+use Rattle.world_check.specs.WorldPlaces.{places}
 use Rattle.world_check.specs.declared.fault.CheckFault.{CheckFault}
 use Rattle.world_check.specs.declared.fault.CheckFault.TheVariants.{InvalidWorld, NoMemory}
 use Rattle.world_check.specs.declared.fault.CheckRow.{CheckRow}
 use Rattle.world_check.specs.declared.fault.CheckRow.TheVariants.{C1, C2, C3, C4, C5, C6, C7}
 use Rattle.world_check.specs.declared.place.Place.{Place}
 
--- the first place where a row of the check fails
+-- the first place, in the order of the check, that doesn't meet a row
 unfoldable pub failing_place : CheckRow → HirDatabase → Option Place
-failing_place C1 world = wrong_id world
-failing_place C2 world = wrong_tree world
-failing_place C3 world = wrong_label world
-failing_place C4 world = wrong_resolution world
-failing_place C5 world = wrong_layout world
-failing_place C6 world = wrong_tag world
-failing_place C7 world = wrong_agreement world
+failing_place row world = find (λ place. not (meets row world place)) (places world)
 
 abbrev pub all_rows : List CheckRow
 all_rows = C1 ∷ C2 ∷ C3 ∷ C4 ∷ C5 ∷ C6 ∷ C7 ∷ []
@@ -36,8 +32,9 @@ first_failure_among (row ∷ rows) world = row_failure row (failing_place row wo
 unfoldable pub first_failure : HirDatabase → Option (CheckRow × List ℕ)
 first_failure world = first_failure_among all_rows world
 
--- no row of the check fails anywhere
+-- every place meets every row of the check, and so no row has a place where it fails
 pub record Holds (world : HirDatabase) : Type 0 where
+  pub met : (row : CheckRow) (place : Place) → meets row world place ≡ true
   pub at : (row : CheckRow) → failing_place row world ≡ None
 
 -- a fault names the first failure; want of memory is possible in any world

@@ -4,11 +4,12 @@ ghost use Rattle.std.specs.Prelude.{◌≡◌, IfOk};
 ghost use Rattle.check_items.specs.Agree.{has_all_params, is_closure_row};
 ghost use Rattle.check_items.specs.Closed.{is_const_impl_closed, is_impl_closed, is_normal_closed};
 ghost use Rattle.check_layouts.specs.Tags.{is_tag_right};
-ghost use Rattle.world_check.specs.Tables.{first_wrong, wrong_agreement, wrong_layout, wrong_resolution, wrong_tag};
+ghost use Rattle.world_check.specs.Rows.{failing_place};
+ghost use Rattle.world_check.specs.Walks.{first_wrong};
 
 use crate::tables::{numbered_place, row_place};
 use crate::trees::wrong_ellipsis_among;
-use crate::{Place, TableName};
+use crate::{CheckRow, Place, TableName};
 use check_items::{
     has_all_params, is_closure_row, is_const_impl_closed, is_impl_closed, is_normal_closed,
     wrong_variant,
@@ -42,8 +43,9 @@ fn wrong_const_impl_among(rows: &[ConstImplRow]) -> Option<usize>
 }
 
 /// The first row of normalized types and resolved impl items with an alias or a generic parameter in it.
+#[tactic(auto, using(crate::proofs::FoundPlaces::resolution_found))]
 pub(crate) fn wrong_resolution(db: &HirDatabase) -> Option<Place>
-    ensures { result ≡ wrong_resolution db.now }
+    ensures { result ≡ failing_place CheckRow.C4 db.now }
 {
     let consts = wrong_const_impl_among(db.const_impls.as_slice());
     let functions = wrong_impl_among(db.impls.as_slice());
@@ -54,8 +56,9 @@ pub(crate) fn wrong_resolution(db: &HirDatabase) -> Option<Place>
 }
 
 /// The place of the first layout that breaks a rule of all targets.
+#[tactic(auto, using(crate::proofs::FoundPlaces::layout_found))]
 pub(crate) fn wrong_layout(alloc: Global, db: &HirDatabase) -> Result<Option<Place>, NoMemory>
-    ensures { IfOk result (λ found. found ≡ wrong_layout db.now) }
+    ensures { IfOk result (λ found. found ≡ failing_place CheckRow.C5 db.now) }
 {
     let found = first_wrong_layout(alloc, db)?;
     Ok(row_place(TableName::Layouts, found))
@@ -69,8 +72,9 @@ fn wrong_tag_among(db: &HirDatabase, rows: &[(Ty, Layout)]) -> Option<usize>
 }
 
 /// The place of the first layout whose tag doesn't fit its enum.
+#[tactic(auto, using(crate::proofs::FoundPlaces::tag_found))]
 pub(crate) fn wrong_tag(db: &HirDatabase) -> Option<Place>
-    ensures { result ≡ wrong_tag db.now }
+    ensures { result ≡ failing_place CheckRow.C6 db.now }
 {
     row_place(
         TableName::Layouts,
@@ -94,8 +98,9 @@ fn wrong_closure_expr_among(db: &HirDatabase, rows: &[ClosureRow]) -> Option<usi
 
 /// The first row that doesn't agree with its body, its enum or its expression, or the first pattern whose
 /// `..` stands past the end of its subpatterns.
+#[tactic(auto, using(crate::proofs::FoundPlaces::agreement_found))]
 pub(crate) fn wrong_agreement(alloc: Global, db: &HirDatabase) -> Result<Option<Place>, NoMemory>
-    ensures { IfOk result (λ found. found ≡ wrong_agreement db.now) }
+    ensures { IfOk result (λ found. found ≡ failing_place CheckRow.C7 db.now) }
 {
     let unlisted = wrong_variant(alloc, db)?;
     let closure = wrong_closure_expr_among(db, db.closures.as_slice());

@@ -1,7 +1,7 @@
 //! The tables whose rows have keys: ids are in range, and keys are distinct.
 ghost use Rattle.std.specs.Prelude.{◌≡◌};
 ghost use Rattle.world.specs.Failing.{first_failing};
-ghost use Rattle.world_check.specs.Tables.{is_number, wrong_keyed_row, wrong_row_at};
+ghost use Rattle.world_check.specs.Walks.{is_number, wrong_keyed_row, wrong_row_at};
 
 use crate::tables::row_place;
 use crate::{Place, TableName};
@@ -33,7 +33,7 @@ trait KeyedRow {
 }
 
 impl KeyedRow for (Ty, Layout) {
-    ghost use Rattle.world_check.specs.Tables.{is_layout_known};
+    ghost use Rattle.world_check.specs.Walks.{is_layout_known};
 
     ghost is_known = { is_layout_known };
 
@@ -43,7 +43,7 @@ impl KeyedRow for (Ty, Layout) {
 }
 
 impl KeyedRow for (AliasId, GenericArgs, Ty) {
-    ghost use Rattle.world_check.specs.Tables.{is_normal_known};
+    ghost use Rattle.world_check.specs.Walks.{is_normal_known};
 
     ghost is_known = { is_normal_known };
 
@@ -57,7 +57,7 @@ impl KeyedRow for (AliasId, GenericArgs, Ty) {
 }
 
 impl KeyedRow for ImplRow {
-    ghost use Rattle.world_check.specs.Tables.{is_impl_known};
+    ghost use Rattle.world_check.specs.Walks.{is_impl_known};
 
     ghost is_known = { is_impl_known };
 
@@ -71,7 +71,7 @@ impl KeyedRow for ImplRow {
 }
 
 impl KeyedRow for ConstImplRow {
-    ghost use Rattle.world_check.specs.Tables.{is_const_impl_known};
+    ghost use Rattle.world_check.specs.Walks.{is_const_impl_known};
 
     ghost is_known = { is_const_impl_known };
 

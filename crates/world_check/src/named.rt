@@ -1,7 +1,7 @@
 //! The tables whose rows are named by ids: they are short enough, and all ids in them are in range.
 ghost use Rattle.std.specs.Prelude.{◌≡◌, length};
 ghost use Rattle.check_items.specs.Names.{is_closure_named};
-ghost use Rattle.world_check.specs.Tables.{first_wrong, wrong_adt, wrong_item, wrong_length, wrong_table, wrong_trait_or_param};
+ghost use Rattle.world_check.specs.Walks.{first_wrong, wrong_adt, wrong_item, wrong_length, wrong_table, wrong_trait_or_param};
 ghost use Rattle.world_check.specs.declared.place.TableName.TheVariants.{Closures};
 
 use crate::tables::{in_table, row_place, wrong_length};

@@ -2,12 +2,13 @@
 ghost use Rattle.std.specs.Prelude.{◌≡◌, IfOk};
 ghost use Rattle.std.specs.Option.{option_map};
 ghost use Rattle.check_ids.specs.Parts.{wrong_part};
-ghost use Rattle.world_check.specs.Tables.{first_found, part_place, wrong_body, wrong_call, wrong_drop_or_deref, wrong_id, wrong_lang_function, wrong_part_in};
+ghost use Rattle.world_check.specs.Rows.{failing_place};
+ghost use Rattle.world_check.specs.Walks.{first_found, part_place, wrong_body, wrong_call, wrong_drop_or_deref, wrong_lang_function, wrong_part_in};
 
 use crate::keyed::wrong_keyed_row;
 use crate::named::{wrong_adt, wrong_closure, wrong_item, wrong_trait_or_param};
 use crate::tables::in_table;
-use crate::{NamedFunction, NodeKind, Place, TableName};
+use crate::{CheckRow, NamedFunction, NodeKind, Place, TableName};
 use check_ids::{BodyPart, wrong_part};
 use check_items::is_function_known;
 use std::alloc::Global;
@@ -103,8 +104,9 @@ fn wrong_call(db: &HirDatabase) -> Option<Place>
 }
 
 /// The first place with an id out of range, a list that is too long, or a key that an earlier row has.
+#[tactic(auto, using(crate::proofs::FoundIds::id_found))]
 pub(crate) fn wrong_id(alloc: Global, db: &HirDatabase) -> Result<Option<Place>, NoMemory>
-    ensures { IfOk result (λ found. found ≡ wrong_id db.now) }
+    ensures { IfOk result (λ found. found ≡ failing_place CheckRow.C1 db.now) }
 {
     let bodies = wrong_body(alloc, db)?;
     let functions = wrong_drop_or_deref(db).or(wrong_call(db));

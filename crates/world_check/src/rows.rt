@@ -23,7 +23,7 @@ fn refusal(alloc: Global, row: CheckRow, place: Place) -> CheckFault
 
 /// Checks a world. A fault names the first row of the check's table that fails and the first place where it
 /// fails, or says that memory ran out.
-#[tactic(auto, unfolding(crate::specs::Rows::first_failure, crate::specs::Rows::failing_place))]
+#[tactic(auto, unfolding(crate::specs::Rows::first_failure))]
 pub fn check(alloc: Global, db: &HirDatabase) -> Result<(), CheckFault>
     ensures ok { OnOk result (IsChecked db.now) }
     ensures passes { OnOk result (first_failure db.now ≡ None) }

@@ -1,7 +1,7 @@
 //! Places of tables and of their rows.
 ghost use Rattle.std.specs.Prelude.{◌≡◌};
 ghost use Rattle.std.specs.Option.{option_map};
-ghost use Rattle.world_check.specs.Tables.{in_table, wrong_length};
+ghost use Rattle.world_check.specs.Walks.{in_table, wrong_length};
 ghost use Rattle.world_check.specs.declared.place.Place.TheVariants.{Row};
 
 use crate::{Place, TableName};

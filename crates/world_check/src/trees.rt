@@ -1,9 +1,10 @@
 //! Tests of all bodies: they are trees, jumps name enclosing labels, and `..` stands within its pattern.
 ghost use Rattle.std.specs.Prelude.{◌≡◌, IfOk};
 ghost use Rattle.std.specs.Option.{option_map};
-ghost use Rattle.world_check.specs.Tables.{first_found, node_place, wrong_ellipsis_in, wrong_jump_in, wrong_label, wrong_node_in, wrong_tree};
+ghost use Rattle.world_check.specs.Rows.{failing_place};
+ghost use Rattle.world_check.specs.Walks.{first_found, node_place, wrong_ellipsis_in, wrong_jump_in, wrong_node_in};
 
-use crate::{NodeKind, Place};
+use crate::{CheckRow, NodeKind, Place};
 use check_trees::{BodyNode, wrong_ellipsis, wrong_jump, wrong_node};
 use std::alloc::Global;
 use world::{BodyRow, HirDatabase, NoMemory};
@@ -41,8 +42,9 @@ fn wrong_node_among(alloc: Global, rows: &[BodyRow]) -> Result<Option<Place>, No
 }
 
 /// The first node at which a body is not a tree.
+#[tactic(auto, using(crate::proofs::FoundPlaces::tree_found))]
 pub(crate) fn wrong_tree(alloc: Global, db: &HirDatabase) -> Result<Option<Place>, NoMemory>
-    ensures { IfOk result (λ found. found ≡ wrong_tree db.now) }
+    ensures { IfOk result (λ found. found ≡ failing_place CheckRow.C2 db.now) }
 {
     wrong_node_among(alloc, db.bodies.as_slice())
 }
@@ -70,8 +72,9 @@ fn wrong_jump_among(alloc: Global, rows: &[BodyRow]) -> Result<Option<Place>, No
 }
 
 /// The first jump of the world to a label that doesn't enclose it.
+#[tactic(auto, using(crate::proofs::FoundPlaces::jump_found))]
 pub(crate) fn wrong_label(alloc: Global, db: &HirDatabase) -> Result<Option<Place>, NoMemory>
-    ensures { IfOk result (λ found. found ≡ wrong_label db.now) }
+    ensures { IfOk result (λ found. found ≡ failing_place CheckRow.C3 db.now) }
 {
     wrong_jump_among(alloc, db.bodies.as_slice())
 }

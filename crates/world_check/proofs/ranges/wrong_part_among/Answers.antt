@@ -1,5 +1,5 @@
 use Rattle.std.proofs.Common.{sym, ◌∙◌}
-use Rattle.world_check.specs.Tables.{wrong_part_in}
+use Rattle.world_check.specs.Walks.{wrong_part_in}
 use Rattle.world_check.proofs.Walks.{found_here, found_next, found_end}
 use Rattle.world_check.proofs.ranges.wrong_part_among.Goals as goal
 

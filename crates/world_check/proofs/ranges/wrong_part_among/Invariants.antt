@@ -1,5 +1,5 @@
 use Rattle.std.proofs.Common.{◌≡◌, drop}
-use Rattle.world_check.specs.Tables.{first_found, wrong_part_in}
+use Rattle.world_check.specs.Walks.{first_found, wrong_part_in}
 use Rattle.world_check.proofs.ranges.wrong_part_among.Given as goal
 
 abbrev pub invariant-loop-i : goal.invariant-loop-i

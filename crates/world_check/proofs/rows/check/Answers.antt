@@ -1,10 +1,8 @@
 use Rattle.std.proofs.Common.{◌∙◌, sym}
-use Rattle.world_check.specs.Rows.{failing_place}
 use Rattle.world_check.proofs.CheckedFacts.{IsChecked-from_passes, no_failure}
 use Rattle.world_check.proofs.rows.check.Goals as goal
 
 pub returns-clause-ok : goal.returns-clause-ok
-unfolding failing_place
 returns-clause-ok c =
     IsChecked-from_passes c.args.db.now
     (no_failure c.args.db.now

@@ -1,5 +1,5 @@
 use Rattle.std.proofs.Common.{sym}
-use Rattle.world_check.specs.Tables.{wrong_ellipsis_in}
+use Rattle.world_check.specs.Walks.{wrong_ellipsis_in}
 use Rattle.world_check.proofs.Walks.{found_here, found_next, found_end}
 use Rattle.world_check.proofs.trees.wrong_ellipsis_among.Goals as goal
 

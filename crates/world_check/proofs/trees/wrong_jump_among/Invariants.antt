@@ -1,5 +1,5 @@
 use Rattle.std.proofs.Common.{◌≡◌, drop}
-use Rattle.world_check.specs.Tables.{first_found, wrong_jump_in}
+use Rattle.world_check.specs.Walks.{first_found, wrong_jump_in}
 use Rattle.world_check.proofs.trees.wrong_jump_among.Given as goal
 
 abbrev pub invariant-loop-i : goal.invariant-loop-i

@@ -1,4 +1,5 @@
--- For each row of the check, the first place of a world where it fails. The tables are tested in the order of the world's fields.
+-- How the code looks for the first place that doesn't meet a row of the check: table by table, in the order of the world's fields. What the rows ask is in
+-- `Meets`; the proofs show that each search ends at the first place that doesn't meet its row, so no public contract names one.
 -- `wrong_NOUN` is the first place that fails a test, and `wrong_NOUN_in` the first in one body.
 use Rattle.std.specs.Prelude.{ℕ, ◌+◌, ◌==◌, ◌&&◌, if◌then◌else◌, Bool, false, not, List, [], ◌∷◌, length, Option, Some, None}
 use Rattle.std.specs.List.{position}
@@ -98,29 +99,29 @@ is_number None n = false
 is_number (Some m) n = m == n
 
 -- row `i` is the first of its table with its key
-abbrev pub has_new_type : HirDatabase → ℕ → Ty × Layout → Bool
-has_new_type world i row = is_number (place_at {R = Ty × Layout} (λ other. other.0) (ty_cmp row.0) world.layouts) i
+abbrev pub is_first_of_type : HirDatabase → ℕ → Ty × Layout → Bool
+is_first_of_type world i row = is_number (place_at {R = Ty × Layout} (λ other. other.0) (ty_cmp row.0) world.layouts) i
 
-abbrev pub has_new_alias : HirDatabase → ℕ → AliasId × GenericArgs × Ty → Bool
-has_new_alias world i row = is_number (place_at {K = AliasId × GenericArgs} (λ other. (other.0, other.1)) (λ key. ordering_then (AliasIdOrd.ghosts.cmp row.0 key.0) (args_cmp row.1 key.1)) world.normals) i
+abbrev pub is_first_of_alias : HirDatabase → ℕ → AliasId × GenericArgs × Ty → Bool
+is_first_of_alias world i row = is_number (place_at {K = AliasId × GenericArgs} (λ other. (other.0, other.1)) (λ key. ordering_then (AliasIdOrd.ghosts.cmp row.0 key.0) (args_cmp row.1 key.1)) world.normals) i
 
-abbrev pub has_new_function : HirDatabase → ℕ → ImplRow → Bool
-has_new_function world i row = is_number (place_at {K = FunctionId × GenericArgs} (λ other. (other.function, other.args)) (λ key. ordering_then (FunctionIdOrd.ghosts.cmp row.function key.0) (args_cmp row.args key.1)) world.impls) i
+abbrev pub is_first_of_function : HirDatabase → ℕ → ImplRow → Bool
+is_first_of_function world i row = is_number (place_at {K = FunctionId × GenericArgs} (λ other. (other.function, other.args)) (λ key. ordering_then (FunctionIdOrd.ghosts.cmp row.function key.0) (args_cmp row.args key.1)) world.impls) i
 
-abbrev pub has_new_const : HirDatabase → ℕ → ConstImplRow → Bool
-has_new_const world i row = is_number (place_at {K = ConstId × GenericArgs} (λ other. (other.konst, other.args)) (λ key. ordering_then (ConstIdOrd.ghosts.cmp row.konst key.0) (args_cmp row.args key.1)) world.const_impls) i
+abbrev pub is_first_of_const : HirDatabase → ℕ → ConstImplRow → Bool
+is_first_of_const world i row = is_number (place_at {K = ConstId × GenericArgs} (λ other. (other.konst, other.args)) (λ key. ordering_then (ConstIdOrd.ghosts.cmp row.konst key.0) (args_cmp row.args key.1)) world.const_impls) i
 
 abbrev pub is_layout_known : HirDatabase → ℕ → Ty × Layout → Bool
-is_layout_known world i row = is_layout_named world row && has_new_type world i row
+is_layout_known world i row = is_layout_named world row && is_first_of_type world i row
 
 abbrev pub is_normal_known : HirDatabase → ℕ → AliasId × GenericArgs × Ty → Bool
-is_normal_known world i row = is_normal_named world row && has_new_alias world i row
+is_normal_known world i row = is_normal_named world row && is_first_of_alias world i row
 
 abbrev pub is_impl_known : HirDatabase → ℕ → ImplRow → Bool
-is_impl_known world i row = is_impl_named world row && has_new_function world i row
+is_impl_known world i row = is_impl_named world row && is_first_of_function world i row
 
 abbrev pub is_const_impl_known : HirDatabase → ℕ → ConstImplRow → Bool
-is_const_impl_known world i row = is_const_impl_named world row && has_new_const world i row
+is_const_impl_known world i row = is_const_impl_named world row && is_first_of_const world i row
 
 abbrev pub wrong_item : HirDatabase → Option Place
 wrong_item world =

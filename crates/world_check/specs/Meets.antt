@@ -1,0 +1,185 @@
+-- What each row of the check asks at a place. Where a row doesn't speak of a place, or the world doesn't have the place, nothing is asked there.
+use Rattle.std.specs.Prelude.{ℕ, ◌==◌, ◌&&◌, Bool, true, not, List, length, take, Option, Some, None, slice_get}
+use Rattle.std.specs.List.{list_any}
+use Rattle.types.specs.Orders.{args_eq, ty_eq}
+use Rattle.types.specs.declared.ids.AliasId.{AliasId}
+use Rattle.types.specs.declared.ids.FunctionId.{FunctionId}
+use Rattle.types.specs.declared.ty.GenericArgs.{GenericArgs}
+use Rattle.types.specs.declared.ty.Ty.{Ty}
+use Rattle.world.specs.declared.body.Body.{Body}
+use Rattle.world.specs.declared.database.BodyRow.{BodyRow}
+use Rattle.world.specs.declared.database.HirDatabase.{HirDatabase}
+use Rattle.world.specs.declared.impls.ConstImplRow.{ConstImplRow}
+use Rattle.world.specs.declared.impls.ImplRow.{ImplRow}
+use Rattle.world.specs.declared.layout.Layout.{Layout}
+use Rattle.check_names.specs.Known.{is_nameable}
+use Rattle.check_items.specs.Agree.{has_all_params, is_closure_row, is_in_place}
+use Rattle.check_items.specs.Closed.{is_const_impl_closed, is_impl_closed, is_normal_closed}
+use Rattle.check_items.specs.Names.{is_closure_named, is_const_impl_named, is_const_named, is_const_param_named, is_enum_named, is_function_known, is_function_named, is_impl_named, is_layout_named, is_normal_named, is_static_named, is_struct_named, is_variant_named}
+use Rattle.check_ids.specs.Inferred.{is_inferred_right}
+use Rattle.check_ids.specs.Nodes.{is_binding_in_range, is_expr_in_range, is_pat_in_range}
+use Rattle.check_ids.specs.Parts.{are_roots_known}
+use Rattle.check_trees.specs.Ellipsis.{is_ellipsis_inside}
+use Rattle.check_trees.specs.Jumps.{is_jump_inside}
+use Rattle.check_trees.specs.Tree.{is_expr_in_order, is_pat_in_order}
+use Rattle.check_layouts.specs.Layouts.{is_layout_right}
+use Rattle.check_layouts.specs.Tags.{is_tag_right}
+use Rattle.world_check.specs.declared.fault.CheckRow.{CheckRow}
+use Rattle.world_check.specs.declared.fault.CheckRow.TheVariants.{C1, C2, C3, C4, C5, C6, C7}
+use Rattle.world_check.specs.declared.place.NamedFunction.{NamedFunction}
+use Rattle.world_check.specs.declared.place.NamedFunction.TheVariants.{Drop, Deref, DerefMut, Call, CallMut, CallOnce}
+use Rattle.world_check.specs.declared.place.NodeKind.{NodeKind}
+use Rattle.world_check.specs.declared.place.NodeKind.TheVariants.{Exprs, Pats, Bindings, Labels}
+use Rattle.world_check.specs.declared.place.Place.{Place}
+use Rattle.world_check.specs.declared.place.Place.TheVariants.{Table, Row, Nodes, Node, Function}
+use Rattle.world_check.specs.declared.place.TableName.{TableName}
+use Rattle.world_check.specs.declared.place.TableName.TheVariants.{Crates, Functions, Consts, Statics, Structs, Unions, Enums, Variants, Traits, Aliases, TypeParams, ConstParams, Closures, Bodies, Layouts, Normals, Impls, ConstImpls}
+
+-- an element passes a test, if it is there
+abbrev pub if_there : {X : Type 0} → (X → Bool) → Option X → Bool
+if_there test None = true
+if_there test (Some x) = test x
+
+-- the element at a place of a list passes a test of the place and of itself, if it is there
+abbrev pub if_at : {X : Type 0} → (ℕ → X → Bool) → List X → ℕ → Bool
+if_at test xs i = if_there (test i) (slice_get xs i)
+
+-- no row before row `i` passes the test
+abbrev pub none_before : {X : Type 0} → (X → Bool) → List X → ℕ → Bool
+none_before test rows i = not (list_any test (take i rows))
+
+-- Ids are in range, lists whose places have ids are short enough, keys are distinct, and `char` literals are Unicode scalar values.
+
+-- a table whose rows are named by ids has fewer than 2^32 rows
+abbrev pub is_table_nameable : HirDatabase → TableName → Bool
+is_table_nameable world Crates = is_nameable (length world.crates)
+is_table_nameable world Functions = is_nameable (length world.functions)
+is_table_nameable world Consts = is_nameable (length world.consts)
+is_table_nameable world Statics = is_nameable (length world.statics)
+is_table_nameable world Structs = is_nameable (length world.structs)
+is_table_nameable world Unions = is_nameable (length world.unions)
+is_table_nameable world Enums = is_nameable (length world.enums)
+is_table_nameable world Variants = is_nameable (length world.variants)
+is_table_nameable world Traits = is_nameable (length world.traits)
+is_table_nameable world Aliases = is_nameable (length world.aliases)
+is_table_nameable world TypeParams = is_nameable (length world.type_params)
+is_table_nameable world ConstParams = is_nameable (length world.const_params)
+is_table_nameable world Closures = is_nameable (length world.closures)
+is_table_nameable world Bodies = is_nameable (length world.bodies)
+is_table_nameable world _ = true
+
+-- no row before has the same type
+abbrev pub has_new_type : HirDatabase → ℕ → Ty × Layout → Bool
+has_new_type world i row = none_before (λ (other : Ty × Layout). ty_eq row.0 other.0) world.layouts i
+
+-- no row before has the same alias with the same arguments
+abbrev pub has_new_alias : HirDatabase → ℕ → AliasId × GenericArgs × Ty → Bool
+has_new_alias world i row = none_before (λ (other : AliasId × GenericArgs × Ty). row.0.0 == other.0.0 && args_eq row.1 other.1) world.normals i
+
+-- no row before has the same function with the same arguments
+abbrev pub has_new_function : HirDatabase → ℕ → ImplRow → Bool
+has_new_function world i row = none_before (λ (other : ImplRow). row.function.0 == other.function.0 && args_eq row.args other.args) world.impls i
+
+-- no row before has the same constant with the same arguments
+abbrev pub has_new_const : HirDatabase → ℕ → ConstImplRow → Bool
+has_new_const world i row = none_before (λ (other : ConstImplRow). row.konst.0 == other.konst.0 && args_eq row.args other.args) world.const_impls i
+
+abbrev pub is_typed_body_known : HirDatabase → BodyRow → Bool
+is_typed_body_known world row = are_roots_known row.body && is_inferred_right world row.body row.infer
+
+abbrev pub is_row_known : HirDatabase → TableName → ℕ → Bool
+is_row_known world Functions i = if_there (is_function_named world) (slice_get world.functions i)
+is_row_known world Consts i = if_there (is_const_named world) (slice_get world.consts i)
+is_row_known world Statics i = if_there (is_static_named world) (slice_get world.statics i)
+is_row_known world Structs i = if_there (is_struct_named world) (slice_get world.structs i)
+is_row_known world Unions i = if_there (is_struct_named world) (slice_get world.unions i)
+is_row_known world Enums i = if_there (is_enum_named world) (slice_get world.enums i)
+is_row_known world Variants i = if_there (is_variant_named world) (slice_get world.variants i)
+is_row_known world ConstParams i = if_there (is_const_param_named world) (slice_get world.const_params i)
+is_row_known world Closures i = if_there (is_closure_named world) (slice_get world.closures i)
+is_row_known world Bodies b = if_there (is_typed_body_known world) (slice_get world.bodies b)
+is_row_known world Layouts i = if_at (λ j row. is_layout_named world row && has_new_type world j row) world.layouts i
+is_row_known world Normals i = if_at (λ j row. is_normal_named world row && has_new_alias world j row) world.normals i
+is_row_known world Impls i = if_at (λ j row. is_impl_named world row && has_new_function world j row) world.impls i
+is_row_known world ConstImpls i = if_at (λ j row. is_const_impl_named world row && has_new_const world j row) world.const_impls i
+is_row_known world _ i = true
+
+-- a list of a body's nodes, or of its labels, has fewer than 2^32 entries
+abbrev pub is_list_nameable : NodeKind → Body → Bool
+is_list_nameable Exprs body = is_nameable (length body.exprs)
+is_list_nameable Pats body = is_nameable (length body.pats)
+is_list_nameable Bindings body = is_nameable (length body.bindings)
+is_list_nameable Labels body = is_nameable (length body.labels)
+
+abbrev pub is_node_known : NodeKind → ℕ → Body → Bool
+is_node_known Exprs e body = if_there (is_expr_in_range body) (slice_get body.exprs e)
+is_node_known Pats p body = if_there (is_pat_in_range body) (slice_get body.pats p)
+is_node_known Bindings i body = if_there (is_binding_in_range body) (slice_get body.bindings i)
+is_node_known Labels i body = true
+
+-- the function that the world names
+abbrev pub named_function : HirDatabase → NamedFunction → Option FunctionId
+named_function world Drop = world.drop_fn
+named_function world Deref = world.deref_fn
+named_function world DerefMut = world.deref_mut_fn
+named_function world Call = world.call_fn
+named_function world CallMut = world.call_mut_fn
+named_function world CallOnce = world.call_once_fn
+
+-- a test of the body in row `b`, if it is there
+abbrev pub in_body : HirDatabase → ℕ → (Body → Bool) → Bool
+in_body world b test = if_there (λ (row : BodyRow). test row.body) (slice_get world.bodies b)
+
+abbrev pub has_known_ids : HirDatabase → Place → Bool
+has_known_ids world (Table table) = is_table_nameable world table
+has_known_ids world (Row table i) = is_row_known world table i
+has_known_ids world (Nodes b kind) = in_body world b (is_list_nameable kind)
+has_known_ids world (Node b kind i) = in_body world b (is_node_known kind i)
+has_known_ids world (Function name) = is_function_known world (named_function world name)
+
+-- Bodies are trees: children have lower ids than their parents of the same kind, so have expressions inside a pattern than the one that holds the pattern, each
+-- node but the root and the parameters has at most one parent, and no path of more than 400 steps leads down.
+abbrev pub is_in_order : HirDatabase → Place → Bool
+is_in_order world (Node b Exprs e) = in_body world b (λ body. if_at (is_expr_in_order body) body.exprs e)
+is_in_order world (Node b Pats p) = in_body world b (λ body. if_at (is_pat_in_order body) body.pats p)
+is_in_order world _ = true
+
+-- A jump's label is that of an enclosing loop or block.
+abbrev pub has_enclosing_label : HirDatabase → Place → Bool
+has_enclosing_label world (Node b Exprs e) = in_body world b (λ body. if_at (is_jump_inside body) body.exprs e)
+has_enclosing_label world _ = true
+
+-- Normalized types and resolved impl items have no alias and no generic parameter in them.
+abbrev pub is_resolved : HirDatabase → Place → Bool
+is_resolved world (Row Normals i) = if_there is_normal_closed (slice_get world.normals i)
+is_resolved world (Row Impls i) = if_there is_impl_closed (slice_get world.impls i)
+is_resolved world (Row ConstImpls i) = if_there is_const_impl_closed (slice_get world.const_impls i)
+is_resolved world _ = true
+
+-- Layouts follow the rules of all targets.
+abbrev pub is_laid_out : HirDatabase → Place → Bool
+is_laid_out world (Row Layouts i) = if_at (is_layout_right world) world.layouts i
+is_laid_out world _ = true
+
+-- Tags fit their enums.
+abbrev pub has_fitting_tag : HirDatabase → Place → Bool
+has_fitting_tag world (Row Layouts i) = if_there (is_tag_right world) (slice_get world.layouts i)
+has_fitting_tag world _ = true
+
+-- Functions agree with their bodies, variants with the lists of enums, closures with their expressions, and each `..` stands within its pattern.
+abbrev pub agrees : HirDatabase → Place → Bool
+agrees world (Row Functions i) = if_there (has_all_params world) (slice_get world.functions i)
+agrees world (Row Variants i) = if_at (is_in_place world) world.variants i
+agrees world (Row Closures i) = if_there (is_closure_row world) (slice_get world.closures i)
+agrees world (Node b Pats p) = in_body world b (λ body. if_there is_ellipsis_inside (slice_get body.pats p))
+agrees world _ = true
+
+-- what a row of the check asks at a place
+abbrev pub meets : CheckRow → HirDatabase → Place → Bool
+meets C1 world place = has_known_ids world place
+meets C2 world place = is_in_order world place
+meets C3 world place = has_enclosing_label world place
+meets C4 world place = is_resolved world place
+meets C5 world place = is_laid_out world place
+meets C6 world place = has_fitting_tag world place
+meets C7 world place = agrees world place
