@@ -260,9 +260,9 @@ computed_other op l r left right a h k e = rw (is_no_shift op h k) e
 
 -- ---- casts
 
-pub converted_signed : (bytes : List ℕ) (size : ℕ) (a : Answer) → (is_width (length bytes) && is_width size) ≡ true → a ≡ Computes (low_bytes size (number_of true bytes)) → a ≡ converted (Some Signed) size bytes
+pub converted_signed : (bytes : List ℕ) (size : ℕ) (z : ℤ) (a : Answer) → (is_width (length bytes) && is_width size) ≡ true → z ≡ number_of true bytes → a ≡ Computes (low_bytes size z) → a ≡ converted (Some Signed) size bytes
 unfolding converted is_signed
-converted_signed bytes size a widths same = rw widths same
+converted_signed bytes size z a widths is same = rw widths (same ∙ ap (λ n. Computes (low_bytes size n)) is)
 
 pub converted_unsigned : (kind : Kind) (bytes : List ℕ) (size n : ℕ) (a : Answer) → is_signed kind ≡ false → (is_width (length bytes) && is_width size) ≡ true → n ≡ value_of bytes → a ≡ Computes (low_digits size n) → a ≡ converted (Some kind) size bytes
 unfolding converted number_of

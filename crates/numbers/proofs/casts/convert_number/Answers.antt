@@ -11,8 +11,7 @@ pub returns-in-Signed-clause-answer : goal.returns-in-Signed-clause-answer
 returns-in-Signed-clause-answer c =
     let z = c.signed.result in
     let same = to_z-of_z w128 z (record { sfits = c.signed.type_inv }) in
-    let is = c.signed.ensures in
-    rw c.in-Signed.is (converted_signed c.args.bytes.now c.args.size _ (sym c.if-not-are_widths.ensures) (simp (same, is) at c.low_bytes.ensures.answer))
+    rw c.in-Signed.is (converted_signed c.args.bytes.now c.args.size z _ (sym c.if-not-are_widths.ensures) c.signed.ensures (simp same at c.low_bytes.ensures.answer))
 
 pub returns-in_default : goal.returns-in_default
 returns-in_default c =
