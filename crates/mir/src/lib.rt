@@ -13,6 +13,7 @@ mod errors;
 mod ids;
 mod mem_fault;
 mod operand;
+mod sizes;
 mod span;
 mod statement;
 mod switch;
@@ -26,7 +27,8 @@ pub use errors::{
 pub use ids::{BasicBlockId, LocalId};
 pub use mem_fault::MemFault;
 pub use numbers::Operator as BinOp;
-pub use operand::{Operand, OperandKind, Place, Rvalue, UnOp};
+pub use operand::{CastKind, Operand, OperandKind, Place, Rvalue, UnOp};
+pub use sizes::fixed_size;
 pub use span::MirSpan;
 pub use statement::{Statement, StatementKind};
 pub use switch::{SwitchIter, SwitchTargets};

@@ -10,6 +10,7 @@ use Rattle.world.specs.declared.body.Statement.{Statement}
 use Rattle.world.specs.declared.body.Statement.TheVariants as statement
 use Rattle.world.specs.declared.infer.ValueNs.{ValueNs}
 use Rattle.world.specs.declared.infer.ValueNs.TheVariants.{LocalBinding}
+use Rattle.world.specs.Checked.{fixed_size}
 use Rattle.world.specs.Lookups.{layout_of}
 use Rattle.numbers.specs.Bytes.{low_bytes}
 use Rattle.numbers.specs.declared.operator.Kind.{Kind}
@@ -65,16 +66,16 @@ pub record Value : Type 0 where
 abbrev pub value_of : Source → Store → Operand → Value
 value_of source store operand = record { kind = operand_kind source operand; bytes = operand_bytes store operand }
 
--- how many bytes the type of an expression itself has, where it has a layout
+-- how many bytes the type of an expression itself has, where it is an integer type, `bool` or `char`
 abbrev pub own_size : Source → ℕ → Option ℕ
-own_size source e = option_map (λ layout. layout.size) (own_layout source e)
+own_size source e = option_and_then fixed_size (own_type source e)
 
 -- a value converted to a type of a size
 abbrev pub converted_to : Option ℕ → Value → Answer
 converted_to (Some size) one = converted one.kind size one.bytes
 converted_to None one = Undefined
 
--- what an operation makes of its operands' values, where the expression that it is has a type of a size
+-- what an operation makes of its operands' values; `size`: that of the type of the expression that it is
 unfoldable pub answered : (size : Option ℕ) → Operation → List Value → Answer
 answered size Negate (one ∷ []) = negated one.kind one.bytes
 answered size Invert (one ∷ []) = inverted one.kind one.bytes
