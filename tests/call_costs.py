@@ -18,6 +18,7 @@ from dataclasses import dataclass, field
 
 ORIGIN = "tests/call_costs.py"
 NOT_BUILT = 'NotSupported("form not built")'
+UNDEFINED = 'NotSupported("comparison of this type")'
 DEFAULT_LIMITS = {"blocks": 10000000, "nesting": 100, "bytes": 1000000000}
 # How many bytes integers have by their names, and the others that casts are between.
 INTEGERS = {"8": 1, "16": 2, "32": 4, "64": 8, "128": 16, "size": 8}
@@ -142,15 +143,15 @@ def divided(left, right):
 
 
 def arithmetic(op, kind, left, right, right_kind):
-    """An arithmetic operator on bytes. A panic is an `OverflowError` with its operator."""
+    """An arithmetic operator on bytes. A panic is an `OverflowError` with its operator, and no row in the table a `LookupError`."""
     a, b, size = number_of(kind, left), number_of(right_kind, right), len(left)
-    if kind == "char":
-        raise Unknown("arithmetic on characters")
+    if "char" in (kind, right_kind):
+        raise LookupError("arithmetic on characters")
     if op in ("BitAnd", "BitOr", "BitXor"):
         made = {"BitAnd": lambda x, y: x & y, "BitOr": lambda x, y: x | y, "BitXor": lambda x, y: x ^ y}[op]
         return bytes(made(x, y) for x, y in zip(left, right))
     if kind == "bool":
-        raise Unknown("arithmetic on truth values")
+        raise LookupError("arithmetic on truth values")
     if op in ("Shl", "Shr"):
         if not 0 <= b < 8 * size:
             raise OverflowError(op)
@@ -692,7 +693,7 @@ class Run:
         given = self.value(frame, self.operand(frame, part["expr"]))
         kind = kind_of(self.operand_type(frame, part["expr"]))
         if kind == "char":
-            raise Unknown("an operator on one character")
+            raise Fault(UNDEFINED, frame.trail)
         if kind == "bool":
             made = bytes([given[0] ^ 1])
         elif part["op"] == "Not":
@@ -732,6 +733,8 @@ class Run:
             return arithmetic(op, kinds[0], left, right, kinds[1])
         except OverflowError as panic:
             raise Fault(f'Panic("Overflow in {panic}")', frame.trail) from None
+        except LookupError:
+            raise Fault(UNDEFINED, frame.trail) from None
 
     def compound(self, frame, part, op):
         """A compound assignment: once the right operand is evaluated, both are read, and the local is written."""
