@@ -11,8 +11,12 @@ mod closed;
 mod copies;
 mod errors;
 mod ids;
+mod interner;
 mod mem_fault;
 mod operand;
+mod projected_ty;
+mod projection;
+mod projection_store;
 mod span;
 mod statement;
 mod switch;
@@ -24,9 +28,12 @@ pub use errors::{
     ConstEvalError, LayoutError, MirEvalError, MirLowerError, TrailEntry, layout_error_of,
 };
 pub use ids::{BasicBlockId, LocalId};
+pub use interner::Interner;
 pub use mem_fault::MemFault;
 pub use numbers::Operator as BinOp;
 pub use operand::{Operand, OperandKind, Place, Rvalue, UnOp};
+pub use projection::{PlaceElem, ProjectionElem, ProjectionId};
+pub use projection_store::ProjectionStore;
 pub use span::MirSpan;
 pub use statement::{Statement, StatementKind};
 pub use switch::{SwitchIter, SwitchTargets};
