@@ -1,7 +1,8 @@
 -- A store keeps its law, and its map has the right ids, as a projection gets the next id.
 use mathlib.Core.Bool.{true≢false}
-use Rattle.std.proofs.Common.{◌≡◌, ℕ, ◌+◌, ◌-◌, ◌^◌, ◌<◌, ◌≤◌, ◌⊎◌, zero, suc, Bool, true, false, cond, List, [], ◌∷◌, ◌++◌, length, Option, Some, None, refl, sym, ◌∙◌, ap, subst, inl, inr, ⊎_elim, arith, length-append, lit≤}
+use Rattle.std.proofs.Common.{◌≡◌, ℕ, ◌+◌, ◌-◌, ◌^◌, ◌<◌, ◌≤◌, ◌⊎◌, zero, suc, Bool, true, false, cond, List, [], ◌∷◌, ◌++◌, length, get_or, take, Option, Some, None, refl, sym, ◌∙◌, ap, subst, inl, inr, ⊎_elim, arith, length-append, lit≤}
 use Rattle.std.proofs.lemmas.Bool.{cases_lt}
+use Rattle.std.proofs.lemmas.List.{length-take-le, take_more}
 use Rattle.std.proofs.lemmas.Option.{same_Some, slice_get_cases, slice_get_within}
 use Rattle.std.specs.BTreeMap.{is_at}
 use Rattle.std.specs.Cmp.Lexicographic.{slice_cmp}
@@ -125,3 +126,15 @@ pushed_law true now reserved pushed projection sought same is it none room =
     subst AreInterned (sym (is ∙ ap (λ (kept : List Projection). kept ++ projection ∷ []) same))
     (law_grows now.projections projection now.law (subst (λ (p : Projection). HasNoId now.projections p) it none) room)
 pushed_law false now reserved pushed projection sought same is it none room = subst AreInterned (sym (is ∙ same)) now.law
+
+-- A walk over all projections copies each into a list of those before it, and its place into a map of their ids.
+pub copied_more : (all : List Projection) (i : ℕ) (next copy : Projection) (so_far : List Projection) → so_far ≡ take i all → copy ≡ next → i < length all → next ≡ get_or all i next
+    → so_far ++ copy ∷ [] ≡ take (i + 1) all
+copied_more all i next copy so_far e same h is = (λ j. e j ++ same j ∷ []) ∙ ap (λ z. take i all ++ z ∷ []) is ∙ sym (take_more all i next h)
+
+pub ids_copied : (all : List Projection) (i : ℕ) (next : Projection) (before after : List (Projection × ProjectionId)) (key : Projection) (id : ProjectionId) → AreIds (take i all) before
+    → key ≡ next → id.0 ≡ i → i < length all → next ≡ get_or all i next
+    → ((other : Projection) → id_at after other ≡ cond (is_at (slice_cmp elem_cmp key) other) (Some id) (id_at before other)) → AreIds (take (i + 1) all) after
+ids_copied all i next before after key id right same e h is put =
+    subst (λ (kept : List Projection). AreIds kept after) (copied_more all i next next (take i all) refl refl h is)
+    (ids_grow (take i all) next before after key id right same (e ∙ sym (length-take-le i all (omega arith))) put)

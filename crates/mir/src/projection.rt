@@ -1,12 +1,5 @@
 //! Projections: the ways from a place to a place within it, or behind it.
 
-ghost use Rattle.std.specs.Prelude.{◌≡◌, List};
-ghost use Rattle.std.specs.Bool.{Decides};
-ghost use Rattle.std.specs.Cmp.Lexicographic.{slice_cmp};
-ghost use Rattle.std.specs.Ordering.{is_eq};
-ghost use Rattle.mir.specs.declared.ids.LocalId.{LocalId};
-ghost use Rattle.mir.specs.declared.projection.ProjectionElem.{ProjectionElem};
-
 use crate::LocalId;
 use either::Either;
 use std::alloc::Global;
@@ -84,10 +77,4 @@ impl<V: PartialEq + TryClone> TryClone for ProjectionElem<V> {
             ProjectionElem::OpaqueCast(ty) => Ok(ProjectionElem::OpaqueCast(ty.try_clone(alloc)?)),
         }
     }
-}
-
-/// Two projections tie exactly where they are the same.
-fn elements_decide()
-    ensures { (p q : List (ProjectionElem LocalId)) → Decides (is_eq (slice_cmp ⟦<ProjectionElem<LocalId> as Ord>⟧.cmp p q)) (p ≡ q) }
-{
 }
