@@ -1,6 +1,6 @@
 -- A store keeps its law, and its map has the right ids, as a projection gets the next id.
 use mathlib.Core.Bool.{true≢false}
-use Rattle.std.proofs.Common.{◌≡◌, ℕ, ◌+◌, ◌-◌, ◌^◌, ◌<◌, ◌≤◌, ◌⊎◌, zero, suc, Bool, true, false, cond, List, [], ◌∷◌, ◌++◌, length, get_or, take, Option, Some, None, refl, sym, ◌∙◌, ap, subst, inl, inr, ⊎_elim, arith, length-append, lit≤}
+use Rattle.std.proofs.Common.{◌≡◌, ℕ, ◌+◌, ◌<◌, ◌≤◌, ◌⊎◌, zero, suc, Bool, true, false, cond, List, [], ◌∷◌, ◌++◌, length, get_or, take, Option, Some, None, refl, sym, ◌∙◌, ap, subst, inl, inr, ⊎_elim, arith, length-append, lit≤}
 use Rattle.std.proofs.lemmas.Bool.{cases_lt}
 use Rattle.std.proofs.lemmas.List.{length-take-le, take_more}
 use Rattle.std.proofs.lemmas.Option.{same_Some, slice_get_cases, slice_get_within}
@@ -10,7 +10,7 @@ use Rattle.std.specs.Prelude.{IfNone, IfSome, slice_get}
 use Rattle.mir.specs.declared.projection.ProjectionId.{ProjectionId}
 use Rattle.mir.specs.Elements.{elem_cmp, projection_decides}
 use Rattle.mir.specs.ProjectionIds.{AreIds, id_at}
-use Rattle.mir.specs.Projections.{AreInterned, HasId, HasNoId, HasRoom, Interned, Projection, empty_id, projection_of}
+use Rattle.mir.specs.Projections.{AreInterned, HasNoId, HasRoom, Interned, Projection, empty_id, projection_of}
 
 module _ {X : Type 0} where
   get_front : (xs : List X) (y : X) (i : ℕ) → i < length xs → slice_get (xs ++ y ∷ []) i ≡ slice_get xs i

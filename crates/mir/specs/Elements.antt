@@ -1,16 +1,15 @@
 -- `==` and `cmp` tell two elements of projections apart exactly where they differ.
-use Rattle.std.specs.Prelude.{◌≡◌, ◌==◌, ◌&&◌, Bool, true, List, refl}
-use Rattle.std.proofs.Common.{ap, subst, sym, ◌∙◌}
+use Rattle.std.specs.Prelude.{◌≡◌, ◌==◌, Bool, true, List, refl}
+use Rattle.std.proofs.Common.{ap, subst}
 use Rattle.std.specs.Bool.{Decides}
 use Rattle.std.specs.Cmp.{IsEquivalence, booleans_Decides, unsigned_Decides}
-use Rattle.std.specs.Cmp.Lexicographic.{slice_cmp, pointwise, pointwise_decides, lists_ties}
+use Rattle.std.specs.Cmp.Lexicographic.{slice_cmp, pointwise_decides, lists_ties}
 use Rattle.std.specs.Ordering.{is_eq}
 use mathlib.Core.Bool.{beq}
 use Rattle.std.specs.declared.cmp.Ordering.{Ordering}
 use Rattle.either.specs.contracts.EitherPartialEq.TheImpl as EitherPartialEq
 use Rattle.either.specs.declared.Either.{Either}
 use Rattle.either.specs.declared.Either.TheVariants.{Left, Right}
-use Rattle.types.specs.Orders.{ty_eq}
 use Rattle.types.specs.SameScalars.{differ, both, enum_variant_same, struct_same, union_same}
 use Rattle.types.specs.SameType.{type_decides}
 use Rattle.types.specs.contracts.ids.FieldIdPartialEq.TheImpl as FieldIdPartialEq

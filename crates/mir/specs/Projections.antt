@@ -1,5 +1,5 @@
 -- The projections that an interner keeps: each has one id, which says where it stands among them.
-use Rattle.std.specs.Prelude.{◌≡◌, ◌≢◌, ℕ, ◌-◌, ◌^◌, ◌<◌, ◌≤◌, ◌⊎◌, List, [], ◌∷◌, ◌++◌, length, Option, Some, slice_get}
+use Rattle.std.specs.Prelude.{◌≡◌, ◌≢◌, ◌-◌, ◌^◌, ◌<◌, ◌≤◌, ◌⊎◌, List, [], ◌∷◌, ◌++◌, length, Option, Some, slice_get}
 use Rattle.mir.specs.declared.projection.ProjectionId.{ProjectionId}
 use Rattle.mir.specs.Elements.{PlaceElem}
 

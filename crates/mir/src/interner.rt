@@ -36,7 +36,11 @@ pub trait Interner {
         ensures { projection_of (projections self.now) id ≡ Some result.now };
 
     /// The id of the projection that an id stands for with one more element at its end.
-    fn project_in(&mut self, id: ProjectionId, projection: PlaceElem) -> Result<ProjectionId, NoMemory>
+    fn project_in(
+        &mut self,
+        id: ProjectionId,
+        projection: PlaceElem,
+    ) -> Result<ProjectionId, NoMemory>
         requires room { HasRoom (projections self.old) }
         requires known { HasId (projections self.old) id }
         ensures ok { IfOk result (λ made. IfSome (projection_of (projections self.old) id) (λ base. Interns (projections self.old) (projections self.new) (base ++ projection ∷ []) made)) }

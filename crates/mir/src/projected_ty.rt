@@ -21,7 +21,9 @@ use world::{
 impl<V: PartialEq> ProjectionElem<V> {
     /// The type of what the element leads to, from a place of type `base`; for what a closure captured, what `closure_field`
     /// answers. Where there is none, it is `Ty::Error`. An alias counts as the type that it stands for.
-    pub fn projected_ty<F: FnOnce(InternedClosureId, &GenericArgs, u32) -> Result<Ty, NoMemory> + Drop>(
+    pub fn projected_ty<
+        F: FnOnce(InternedClosureId, &GenericArgs, u32) -> Result<Ty, NoMemory> + Drop,
+    >(
         &self,
         alloc: Global,
         db: &HirDatabase,

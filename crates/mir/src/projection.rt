@@ -21,15 +21,9 @@ pub enum ProjectionElem<V: PartialEq> {
     /// The element of an array or a slice at an index.
     Index(V),
     /// The element at `offset`, counted from the end where `from_end` is set: the last one is then at 1.
-    ConstantIndex {
-        offset: u64,
-        from_end: bool,
-    },
+    ConstantIndex { offset: u64, from_end: bool },
     /// The elements without the first `from` and the last `to`.
-    Subslice {
-        from: u64,
-        to: u64,
-    },
+    Subslice { from: u64, to: u64 },
     /// The same place, seen at another type.
     OpaqueCast(Ty),
 }

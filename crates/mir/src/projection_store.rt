@@ -1,9 +1,8 @@
 //! A store of projections, which finds their ids by an ordered map.
 
-ghost use Rattle.std.specs.Prelude.{◌≡◌, ◌↔◌, ◌∷◌, ◌++◌, [], Some, length, IfNone, IfOk, IfSome, IsTrue, OnErr, OnOk, slice_get};
+ghost use Rattle.std.specs.Prelude.{◌≡◌, ◌↔◌, ◌∷◌, ◌++◌, [], Some, length, IfNone, IfOk, IfSome, IsTrue, OnErr};
 ghost use Rattle.std.specs.BTreeMap.Comparable.{le_lt_trans};
 ghost use Rattle.std.specs.Cmp.Lexicographic.{slice_cmp, lists_total};
-ghost use Rattle.std.specs.Option.{option_copied};
 ghost use Rattle.mir.specs.Projections.{AreInterned, HasId, HasNoId, HasRoom, Interns, empty_id, projection_of};
 ghost use Rattle.mir.specs.ProjectionCodes.{interned_prop};
 
@@ -194,7 +193,11 @@ impl Interner for ProjectionStore {
         self.list(id).as_slice()
     }
 
-    fn project_in(&mut self, id: ProjectionId, projection: PlaceElem) -> Result<ProjectionId, NoMemory> {
+    fn project_in(
+        &mut self,
+        id: ProjectionId,
+        projection: PlaceElem,
+    ) -> Result<ProjectionId, NoMemory> {
         let mut longer = self.list(id).try_clone(*self.projections.allocator())?;
         longer.push(projection)?;
         ProjectionStore::intern(self, longer)

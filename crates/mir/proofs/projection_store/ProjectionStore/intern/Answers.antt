@@ -9,7 +9,7 @@ use Rattle.mir.proofs.projection_store.ProjectionStore.intern.Goals as goal
 pub invariant_of-self-inside-2 : goal.invariant_of-self-inside-2
 invariant_of-self-inside-2 c = (
   pushed_law (is_ok c.push.result) c.args.self.now c.reserve.new.self.items c.push.new.self.items c.args.projection c.as_slice.result.now
-  (c.in_ok-reserve.ensures.items ∙ ap (λ (v : Interned). v.projections) c.self.view_is) c.push.ensures.items c.as_slice.ensures c.in_default.ensures.none c.requires,
+      (c.in_ok-reserve.ensures.items ∙ ap (λ (v : Interned). v.projections) c.self.view_is) c.push.ensures.items c.as_slice.ensures c.in_default.ensures.none c.requires,
   tt,
 )
 
