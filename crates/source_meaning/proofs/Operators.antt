@@ -66,7 +66,6 @@ allowed_on_number op _ on_booleans compares number = absurd number
 
 -- and then the number of them is one that an integer type has
 pub length_is_width : (ty : Ty) (size : ℕ) → IsNumber ty → IsLengthOf ty size → is_width size ≡ true
-unfolding is_width
 length_is_width BoolTy size number long = ap is_width long
 length_is_width (IntTy ty) size number long = long
 length_is_width (UintTy ty) size number long = long

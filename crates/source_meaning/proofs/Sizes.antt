@@ -548,7 +548,7 @@ module _ (source : Source) (checked : IsChecked source.world) where
     unfolding answered
     combined_is_sound targets op assigned value given store plain laid sized fits =
         let own = laid plain.binding.0 plain.ty plain.binding_has in
-        let cell = record { cell = Binding plain.binding.0 } in
+        let cell : Path = record { cell = Binding plain.binding.0 } in
         subst (λ target. IsSound source targets Nothing (combine_into source op target given store)) (sym plain.names)
         (put_answer_is_sound source targets store cell _ sized
         (subst (λ size. Fits size (answered None (Combine op) (value_of source store (At cell) ∷ value_of source store given ∷ []))) (sym (ap (size_at source) plain.binding_has))
