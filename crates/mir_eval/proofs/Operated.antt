@@ -47,3 +47,12 @@ unbuilt-cast kind bytes None more = refl
 pub cast-wide : (to : Ty) (from : Option Ty) (first : Option (List ℕ)) (bytes : List ℕ) → first ≡ Some bytes → 16 < length bytes → cast_to to from first ≡ Err (error.NotSupported (codes "comparison of this type"))
 unfolding cast_to
 cast-wide to from first bytes f more = ap (cast_to to from) f ∙ unbuilt-cast (option_and_then kind_of from) bytes (fixed_size to) more
+
+-- to a type whose size isn't the same on all targets
+pub cast-unbuilt : (to : Ty) (from : Option Ty) (first : Option (List ℕ)) (bytes : List ℕ) → first ≡ Some bytes → fixed_size to ≡ None → cast_to to from first ≡ Err (error.NotSupported (codes "comparison of this type"))
+unfolding cast_to answered
+cast-unbuilt to from first bytes f none =
+    ap (cast_to to from) f
+    ∙ ap (λ (size : Option ℕ). of-size size) none where
+  of-size : Option ℕ → Result (List ℕ) MirEvalError
+  of-size size = elim size [ Some count ↦ answered (converted (option_and_then kind_of from) count bytes) | None ↦ answered Undefined ]
