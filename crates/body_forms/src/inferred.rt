@@ -12,9 +12,9 @@ ghost use Rattle.body_forms.specs.Copies.{HasCopyTypes};
 ghost use Rattle.body_forms.specs.Listed.{HasListed};
 
 use crate::context::Context;
+use numbers::Kind;
 use std::alloc::Global;
 use std::collections::BTreeSet;
-use numbers::Kind;
 use world::{
     Adjust, Adjustment, Body, ExprId, HirDatabase, InferenceResult, List, NoMemory, TryClone, Ty,
 };

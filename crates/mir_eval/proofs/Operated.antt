@@ -54,5 +54,5 @@ unfolding cast_to answered
 cast-unbuilt to from first bytes f none =
     ap (cast_to to from) f
     ∙ ap (λ (size : Option ℕ). of-size size) none where
-  of-size : Option ℕ → Result (List ℕ) MirEvalError
-  of-size size = elim size [ Some count ↦ answered (converted (option_and_then kind_of from) count bytes) | None ↦ answered Undefined ]
+      of-size : Option ℕ → Result (List ℕ) MirEvalError
+      of-size size = elim size [ Some count ↦ answered (converted (option_and_then kind_of from) count bytes) | None ↦ answered Undefined ]

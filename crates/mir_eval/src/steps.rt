@@ -15,8 +15,8 @@ use crate::frames::StackFrame;
 use crate::pieces::{gather, whole};
 use crate::words::unsigned;
 use mir::{
-    BasicBlockId, BinOp, CastKind, Interval, OperandKind, Rvalue, StatementKind, SwitchTargets, Terminator,
-    TerminatorKind, UnOp, fixed_size,
+    BasicBlockId, BinOp, CastKind, Interval, OperandKind, Rvalue, StatementKind, SwitchTargets,
+    Terminator, TerminatorKind, UnOp, fixed_size,
 };
 use mir_mem::{Memory, View};
 use mir_rows::{constant_bytes, operand_kind};

@@ -33,7 +33,9 @@ use body_forms::{
     Context, Form, LiteralValue, diverges, form_at, form_not_built, literal_at, lower_callee,
     lower_literal, method_args, own_ty, path_at,
 };
-use mir::{BinOp, CastKind, LocalId, MirLowerError, MirSpan, Operand, OperandKind, Place, Rvalue, UnOp};
+use mir::{
+    BinOp, CastKind, LocalId, MirLowerError, MirSpan, Operand, OperandKind, Place, Rvalue, UnOp,
+};
 use world::{ExprId, LabelId, List, LogicOp, PatId, Statement, Text, TryClone};
 
 /// A place as an operand.
@@ -47,11 +49,7 @@ fn copied(place: Place, e: ExprId) -> Operand
 }
 
 /// A number converted to the type of the cast that an expression is.
-fn converted(
-    context: &Context<'_>,
-    e: ExprId,
-    value: Operand,
-) -> Result<Rvalue, MirLowerError>
+fn converted(context: &Context<'_>, e: ExprId, value: Operand) -> Result<Rvalue, MirLowerError>
     requires checked { IsCheckedBody context.now.body.now context.now.infer.now }
     requires within { e.0 < length context.now.body.now.exprs }
     ensures made { IfOk result (λ rvalue. IsConversion (source_of context.now) e.0 value rvalue) }

@@ -1,7 +1,7 @@
 //! Projections: the ways from a place to a place within it, or behind it.
 
-use mir::LocalId;
 use either::Either;
+use mir::LocalId;
 use std::alloc::Global;
 use world::{FieldId, NoMemory, TryClone, TupleFieldId, Ty};
 
