@@ -8,3 +8,4 @@ pub mod AllMet
 pub mod Sorts
 pub mod Walks
 pub mod CheckedFacts
+pub mod Laid

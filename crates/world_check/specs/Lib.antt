@@ -4,3 +4,4 @@ pub mod Meets
 pub mod Walks
 pub mod Valid
 pub mod Rows
+pub mod Laid
