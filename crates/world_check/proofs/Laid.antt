@@ -1,5 +1,5 @@
 -- The layouts of a world in which each row of the check holds.
-use Rattle.std.proofs.Common.{◌≡◌, ℕ, zero, suc, ◌+◌, ◌-◌, ◌*◌, ◌^◌, ◌&&◌, ◌<◌, ◌≤◌, Bool, true, false, cond, eqb, ltb, leb, Option, Some, None, List, [], ◌∷◌, ◌++◌, length, map, take, slice_get, is_some, IfSome, refl, sym, ◌∙◌, ap, subst, arith, rules}
+use Rattle.std.proofs.Common.{◌≡◌, ℕ, zero, suc, ◌+◌, ◌-◌, ◌*◌, ◌&&◌, ◌<◌, ◌≤◌, Bool, true, false, cond, eqb, ltb, leb, Option, Some, None, List, [], ◌∷◌, length, map, take, slice_get, is_some, IfSome, refl, sym, ◌∙◌, ap, subst, arith, rules}
 use Rattle.std.proofs.lemmas.Bool.Decides.{nat_tests}
 use Rattle.std.proofs.lemmas.List.{length-map}
 use Rattle.std.proofs.lemmas.List.Folds.{list_all-append}
@@ -34,7 +34,7 @@ use Rattle.world.specs.declared.layout.Variants.TheVariants.{Empty, Single, Mult
 use Rattle.check_layouts.specs.Fields.{Placed, are_inside, captures_at, field_layout, fields_of_variant, has_offset_each, is_inside, is_placed_inside, placed_captures, placed_fields, placed_of, placed_of_each, placed_of_enum, types_at, unplaced_fields, unplaced_of_each, variants_of}
 use Rattle.check_layouts.specs.Layouts.{are_parts_right, is_layout_right, is_size_right, is_tag_inside, is_tag_size}
 use Rattle.check_layouts.specs.Sizes.{is_array_size, is_product, layout_above, number_of}
-use Rattle.check_layouts.specs.Tags.{is_enum_tag_right, is_multiple_right, is_niche_right, is_tag_right, tag_values}
+use Rattle.check_layouts.specs.Tags.{is_enum_tag_right, is_niche_right, is_tag_right, tag_values}
 use Rattle.check_names.specs.Known.{is_ty_closed}
 use Rattle.world_check.specs.Laid.{AreCaptured, AreElements, AreInside, AreLaidOut, HasLayout, IsLaidOut, IsNiche, IsTag, LiesInside, capture_type, field_type, offsets_among, variant_fields, variant_offsets}
 use Rattle.world_check.specs.Meets.{if_there}

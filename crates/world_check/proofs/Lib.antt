@@ -9,3 +9,6 @@ pub mod Sorts
 pub mod Walks
 pub mod CheckedFacts
 pub mod Laid
+pub mod InOrder
+pub mod Decided
+pub mod FirstFault

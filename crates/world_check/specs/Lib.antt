@@ -1,6 +1,8 @@
 pub mod Places
 pub mod WorldPlaces
+pub mod Trees
 pub mod Meets
+pub mod Tests
 pub mod Walks
 pub mod Valid
 pub mod Rows
