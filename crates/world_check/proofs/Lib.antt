@@ -11,4 +11,5 @@ pub mod CheckedFacts
 pub mod Laid
 pub mod InOrder
 pub mod Decided
+pub mod TypeIds
 pub mod FirstFault

@@ -7,3 +7,4 @@ pub mod Walks
 pub mod Valid
 pub mod Rows
 pub mod Laid
+pub mod TypeIds
