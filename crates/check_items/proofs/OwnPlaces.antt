@@ -142,13 +142,14 @@ variant_decides world v row = (asked, tested)
   where
     asked : is_in_place world v row ≡ true → IsListedRight world v row
     asked h e i =
-        let parts = both (is_listed world v row) (has_own_places world v row) h in
-        (λ at.
-            let found = found_at world.enums e i v at in
-            let start : 0 + e ≡ e = omega arith in
-            let here = one_place (is_right_for v row) 0 e i world.enums found.0 found.1 parts.1 found.2 found.3 in
-            right_at v row (place_of found.1.0 e i) (ap (λ p. is_right_for v row (place_of found.1.0 p i)) (sym start) ∙ here) found.4,
-        λ at. ap (λ p. in_enums world.enums p i) at.0 ∙ ap (in_enums world.enums row.parent.0) at.1 ∙ listed_is world v row parts.0)
+        let parts = both (is_listed world v row) (has_own_places world v row) h in (
+          λ at.
+              let found = found_at world.enums e i v at in
+              let start : 0 + e ≡ e = omega arith in
+              let here = one_place (is_right_for v row) 0 e i world.enums found.0 found.1 parts.1 found.2 found.3 in
+              right_at v row (place_of found.1.0 e i) (ap (λ p. is_right_for v row (place_of found.1.0 p i)) (sym start) ∙ here) found.4,
+          λ at. ap (λ p. in_enums world.enums p i) at.0 ∙ ap (in_enums world.enums row.parent.0) at.1 ∙ listed_is world v row parts.0,
+        )
 
     tested : IsListedRight world v row → is_in_place world v row ≡ true
     tested h =
@@ -156,6 +157,6 @@ variant_decides world v row = (asked, tested)
         (is_listed_at world v row ((h row.parent.0 row.index).1 (refl, refl)))
         (all_places (is_right_for v row) 0 world.enums
         (λ e i found id at_row at.
-            let start : 0 + e ≡ e = omega arith in
-            ap (λ p. is_right_for v row (place_of id.0 p i)) start
-            ∙ at_right v row (place_of id.0 e i) (λ same. (h e i).0 (at_found world.enums e i found id at_row at ∙ ap Some same))))
+        let start : 0 + e ≡ e = omega arith in
+        ap (λ p. is_right_for v row (place_of id.0 p i)) start
+        ∙ at_right v row (place_of id.0 e i) (λ same. (h e i).0 (at_found world.enums e i found id at_row at ∙ ap Some same))))

@@ -1,15 +1,16 @@
 -- The tests of a body's nodes decide what the check asks of them.
-use Rattle.std.proofs.Common.{◌≡◌, ℕ, zero, suc, ◌&&◌, ◌||◌, ◌<◌, ◌≤◌, Bool, true, false, cond, not, ltb, Option, Some, None, List, [], ◌∷◌, ◌++◌, map, slice_get, Decides, ◌⊎◌, inl, inr, true≢false, refl, sym, ◌∙◌, ap, subst, arith}
+use Rattle.std.proofs.Common.{◌≡◌, ℕ, zero, suc, ◌+◌, ◌&&◌, ◌||◌, ◌<◌, ◌≤◌, Bool, true, false, cond, not, eqb, ltb, Option, Some, None, List, [], ◌∷◌, ◌++◌, map, slice_get, Decides, ◌⊎◌, inl, inr, true≢false, refl, sym, ◌∙◌, ap, subst, arith}
 use Rattle.std.proofs.lemmas.Bool.{cases_lt}
 use Rattle.std.proofs.lemmas.Bool.Decides.{nat_tests}
 use Rattle.std.specs.List.{list_all, list_any}
+use Rattle.std.specs.Map.{lookup}
 use Rattle.types.specs.declared.ids.LabelId.{LabelId}
 use Rattle.world.specs.Nodes.{children_of, inner_exprs_of, jump_label, patterns_of, subpatterns_of}
 use Rattle.world.specs.declared.body.Body.{Body}
 use Rattle.world.specs.declared.expr.Expr.{Expr as Expression}
 use Rattle.world.specs.declared.pat.Pat.{Pat as Pattern}
-use Rattle.check_trees.specs.Jumps.{by_holder, is_enclosed, is_jump_inside, is_labelled, names_enclosing}
-use Rattle.check_trees.specs.Tree.{has_one_holder, has_path, held_by, held_by_pat, held_by_expr, holder_of, inner_exprs_at, inner_exprs_in, is_expr_in_order, is_pat_in_order, is_shallow, is_top, stands_inside, subpatterns_at, subpatterns_in}
+use Rattle.check_trees.specs.Jumps.{by_holder, has_label, is_enclosed, is_jump_inside, is_labelled, names_enclosing}
+use Rattle.check_trees.specs.Tree.{has_one_holder, has_path, held_by, held_by_pat, held_by_expr, holder_of, inner_exprs_at, inner_exprs_in, is_expr_in_order, is_pat_in_order, is_shallow, is_top, pairs_of_exprs, pairs_of_pats, same_node, stands_inside, subpatterns_at, subpatterns_in, with_holder}
 use Rattle.check_trees.specs.declared.node.BodyNode.{BodyNode}
 use Rattle.check_trees.specs.declared.node.BodyNode.TheVariants.{Expr, Pat}
 use Rattle.world_check.specs.Trees.{Has, IsAbove, IsEnclosed, IsExprInOrder, IsJumpInside, IsPatInOrder, IsPath, IsShallow, StandsInside}
@@ -17,6 +18,9 @@ use Rattle.world_check.proofs.Passing.{both}
 
 is_below : (m n : ℕ) → ltb m n ≡ true → m < n
 is_below m n e = grind (arith, nat_tests)
+
+equal : (m n : ℕ) → eqb m n ≡ true → m ≡ n
+equal m n e = grind (arith, nat_tests)
 
 below_is : (m n : ℕ) → m < n → ltb m n ≡ true
 below_is m n h = grind (arith, nat_tests)
@@ -78,6 +82,10 @@ path-zero body node last e = e
 path-suc : (body : Body) (steps : ℕ) (node next last : BodyNode) → Has (held_by body node) next → IsPath body steps next last → IsPath body (suc steps) node last
 unfolding IsPath
 path-suc body steps node next last at rest = (next, at, rest)
+
+path_end : (body : Body) (node last : BodyNode) → IsPath body zero node last → node ≡ last
+unfolding IsPath
+path_end body node last path = path
 
 path_step : (body : Body) (steps : ℕ) (node last : BodyNode) → IsPath body (suc steps) node last → (next : BodyNode) × Has (held_by body node) next × IsPath body steps next last
 unfolding IsPath
@@ -358,3 +366,93 @@ jump_decides body e node = by (jump_label node) refl
 
         tested : ((other : LabelId) → jump_label node ≡ Some other → IsEnclosed body other (Expr e)) → is_enclosed body label 401 (Expr e) ≡ true
         tested h = let around = h label is in found_above body label 401 around.steps (Expr e) around.above around.few around.way around.labelled
+
+-- In a tree every way up is short: it is a path down.
+
+same_is : (a b : BodyNode) → same_node a b ≡ true → a ≡ b
+same_is (Expr a) (Expr b) e = ap Expr (equal a b e)
+same_is (Pat a) (Pat b) e = ap Pat (equal a b e)
+same_is (Expr a) (Pat b) e = cc
+same_is (Pat a) (Expr b) e = cc
+
+abbrev Holding : BodyNode → List BodyNode → BodyNode → BodyNode → List (BodyNode × BodyNode) → Type 0
+Holding node children owner holder more = (Has children node × (owner ≡ holder)) ⊎ (lookup (same_node node) more ≡ Some holder)
+
+-- a look-up among the children of one node, then among others
+looked_up : (node owner holder : BodyNode) (children : List BodyNode) (more : List (BodyNode × BodyNode)) → lookup (same_node node) (with_holder owner children ++ more) ≡ Some holder → Holding node children owner holder more
+looked_up node owner holder [] more e = inr e
+looked_up node owner holder (child ∷ children) more e = by (same_node node child) refl e (λ later. looked_up node owner holder children more later)
+  where
+    deeper : Holding node children owner holder more → Holding node (child ∷ children) owner holder more
+    deeper (inl here) = inl ((suc here.0.0, here.0.1), here.1)
+    deeper (inr later) = inr later
+
+    by : (b : Bool) → same_node node child ≡ b → cond b (Some owner) (lookup (same_node node) (with_holder owner children ++ more)) ≡ Some holder → (lookup (same_node node) (with_holder owner children ++ more) ≡ Some holder → Holding node children owner holder more) → Holding node (child ∷ children) owner holder more
+    by true same here further = let is : owner ≡ holder = cc in inl ((zero, ap Some (sym (same_is node child same))), is)
+    by false other later further = deeper (further later)
+
+in_pats : (body : Body) (node holder : BodyNode) (i : ℕ) (pats : List Pattern) → ((k : ℕ) (p : Pattern) → slice_get pats k ≡ Some p → slice_get body.pats (i + k) ≡ Some p) → lookup (same_node node) (pairs_of_pats i pats) ≡ Some holder → Has (held_by body holder) node
+in_pats body node holder i [] fits e = cc
+in_pats body node holder i (p ∷ pats) fits e = by (looked_up node (Pat i) holder (held_by_pat (Some p)) (pairs_of_pats (i + 1) pats) e) (λ later. in_pats body node holder (i + 1) pats next later)
+  where
+    next : (k : ℕ) (q : Pattern) → slice_get pats k ≡ Some q → slice_get body.pats (i + 1 + k) ≡ Some q
+    next k q at = let step : i + 1 + k ≡ i + suc k = omega arith in ap (slice_get body.pats) step ∙ fits (suc k) q at
+
+    here : slice_get body.pats i ≡ Some p
+    here = let start : i ≡ i + zero = omega arith in ap (slice_get body.pats) start ∙ fits zero p refl
+
+    by : Holding node (held_by_pat (Some p)) (Pat i) holder (pairs_of_pats (i + 1) pats) → (lookup (same_node node) (pairs_of_pats (i + 1) pats) ≡ Some holder → Has (held_by body holder) node) → Has (held_by body holder) node
+    by (inl found) further = subst (λ h. Has (held_by body h) node) found.1 (subst (λ q. Has (held_by_pat q) node) (sym here) found.0)
+    by (inr later) further = further later
+
+joined : (xs ys zs : List (BodyNode × BodyNode)) → (xs ++ ys) ++ zs ≡ xs ++ (ys ++ zs)
+joined [] ys zs = refl
+joined (x ∷ xs) ys zs = ap (λ l. x ∷ l) (joined xs ys zs)
+
+in_exprs : (body : Body) (node holder : BodyNode) (i : ℕ) (exprs : List Expression) (more : List (BodyNode × BodyNode)) → ((k : ℕ) (e : Expression) → slice_get exprs k ≡ Some e → slice_get body.exprs (i + k) ≡ Some e) → (lookup (same_node node) more ≡ Some holder → Has (held_by body holder) node) → lookup (same_node node) (pairs_of_exprs i exprs ++ more) ≡ Some holder → Has (held_by body holder) node
+in_exprs body node holder i [] more fits others e = others e
+in_exprs body node holder i (x ∷ exprs) more fits others e =
+    by (looked_up node (Expr i) holder (held_by_expr (Some x)) (pairs_of_exprs (i + 1) exprs ++ more) (sym (ap (lookup (same_node node)) (joined (with_holder (Expr i) (held_by_expr (Some x))) (pairs_of_exprs (i + 1) exprs) more)) ∙ e))
+    (λ later. in_exprs body node holder (i + 1) exprs more next others later)
+  where
+    next : (k : ℕ) (y : Expression) → slice_get exprs k ≡ Some y → slice_get body.exprs (i + 1 + k) ≡ Some y
+    next k y at = let step : i + 1 + k ≡ i + suc k = omega arith in ap (slice_get body.exprs) step ∙ fits (suc k) y at
+
+    here : slice_get body.exprs i ≡ Some x
+    here = let start : i ≡ i + zero = omega arith in ap (slice_get body.exprs) start ∙ fits zero x refl
+
+    by : Holding node (held_by_expr (Some x)) (Expr i) holder (pairs_of_exprs (i + 1) exprs ++ more) → (lookup (same_node node) (pairs_of_exprs (i + 1) exprs ++ more) ≡ Some holder → Has (held_by body holder) node) → Has (held_by body holder) node
+    by (inl found) further = subst (λ h. Has (held_by body h) node) found.1 (subst (λ y. Has (held_by_expr y) node) (sym here) found.0)
+    by (inr later) further = further later
+
+-- the first parent of a node holds it
+parent_holds : (body : Body) (node holder : BodyNode) → holder_of body node ≡ Some holder → Has (held_by body holder) node
+parent_holds body node holder e =
+    in_exprs body node holder 0 body.exprs (pairs_of_pats 0 body.pats)
+    (λ k x at. let start : 0 + k ≡ k = omega arith in ap (slice_get body.exprs) start ∙ at)
+    (λ later. in_pats body node holder 0 body.pats (λ k x at. let start : 0 + k ≡ k = omega arith in ap (slice_get body.pats) start ∙ at) later)
+    e
+
+path_then : (body : Body) (n : ℕ) (node last next : BodyNode) → IsPath body n node last → Has (held_by body last) next → IsPath body (suc n) node next
+path_then body zero node last next path at =
+    path-suc body zero node next next (subst (λ x. Has (held_by body x) next) (sym (path_end body node last path)) at) (path-zero body next next refl)
+path_then body (suc n) node last next path at =
+    let step = path_step body n node last path in
+    path-suc body (suc n) node step.0 next step.1 (path_then body n step.0 last next step.2 at)
+
+down_again : (body : Body) (n : ℕ) (node above : BodyNode) → IsAbove body n node above → IsPath body n above node
+down_again body zero node above way = path-zero body above node (sym (above_same body node above way))
+down_again body (suc n) node above way =
+    let step = above_step body n node above way in
+    path_then body n above step.1.0 node (down_again body n step.1.0 above step.1.2) (parent_holds body node step.1.0 step.1.1)
+
+-- where no long path leads down from any expression, a label encloses a node however far up it stands
+pub enclosed_anywhere : (body : Body) (label : LabelId) (steps : ℕ) (node above : BodyNode) → ((e : ℕ) (found : Expression) → slice_get body.exprs e ≡ Some found → IsShallow body (Expr e)) → IsAbove body (suc steps) node above → is_labelled body label above ≡ true → IsEnclosed body label node
+enclosed_anywhere body label steps node (Pat p) shallow way named = cc
+enclosed_anywhere body label steps node (Expr e) shallow way named = by (slice_get body.exprs e) refl named
+  where
+    by : (found : Option Expression) → slice_get body.exprs e ≡ found → has_label label found ≡ true → IsEnclosed body label node
+    by None at h = cc
+    by (Some found) at h =
+        let low = shallow e found at (suc steps) node (down_again body (suc steps) node (Expr e) way) in
+        record { steps = steps; above = Expr e; few = omega arith; way = way; labelled = named }

@@ -13,3 +13,4 @@ pub mod InOrder
 pub mod Decided
 pub mod TypeIds
 pub mod FirstFault
+pub mod RightBody
