@@ -1,7 +1,7 @@
 -- Rows that agree with others: functions with their bodies, variants with their enums, closures with their expressions.
-use Rattle.std.specs.Prelude.{ℕ, ◌+◌, ◌==◌, ◌&&◌, ◌||◌, Bool, true, false, not, List, [], ◌∷◌, ◌++◌, length, Option, Some, None, slice_get}
+use Rattle.std.specs.Prelude.{◌≡◌, ◌↔◌, ℕ, ◌+◌, ◌==◌, ◌&&◌, ◌||◌, Bool, true, false, not, List, [], ◌∷◌, ◌++◌, length, Option, Some, None, slice_get}
 use Rattle.std.specs.List.{list_all}
-use Rattle.std.specs.Option.{option_and_then}
+use Rattle.std.specs.Option.{option_and_then, option_map}
 use Rattle.types.specs.declared.ids.BindingId.{BindingId}
 use Rattle.types.specs.declared.ids.EnumVariantId.{EnumVariantId}
 use Rattle.world.specs.declared.closures.ClosureRow.{ClosureRow}
@@ -34,6 +34,14 @@ has_all_params world row = has_params (length row.sig.params) (option_and_then (
 abbrev pub is_variant : Option EnumVariantId → ℕ → Bool
 is_variant None v = false
 is_variant (Some id) v = id.0 == v
+
+-- the id of the variant at index `i` in the list of enum `e`
+abbrev pub listed_at : HirDatabase → ℕ → ℕ → Option ℕ
+listed_at world e i = option_and_then (λ (row : EnumRow). option_map (λ (id : EnumVariantId). id.0) (slice_get row.variants i)) (slice_get world.enums e)
+
+-- variant `v` stands at an index of an enum's list exactly where its row has this enum and this index
+abbrev pub IsListedRight : HirDatabase → ℕ → VariantRow → Type 0
+IsListedRight world v row = (e i : ℕ) → (listed_at world e i ≡ Some v) ↔ ((e ≡ row.parent.0) × (i ≡ row.index))
 
 -- the variant with the id `v` stands at its index in the list of its enum
 abbrev pub is_listed : HirDatabase → ℕ → VariantRow → Bool

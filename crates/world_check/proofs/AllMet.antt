@@ -6,8 +6,9 @@ use Rattle.std.specs.Option.{is_some}
 use Rattle.world.specs.declared.body.Body.{Body}
 use Rattle.world.specs.declared.database.BodyRow.{BodyRow}
 use Rattle.world.specs.declared.database.HirDatabase.{HirDatabase}
-use Rattle.world_check.specs.Meets.{if_there, meets}
+use Rattle.world_check.specs.Meets.{if_there}
 use Rattle.world_check.specs.Rows.{failing_place}
+use Rattle.world_check.specs.Tests.{meets}
 use Rattle.world_check.specs.WorldPlaces.{named_functions, numbered, of_adts, of_bodies, of_body, of_code, of_items, of_keyed_rows, of_names, of_nodes, of_table, places}
 use Rattle.world_check.specs.declared.fault.CheckRow.{CheckRow}
 use Rattle.world_check.specs.declared.fault.CheckRow.TheVariants.{C1, C2, C3, C4, C5, C6, C7}

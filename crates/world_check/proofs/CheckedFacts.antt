@@ -34,6 +34,7 @@ use Rattle.world_check.specs.declared.place.Place.TheVariants.{Row, Table}
 use Rattle.world_check.specs.declared.place.TableName.{TableName}
 use Rattle.world_check.specs.declared.place.TableName.TheVariants.{Bodies, Consts, Layouts}
 use Rattle.world_check.proofs.AllMet.{all_met}
+use Rattle.world_check.proofs.Decided.{meets_decides}
 use Rattle.world_check.proofs.FoundIds.{id_found}
 use Rattle.world_check.proofs.FoundPlaces.{layout_found, tree_found}
 use Rattle.world_check.proofs.Passing.{all_at, all_pass, both, found_none_at, neither, not_mapped, passes_at, within_table}
@@ -181,7 +182,7 @@ Holds-from_passes world e =
     let sixth = row_passes C6 (failing_place C6 world) (first_failure_among (C7 ∷ []) world) fifth.1 in
     let seventh = row_passes C7 (failing_place C7 world) None sixth.1 in
     let at = by_row world first.0 second.0 third.0 fourth.0 fifth.0 sixth.0 seventh.0 in
-    record { met = λ row. all_met row world (at row); at = at }
+    record { met = λ row place. (meets_decides row world place).0 (all_met row world (at row) place); at = at }
 
 -- each row of a table without a wrong row passes the test
 named_rows : {X : Type 0} (table : TableName) (test : X → Bool) (rows : List X) → wrong_table table test rows ≡ None → (i : ℕ) (row : X) → slice_get rows i ≡ Some row → test row ≡ true

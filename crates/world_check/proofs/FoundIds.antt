@@ -11,7 +11,8 @@ use Rattle.check_ids.specs.declared.part.BodyPart.{BodyPart}
 use Rattle.check_ids.specs.declared.part.BodyPart.TheVariants as part
 use Rattle.check_items.specs.Names.{is_closure_named, is_const_impl_named, is_const_named, is_const_param_named, is_enum_named, is_function_known, is_function_named, is_impl_named, is_layout_named, is_normal_named, is_static_named, is_struct_named, is_variant_named}
 use Rattle.world_check.specs.Meets as asked
-use Rattle.world_check.specs.Meets.{is_typed_body_known, is_list_nameable, is_node_known, meets}
+use Rattle.world_check.specs.Meets.{is_typed_body_known, is_list_nameable, is_node_known}
+use Rattle.world_check.specs.Tests.{meets}
 use Rattle.world_check.specs.Rows.{failing_place}
 use Rattle.world_check.specs.Walks as walk
 use Rattle.world_check.specs.Walks.{part_place, wrong_adt, wrong_body, wrong_id, wrong_item, wrong_keyed_row, wrong_part_in, wrong_table, wrong_trait_or_param}

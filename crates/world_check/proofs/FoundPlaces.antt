@@ -14,8 +14,9 @@ use Rattle.check_trees.specs.Ellipsis.{is_ellipsis_inside}
 use Rattle.check_trees.specs.Jumps.{is_jump_inside}
 use Rattle.check_trees.specs.Tree.{is_expr_in_order, is_pat_in_order}
 use Rattle.check_trees.specs.declared.node.BodyNode.TheVariants as node
-use Rattle.world_check.specs.Meets.{if_at, if_there, meets}
+use Rattle.world_check.specs.Meets.{if_at, if_there}
 use Rattle.world_check.specs.Rows.{failing_place}
+use Rattle.world_check.specs.Tests.{meets}
 use Rattle.world_check.specs.Walks.{first_found, node_place, wrong_agreement, wrong_ellipsis_in, wrong_jump_in, wrong_label, wrong_layout, wrong_node_in, wrong_resolution, wrong_row, wrong_tag, wrong_tree}
 use Rattle.world_check.specs.WorldPlaces.{of_body}
 use Rattle.world_check.specs.declared.fault.CheckRow.TheVariants.{C2, C3, C4, C5, C6, C7}

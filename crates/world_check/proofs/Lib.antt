@@ -8,3 +8,9 @@ pub mod AllMet
 pub mod Sorts
 pub mod Walks
 pub mod CheckedFacts
+pub mod Laid
+pub mod InOrder
+pub mod Decided
+pub mod TypeIds
+pub mod FirstFault
+pub mod RightBody

@@ -1,6 +1,10 @@
 pub mod Places
 pub mod WorldPlaces
+pub mod Trees
 pub mod Meets
+pub mod Tests
 pub mod Walks
 pub mod Valid
 pub mod Rows
+pub mod Laid
+pub mod TypeIds

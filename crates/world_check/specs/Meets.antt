@@ -1,5 +1,5 @@
 -- What each row of the check asks at a place. Where a row doesn't speak of a place, or the world doesn't have the place, nothing is asked there.
-use Rattle.std.specs.Prelude.{ℕ, ◌==◌, ◌&&◌, Bool, true, not, List, length, take, Option, Some, None, slice_get}
+use Rattle.std.specs.Prelude.{◌≡◌, ℕ, ◌==◌, ◌&&◌, Bool, true, not, List, length, take, Option, Some, None, slice_get, IfSome}
 use Rattle.std.specs.List.{list_any}
 use Rattle.types.specs.Orders.{args_eq, ty_eq}
 use Rattle.types.specs.declared.ids.AliasId.{AliasId}
@@ -13,17 +13,16 @@ use Rattle.world.specs.declared.impls.ConstImplRow.{ConstImplRow}
 use Rattle.world.specs.declared.impls.ImplRow.{ImplRow}
 use Rattle.world.specs.declared.layout.Layout.{Layout}
 use Rattle.check_names.specs.Known.{is_nameable}
-use Rattle.check_items.specs.Agree.{has_all_params, is_closure_row, is_in_place}
+use Rattle.check_items.specs.Agree.{IsListedRight, has_all_params, is_closure_row}
 use Rattle.check_items.specs.Closed.{is_const_impl_closed, is_impl_closed, is_normal_closed}
 use Rattle.check_items.specs.Names.{is_closure_named, is_const_impl_named, is_const_named, is_const_param_named, is_enum_named, is_function_known, is_function_named, is_impl_named, is_layout_named, is_normal_named, is_static_named, is_struct_named, is_variant_named}
 use Rattle.check_ids.specs.Inferred.{is_inferred_right}
 use Rattle.check_ids.specs.Nodes.{is_binding_in_range, is_expr_in_range, is_pat_in_range}
 use Rattle.check_ids.specs.Parts.{are_roots_known}
 use Rattle.check_trees.specs.Ellipsis.{is_ellipsis_inside}
-use Rattle.check_trees.specs.Jumps.{is_jump_inside}
-use Rattle.check_trees.specs.Tree.{is_expr_in_order, is_pat_in_order}
 use Rattle.check_layouts.specs.Layouts.{is_layout_right}
 use Rattle.check_layouts.specs.Tags.{is_tag_right}
+use Rattle.world_check.specs.Trees.{IsExprInOrder, IsJumpInside, IsPatInOrder}
 use Rattle.world_check.specs.declared.fault.CheckRow.{CheckRow}
 use Rattle.world_check.specs.declared.fault.CheckRow.TheVariants.{C1, C2, C3, C4, C5, C6, C7}
 use Rattle.world_check.specs.declared.place.NamedFunction.{NamedFunction}
@@ -137,17 +136,21 @@ has_known_ids world (Nodes b kind) = in_body world b (is_list_nameable kind)
 has_known_ids world (Node b kind i) = in_body world b (is_node_known kind i)
 has_known_ids world (Function name) = is_function_known world (named_function world name)
 
+-- a fact of the body in row `b`, if it is there
+abbrev pub InBody : HirDatabase → ℕ → (Body → Type 0) → Type 0
+InBody world b fact = IfSome (slice_get world.bodies b) (λ (row : BodyRow). fact row.body)
+
 -- Bodies are trees: children have lower ids than their parents of the same kind, so have expressions inside a pattern than the one that holds the pattern, each
 -- node but the root and the parameters has at most one parent, and no path of more than 400 steps leads down.
-abbrev pub is_in_order : HirDatabase → Place → Bool
-is_in_order world (Node b Exprs e) = in_body world b (λ body. if_at (is_expr_in_order body) body.exprs e)
-is_in_order world (Node b Pats p) = in_body world b (λ body. if_at (is_pat_in_order body) body.pats p)
-is_in_order world _ = true
+abbrev pub IsInOrder : HirDatabase → Place → Type 0
+IsInOrder world (Node b Exprs e) = InBody world b (λ body. IfSome (slice_get body.exprs e) (IsExprInOrder body e))
+IsInOrder world (Node b Pats p) = InBody world b (λ body. IfSome (slice_get body.pats p) (IsPatInOrder body p))
+IsInOrder world _ = Unit {0}
 
 -- A jump's label is that of an enclosing loop or block.
-abbrev pub has_enclosing_label : HirDatabase → Place → Bool
-has_enclosing_label world (Node b Exprs e) = in_body world b (λ body. if_at (is_jump_inside body) body.exprs e)
-has_enclosing_label world _ = true
+abbrev pub HasEnclosingLabel : HirDatabase → Place → Type 0
+HasEnclosingLabel world (Node b Exprs e) = InBody world b (λ body. IfSome (slice_get body.exprs e) (IsJumpInside body e))
+HasEnclosingLabel world _ = Unit {0}
 
 -- Normalized types and resolved impl items have no alias and no generic parameter in them.
 abbrev pub is_resolved : HirDatabase → Place → Bool
@@ -167,19 +170,19 @@ has_fitting_tag world (Row Layouts i) = if_there (is_tag_right world) (slice_get
 has_fitting_tag world _ = true
 
 -- Functions agree with their bodies, variants with the lists of enums, closures with their expressions, and each `..` stands within its pattern.
-abbrev pub agrees : HirDatabase → Place → Bool
-agrees world (Row Functions i) = if_there (has_all_params world) (slice_get world.functions i)
-agrees world (Row Variants i) = if_at (is_in_place world) world.variants i
-agrees world (Row Closures i) = if_there (is_closure_row world) (slice_get world.closures i)
-agrees world (Node b Pats p) = in_body world b (λ body. if_there is_ellipsis_inside (slice_get body.pats p))
-agrees world _ = true
+abbrev pub Agrees : HirDatabase → Place → Type 0
+Agrees world (Row Functions i) = if_there (has_all_params world) (slice_get world.functions i) ≡ true
+Agrees world (Row Variants i) = IfSome (slice_get world.variants i) (IsListedRight world i)
+Agrees world (Row Closures i) = if_there (is_closure_row world) (slice_get world.closures i) ≡ true
+Agrees world (Node b Pats p) = in_body world b (λ body. if_there is_ellipsis_inside (slice_get body.pats p)) ≡ true
+Agrees world _ = Unit {0}
 
 -- what a row of the check asks at a place
-abbrev pub meets : CheckRow → HirDatabase → Place → Bool
-meets C1 world place = has_known_ids world place
-meets C2 world place = is_in_order world place
-meets C3 world place = has_enclosing_label world place
-meets C4 world place = is_resolved world place
-meets C5 world place = is_laid_out world place
-meets C6 world place = has_fitting_tag world place
-meets C7 world place = agrees world place
+abbrev pub Meets : CheckRow → HirDatabase → Place → Type 0
+Meets C1 world place = has_known_ids world place ≡ true
+Meets C2 world place = IsInOrder world place
+Meets C3 world place = HasEnclosingLabel world place
+Meets C4 world place = is_resolved world place ≡ true
+Meets C5 world place = is_laid_out world place ≡ true
+Meets C6 world place = has_fitting_tag world place ≡ true
+Meets C7 world place = Agrees world place

@@ -1,10 +1,11 @@
 -- The rows of the check, and the faults.
-use Rattle.std.specs.Prelude.{◌≡◌, ℕ, not, true, List, [], ◌∷◌, Option, None, Some}
+use Rattle.std.specs.Prelude.{◌≡◌, ℕ, ◌<◌, not, List, [], ◌∷◌, Option, None, Some, slice_get}
 use Rattle.std.specs.List.{find}
 use Rattle.world.specs.Checked.{IsChecked}
 use Rattle.world.specs.declared.database.HirDatabase.{HirDatabase}
 use Rattle.world_check.specs.Places.{place_text}
-use Rattle.world_check.specs.Meets.{meets}
+use Rattle.world_check.specs.Meets.{Meets}
+use Rattle.world_check.specs.Tests.{meets}
 use Rattle.world_check.specs.WorldPlaces.{places}
 use Rattle.world_check.specs.declared.fault.CheckFault.{CheckFault}
 use Rattle.world_check.specs.declared.fault.CheckFault.TheVariants.{InvalidWorld, NoMemory}
@@ -12,7 +13,7 @@ use Rattle.world_check.specs.declared.fault.CheckRow.{CheckRow}
 use Rattle.world_check.specs.declared.fault.CheckRow.TheVariants.{C1, C2, C3, C4, C5, C6, C7}
 use Rattle.world_check.specs.declared.place.Place.{Place}
 
--- the first place, in the order of the check, that doesn't meet a row
+-- the first place, in the order of the check, that doesn't meet a row: the test of a row says whether a place meets it
 unfoldable pub failing_place : CheckRow → HirDatabase → Option Place
 failing_place row world = find (λ place. not (meets row world place)) (places world)
 
@@ -34,13 +35,34 @@ first_failure world = first_failure_among all_rows world
 
 -- every place meets every row of the check, and so no row has a place where it fails
 pub record Holds (world : HirDatabase) : Type 0 where
-  pub met : (row : CheckRow) (place : Place) → meets row world place ≡ true
+  pub met : (row : CheckRow) (place : Place) → Meets row world place
   pub at : (row : CheckRow) → failing_place row world ≡ None
 
 -- a fault names the first failure; want of memory is possible in any world
 abbrev pub IsRefusal : HirDatabase → CheckFault → Type 0
 IsRefusal world (InvalidWorld invalid) = first_failure world ≡ Some (invalid.row, invalid.place)
 IsRefusal world NoMemory = Unit {0}
+
+-- a place is the first, in the order of the check, that doesn't meet a row
+pub record FailsFirst (row : CheckRow) (world : HirDatabase) (place : Place) : Type 0 where
+  pub index : ℕ
+  pub at : slice_get (places world) index ≡ Some place
+  pub fails : Meets row world place → ⊥
+  pub before : (j : ℕ) (other : Place) → j < index → slice_get (places world) j ≡ Some other → Meets row world other
+
+-- the row is the first that some place doesn't meet, and the text names the first such place
+pub record IsFirstFailure (world : HirDatabase) (row : CheckRow) (text : List ℕ) : Type 0 where
+  pub index : ℕ
+  pub place : Place
+  pub at : slice_get all_rows index ≡ Some row
+  pub named : text ≡ place_text place
+  pub first : FailsFirst row world place
+  pub before : (j : ℕ) (other : CheckRow) → j < index → slice_get all_rows j ≡ Some other → (anywhere : Place) → Meets other world anywhere
+
+-- a fault names such a row and such a place, or says that memory ran out
+abbrev pub IsFirstFault : HirDatabase → CheckFault → Type 0
+IsFirstFault world (InvalidWorld invalid) = IsFirstFailure world invalid.row invalid.place
+IsFirstFault world NoMemory = Unit {0}
 
 -- a fault names this row and this place, or says that memory ran out
 abbrev pub IsRefusalAt : CheckRow → Place → CheckFault → Type 0

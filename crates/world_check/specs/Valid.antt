@@ -1,6 +1,5 @@
 -- Definitions of a checked world that can be evaluated, and typed bodies that pass the tests of a single body.
-use Rattle.std.specs.Prelude.{◌==◌, ◌&&◌, Bool, true, false, List, [], ◌∷◌, length, Option, Some, None, slice_get}
-use Rattle.std.specs.Option.{is_none}
+use Rattle.std.specs.Prelude.{◌≡◌, ℕ, ◌==◌, ◌&&◌, Bool, true, false, List, [], ◌∷◌, length, Option, Some, None, slice_get}
 use Rattle.types.specs.declared.ids.DefWithBodyId.{DefWithBodyId}
 use Rattle.types.specs.declared.ids.DefWithBodyId.TheVariants as def
 use Rattle.types.specs.declared.ids.GenericParamId.{GenericParamId}
@@ -10,15 +9,19 @@ use Rattle.types.specs.declared.ty.GenericArg.TheVariants as arg
 use Rattle.types.specs.declared.ty.GenericArgs.{GenericArgs}
 use Rattle.world.specs.declared.body.Body.{Body}
 use Rattle.world.specs.declared.database.HirDatabase.{HirDatabase}
+use Rattle.world.specs.declared.expr.Expr.{Expr}
 use Rattle.world.specs.declared.infer.InferenceResult.{InferenceResult}
 use Rattle.world.specs.declared.items.ConstRow.{ConstRow}
 use Rattle.world.specs.declared.items.FunctionRow.{FunctionRow}
 use Rattle.world.specs.declared.items.StaticRow.{StaticRow}
+use Rattle.world.specs.declared.pat.Pat.{Pat}
 use Rattle.check_names.specs.Known.{are_args_settled}
-use Rattle.check_ids.specs.Parts.{wrong_part}
-use Rattle.check_trees.specs.Ellipsis.{wrong_ellipsis}
-use Rattle.check_trees.specs.Jumps.{wrong_jump}
-use Rattle.check_trees.specs.Tree.{wrong_node}
+use Rattle.check_ids.specs.Inferred.{is_inferred_right}
+use Rattle.check_ids.specs.Parts.{are_roots_known}
+use Rattle.check_trees.specs.Ellipsis.{is_ellipsis_inside}
+use Rattle.world_check.specs.Meets.{is_list_nameable, is_node_known}
+use Rattle.world_check.specs.Trees.{IsExprInOrder, IsJumpInside, IsPatInOrder}
+use Rattle.world_check.specs.declared.place.NodeKind.{NodeKind}
 
 -- a type for a type parameter, or a constant for a const parameter
 abbrev pub is_of_sort : GenericParamId → GenericArg → Bool
@@ -60,10 +63,13 @@ fits world (def.VariantId id) args = false
 abbrev pub is_valid : HirDatabase → DefWithBodyId → GenericArgs → Bool
 is_valid world def args = fits world def args && are_args_settled args
 
--- a typed body has its ids in range and is a tree, its jumps name enclosing labels, and each `..` stands within its pattern
-unfoldable pub is_body_right : HirDatabase → Body → InferenceResult → Bool
-is_body_right world body infer =
-    is_none (wrong_part world body infer)
-    && is_none (wrong_node body)
-    && is_none (wrong_jump body)
-    && is_none (wrong_ellipsis body)
+-- A typed body is right by itself: its lists are short enough and all ids in it are in range, each node has a type, its nodes are in order, its jumps name
+-- enclosing labels, and each `..` stands within its pattern.
+pub record IsBodyRight (world : HirDatabase) (body : Body) (infer : InferenceResult) : Type 0 where
+  pub lists : (kind : NodeKind) → is_list_nameable kind body ≡ true
+  pub nodes : (kind : NodeKind) (i : ℕ) → is_node_known kind i body ≡ true
+  pub inferred : (are_roots_known body && is_inferred_right world body infer) ≡ true
+  pub exprs : (e : ℕ) (node : Expr) → slice_get body.exprs e ≡ Some node → IsExprInOrder body e node
+  pub pats : (p : ℕ) (node : Pat) → slice_get body.pats p ≡ Some node → IsPatInOrder body p node
+  pub jumps : (e : ℕ) (node : Expr) → slice_get body.exprs e ≡ Some node → IsJumpInside body e node
+  pub ellipses : (p : ℕ) (node : Pat) → slice_get body.pats p ≡ Some node → is_ellipsis_inside node ≡ true

@@ -3,7 +3,7 @@
 -- `wrong_NOUN` is the first place that fails a test, and `wrong_NOUN_in` the first in one body.
 use Rattle.std.specs.Prelude.{ℕ, ◌+◌, ◌==◌, ◌&&◌, if◌then◌else◌, Bool, false, not, List, [], ◌∷◌, length, Option, Some, None}
 use Rattle.std.specs.List.{position}
-use Rattle.std.specs.Option.{option_map, option_or}
+use Rattle.std.specs.Option.{is_none, option_map, option_or}
 use Rattle.std.specs.Ordering.{ordering_then}
 use Rattle.types.specs.Orders.{args_cmp, ty_cmp}
 use Rattle.types.specs.Places.{place_at}
@@ -15,10 +15,12 @@ use Rattle.types.specs.declared.ids.ConstId.{ConstId}
 use Rattle.types.specs.declared.ids.FunctionId.{FunctionId}
 use Rattle.types.specs.declared.ty.GenericArgs.{GenericArgs}
 use Rattle.types.specs.declared.ty.Ty.{Ty}
+use Rattle.world.specs.declared.body.Body.{Body}
 use Rattle.world.specs.declared.database.BodyRow.{BodyRow}
 use Rattle.world.specs.declared.database.HirDatabase.{HirDatabase}
 use Rattle.world.specs.declared.impls.ConstImplRow.{ConstImplRow}
 use Rattle.world.specs.declared.impls.ImplRow.{ImplRow}
+use Rattle.world.specs.declared.infer.InferenceResult.{InferenceResult}
 use Rattle.world.specs.declared.layout.Layout.{Layout}
 use Rattle.check_names.specs.Known.{is_nameable}
 use Rattle.check_items.specs.Agree.{has_all_params, is_closure_row, wrong_variant}
@@ -223,3 +225,11 @@ wrong_agreement world =
     (option_or (option_map (Row Variants) (wrong_variant world))
     (option_or (wrong_row Closures (is_closure_row world) world.closures)
     (first_found wrong_ellipsis_in 0 world.bodies)))
+
+-- the searches in one typed body for a part with an id out of range, a node out of order, a jump without its label and a misplaced `..` find nothing
+unfoldable pub finds_nothing : HirDatabase → Body → InferenceResult → Bool
+finds_nothing world body infer =
+    is_none (wrong_part world body infer)
+    && is_none (wrong_node body)
+    && is_none (wrong_jump body)
+    && is_none (wrong_ellipsis body)

@@ -5,6 +5,7 @@
 #![tactic(auto)]
 
 mod agreement;
+mod callers;
 mod checked_world;
 mod fault;
 mod keyed;

@@ -1,0 +1,109 @@
+-- What the layouts of a world that passed the check say: where fields, captures, elements and tags lie. Each fact follows from `Holds`.
+use Rattle.std.specs.Prelude.{◌≡◌, ℕ, ◌+◌, ◌-◌, ◌*◌, ◌^◌, ◌==◌, ◌<◌, ◌≤◌, if◌then◌else◌, List, length, Option, Some, None, slice_get, IfSome}
+use Rattle.std.specs.Option.{option_and_then}
+use Rattle.types.specs.declared.ids.AdtId.{AdtId}
+use Rattle.types.specs.declared.ids.AdtId.TheVariants.{StructId, UnionId, EnumId}
+use Rattle.types.specs.declared.ids.EnumId.{EnumId as EnumName}
+use Rattle.types.specs.declared.ids.EnumVariantId.{EnumVariantId}
+use Rattle.types.specs.declared.ids.InternedClosureId.{InternedClosureId}
+use Rattle.types.specs.declared.ids.VariantId.TheVariants as variant
+use Rattle.types.specs.declared.ty.Const.{Const}
+use Rattle.types.specs.declared.ty.GenericArgs.{GenericArgs}
+use Rattle.types.specs.declared.ty.Ty.{Ty}
+use Rattle.types.specs.declared.ty.Ty.TheVariants.{Tuple, Array, Adt, Closure}
+use Rattle.world.specs.Lookups.{fields_of, layout_of}
+use Rattle.world.specs.declared.closures.Capture.{Capture}
+use Rattle.world.specs.declared.closures.ClosureRow.{ClosureRow}
+use Rattle.world.specs.declared.database.HirDatabase.{HirDatabase}
+use Rattle.world.specs.declared.items.FieldRow.{FieldRow}
+use Rattle.world.specs.declared.layout.Layout.{Layout}
+use Rattle.world.specs.declared.layout.MultiLayout.{MultiLayout}
+use Rattle.world.specs.declared.layout.TagEncoding.{TagEncoding}
+use Rattle.world.specs.declared.layout.TagEncoding.TheVariants.{Direct, Niche}
+use Rattle.world.specs.declared.layout.Variants.{Variants}
+use Rattle.world.specs.declared.layout.Variants.TheVariants.{Empty, Single, Multiple}
+use Rattle.check_instances.specs.Instances.{ty_instance}
+use Rattle.check_layouts.specs.Fields.{variants_of}
+use Rattle.check_layouts.specs.Sizes.{number_of}
+
+-- The fields of variant `v` of a type. A struct or a union is its own only variant, whatever the number.
+abbrev pub variant_fields : HirDatabase → AdtId → ℕ → Option (List FieldRow)
+variant_fields world (StructId id) v = fields_of world (variant.StructId id)
+variant_fields world (UnionId id) v = fields_of world (variant.UnionId id)
+variant_fields world (EnumId id) v = option_and_then (λ (found : EnumVariantId). fields_of world (variant.EnumVariantId found)) (slice_get (variants_of world id.0) v)
+
+-- where the fields of variant `v` of an enum begin: an enum with one inhabited variant has offsets for it alone
+abbrev pub offsets_among : Variants → List ℕ → ℕ → Option (List ℕ)
+offsets_among Empty offsets v = None
+offsets_among (Single i) offsets v = if v == i then Some offsets else None
+offsets_among (Multiple multiple) offsets v = slice_get multiple.variants v
+
+-- where the fields of variant `v` of a type begin in its layout
+abbrev pub variant_offsets : AdtId → Layout → ℕ → Option (List ℕ)
+variant_offsets (StructId id) layout v = Some layout.offsets
+variant_offsets (UnionId id) layout v = Some layout.offsets
+variant_offsets (EnumId id) layout v = offsets_among layout.variants layout.offsets v
+
+-- the type of a field or a capture at generic arguments, if it has one there: a parameter is its argument, an alias the type in `normals`
+abbrev pub field_type : HirDatabase → GenericArgs → FieldRow → Option Ty
+field_type world args field = ty_instance world.normals args field.ty
+
+abbrev pub capture_type : HirDatabase → GenericArgs → Capture → Option Ty
+capture_type world args capture = ty_instance world.normals args capture.ty
+
+-- a part has a type, which has a layout
+pub record HasLayout (world : HirDatabase) (found : Option Ty) : Type 0 where
+  pub ty : Ty
+  pub layout : Layout
+  pub is : found ≡ Some ty
+  pub has : layout_of world ty ≡ Some layout
+
+-- a part that begins at an offset has a layout, and ends within the size of the whole
+pub record LiesInside (world : HirDatabase) (size offset : ℕ) (found : Option Ty) : Type 0 where
+  pub ty : Ty
+  pub layout : Layout
+  pub is : found ≡ Some ty
+  pub has : layout_of world ty ≡ Some layout
+  pub ends : offset + layout.size ≤ size
+
+-- there is an offset for each of some parts, and each part lies inside
+pub record AreInside {X : Type 0} (world : HirDatabase) (size : ℕ) (offsets : List ℕ) (type_of : X → Option Ty) (parts : List X) : Type 0 where
+  pub count : length offsets ≡ length parts
+  pub inside : (k offset : ℕ) (part : X) → slice_get parts k ≡ Some part → slice_get offsets k ≡ Some offset → LiesInside world size offset (type_of part)
+
+-- the captures of a closure have layouts, and those with an offset lie inside
+pub record AreCaptured (world : HirDatabase) (size : ℕ) (offsets : List ℕ) (args : GenericArgs) (captures : List Capture) : Type 0 where
+  pub known : (k : ℕ) (capture : Capture) → slice_get captures k ≡ Some capture → HasLayout world (capture_type world args capture)
+  pub inside : (k offset : ℕ) (capture : Capture) → slice_get captures k ≡ Some capture → slice_get offsets k ≡ Some offset → LiesInside world size offset (capture_type world args capture)
+
+-- the element of an array has a layout, and the array, where its length is known, has the size of so many elements
+pub record AreElements (world : HirDatabase) (size : ℕ) (element : Ty) (len : Const) : Type 0 where
+  pub layout : Layout
+  pub has : layout_of world element ≡ Some layout
+  pub product : IfSome (number_of len) (λ count. size ≡ count * layout.size)
+
+-- a niche leaves one of the enum's variants without a tag, and has a value for each other, from the first one on
+abbrev pub IsNiche : ℕ → ℕ → TagEncoding → Type 0
+IsNiche variants size Direct = Unit {0}
+IsNiche variants size (Niche untagged first last start) = (untagged < variants) × (start + (variants - 1) ≤ 2 ^ (8 * size))
+
+-- a tag ends within the size, there are offsets for each of the enum's variants, and the tag has a value for each
+pub record IsTag (size variants : ℕ) (multiple : MultiLayout) : Type 0 where
+  pub ends : multiple.tag_offset + multiple.tag_size ≤ size
+  pub count : length multiple.variants ≡ variants
+  pub values : variants ≤ 2 ^ (8 * multiple.tag_size)
+  pub niche : IsNiche variants multiple.tag_size multiple.encoding
+
+-- what the layout of a type in a checked world says, by the form of the type
+pub record IsLaidOut (world : HirDatabase) (ty : Ty) (layout : Layout) : Type 0 where
+  pub fields : (id : AdtId) (args : GenericArgs) (v : ℕ) (rows : List FieldRow) (offsets : List ℕ) → ty ≡ Adt id args → variant_fields world id v ≡ Some rows → variant_offsets id layout v ≡ Some offsets → AreInside world layout.size offsets (field_type world args) rows
+  pub known : (id : AdtId) (args : GenericArgs) (v k : ℕ) (rows : List FieldRow) (field : FieldRow) → ty ≡ Adt id args → variant_fields world id v ≡ Some rows → slice_get rows k ≡ Some field → HasLayout world (field_type world args field)
+  pub parts : (types : List Ty) → ty ≡ Tuple types → AreInside world layout.size layout.offsets Some types
+  pub captures : (id : InternedClosureId) (args : GenericArgs) (row : ClosureRow) → ty ≡ Closure id args → slice_get world.closures id.0 ≡ Some row → AreCaptured world layout.size layout.offsets args row.captures
+  pub elements : (element : Ty) (len : Const) → ty ≡ Array element len → AreElements world layout.size element len
+  pub tag : (id : EnumName) (args : GenericArgs) (multiple : MultiLayout) → ty ≡ Adt (EnumId id) args → layout.variants ≡ Multiple multiple → IsTag layout.size (length (variants_of world id.0)) multiple
+  pub only : (id : EnumName) (args : GenericArgs) (i : ℕ) → ty ≡ Adt (EnumId id) args → layout.variants ≡ Single i → i < length (variants_of world id.0)
+
+-- every layout of a world says so
+abbrev pub AreLaidOut : HirDatabase → Type 0
+AreLaidOut world = (ty : Ty) (layout : Layout) → layout_of world ty ≡ Some layout → IsLaidOut world ty layout

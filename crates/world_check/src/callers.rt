@@ -1,0 +1,39 @@
+//! What callers get from the contracts of the check alone.
+ghost use Rattle.std.specs.Prelude.{◌≡◌, ℕ, List, Some, true, slice_get, IfSome};
+ghost use Rattle.types.specs.declared.ids.AdtId.TheVariants as adt;
+ghost use Rattle.types.specs.declared.ids.StructId.{StructId};
+ghost use Rattle.types.specs.declared.ids.VariantId.TheVariants as variant;
+ghost use Rattle.types.specs.declared.ty.GenericArgs.{GenericArgs};
+ghost use Rattle.types.specs.declared.ty.Ty.{Adt};
+ghost use Rattle.world.specs.Lookups.{fields_of, layout_of};
+ghost use Rattle.world.specs.declared.items.FieldRow.{FieldRow};
+ghost use Rattle.world.specs.declared.layout.Layout.{Layout};
+ghost use Rattle.world_check.specs.Laid.{AreLaidOut, HasLayout, field_type};
+ghost use Rattle.world_check.specs.Rows.{IsFirstFault};
+ghost use Rattle.world_check.specs.TypeIds.{AreIdsKnown};
+
+use crate::{CheckFault, CheckedWorld, check};
+use std::alloc::Global;
+use world::HirDatabase;
+
+/// The database of a world that passed the check: where a struct has a layout, each of its fields has one.
+fn checked_structs(checked: &CheckedWorld) -> &HirDatabase
+    ensures fields { (id : StructId) (args : GenericArgs) (layout : Layout) (rows : List FieldRow) (k : ℕ) (field : FieldRow) → layout_of result.now (Adt (adt.StructId id) args) ≡ Some layout → fields_of result.now (variant.StructId id) ≡ Some rows → slice_get rows k ≡ Some field → HasLayout result.now (field_type result.now args field) }
+    ensures ids { AreIdsKnown result.now }
+{
+    checked.db()
+}
+
+/// Whether a world passes the check. If it does, each layout tells where the parts of its type lie.
+fn passes(alloc: Global, db: &HirDatabase) -> bool
+    ensures { result ≡ true → AreLaidOut db.now }
+{
+    check(alloc, db).is_ok()
+}
+
+/// Why the check refuses a world, if it does: the first row that fails, and the first place that doesn't meet it.
+fn refusal(alloc: Global, db: &HirDatabase) -> Option<CheckFault>
+    ensures { IfSome result (IsFirstFault db.now) }
+{
+    check(alloc, db).err()
+}
