@@ -5,11 +5,11 @@ use Rattle.std.proofs.Math.Arith.{mod-mul}
 use Rattle.std.proofs.lemmas.Nat.{mod-mul-add, mod_below}
 use borrow.Author.Tests.{lt-ltb, le-ltb}
 use Rattle.numbers.specs.declared.operator.Kind.{Kind}
-use Rattle.numbers.specs.declared.operator.Kind.TheVariants.{Signed, Unsigned, Boolean}
+use Rattle.numbers.specs.declared.operator.Kind.TheVariants.{Signed, Unsigned, Boolean, Character}
 use Rattle.numbers.specs.declared.operator.Operator.{Operator}
 use Rattle.numbers.specs.declared.operator.Operator.TheVariants.{Add, Sub, Mul, Div, Rem, BitXor, BitAnd, BitOr, Shl, Shr, Eq, Ne, Lt, Le, Gt, Ge}
 use Rattle.numbers.specs.Bytes.{low_digits, low_bytes, value_of, number_of, is_width}
-use Rattle.numbers.specs.Operators.{Answer, Computes, Panics, Undefined, panic_word, compared, on_integers, on_two_signs, is_on_booleans, shifted, shifted_by, shift, is_shift, sign_of, combined, computed}
+use Rattle.numbers.specs.Operators.{Answer, Computes, Panics, Undefined, panic_word, compared, on_integers, on_two_signs, is_comparison, is_on_booleans, shifted, shifted_by, shift, is_shift, sign_of, combined, computed, is_signed, converted}
 use Rattle.numbers.proofs.Digits.{low_digits-mod, some_values}
 use Rattle.numbers.proofs.Keeping.{all_values, low_bytes-pos}
 
@@ -99,6 +99,10 @@ pub on_booleans_is : (op : Operator) (l r : Option Kind) (left right : List ℕ)
 unfolding combined
 on_booleans_is op l r left right a e f h g = rw (e, f, h) g
 
+pub on_characters_is : (op : Operator) (l r : Option Kind) (left right : List ℕ) (a : Answer) → l ≡ Some Character → r ≡ Some Character → (is_comparison op && eqb (length left) 4 && eqb (length right) 4) ≡ true → a ≡ on_integers op false left right → a ≡ combined op l r left right
+unfolding combined
+on_characters_is op l r left right a e f h g = rw (e, f, h) g
+
 pub not_on_signed : (op : Operator) (l r : Option Kind) (left right : List ℕ) → l ≡ Some Signed → r ≡ Some Signed → (is_width (length left) && eqb (length left) (length right)) ≡ false → Undefined ≡ combined op l r left right
 unfolding combined
 not_on_signed op l r left right e f h = rw (e, f, h) refl
@@ -111,6 +115,10 @@ pub not_on_booleans : (op : Operator) (l r : Option Kind) (left right : List ℕ
 unfolding combined
 not_on_booleans op l r left right e f h = rw (e, f, h) refl
 
+pub not_on_characters : (op : Operator) (l r : Option Kind) (left right : List ℕ) → l ≡ Some Character → r ≡ Some Character → (is_comparison op && eqb (length left) 4 && eqb (length right) 4) ≡ false → Undefined ≡ combined op l r left right
+unfolding combined
+not_on_characters op l r left right e f h = rw (e, f, h) refl
+
 -- ---- operands of two signs
 
 signed_kind : (kind : Option Kind) → sign_of kind ≡ Some true → kind ≡ Some Signed
@@ -118,6 +126,7 @@ unfolding sign_of
 signed_kind (Some Signed) e = refl
 signed_kind (Some Unsigned) e = cc
 signed_kind (Some Boolean) e = cc
+signed_kind (Some Character) e = cc
 signed_kind None e = cc
 
 unsigned_kind : (kind : Option Kind) → sign_of kind ≡ Some false → kind ≡ Some Unsigned
@@ -125,6 +134,7 @@ unfolding sign_of
 unsigned_kind (Some Signed) e = cc
 unsigned_kind (Some Unsigned) e = refl
 unsigned_kind (Some Boolean) e = cc
+unsigned_kind (Some Character) e = cc
 unsigned_kind None e = cc
 
 pub on_two_signs_is : (op : Operator) (l r : Option Kind) (signed : Bool) (left right : List ℕ) (a : Answer) → sign_of l ≡ Some signed → sign_of r ≡ Some (not signed) → (is_width (length left) && eqb (length left) (length right)) ≡ true → a ≡ on_two_signs op signed left right → a ≡ combined op l r left right
@@ -144,14 +154,22 @@ no_common_kind op (Some Signed) None left right h k = refl
 no_common_kind op (Some Signed) (Some Signed) left right h k = absurd (h Signed refl refl)
 no_common_kind op (Some Signed) (Some Unsigned) left right h k = absurd (k true refl refl)
 no_common_kind op (Some Signed) (Some Boolean) left right h k = refl
+no_common_kind op (Some Signed) (Some Character) left right h k = refl
 no_common_kind op (Some Unsigned) None left right h k = refl
 no_common_kind op (Some Unsigned) (Some Signed) left right h k = absurd (k false refl refl)
 no_common_kind op (Some Unsigned) (Some Unsigned) left right h k = absurd (h Unsigned refl refl)
 no_common_kind op (Some Unsigned) (Some Boolean) left right h k = refl
+no_common_kind op (Some Unsigned) (Some Character) left right h k = refl
 no_common_kind op (Some Boolean) None left right h k = refl
 no_common_kind op (Some Boolean) (Some Signed) left right h k = refl
 no_common_kind op (Some Boolean) (Some Unsigned) left right h k = refl
 no_common_kind op (Some Boolean) (Some Boolean) left right h k = absurd (h Boolean refl refl)
+no_common_kind op (Some Boolean) (Some Character) left right h k = refl
+no_common_kind op (Some Character) None left right h k = refl
+no_common_kind op (Some Character) (Some Signed) left right h k = refl
+no_common_kind op (Some Character) (Some Unsigned) left right h k = refl
+no_common_kind op (Some Character) (Some Boolean) left right h k = refl
+no_common_kind op (Some Character) (Some Character) left right h k = absurd (h Character refl refl)
 
 -- ---- comparisons among the operators
 
@@ -239,3 +257,26 @@ is_no_shift Ge h k = refl
 pub computed_other : (op : Operator) (l r : Option Kind) (left right : List ℕ) (a : Answer) → op ≢ Shl → op ≢ Shr → a ≡ combined op l r left right → a ≡ computed op l r left right
 unfolding computed
 computed_other op l r left right a h k e = rw (is_no_shift op h k) e
+
+-- ---- casts
+
+pub converted_signed : (bytes : List ℕ) (size : ℕ) (z : ℤ) (a : Answer) → (is_width (length bytes) && is_width size) ≡ true → z ≡ number_of true bytes → a ≡ Computes (low_bytes size z) → a ≡ converted (Some Signed) size bytes
+unfolding converted is_signed
+converted_signed bytes size z a widths is same = rw widths (same ∙ ap (λ n. Computes (low_bytes size n)) is)
+
+pub converted_unsigned : (kind : Kind) (bytes : List ℕ) (size n : ℕ) (a : Answer) → is_signed kind ≡ false → (is_width (length bytes) && is_width size) ≡ true → n ≡ value_of bytes → a ≡ Computes (low_digits size n) → a ≡ converted (Some kind) size bytes
+unfolding converted number_of
+converted_unsigned kind bytes size n a unsigned widths is same =
+    rw (widths, unsigned) (same ∙ ap (λ m. Computes (low_digits size m)) is ∙ ap Computes (sym (low_bytes-pos size (value_of bytes))))
+
+pub not_signed : (kind : Kind) → kind ≢ Signed → is_signed kind ≡ false
+unfolding is_signed
+not_signed Signed other = absurd (other refl)
+not_signed Unsigned other = refl
+not_signed Boolean other = refl
+not_signed Character other = refl
+
+pub not_converted : (kind : Option Kind) (bytes : List ℕ) (size : ℕ) → (is_width (length bytes) && is_width size) ≡ false → Undefined ≡ converted kind size bytes
+unfolding converted
+not_converted None bytes size widths = refl
+not_converted (Some kind) bytes size widths = rw widths refl

@@ -1,7 +1,7 @@
 -- How many bytes the results of the table of operators have.
 use Rattle.std.proofs.Common.{◌≡◌, ℕ, Bool, true, false, cond, ltb, not, ◌*◌, int_eq, int_div, ◌&&◌, eqb, List, length, Option, Some, None, ℤ, pos, negsuc, refl}
 use Rattle.numbers.specs.declared.operator.Kind.{Kind}
-use Rattle.numbers.specs.declared.operator.Kind.TheVariants.{Signed, Unsigned, Boolean}
+use Rattle.numbers.specs.declared.operator.Kind.TheVariants.{Signed, Unsigned, Boolean, Character}
 use Rattle.numbers.specs.declared.operator.Operator.{Operator}
 use Rattle.numbers.specs.declared.operator.Operator.TheVariants.{Add, Sub, Mul, Div, Rem, BitXor, BitAnd, BitOr, Shl, Shr, Eq, Ne, Lt, Le, Gt, Ge}
 use Rattle.numbers.specs.Operators.{Answer, Computes, Panics, Undefined, kept, divided, truth_value, by_bits, compared, on_integers, on_two_signs, shifted, shifted_by, shift, is_shift, is_on_booleans, is_comparison, combined, computed}
@@ -74,15 +74,23 @@ IsLong-combined op None right_kind left right = undefined
 IsLong-combined op (Some Signed) None left right = undefined
 IsLong-combined op (Some Unsigned) None left right = undefined
 IsLong-combined op (Some Boolean) None left right = undefined
+IsLong-combined op (Some Character) None left right = undefined
 IsLong-combined op (Some Signed) (Some Signed) left right = IsLong-if (is_width (length left) && eqb (length left) (length right)) (IsLong-on_integers op true left right) undefined
 IsLong-combined op (Some Signed) (Some Unsigned) left right = IsLong-if (is_width (length left) && eqb (length left) (length right)) (IsLong-on_two_signs op true left right) undefined
 IsLong-combined op (Some Signed) (Some Boolean) left right = undefined
+IsLong-combined op (Some Signed) (Some Character) left right = undefined
 IsLong-combined op (Some Unsigned) (Some Signed) left right = IsLong-if (is_width (length left) && eqb (length left) (length right)) (IsLong-on_two_signs op false left right) undefined
 IsLong-combined op (Some Unsigned) (Some Unsigned) left right = IsLong-if (is_width (length left) && eqb (length left) (length right)) (IsLong-on_integers op false left right) undefined
 IsLong-combined op (Some Unsigned) (Some Boolean) left right = undefined
+IsLong-combined op (Some Unsigned) (Some Character) left right = undefined
 IsLong-combined op (Some Boolean) (Some Signed) left right = undefined
 IsLong-combined op (Some Boolean) (Some Unsigned) left right = undefined
 IsLong-combined op (Some Boolean) (Some Boolean) left right = IsLong-if (is_on_booleans op && eqb (length left) 1 && eqb (length right) 1) (IsLong-on_integers op false left right) undefined
+IsLong-combined op (Some Boolean) (Some Character) left right = undefined
+IsLong-combined op (Some Character) (Some Signed) left right = undefined
+IsLong-combined op (Some Character) (Some Unsigned) left right = undefined
+IsLong-combined op (Some Character) (Some Boolean) left right = undefined
+IsLong-combined op (Some Character) (Some Character) left right = IsLong-if (is_comparison op && eqb (length left) 4 && eqb (length right) 4) (IsLong-on_integers op false left right) undefined
 
 IsLong-shifted : (op : Operator) (signed : Bool) (bytes : List ℕ) (amount : ℕ) → IsLong (length bytes) (shifted op signed bytes amount)
 unfolding shifted

@@ -2,14 +2,14 @@
 use Rattle.std.specs.Prelude.{ℕ, ◌-◌, ◌*◌, ◌^◌, Bool, true, false, not, ◌&&◌, if◌then◌else◌, ◌==◌, nat_lt, List, [], ◌∷◌, ◌++◌, length, Option, Some, None, ℤ, pos, negsuc, ◌+ℤ◌, ◌-ℤ◌, ◌*ℤ◌, neg_ℤ, int_lt, int_le, int_div, int_rem, bit_and, bit_or, bit_xor, codes}
 use Rattle.std.specs.Int.{int_shr}
 use Rattle.std.specs.Ordering.{int_eq}
-use Rattle.types.specs.declared.ty.Ty.{Ty, Bool as BoolTy, Int, Uint}
+use Rattle.types.specs.declared.ty.Ty.{Ty, Bool as BoolTy, Int, Uint, Char as CharTy}
 use Rattle.types.specs.declared.operators.ArithOp.{ArithOp}
 use Rattle.types.specs.declared.operators.ArithOp.TheVariants as arith
 use Rattle.types.specs.declared.operators.CmpOp.{CmpOp}
 use Rattle.types.specs.declared.operators.CmpOp.TheVariants as compare
 use Rattle.types.specs.declared.operators.Ordering.TheVariants.{Less, Greater}
 use Rattle.numbers.specs.declared.operator.Kind.{Kind}
-use Rattle.numbers.specs.declared.operator.Kind.TheVariants.{Signed, Unsigned, Boolean}
+use Rattle.numbers.specs.declared.operator.Kind.TheVariants.{Signed, Unsigned, Boolean, Character}
 use Rattle.numbers.specs.declared.operator.Operator.{Operator}
 use Rattle.numbers.specs.declared.operator.Operator.TheVariants.{Add, Sub, Mul, Div, Rem, BitXor, BitAnd, BitOr, Shl, Shr, Eq, Lt, Le, Ne, Ge, Gt}
 use Rattle.numbers.specs.Bytes.{low_digits, low_bytes, value_of, number_of, holds, is_width}
@@ -25,6 +25,7 @@ unfoldable pub kind_of : Ty → Option Kind
 kind_of BoolTy = Some Boolean
 kind_of (Int _) = Some Signed
 kind_of (Uint _) = Some Unsigned
+kind_of CharTy = Some Character
 kind_of _ = None
 
 -- the operator that an arithmetic operator of the source stands for
@@ -212,6 +213,7 @@ unfoldable pub sign_of : Option Kind → Option Bool
 sign_of (Some Signed) = Some true
 sign_of (Some Unsigned) = Some false
 sign_of (Some Boolean) = None
+sign_of (Some Character) = None
 sign_of None = None
 
 -- a shift of one integer by another, of any two integer types
@@ -221,7 +223,7 @@ shift op (Some left_sign) (Some right_sign) left right =
 shift op (Some left_sign) None left right = Undefined
 shift op None _ left right = Undefined
 
--- an operator that is no shift, on two integers of one length or two truth values
+-- an operator that is no shift, on two integers of one length, two truth values or two characters
 unfoldable pub combined : Operator → Option Kind → Option Kind → List ℕ → List ℕ → Answer
 combined op (Some Signed) (Some Signed) left right =
     if is_width (length left) && (length left == length right) then on_integers op true left right else Undefined
@@ -233,6 +235,8 @@ combined op (Some Unsigned) (Some Signed) left right =
     if is_width (length left) && (length left == length right) then on_two_signs op false left right else Undefined
 combined op (Some Boolean) (Some Boolean) left right =
     if is_on_booleans op && (length left == 1) && (length right == 1) then on_integers op false left right else Undefined
+combined op (Some Character) (Some Character) left right =
+    if is_comparison op && (length left == 4) && (length right == 4) then on_integers op false left right else Undefined
 combined op _ _ left right = Undefined
 
 -- the table of operators: what an operator makes of two operands, whose kinds and bytes are given
@@ -249,6 +253,7 @@ unfoldable pub negated : Option Kind → List ℕ → Answer
 negated (Some Signed) bytes = if is_width (length bytes) then Computes (low_bytes (length bytes) (neg_ℤ (number_of true bytes))) else Undefined
 negated (Some Unsigned) bytes = if is_width (length bytes) then Computes (low_bytes (length bytes) (neg_ℤ (number_of false bytes))) else Undefined
 negated (Some Boolean) bytes = denied bytes
+negated (Some Character) bytes = Undefined
 negated None bytes = Undefined
 
 -- `!`: every bit the other way on integers
@@ -256,4 +261,18 @@ unfoldable pub inverted : Option Kind → List ℕ → Answer
 inverted (Some Signed) bytes = if is_width (length bytes) then Computes (low_digits (length bytes) (256 ^ length bytes - 1 - value_of bytes)) else Undefined
 inverted (Some Unsigned) bytes = if is_width (length bytes) then Computes (low_digits (length bytes) (256 ^ length bytes - 1 - value_of bytes)) else Undefined
 inverted (Some Boolean) bytes = denied bytes
+inverted (Some Character) bytes = Undefined
 inverted None bytes = Undefined
+
+-- whether bytes of a kind are read in two's complement
+unfoldable pub is_signed : Kind → Bool
+is_signed Signed = true
+is_signed Unsigned = false
+is_signed Boolean = false
+is_signed Character = false
+
+-- A cast between integers, truth values and characters: the number that the bytes are, in as many of its low bytes as the target's size says.
+unfoldable pub converted : Option Kind → ℕ → List ℕ → Answer
+converted (Some kind) size bytes =
+    if is_width (length bytes) && is_width size then Computes (low_bytes size (number_of (is_signed kind) bytes)) else Undefined
+converted None size bytes = Undefined

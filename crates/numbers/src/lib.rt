@@ -2,6 +2,7 @@
 #![tactic(auto)]
 
 mod arithmetic;
+mod casts;
 mod comparisons;
 mod kept;
 mod laws;
@@ -11,6 +12,7 @@ mod shifts;
 mod table;
 mod unary;
 
+pub use casts::convert;
 pub use kept::Computed;
 pub use laws::{
     comparisons_take_one_byte, held_numbers_round_trip, low_bytes_are_bytes, low_bytes_have_length,

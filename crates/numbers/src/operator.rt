@@ -12,6 +12,7 @@ pub enum Kind {
     Signed,
     Unsigned,
     Boolean,
+    Character,
 }
 
 /// An operator on two operands.
@@ -36,7 +37,7 @@ pub enum Operator {
 }
 
 impl Kind {
-    /// What the bytes of a type are, where they are a number or a truth value.
+    /// What the bytes of a type are, where they are a number, a truth value or a character.
     #[tactic(auto, unfolding(crate::specs::Operators::kind_of))]
     pub fn of(ty: &Ty) -> Option<Kind>
         ensures { result ≡ kind_of ty.now }
@@ -45,6 +46,7 @@ impl Kind {
             Ty::Bool => Some(Kind::Boolean),
             Ty::Int(_) => Some(Kind::Signed),
             Ty::Uint(_) => Some(Kind::Unsigned),
+            Ty::Char => Some(Kind::Character),
             _ => None,
         }
     }

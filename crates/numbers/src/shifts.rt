@@ -81,6 +81,7 @@ pub(crate) fn sign_of(kind: Option<Kind>) -> Option<bool>
         Some(Kind::Signed) => Some(true),
         Some(Kind::Unsigned) => Some(false),
         Some(Kind::Boolean) => None,
+        Some(Kind::Character) => None,
         None => None,
     }
 }

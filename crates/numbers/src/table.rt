@@ -3,7 +3,7 @@
 ghost use Rattle.std.specs.Prelude.{◌≡◌, ◌≤◌, IsTrue, true, false, length, bit_xor, bit_and, bit_or, ℕ, IfSome, IfNone, ◌&&◌, ◌==◌, not, Bool, Some};
 ghost use Rattle.numbers.specs.declared.operator.Kind.{Kind};
 ghost use Rattle.numbers.specs.Bytes.{is_width, number_of};
-ghost use Rattle.numbers.specs.Operators.{compared, on_integers, on_two_signs, by_bits, is_on_booleans, sign_of, combined, computed};
+ghost use Rattle.numbers.specs.Operators.{compared, on_integers, on_two_signs, by_bits, is_comparison, is_on_booleans, sign_of, combined, computed};
 ghost use Rattle.numbers.specs.Computed.{answer_of, count_of};
 
 use crate::arithmetic::{
@@ -169,10 +169,41 @@ fn is_on_booleans(op: Operator) -> bool
     }
 }
 
+#[tactic(auto, unfolding(crate::specs::Operators::is_comparison))]
+fn is_comparison(op: Operator) -> bool
+    ensures { result ≡ is_comparison op }
+{
+    match op {
+        Operator::Add => false,
+        Operator::Sub => false,
+        Operator::Mul => false,
+        Operator::Div => false,
+        Operator::Rem => false,
+        Operator::BitXor => false,
+        Operator::BitAnd => false,
+        Operator::BitOr => false,
+        Operator::Shl => false,
+        Operator::Shr => false,
+        Operator::Eq => true,
+        Operator::Ne => true,
+        Operator::Lt => true,
+        Operator::Le => true,
+        Operator::Gt => true,
+        Operator::Ge => true,
+    }
+}
+
 fn fits_booleans(op: Operator, left: &[u8], right: &[u8]) -> bool
     ensures { result ≡ (is_on_booleans op && (length left.now == 1) && (length right.now == 1)) }
 {
     is_on_booleans(op) && left.len() == 1 && right.len() == 1
+}
+
+/// Whether an operator is a comparison, and both operands are as long as a character.
+fn fits_characters(op: Operator, left: &[u8], right: &[u8]) -> bool
+    ensures { result ≡ (is_comparison op && (length left.now == 4) && (length right.now == 4)) }
+{
+    is_comparison(op) && left.len() == 4 && right.len() == 4
 }
 
 fn same_width(left: &[u8], right: &[u8]) -> bool
@@ -231,6 +262,13 @@ fn combined(
         }
         Some(Kind::Boolean) => {
             if fits_booleans(op, left, right) {
+                on_unsigned(op, left, right)
+            } else {
+                Computed::Undefined
+            }
+        }
+        Some(Kind::Character) => {
+            if fits_characters(op, left, right) {
                 on_unsigned(op, left, right)
             } else {
                 Computed::Undefined

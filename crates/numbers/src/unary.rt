@@ -43,6 +43,7 @@ pub fn negate(kind: Option<Kind>, bytes: &[u8]) -> Computed
                 Computed::Undefined
             }
         }
+        Some(Kind::Character) => Computed::Undefined,
         None => Computed::Undefined,
     }
 }
@@ -69,6 +70,7 @@ pub fn invert(kind: Option<Kind>, bytes: &[u8]) -> Computed
                 Computed::Undefined
             }
         }
+        Some(Kind::Character) => Computed::Undefined,
         None => Computed::Undefined,
     }
 }

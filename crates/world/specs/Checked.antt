@@ -11,7 +11,7 @@ use Rattle.types.specs.declared.scalars.IntTy.{IntTy}
 use Rattle.types.specs.declared.scalars.IntTy.TheVariants as int
 use Rattle.types.specs.declared.scalars.UintTy.{UintTy}
 use Rattle.types.specs.declared.scalars.UintTy.TheVariants as uint
-use Rattle.types.specs.declared.ty.Ty.{Ty, Bool, Int, Uint}
+use Rattle.types.specs.declared.ty.Ty.{Ty, Bool, Char, Int, Uint}
 use Rattle.world.specs.Lookups.{expr_of}
 use Rattle.world.specs.Nodes.{children_of}
 
@@ -43,6 +43,7 @@ uint_bytes uint.Usize = 8
 -- the size that a type has in every world, where it has one
 abbrev pub fixed_size : Ty → Option ℕ
 fixed_size Bool = Some 1
+fixed_size Char = Some 4
 fixed_size (Int ty) = Some (int_bytes ty)
 fixed_size (Uint ty) = Some (uint_bytes ty)
 fixed_size _ = None

@@ -94,6 +94,9 @@ positive align (k, h, e) = let below = pow_pos k in omega arith
 bool_size : (world : HirDatabase) → known_size world type.Bool ≡ Some 1
 bool_size world = search (the_lemmas, rules)
 
+char_size : (world : HirDatabase) → known_size world type.Char ≡ Some 4
+char_size world = search (the_lemmas, rules)
+
 int_size : (world : HirDatabase) (int : IntTy) → known_size world (type.Int int) ≡ Some (int_bytes int)
 int_size world int = search (the_lemmas, rules)
 
@@ -106,6 +109,7 @@ sized o known size same e = is_same size known (ap (λ p. is_fixed_size p size) 
 -- a layout has the size that is fixed for its type
 fixed : (world : HirDatabase) (ty : Ty) (size : ℕ) → is_fixed_size (known_size world ty) size ≡ true → IfSome (fixed_size ty) (λ known. size ≡ known)
 fixed world type.Bool size e = sized (known_size world type.Bool) 1 size (bool_size world) e
+fixed world type.Char size e = sized (known_size world type.Char) 4 size (char_size world) e
 fixed world (type.Int int) size e = sized (known_size world (type.Int int)) (int_bytes int) size (int_size world int) e
 fixed world (type.Uint uint) size e = sized (known_size world (type.Uint uint)) (uint_bytes uint) size (uint_size world uint) e
 fixed world _ size e = tt
