@@ -234,6 +234,7 @@ pub fn made_of(op: Operator, kind: Kind, left: &[u8], right: &[u8]) -> Option<Ma
                 None
             }
         }
+        Kind::Character => None,
     }
 }
 
@@ -253,5 +254,6 @@ pub fn wide_made_of(op: Operator, kind: Kind, left: &[u8], right: &[u8]) -> Opti
         Kind::Signed => on_wide_signed(op, left, right),
         Kind::Unsigned => on_wide_unsigned(op, left, right),
         Kind::Boolean => None,
+        Kind::Character => None,
     }
 }
