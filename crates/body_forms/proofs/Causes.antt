@@ -2,11 +2,12 @@
 use Rattle.std.proofs.Common.{◌≡◌, ℕ, Bool, true, false, List, Option, Some, None, option_and_then, ⊎_elim, refl, sym, ap, ◌∙◌, subst}
 use Rattle.std.proofs.lemmas.Bool.{false≢true}
 use Rattle.std.proofs.lemmas.List.Elements.{All-contains}
-use Rattle.source_meaning.specs.Built.{AssignsBinding, CallsFunction, is_direct, IsBuiltStatement, IsBuiltForm}
-use Rattle.source_meaning.specs.Core.{CoreExpr, core_of, local_named}
+use Rattle.source_meaning.specs.Built.{AssignsBinding, CombinesBinding, CallsFunction, is_direct, IsBuiltStatement, IsBuiltForm}
+use Rattle.source_meaning.specs.Core.{CoreExpr, Operation, core_of, local_named}
 use Rattle.source_meaning.specs.Core as expr
-use Rattle.source_meaning.specs.Source.{Source, node, target_path, pattern_named_by, binding_type}
+use Rattle.source_meaning.specs.Source.{Source, node, target_path, pattern_named_by, compound_path, named_by, binding_type}
 use Rattle.types.specs.declared.ids.BindingId.{BindingId}
+use Rattle.types.specs.declared.ids.ExprId.{ExprId}
 use Rattle.types.specs.declared.ids.FunctionId.{FunctionId}
 use Rattle.world.specs.declared.body.Statement.{Statement}
 use Rattle.world.specs.declared.body.Statement.TheVariants as statement
@@ -15,18 +16,18 @@ use Rattle.world.specs.declared.expr.Expr.TheVariants as whole
 use Rattle.world.specs.declared.infer.ValueNs.{ValueNs}
 use Rattle.world.specs.declared.infer.ValueNs.TheVariants.{LocalBinding}
 use Rattle.world.specs.Lookups.{function_row}
-use Rattle.body_forms.specs.Refusals.{IsIncomplete, LacksPart, IsUnbuiltForm, IsUnbuiltStatement, IsUnbuiltTarget, IsUnbuiltCall, IsUnbuilt, LetBindsNone, LacksLocal, IsUnresolved}
+use Rattle.body_forms.specs.Refusals.{IsIncomplete, LacksPart, IsUnbuiltForm, IsUnbuiltStatement, IsUnbuiltTarget, IsUnbuiltOperand, IsUnbuiltCall, IsUnbuilt, LetBindsNone, LacksLocal, IsUnresolved}
 use Rattle.body_forms.proofs.Forms.{node-plain}
 
-incomplete-core : (item : Bool) (e : Expr) → IsIncomplete e → core_of item e ≡ None
-incomplete-core item whole.Missing lacks = refl
-incomplete-core item (whole.BinaryOp lhs rhs None) lacks = refl
-incomplete-core item (whole.BinaryOp lhs rhs (Some op)) lacks = absurd lacks
-incomplete-core item _ lacks = absurd lacks
+incomplete-core : (item : Bool) (casts : ExprId → Option Operation) (e : Expr) → IsIncomplete e → core_of item casts e ≡ None
+incomplete-core item casts whole.Missing lacks = refl
+incomplete-core item casts (whole.BinaryOp lhs rhs None) lacks = refl
+incomplete-core item casts (whole.BinaryOp lhs rhs (Some op)) lacks = absurd lacks
+incomplete-core item casts _ lacks = absurd lacks
 
 -- an incomplete expression has no form with a meaning
 incomplete-node : (source : Source) (e : ℕ) → LacksPart source e → node source e ≡ None
-incomplete-node source e lacks = node-plain source e lacks.expr lacks.plain lacks.stands ∙ incomplete-core _ lacks.expr lacks.lacks
+incomplete-node source e lacks = node-plain source e lacks.expr lacks.plain lacks.stands ∙ incomplete-core _ _ lacks.expr lacks.lacks
 
 -- an incomplete expression is no unbuilt form
 pub incomplete-is-no-unbuilt : (source : Source) (e : ℕ) → LacksPart source e → IsUnbuiltForm source e → ⊥
@@ -55,6 +56,12 @@ target-is-no-unbuilt source assigned built unbuilt =
     let names = target-names source assigned built.binding (target_path source assigned) (pattern_named_by source assigned) built.names in
     ⊎_elim names.0 (λ other. let one = ap (option_and_then local_named) (sym other.1) ∙ names.1 in let none = other.2 in absurd cc) unbuilt
 
+-- and so is that of a compound one
+operand-is-no-unbuilt : (source : Source) (assigned : ℕ) → CombinesBinding source assigned → IsUnbuiltOperand source assigned → ⊥
+operand-is-no-unbuilt source assigned built unbuilt =
+    let names = target-names source assigned built.binding (compound_path source assigned) (named_by source assigned) built.names in
+    ⊎_elim names.0 (λ other. let one = ap (option_and_then local_named) (sym other.1) ∙ names.1 in let none = other.2 in absurd cc) unbuilt
+
 -- a call that is built names a function, and enters its own body
 call-is-no-unbuilt : (source : Source) (e : ℕ) (callee : Option ℕ) → CallsFunction source e callee → IsUnbuiltCall source e callee → ⊥
 call-is-no-unbuilt source e callee built unbuilt =
@@ -77,6 +84,7 @@ built-is-no-unbuilt source e (Some (expr.Strict operation operands)) built unbui
 built-is-no-unbuilt source e (Some (expr.Logic op left right)) built unbuilt = unbuilt
 built-is-no-unbuilt source e (Some (expr.If condition then_branch else_branch)) built unbuilt = unbuilt
 built-is-no-unbuilt source e (Some (expr.Assign assigned value)) built unbuilt = target-is-no-unbuilt source assigned built unbuilt
+built-is-no-unbuilt source e (Some (expr.Compound op assigned value)) built unbuilt = operand-is-no-unbuilt source assigned built unbuilt
 built-is-no-unbuilt source e (Some (expr.Block statements tail)) built unbuilt =
     built-statement source unbuilt.0 (All-contains (IsBuiltStatement source) statements unbuilt.0 built unbuilt.1) unbuilt.2
 built-is-no-unbuilt source e (Some (expr.Labelled label statements tail)) built unbuilt =
@@ -107,6 +115,8 @@ built-has-local source e (Some (expr.Path name)) built lacks =
     one-binding source built.binding lacks.0 built.there.ty (let one = built.named in let other = lacks.1 in let same : built.binding ≡ lacks.0 = cc in same) built.there.typed lacks.2
 built-has-local source e (Some (expr.Assign assigned value)) built lacks =
     one-binding source built.binding lacks.0 built.there.ty (let one = built.names in let other = lacks.1 in let same : built.binding ≡ lacks.0 = cc in same) built.there.typed lacks.2
+built-has-local source e (Some (expr.Compound op assigned value)) built lacks =
+    one-binding source built.binding lacks.0 built.there.ty (let one = built.names in let other = lacks.1 in let same : built.binding ≡ lacks.0 = cc in same) built.there.typed lacks.2
 built-has-local source e (Some (expr.Block statements tail)) built lacks =
     statement-binds source lacks.0 (All-contains (IsBuiltStatement source) statements lacks.0 built lacks.1) lacks.2
 built-has-local source e (Some (expr.Labelled label statements tail)) built lacks =
@@ -127,6 +137,10 @@ pub built-is-resolved : (source : Source) (e : ℕ) (form : Option CoreExpr) (na
 built-is-resolved source e (Some (expr.Path given)) name built unresolved = let is = built.named in let none = unresolved.1 in absurd cc
 built-is-resolved source e (Some (expr.Assign assigned value)) name built unresolved =
     let names = target-names source assigned built.binding (target_path source assigned) (pattern_named_by source assigned) built.names in
+    let none = ap (option_and_then local_named) (sym unresolved.1) ∙ names.1 in
+    absurd cc
+built-is-resolved source e (Some (expr.Compound op assigned value)) name built unresolved =
+    let names = target-names source assigned built.binding (compound_path source assigned) (named_by source assigned) built.names in
     let none = ap (option_and_then local_named) (sym unresolved.1) ∙ names.1 in
     absurd cc
 built-is-resolved source e (Some (expr.Literal l)) name built unresolved = unresolved

@@ -1,52 +1,55 @@
 -- The form of an expression, by its variant and by how its value is adjusted.
-use Rattle.std.proofs.Common.{◌≡◌, ℕ, Bool, true, false, cond, if◌then◌else◌, Some, None, option_and_then, refl, ap, ◌∙◌, inl, inr}
-use Rattle.source_meaning.specs.Core.{core_of, is_adjusted_otherwise, is_literal, is_path, names_item}
+use Rattle.std.proofs.Common.{◌≡◌, ℕ, Bool, true, false, ◌&&◌, cond, if◌then◌else◌, Option, Some, None, option_and_then, refl, ap, ◌∙◌, inl, inr}
+use Rattle.source_meaning.specs.Core.{Operation, Keep, Convert, cast_operation, core_of, is_adjusted_otherwise, is_coercion, is_number_type, is_literal, is_path, names_item, value_type}
 use Rattle.source_meaning.specs.Source.{Source, diverges, node, unadjusted}
+use Rattle.types.specs.declared.ids.ExprId.{ExprId}
 use Rattle.world.specs.declared.expr.Expr.{Expr}
 use Rattle.world.specs.declared.expr.Expr.TheVariants as whole
-use Rattle.world.specs.Lookups.{expr_of}
+use Rattle.world.specs.declared.infer.InferenceResult.{InferenceResult}
+use Rattle.world.specs.Lookups.{expr_of, type_of}
 use Rattle.body_forms.specs.declared.form.Form.{Form}
 use Rattle.body_forms.specs.declared.form.Form.TheVariants as form
 use Rattle.body_forms.specs.Form.{IsFormOf, IsCauseAt, HasForm, core_form}
 
 -- an expression of none of the forms that have a meaning
-pub otherwise : (item : Bool) (e : Expr) → ((l : _) → e ≡ whole.Literal l → ⊥) → ((name : _) → e ≡ whole.Path name → ⊥) → ((operand : _) (op : _) → e ≡ whole.UnaryOp operand op → ⊥) → ((lhs : _) (rhs : _) (op : _) → e ≡ whole.BinaryOp lhs rhs op → ⊥) → ((condition : _) (then_branch : _) (else_branch : _) → e ≡ whole.If condition then_branch else_branch → ⊥) → ((target : _) (value : _) → e ≡ whole.Assignment target value → ⊥) → ((statements : _) (tail : _) (label : _) → e ≡ whole.Block statements tail label → ⊥) → ((body : _) (label : _) → e ≡ whole.Loop body label → ⊥) → ((value : _) (label : _) → e ≡ whole.Break value label → ⊥) → ((label : _) → e ≡ whole.Continue label → ⊥) → ((value : _) → e ≡ whole.Return value → ⊥) → ((callee : _) (args : _) → e ≡ whole.Call callee args → ⊥) → ((receiver : _) (args : _) (name : _) → e ≡ whole.MethodCall receiver args name → ⊥) → (e ≡ whole.Missing → ⊥) → IsFormOf item e form.Unbuilt
-otherwise item (whole.Literal l) literal path unary binary either assigned block loop break continue return call method missing = absurd (literal l refl)
-otherwise item (whole.Path name) literal path unary binary either assigned block loop break continue return call method missing = absurd (path name refl)
-otherwise item (whole.UnaryOp operand op) literal path unary binary either assigned block loop break continue return call method missing = absurd (unary operand op refl)
-otherwise item (whole.BinaryOp lhs rhs op) literal path unary binary either assigned block loop break continue return call method missing = absurd (binary lhs rhs op refl)
-otherwise item (whole.If condition then_branch else_branch) literal path unary binary either assigned block loop break continue return call method missing = absurd (either condition then_branch else_branch refl)
-otherwise item (whole.Assignment target value) literal path unary binary either assigned block loop break continue return call method missing = absurd (assigned target value refl)
-otherwise item (whole.Block statements tail label) literal path unary binary either assigned block loop break continue return call method missing = absurd (block statements tail label refl)
-otherwise item (whole.Loop body label) literal path unary binary either assigned block loop break continue return call method missing = absurd (loop body label refl)
-otherwise item (whole.Break value label) literal path unary binary either assigned block loop break continue return call method missing = absurd (break value label refl)
-otherwise item (whole.Continue label) literal path unary binary either assigned block loop break continue return call method missing = absurd (continue label refl)
-otherwise item (whole.Return value) literal path unary binary either assigned block loop break continue return call method missing = absurd (return value refl)
-otherwise item (whole.Call callee args) literal path unary binary either assigned block loop break continue return call method missing = absurd (call callee args refl)
-otherwise item (whole.MethodCall receiver args name) literal path unary binary either assigned block loop break continue return call method missing = absurd (method receiver args name refl)
-otherwise item whole.Missing literal path unary binary either assigned block loop break continue return call method missing = absurd (missing refl)
-otherwise item _ literal path unary binary either assigned block loop break continue return call method missing = record { core = refl; cause = λ lacks. lacks }
+pub otherwise : (item : Bool) (casts : ExprId → Option Operation) (e : Expr) → ((l : _) → e ≡ whole.Literal l → ⊥) → ((name : _) → e ≡ whole.Path name → ⊥) → ((operand : _) (op : _) → e ≡ whole.UnaryOp operand op → ⊥) → ((operand : _) → e ≡ whole.Cast operand → ⊥) → ((lhs : _) (rhs : _) (op : _) → e ≡ whole.BinaryOp lhs rhs op → ⊥) → ((condition : _) (then_branch : _) (else_branch : _) → e ≡ whole.If condition then_branch else_branch → ⊥) → ((target : _) (value : _) → e ≡ whole.Assignment target value → ⊥) → ((statements : _) (tail : _) (label : _) → e ≡ whole.Block statements tail label → ⊥) → ((body : _) (label : _) → e ≡ whole.Loop body label → ⊥) → ((value : _) (label : _) → e ≡ whole.Break value label → ⊥) → ((label : _) → e ≡ whole.Continue label → ⊥) → ((value : _) → e ≡ whole.Return value → ⊥) → ((callee : _) (args : _) → e ≡ whole.Call callee args → ⊥) → ((receiver : _) (args : _) (name : _) → e ≡ whole.MethodCall receiver args name → ⊥) → (e ≡ whole.Missing → ⊥) → IsFormOf item casts e form.Unbuilt
+otherwise item casts (whole.Literal l) literal path unary cast binary either assigned block loop break continue return call method missing = absurd (literal l refl)
+otherwise item casts (whole.Path name) literal path unary cast binary either assigned block loop break continue return call method missing = absurd (path name refl)
+otherwise item casts (whole.UnaryOp operand op) literal path unary cast binary either assigned block loop break continue return call method missing = absurd (unary operand op refl)
+otherwise item casts (whole.Cast operand) literal path unary cast binary either assigned block loop break continue return call method missing = absurd (cast operand refl)
+otherwise item casts (whole.BinaryOp lhs rhs op) literal path unary cast binary either assigned block loop break continue return call method missing = absurd (binary lhs rhs op refl)
+otherwise item casts (whole.If condition then_branch else_branch) literal path unary cast binary either assigned block loop break continue return call method missing = absurd (either condition then_branch else_branch refl)
+otherwise item casts (whole.Assignment target value) literal path unary cast binary either assigned block loop break continue return call method missing = absurd (assigned target value refl)
+otherwise item casts (whole.Block statements tail label) literal path unary cast binary either assigned block loop break continue return call method missing = absurd (block statements tail label refl)
+otherwise item casts (whole.Loop body label) literal path unary cast binary either assigned block loop break continue return call method missing = absurd (loop body label refl)
+otherwise item casts (whole.Break value label) literal path unary cast binary either assigned block loop break continue return call method missing = absurd (break value label refl)
+otherwise item casts (whole.Continue label) literal path unary cast binary either assigned block loop break continue return call method missing = absurd (continue label refl)
+otherwise item casts (whole.Return value) literal path unary cast binary either assigned block loop break continue return call method missing = absurd (return value refl)
+otherwise item casts (whole.Call callee args) literal path unary cast binary either assigned block loop break continue return call method missing = absurd (call callee args refl)
+otherwise item casts (whole.MethodCall receiver args name) literal path unary cast binary either assigned block loop break continue return call method missing = absurd (method receiver args name refl)
+otherwise item casts whole.Missing literal path unary cast binary either assigned block loop break continue return call method missing = absurd (missing refl)
+otherwise item casts _ literal path unary cast binary either assigned block loop break continue return call method missing = record { core = refl; cause = λ lacks. lacks }
 
 node-adjusted : (source : Source) (e : ℕ) → is_adjusted_otherwise source.infer (record { 0 = e }) ≡ true → node source e ≡ None
 unfolding node
-node-adjusted source e is = ap (λ adjusted. if adjusted then None else option_and_then (core_of (names_item source.infer (record { 0 = e }))) (expr_of source.body e)) is
+node-adjusted source e is = ap (λ adjusted. if adjusted then None else option_and_then (core_of (names_item source.infer (record { 0 = e })) (cast_operation source.infer (record { 0 = e }))) (expr_of source.body e)) is
 
-pub node-plain : (source : Source) (e : ℕ) (given : Expr) → is_adjusted_otherwise source.infer (record { 0 = e }) ≡ false → expr_of source.body e ≡ Some given → node source e ≡ core_of (names_item source.infer (record { 0 = e })) given
+pub node-plain : (source : Source) (e : ℕ) (given : Expr) → is_adjusted_otherwise source.infer (record { 0 = e }) ≡ false → expr_of source.body e ≡ Some given → node source e ≡ core_of (names_item source.infer (record { 0 = e })) (cast_operation source.infer (record { 0 = e })) given
 unfolding node
 node-plain source e given is there =
-    ap (λ adjusted. if adjusted then None else option_and_then (core_of (names_item source.infer (record { 0 = e }))) (expr_of source.body e)) is
-    ∙ ap (option_and_then (core_of (names_item source.infer (record { 0 = e })))) there
+    ap (λ adjusted. if adjusted then None else option_and_then (core_of (names_item source.infer (record { 0 = e })) (cast_operation source.infer (record { 0 = e }))) (expr_of source.body e)) is
+    ∙ ap (option_and_then (core_of (names_item source.infer (record { 0 = e })) (cast_operation source.infer (record { 0 = e })))) there
 
 -- an expression whose value is adjusted otherwise than by `NeverToAny` isn't built
 pub form-adjusted : (source : Source) (e : ℕ) → is_adjusted_otherwise source.infer (record { 0 = e }) ≡ true → HasForm source e form.Unbuilt
 form-adjusted source e is = record { core = node-adjusted source e is; cause = inl is }
 
 -- any other has the form of its variant
-pub form-plain : (source : Source) (e : ℕ) (given : Expr) (f : Form) → is_adjusted_otherwise source.infer (record { 0 = e }) ≡ false → expr_of source.body e ≡ Some given → IsFormOf (names_item source.infer (record { 0 = e })) given f → HasForm source e f
+pub form-plain : (source : Source) (e : ℕ) (given : Expr) (f : Form) → is_adjusted_otherwise source.infer (record { 0 = e }) ≡ false → expr_of source.body e ≡ Some given → IsFormOf (names_item source.infer (record { 0 = e })) (cast_operation source.infer (record { 0 = e })) given f → HasForm source e f
 form-plain source e given f is there of =
     record { core = node-plain source e given is there ∙ of.core; cause = by-form f of }
   where
-    by-form : (f : Form) → IsFormOf (names_item source.infer (record { 0 = e })) given f → IsCauseAt source e f
+    by-form : (f : Form) → IsFormOf (names_item source.infer (record { 0 = e })) (cast_operation source.infer (record { 0 = e })) given f → IsCauseAt source e f
     by-form form.Incomplete of = record { expr = given; stands = there; plain = is; lacks = of.cause }
     by-form form.Unbuilt of = inr (record { expr = given; stands = there; no_form = of.core; complete = of.cause })
     by-form _ of = tt
@@ -69,3 +72,16 @@ no-path-form _ differ = refl
 
 pub no-path : (source : Source) (e : ℕ) (f : Form) → HasForm source e f → ((name : _) → f ≡ form.Path name → ⊥) → is_path (node source e) ≡ false
 no-path source e f has differ = ap is_path has.core ∙ no-path-form f differ
+
+-- what a cast computes
+pub cast-keeps : (infer : InferenceResult) (cast operand : ExprId) → is_coercion infer operand ≡ true → cast_operation infer cast operand ≡ Some Keep
+unfolding cast_operation
+cast-keeps infer cast operand is = rw is refl
+
+pub cast-converts : (infer : InferenceResult) (cast operand : ExprId) → is_coercion infer operand ≡ false → (is_number_type (value_type infer operand) && is_number_type (type_of infer cast.0)) ≡ true → cast_operation infer cast operand ≡ Some Convert
+unfolding cast_operation
+cast-converts infer cast operand is are = rw (is, are) refl
+
+pub cast-of-none : (infer : InferenceResult) (cast operand : ExprId) → is_coercion infer operand ≡ false → (is_number_type (value_type infer operand) && is_number_type (type_of infer cast.0)) ≡ false → cast_operation infer cast operand ≡ None
+unfolding cast_operation
+cast-of-none infer cast operand is are = rw (is, are) refl

@@ -1,6 +1,6 @@
 pub mod Calls
 pub mod Causes
 pub mod Copies
-pub mod Diverging
+pub mod Listed
 pub mod Forms
 pub mod Results

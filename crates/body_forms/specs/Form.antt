@@ -1,8 +1,9 @@
 -- The form of an expression, as far as forms have a meaning.
 use Rattle.std.specs.Prelude.{◌≡◌, ℕ, Bool, [], ◌∷◌, Option, Some, None, pos}
-use Rattle.source_meaning.specs.Core.{CoreExpr, CoreLiteral, Truth, Number, Operation, Negate, Invert, Combine, core_of}
+use Rattle.source_meaning.specs.Core.{CoreExpr, CoreLiteral, Truth, Number, Character, Operation, Negate, Invert, Keep, Convert, Combine, core_of}
 use Rattle.source_meaning.specs.Core as expr
 use Rattle.source_meaning.specs.Source.{Source, node}
+use Rattle.types.specs.declared.ids.ExprId.{ExprId}
 use Rattle.world.specs.Nodes.{expr_numbers}
 use Rattle.world.specs.declared.expr.Expr.{Expr}
 use Rattle.mir.specs.declared.operand.UnOp.{UnOp}
@@ -18,21 +19,29 @@ abbrev pub core_value : LiteralValue → CoreLiteral
 core_value (literal.Truth test) = Truth test
 core_value (literal.Signed number) = Number number
 core_value (literal.Unsigned number) = Number (pos number)
+core_value (literal.Character code) = Character code
 
 -- the operation of an operator on one operand
 abbrev pub operation_of : UnOp → Operation
 operation_of one.Not = Invert
 operation_of one.Neg = Negate
 
+-- where no cast computes anything
+abbrev pub no_casts : ExprId → Option Operation
+no_casts operand = None
+
 -- the form with a meaning that a form of the code is, where it is one
 abbrev pub core_form : Form → Option CoreExpr
 core_form (form.Literal value) = Some (expr.Literal (core_value value))
 core_form (form.Path name) = Some (expr.Path name.now)
 core_form (form.Unary op e) = Some (expr.Strict (operation_of op) (e.0 ∷ []))
+core_form (form.Coercion e) = Some (expr.Strict Keep (e.0 ∷ []))
+core_form (form.Cast e) = Some (expr.Strict Convert (e.0 ∷ []))
 core_form (form.Binary op lhs rhs) = Some (expr.Strict (Combine op) (lhs.0 ∷ rhs.0 ∷ []))
 core_form (form.Logic op lhs rhs) = Some (expr.Logic op lhs.0 rhs.0)
 core_form (form.If condition then_branch else_branch) = Some (expr.If condition.0 then_branch.0 else_branch)
 core_form (form.Assign assigned value) = Some (expr.Assign assigned.0 value.0)
+core_form (form.Compound op assigned value) = Some (expr.Compound op assigned.0 value.0)
 core_form (form.Block statements tail) = Some (expr.Block statements.now tail)
 core_form (form.Labelled label statements tail) = Some (expr.Labelled label statements.now tail)
 core_form (form.Loop label body) = Some (expr.Loop label body.0)
@@ -50,9 +59,9 @@ IsCause e form.Incomplete = IsIncomplete e
 IsCause e form.Unbuilt = IsIncomplete e → ⊥
 IsCause e _ = Unit {0}
 
--- the form of an expression whose value isn't adjusted, by whether its path is resolved to an item
-pub record IsFormOf (names_item : Bool) (e : Expr) (f : Form) : Type 0 where
-  pub core : core_of names_item e ≡ core_form f
+-- the form of an expression whose value isn't adjusted, by whether its path is resolved to an item, and by what casts compute
+pub record IsFormOf (names_item : Bool) (casts : ExprId → Option Operation) (e : Expr) (f : Form) : Type 0 where
+  pub core : core_of names_item casts e ≡ core_form f
   pub cause : IsCause e f
 
 -- why an expression of a source has no form with a meaning

@@ -1,7 +1,7 @@
 pub mod Callees
 pub mod Contexts
 pub mod Copies
-pub mod Diverging
+pub mod Listed
 pub mod Form
 pub mod Literals
 pub mod Refusals

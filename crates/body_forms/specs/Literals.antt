@@ -1,6 +1,6 @@
 -- A literal as an operand of the graph.
 use Rattle.std.specs.Prelude.{◌≡◌, ℕ, ◌≤◌, List, take, Some}
-use Rattle.source_meaning.specs.Core.{CoreLiteral, Truth, Number}
+use Rattle.source_meaning.specs.Core.{CoreLiteral, Truth, Number, Character}
 use Rattle.world.specs.declared.layout.Layout.{Layout}
 use Rattle.types.specs.declared.ty.Const.{Const}
 use Rattle.types.specs.declared.ty.Ty.{Ty}
@@ -31,13 +31,14 @@ pub record IsLiteral (source : Source) (e : ℕ) (literal : CoreLiteral) (operan
   pub has_bytes : literal_bytes source e literal ≡ Some bytes
   pub is_constant : IsConstantOf source e bytes operand
 
--- a number literal's type has a layout of at most 16 bytes
+-- the type of a number literal, or of a character, has a layout of at most 16 bytes
 pub record HasNumberLayout (source : Source) (e : ℕ) : Type 0 where
   pub layout : Layout
   pub found : own_layout source e ≡ Some layout
   pub narrow : layout.size ≤ 16
 
--- a literal that is lowered: a truth value, or a number with a layout
+-- a literal that is lowered: a truth value, or a number or a character with a layout
 abbrev pub IsBuiltLiteral : Source → ℕ → CoreLiteral → Type 0
 IsBuiltLiteral source e (Truth test) = Unit {0}
 IsBuiltLiteral source e (Number number) = HasNumberLayout source e
+IsBuiltLiteral source e (Character code) = HasNumberLayout source e

@@ -5,7 +5,7 @@ use Rattle.world.specs.Lookups.{expr_of, function_row}
 use Rattle.types.specs.declared.ids.FunctionId.{FunctionId}
 use Rattle.source_meaning.specs.Built.{is_direct}
 use Rattle.source_meaning.specs.Calls.{function_called}
-use Rattle.source_meaning.specs.Core.{CoreExpr, Number, core_of, is_adjusted_otherwise, names_item}
+use Rattle.source_meaning.specs.Core.{CoreExpr, Number, Character, cast_operation, core_of, is_adjusted_otherwise, names_item}
 use Rattle.source_meaning.specs.Core as expr
 use Rattle.source_meaning.specs.Core.{local_named}
 use Rattle.world.specs.declared.expr.Expr.{Expr}
@@ -19,15 +19,16 @@ use Rattle.world.specs.declared.layout.Layout.{Layout}
 use Rattle.mir.specs.declared.errors.MirLowerError.{MirLowerError}
 use Rattle.mir.specs.declared.errors.MirLowerError.TheVariants as refusal
 use Rattle.mir.specs.Errors.{layout_error_of}
-use Rattle.source_meaning.specs.Source.{Source, node, named_by, pattern, target_path, pattern_named_by, target, binding_type, root, own_layout, own_type}
+use Rattle.source_meaning.specs.Source.{Source, node, named_by, pattern, target_path, pattern_named_by, target, compound_path, compound_target, binding_type, root, own_layout, own_type}
 use Rattle.source_meaning.specs.Around.{Opened, meant}
 use Rattle.source_meaning.specs.Valid.{EvaluatesIn}
 use Rattle.types.specs.declared.ids.ExprId.{ExprId}
 use Rattle.types.specs.declared.ids.LabelId.{LabelId}
 
--- an expression is a number literal
+-- an expression is a literal of a number or of a character
 abbrev pub IsNumber : Option CoreExpr → Type 0
 IsNumber (Some (expr.Literal (Number number))) = Unit {0}
+IsNumber (Some (expr.Literal (Character code))) = Unit {0}
 IsNumber _ = ⊥
 
 -- an expression that is missing, or whose operator is
@@ -47,13 +48,13 @@ pub record LacksPart (source : Source) (e : ℕ) : Type 0 where
 pub record IsUnbuiltExpr (source : Source) (e : ℕ) : Type 0 where
   pub expr : Expr
   pub stands : expr_of source.body e ≡ Some expr
-  pub no_form : core_of (names_item source.infer (record { 0 = e })) expr ≡ None
+  pub no_form : core_of (names_item source.infer (record { 0 = e })) (cast_operation source.infer (record { 0 = e })) expr ≡ None
   pub complete : IsIncomplete expr → ⊥
 
 -- An expression of a form that isn't built yet, whatever its parts are: one that is adjusted otherwise than by `NeverToAny`
--- alone, whatever its form is, and one to which `core_of` gives no form, other than an incomplete one: `*`, `+=` and its like,
--- a literal that is neither a truth value nor a whole number, a path to an associated item or a variant, a closure, a `match`
--- and so on.
+-- alone, whatever its form is, and one to which `core_of` gives no form, other than an incomplete one: `*`, a literal that is neither
+-- a truth value nor a whole number nor a character, a cast from or to another type than an integer, `bool` or `char`, a path to an
+-- associated item or a variant, a closure, a `match` and so on.
 abbrev pub IsUnbuiltForm : Source → ℕ → Type 0
 IsUnbuiltForm source e = (is_adjusted_otherwise source.infer (record { 0 = e }) ≡ true) ⊎ IsUnbuiltExpr source e
 
@@ -74,6 +75,11 @@ IsUnbuiltTarget source p =
     (target_path source p ≡ None)
     ⊎ ((named : ValueNs) × (pattern_named_by source p ≡ Some named) × (local_named named ≡ None))
 
+-- a target of a compound assignment that isn't built yet: it is no path that could be one to a binding, or is resolved to something
+-- else
+abbrev pub IsUnbuiltOperand : Source → ℕ → Type 0
+IsUnbuiltOperand source e = (compound_path source e ≡ None) ⊎ NamesNoBinding source e
+
 -- a call that isn't built yet: it names no function, or one that is given generic arguments, or whose own body a call doesn't enter
 abbrev pub IsUnbuiltCall : Source → ℕ → (callee : Option ℕ) → Type 0
 IsUnbuiltCall source e callee =
@@ -89,6 +95,7 @@ IsUnbuilt source e (Some (expr.Strict operation operands)) = ⊥
 IsUnbuilt source e (Some (expr.Logic op left right)) = ⊥
 IsUnbuilt source e (Some (expr.If condition then_branch else_branch)) = ⊥
 IsUnbuilt source e (Some (expr.Assign assigned value)) = IsUnbuiltTarget source assigned
+IsUnbuilt source e (Some (expr.Compound op assigned value)) = IsUnbuiltOperand source assigned
 IsUnbuilt source e (Some (expr.Block statements tail)) = (one : Statement) × Contains statements one × IsUnbuiltStatement source one
 IsUnbuilt source e (Some (expr.Labelled label statements tail)) = (one : Statement) × Contains statements one × IsUnbuiltStatement source one
 IsUnbuilt source e (Some (expr.Loop label body)) = ⊥
@@ -111,10 +118,15 @@ LetBindsNone source _ = ⊥
 abbrev pub AssignsNone : Source → ℕ → Type 0
 AssignsNone source p = (binding : BindingId) × (target source p ≡ Some binding) × (binding_type source binding.0 ≡ None)
 
+-- the target of a compound assignment names a binding that the body lacks
+abbrev pub CombinesNone : Source → ℕ → Type 0
+CombinesNone source e = (binding : BindingId) × (compound_target source e ≡ Some binding) × (binding_type source binding.0 ≡ None)
+
 -- an expression that names, assigns, or as a block binds, a binding that the body lacks
 abbrev pub LacksLocal : Source → ℕ → Option CoreExpr → Type 0
 LacksLocal source e (Some (expr.Path name)) = (binding : BindingId) × (named_by source e ≡ Some (LocalBinding binding)) × (binding_type source binding.0 ≡ None)
 LacksLocal source e (Some (expr.Assign assigned value)) = AssignsNone source assigned
+LacksLocal source e (Some (expr.Compound op assigned value)) = CombinesNone source assigned
 LacksLocal source e (Some (expr.Block statements tail)) = (one : Statement) × Contains statements one × LetBindsNone source one
 LacksLocal source e (Some (expr.Labelled label statements tail)) = (one : Statement) × Contains statements one × LetBindsNone source one
 LacksLocal source e _ = ⊥
@@ -123,6 +135,7 @@ LacksLocal source e _ = ⊥
 abbrev pub IsUnresolved : Source → ℕ → Option CoreExpr → List ℕ → Type 0
 IsUnresolved source e (Some (expr.Path given)) name = (given ≡ name) × (named_by source e ≡ None)
 IsUnresolved source e (Some (expr.Assign assigned value)) name = (target_path source assigned ≡ Some name) × (pattern_named_by source assigned ≡ None)
+IsUnresolved source e (Some (expr.Compound op assigned value)) name = (compound_path source assigned ≡ Some name) × (named_by source assigned ≡ None)
 IsUnresolved source e _ name = ⊥
 
 -- an expression stands in no loop and no labelled block of the body

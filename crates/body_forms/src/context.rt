@@ -1,7 +1,7 @@
 //! What lowering reads: a typed body in its world.
 
 ghost use Rattle.body_forms.specs.Copies.{HasCopyTypes};
-ghost use Rattle.body_forms.specs.Diverging.{HasDiverging};
+ghost use Rattle.body_forms.specs.Listed.{HasListed};
 
 use std::alloc::Global;
 use std::collections::BTreeSet;
@@ -18,6 +18,9 @@ pub struct Context<'a> {
     pub copy_types: BTreeSet<Ty>,
     /// The calls that `infer` lists as diverging.
     pub diverging: BTreeSet<ExprId>,
+    /// The operands of casts that `infer` lists as coercions.
+    pub coercions: BTreeSet<ExprId>,
     ghost copies: { HasCopyTypes infer.now copy_types },
-    ghost calls: { HasDiverging infer.now diverging },
+    ghost calls: { HasListed infer.now.diverging diverging },
+    ghost casts: { HasListed infer.now.coercion_casts coercions },
 }

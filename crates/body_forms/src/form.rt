@@ -2,16 +2,16 @@
 
 ghost use Rattle.std.specs.Prelude.{◌≡◌, ◌<◌, false, length, Some, IfSome, IfNone};
 ghost use Rattle.std.specs.Option.{option_and_then, option_copied};
-ghost use Rattle.source_meaning.specs.Core.{are_other_steps, is_adjusted_otherwise, is_adjusted_pattern, is_by_reference, is_dereferenced_pattern, is_positive, is_literal, is_path, name_of, names_item, path_of, pattern_names_item};
+ghost use Rattle.source_meaning.specs.Core.{are_many, are_other_steps, cast_operation, is_adjusted_otherwise, is_adjusted_twice, is_adjusted_pattern, is_by_reference, is_dereferenced_pattern, is_positive, is_literal, is_path, name_of, named_path, names_item, path_of, pattern_names_item};
 ghost use Rattle.source_meaning.specs.Core as expr;
-ghost use Rattle.source_meaning.specs.Source.{pattern, target_path, unadjusted};
+ghost use Rattle.source_meaning.specs.Source.{compound_path, pattern, target_path, unadjusted};
 ghost use Rattle.world.specs.declared.expr.Expr.TheVariants as whole;
 ghost use Rattle.world.specs.Lookups.{expr_of};
 ghost use Rattle.body_forms.specs.Contexts.{source_of};
-ghost use Rattle.body_forms.specs.Form.{IsFormOf, HasForm, core_value};
+ghost use Rattle.body_forms.specs.Form.{IsFormOf, HasForm, core_value, no_casts};
 
 use crate::context::Context;
-use crate::inferred::{diverges, step_target};
+use crate::inferred::{diverges, is_coercion, is_conversion, step_target};
 use crate::literal::LiteralValue;
 use mir::{BinOp, UnOp};
 use world::{
@@ -25,10 +25,15 @@ pub enum Form<'a> {
     Literal(LiteralValue),
     Path(&'a Text),
     Unary(UnOp, ExprId),
+    /// A cast that is a coercion.
+    Coercion(ExprId),
+    /// A cast between integers, `bool` and `char`.
+    Cast(ExprId),
     Binary(BinOp, ExprId, ExprId),
     Logic(LogicOp, ExprId, ExprId),
     If(ExprId, ExprId, Option<ExprId>),
     Assign(PatId, ExprId),
+    Compound(BinOp, ExprId, ExprId),
     Block(&'a List<Statement>, Option<ExprId>),
     Labelled(LabelId, &'a List<Statement>, Option<ExprId>),
     Loop(Option<LabelId>, ExprId),
@@ -44,18 +49,19 @@ pub enum Form<'a> {
 }
 
 fn literal_form<'a>(literal: &Literal) -> Form<'a>
-    ensures { IsFormOf false (whole.Literal literal.now) result }
+    ensures { IsFormOf false no_casts (whole.Literal literal.now) result }
 {
     match literal {
         Literal::Bool(test) => Form::Literal(LiteralValue::Truth(*test)),
         Literal::Int(number, _) => Form::Literal(LiteralValue::Signed(*number)),
         Literal::Uint(number, _) => Form::Literal(LiteralValue::Unsigned(*number)),
+        Literal::Char(code) => Form::Literal(LiteralValue::Character(*code)),
         _ => Form::Unbuilt,
     }
 }
 
 fn unary_form<'a>(e: ExprId, op: UnaryOp) -> Form<'a>
-    ensures { IsFormOf false (whole.UnaryOp e op) result }
+    ensures { IsFormOf false no_casts (whole.UnaryOp e op) result }
 {
     match op {
         UnaryOp::Neg => Form::Unary(UnOp::Neg, e),
@@ -65,20 +71,21 @@ fn unary_form<'a>(e: ExprId, op: UnaryOp) -> Form<'a>
 }
 
 fn binary_form<'a>(lhs: ExprId, rhs: ExprId, op: Option<BinaryOp>) -> Form<'a>
-    ensures { IsFormOf false (whole.BinaryOp lhs rhs op) result }
+    ensures { IsFormOf false no_casts (whole.BinaryOp lhs rhs op) result }
 {
     match op {
         Some(BinaryOp::ArithOp(op)) => Form::Binary(BinOp::from(op), lhs, rhs),
         Some(BinaryOp::CmpOp(op)) => Form::Binary(BinOp::from(op), lhs, rhs),
         Some(BinaryOp::LogicOp(op)) => Form::Logic(op, lhs, rhs),
-        Some(BinaryOp::Assignment { .. }) => Form::Unbuilt,
+        Some(BinaryOp::Assignment { op: Some(op) }) => Form::Compound(BinOp::from(op), lhs, rhs),
+        Some(BinaryOp::Assignment { op: None }) => Form::Unbuilt,
         None => Form::Incomplete,
     }
 }
 
 /// The form of a path, which is resolved to an item or not.
 fn path_form<'a>(names_item: bool, name: &'a Text) -> Form<'a>
-    ensures { IsFormOf names_item (whole.Path name.now) result }
+    ensures { IsFormOf names_item no_casts (whole.Path name.now) result }
 {
     if names_item {
         Form::Unbuilt
@@ -93,7 +100,7 @@ fn block_form<'a>(
     tail: Option<ExprId>,
     label: Option<LabelId>,
 ) -> Form<'a>
-    ensures { IsFormOf false (whole.Block statements.now tail label) result }
+    ensures { IsFormOf false no_casts (whole.Block statements.now tail label) result }
 {
     match label {
         None => Form::Block(statements, tail),
@@ -101,14 +108,28 @@ fn block_form<'a>(
     }
 }
 
+/// The form of a cast: it is a coercion, or one between integers, `bool` and `char`.
+fn cast_form<'a>(context: &Context<'_>, cast: ExprId, operand: ExprId) -> Form<'a>
+    ensures { IsFormOf false (cast_operation context.now.infer.now cast) (whole.Cast operand) result }
+{
+    if is_coercion(context, operand) {
+        Form::Coercion(operand)
+    } else if is_conversion(context, cast, operand) {
+        Form::Cast(operand)
+    } else {
+        Form::Unbuilt
+    }
+}
+
 /// The form of an expression, as it is before its value is adjusted.
-fn form_of<'a>(names_item: bool, expr: &'a Expr) -> Form<'a>
-    ensures { IsFormOf names_item expr.now result }
+fn form_of<'a>(context: &Context<'a>, e: ExprId, expr: &'a Expr) -> Form<'a>
+    ensures { IsFormOf (names_item context.now.infer.now e) (cast_operation context.now.infer.now e) expr.now result }
 {
     match expr {
         Expr::Literal(literal) => literal_form(literal),
-        Expr::Path(name) => path_form(names_item, name),
+        Expr::Path(name) => path_form(names_item(context, e), name),
         Expr::UnaryOp { expr, op } => unary_form(*expr, *op),
+        Expr::Cast { expr } => cast_form(context, e, *expr),
         Expr::BinaryOp { lhs, rhs, op } => binary_form(*lhs, *rhs, *op),
         Expr::If {
             condition,
@@ -178,7 +199,7 @@ pub fn form_at<'a>(context: &Context<'a>, e: ExprId) -> Form<'a>
     if is_adjusted_otherwise(context, e) {
         Form::Unbuilt
     } else {
-        form_of(names_item(context, e), expr_at(context, e))
+        form_of(context, e, expr_at(context, e))
     }
 }
 
@@ -294,5 +315,49 @@ pub fn target_path<'a>(context: &Context<'a>, pat: PatId) -> Option<&'a Text>
         None
     } else {
         path_of(context.body.pats.get(pat.0 as u64))
+    }
+}
+
+/// Whether there is more than one adjustment.
+fn are_many(steps: Option<&List<Adjustment>>) -> bool
+    ensures { result ≡ are_many (option_copied steps.entry) }
+{
+    match steps {
+        Some(steps) => match steps.as_slice() {
+            [] => false,
+            [_] => false,
+            _ => true,
+        },
+        None => false,
+    }
+}
+
+/// Whether an expression's value is adjusted by more than one step.
+#[tactic(auto, unfolding(source_meaning::specs::Core::is_adjusted_twice))]
+fn is_adjusted_twice(context: &Context<'_>, e: ExprId) -> bool
+    ensures { result ≡ is_adjusted_twice context.now.infer.now e }
+{
+    are_many(context.infer.expr_adjustments.get(&e))
+}
+
+/// The text of an expression that is a path.
+fn named_path(expr: Option<&Expr>) -> Option<&Text>
+    ensures { option_copied result ≡ option_and_then named_path (option_copied expr.entry) }
+{
+    match expr {
+        Some(Expr::Path(name)) => Some(name),
+        _ => None,
+    }
+}
+
+/// The path that the target of a compound assignment is, where it is one that may name a binding.
+#[tactic(auto, unfolding(source_meaning::specs::Source::compound_path))]
+pub fn compound_path<'a>(context: &Context<'a>, e: ExprId) -> Option<&'a Text>
+    ensures { option_copied result ≡ compound_path (source_of context.now) e.0 }
+{
+    if is_adjusted_twice(context, e) || names_item(context, e) {
+        None
+    } else {
+        named_path(context.body.exprs.get(e.0 as u64))
     }
 }

@@ -1,18 +1,20 @@
-//! What inference found of a body: the types of its expressions and bindings, which types are `Copy`, and which calls diverge.
+//! What inference found of a body: the types of its expressions and bindings, which types are `Copy`, which calls diverge, and which
+//! casts are coercions.
 
-ghost use Rattle.std.specs.Prelude.{◌≡◌, ◌<◌, ℕ, length, Some, IfOk};
+ghost use Rattle.std.specs.Prelude.{◌≡◌, ◌<◌, ◌&&◌, ℕ, length, Some, IfOk};
 ghost use Rattle.std.specs.Option.{option_copied};
-ghost use Rattle.source_meaning.specs.Core.{never_step, never_steps, never_target};
+ghost use Rattle.source_meaning.specs.Core.{is_coercion, is_number_type, never_step, never_steps, never_target, value_type as type_of_value};
 ghost use Rattle.source_meaning.specs.Source.{binding_type, cell_type, diverges, node_type, own_type, Never};
 ghost use Rattle.world.specs.Checked.{IsCheckedBody};
-ghost use Rattle.world.specs.Lookups.{is_copy as is_copy_type};
+ghost use Rattle.world.specs.Lookups.{is_copy as is_copy_type, type_of};
 ghost use Rattle.body_forms.specs.Contexts.{source_of};
 ghost use Rattle.body_forms.specs.Copies.{HasCopyTypes};
-ghost use Rattle.body_forms.specs.Diverging.{HasDiverging};
+ghost use Rattle.body_forms.specs.Listed.{HasListed};
 
 use crate::context::Context;
 use std::alloc::Global;
 use std::collections::BTreeSet;
+use numbers::Kind;
 use world::{
     Adjust, Adjustment, Body, ExprId, HirDatabase, InferenceResult, List, NoMemory, TryClone, Ty,
 };
@@ -97,6 +99,31 @@ pub fn value_type<'a>(context: &Context<'a>, e: ExprId) -> Option<&'a Ty>
     }
 }
 
+/// Whether a type is an integer type, `bool` or `char`.
+fn is_number_type(ty: Option<&Ty>) -> bool
+    ensures { result ≡ is_number_type (option_copied ty.entry) }
+{
+    match ty {
+        Some(ty) => Kind::of(ty).is_some(),
+        None => false,
+    }
+}
+
+/// Whether a cast of an operand is a coercion. It takes as many comparisons of numbers as the logarithm of the number of such casts.
+pub(crate) fn is_coercion(context: &Context<'_>, operand: ExprId) -> bool
+    ensures { result ≡ is_coercion context.now.infer.now operand }
+{
+    context.coercions.contains(&operand)
+}
+
+/// Whether a cast is between integers, `bool` and `char`.
+#[tactic(auto, unfolding(source_meaning::specs::Source::node_type, source_meaning::specs::Source::own_type))]
+pub(crate) fn is_conversion(context: &Context<'_>, cast: ExprId, operand: ExprId) -> bool
+    ensures { result ≡ (is_number_type (type_of_value context.now.infer.now operand) && is_number_type (type_of context.now.infer.now cast.0)) }
+{
+    is_number_type(value_type(context, operand)) && is_number_type(own_type(context, cast))
+}
+
 /// The type of an expression's `!`, where it is adjusted by `NeverToAny`.
 pub fn never_type<'a>(context: &Context<'a>, e: ExprId) -> Option<&'a Ty>
     ensures { option_copied result ≡ cell_type (source_of context.now) (Never e.0) }
@@ -137,21 +164,20 @@ fn copy_types(alloc: Global, infer: &InferenceResult) -> Result<BTreeSet<Ty>, No
     Ok(types)
 }
 
-/// The calls that are listed as diverging, in their order.
-fn diverging_calls(alloc: Global, infer: &InferenceResult) -> Result<BTreeSet<ExprId>, NoMemory>
-    ensures { IfOk result (HasDiverging infer.now) }
+/// Listed expressions, in their order.
+fn as_set(alloc: Global, listed: &[ExprId]) -> Result<BTreeSet<ExprId>, NoMemory>
+    ensures { IfOk result (HasListed listed.now) }
 {
-    let listed = infer.diverging.as_slice();
-    let mut calls = BTreeSet::new(alloc);
-    for call in listed {
-        calls.insert(*call)?;
+    let mut found = BTreeSet::new(alloc);
+    for e in listed {
+        found.insert(*e)?;
     }
-    Ok(calls)
+    Ok(found)
 }
 
 impl<'a> Context<'a> {
-    /// A typed body in its world. The only refusal is want of memory for the types that are listed as `Copy` and the calls that
-    /// are listed as diverging.
+    /// A typed body in its world. The only refusal is want of memory for the types that are listed as `Copy`, the calls that are
+    /// listed as diverging, and the operands of casts that are listed as coercions.
     pub fn new(
         alloc: Global,
         db: &'a HirDatabase,
@@ -166,7 +192,8 @@ impl<'a> Context<'a> {
             body,
             infer,
             copy_types: copy_types(alloc, infer)?,
-            diverging: diverging_calls(alloc, infer)?,
+            diverging: as_set(alloc, infer.diverging.as_slice())?,
+            coercions: as_set(alloc, infer.coercion_casts.as_slice())?,
         })
     }
 }

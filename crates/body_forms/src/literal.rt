@@ -23,12 +23,13 @@ use mir::{MirLowerError, MirSpan, Operand, OperandKind, layout_error_of};
 use std::alloc::Global;
 use world::{Bytes, Const, ExprId, MemoryMap, Text, TryClone, Ty, ValueConst};
 
-/// A literal of a kind that is built: a truth value, or a whole number.
+/// A literal of a kind that is built: a truth value, a whole number, or a character, by its code point.
 #[derive(Clone, Copy)]
 pub enum LiteralValue {
     Truth(bool),
     Signed(i128),
     Unsigned(u128),
+    Character(u32),
 }
 
 fn too_many_bytes(alloc: Global) -> MirLowerError
@@ -127,5 +128,6 @@ pub fn lower_literal(
         LiteralValue::Truth(test) => lower_truth(context, e, test),
         LiteralValue::Signed(number) => lower_number(context, e, signed_bytes(number)),
         LiteralValue::Unsigned(number) => lower_number(context, e, unsigned_bytes(number)),
+        LiteralValue::Character(code) => lower_number(context, e, unsigned_bytes(code as u128)),
     }
 }

@@ -148,6 +148,7 @@ named-target source outer label (Some (expr.Strict operation operands)) jumps fi
 named-target source outer label (Some (expr.Logic op left right)) jumps fits lacks = jumps
 named-target source outer label (Some (expr.If condition then_branch else_branch)) jumps fits lacks = jumps
 named-target source outer label (Some (expr.Assign assigned value)) jumps fits lacks = jumps
+named-target source outer label (Some (expr.Compound op assigned value)) jumps fits lacks = jumps
 named-target source outer label (Some (expr.Block statements tail)) jumps fits lacks = jumps
 named-target source outer label (Some (expr.Labelled own statements tail)) jumps fits lacks = jumps
 named-target source outer label (Some (expr.Loop own body)) jumps fits lacks = jumps

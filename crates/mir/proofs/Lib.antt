@@ -1,2 +1,4 @@
+pub mod Interning
+mod Lengths
 pub mod Queries
 mod Targets

@@ -16,10 +16,11 @@ use Rattle.types.specs.declared.ty.TraitRef.{TraitRef}
 use Rattle.types.specs.declared.ty.UnevaluatedConst.{UnevaluatedConst}
 use Rattle.types.specs.declared.ty.ValueConst.{ValueConst}
 use Rattle.types.specs.declared.ty.Ty.{Ty, Ty-F, out-Ty}
+use Rattle.world.specs.Checked.{fixed_size}
 use Rattle.numbers.specs.Bytes.{value_of}
 use Rattle.numbers.specs.declared.operator.Operator.{Operator}
 use Rattle.numbers.specs.declared.operator.Kind.{Kind}
-use Rattle.numbers.specs.Operators.{Answer, Computes, Panics, Undefined, computed, negated, inverted, kind_of}
+use Rattle.numbers.specs.Operators.{Answer, Computes, Panics, Undefined, computed, converted, negated, inverted, kind_of}
 use Rattle.mir.specs.Answers.{answer_to}
 use Rattle.mir.specs.declared.answers.Answer.{Answer as Told}
 use Rattle.mir.specs.declared.answers.Answer.TheVariants as told
@@ -47,7 +48,7 @@ use Rattle.mir.specs.declared.operand.UnOp.TheVariants as one
 use Rattle.mir.specs.declared.operand.OperandKind.{OperandKind}
 use Rattle.mir.specs.declared.operand.OperandKind.TheVariants.{Copy, Constant}
 use Rattle.mir.specs.declared.operand.Rvalue.{Rvalue}
-use Rattle.mir.specs.declared.operand.Rvalue.TheVariants.{Use, CheckedBinaryOp, UnaryOp}
+use Rattle.mir.specs.declared.operand.Rvalue.TheVariants.{Use, Cast, CheckedBinaryOp, UnaryOp}
 use Rattle.mir.specs.declared.statement.Statement.{Statement}
 use Rattle.mir.specs.declared.statement.StatementKind.{StatementKind}
 use Rattle.mir.specs.declared.statement.StatementKind.TheVariants.{Assign, FakeRead, StorageLive, StorageDead}
@@ -145,6 +146,15 @@ unfoldable pub operated_on : UnOp → Option Ty → Option (List ℕ) → Result
 operated_on op ty (Some bytes) = answered (computed_of op (option_and_then kind_of ty) bytes)
 operated_on op ty None = Err bad_read
 
+-- a cast between integers, `bool` and `char`, whose sizes are the same on all targets; no other cast is built
+unfoldable pub cast_to : Ty → Option Ty → Option (List ℕ) → Result (List ℕ) MirEvalError
+cast_to to from (Some bytes) =
+    elim (fixed_size to) [
+      | Some size ↦ answered (converted (option_and_then kind_of from) size bytes)
+      | None ↦ answered Undefined
+    ]
+cast_to to from None = Err bad_read
+
 abbrev pub read : Option (List ℕ) → Result (List ℕ) MirEvalError
 read (Some bytes) = Ok bytes
 read None = Err bad_read
@@ -152,6 +162,7 @@ read None = Err bad_read
 -- the bytes that an assignment computes
 unfoldable pub rvalue_bytes : Frame → Memory → Rvalue → Result (List ℕ) MirEvalError
 rvalue_bytes frame memory (Use operand) = read (operand_bytes frame memory operand.kind)
+rvalue_bytes frame memory (Cast kind operand ty) = cast_to ty (operand_type frame.body operand.kind) (operand_bytes frame memory operand.kind)
 rvalue_bytes frame memory (CheckedBinaryOp op left right) =
     operated op (operand_type frame.body left.kind) (operand_type frame.body right.kind)
     (operand_bytes frame memory left.kind) (operand_bytes frame memory right.kind)

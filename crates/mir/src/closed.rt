@@ -99,6 +99,7 @@ impl MirBody {
     {
         match rvalue {
             Rvalue::Use(operand) => self.is_operand_closed(operand),
+            Rvalue::Cast(_, operand, _) => self.is_operand_closed(operand),
             Rvalue::CheckedBinaryOp(_, left, right) => {
                 self.is_operand_closed(left) && self.is_operand_closed(right)
             }

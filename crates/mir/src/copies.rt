@@ -128,6 +128,10 @@ impl TryClone for Rvalue {
     fn try_clone(&self, alloc: Global) -> Result<Rvalue, NoMemory> {
         match self {
             Rvalue::Use(operand) => Ok(Rvalue::Use(operand.try_clone(alloc)?)),
+            Rvalue::Cast(kind, operand, ty) => {
+                let operand = operand.try_clone(alloc)?;
+                Ok(Rvalue::Cast(*kind, operand, ty.try_clone(alloc)?))
+            }
             Rvalue::CheckedBinaryOp(op, left, right) => {
                 let left = left.try_clone(alloc)?;
                 let right = right.try_clone(alloc)?;

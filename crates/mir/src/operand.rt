@@ -40,10 +40,18 @@ pub enum UnOp {
     Neg,
 }
 
+/// What a cast is between.
+#[derive(Clone, Copy, PartialEq, Eq, PartialOrd, Ord, Hash)]
+pub enum CastKind {
+    /// Integers, `bool` and `char`, which all are numbers.
+    IntToInt,
+}
+
 /// What an assignment computes.
 #[derive(PartialEq, Eq, Drop)]
 pub enum Rvalue {
     Use(Operand),
+    Cast(CastKind, Operand, Ty),
     CheckedBinaryOp(BinOp, Operand, Operand),
     UnaryOp(UnOp, Operand),
 }

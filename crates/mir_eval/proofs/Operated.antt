@@ -1,14 +1,16 @@
 -- Operators of a run that were computed without the table.
-use Rattle.std.proofs.Common.{◌≡◌, ℕ, ◌<◌, ◌⊎◌, List, length, Option, Some, None, Ok, Err, ◌∙◌, ap}
+use Rattle.std.proofs.Common.{◌≡◌, ℕ, ◌<◌, ◌⊎◌, List, length, Option, Some, None, Result, Ok, Err, ◌∙◌, ap, refl}
 use Rattle.std.specs.Prelude.{IfSome, codes, option_and_then}
 use Rattle.types.specs.declared.ty.Ty.{Ty}
 use Rattle.numbers.specs.declared.operator.Kind.{Kind}
 use Rattle.numbers.specs.declared.operator.Operator.{Operator}
-use Rattle.numbers.specs.Operators.{Computes, computed, kind_of}
+use Rattle.numbers.specs.Operators.{Computes, Undefined, computed, converted, kind_of}
+use Rattle.world.specs.Checked.{fixed_size}
+use Rattle.mir.specs.declared.errors.MirEvalError.{MirEvalError}
 use Rattle.mir.specs.declared.errors.MirEvalError as error
 use Rattle.mir.specs.declared.operand.UnOp.{UnOp}
-use Rattle.mir.specs.Run.{answered, operated, operated_on}
-use Rattle.mir_eval.proofs.Wide.{no-answer, no-answer-of-one}
+use Rattle.mir.specs.Run.{answered, cast_to, operated, operated_on}
+use Rattle.mir_eval.proofs.Wide.{no-answer, no-answer-of-one, no-conversion}
 
 -- what the table would answer for two operands of one kind is what the run has
 pub operated_if_made : {A : Type 0} (bytes : A → List ℕ) (result : Option A) (op : Operator) (kind : Kind) (left_type right_type : Option Ty) (first second : Option (List ℕ)) (left right : List ℕ) → option_and_then kind_of left_type ≡ Some kind → option_and_then kind_of right_type ≡ Some kind → first ≡ Some left → second ≡ Some right → IfSome result (λ made. computed op (Some kind) (Some kind) left right ≡ Computes (bytes made)) → IfSome result (λ made. operated op left_type right_type first second ≡ Ok (bytes made))
@@ -35,3 +37,13 @@ pub operated-on-wide : (op : UnOp) (ty : Option Ty) (first : Option (List ℕ)) 
 unfolding operated_on answered
 operated-on-wide op ty first bytes f more =
     ap (λ (x : Option (List ℕ)). operated_on op ty x) f ∙ ap answered (no-answer-of-one bytes more op (option_and_then kind_of ty))
+
+-- and a cast
+unbuilt-cast : (kind : Option Kind) (bytes : List ℕ) (size : Option ℕ) → 16 < length bytes → ◌≡◌ {A = Result (List ℕ) MirEvalError} (elim size [ Some count ↦ answered (converted kind count bytes) | None ↦ answered Undefined ]) (Err (error.NotSupported (codes "comparison of this type")))
+unfolding answered
+unbuilt-cast kind bytes (Some count) more = ap answered (no-conversion bytes more kind count)
+unbuilt-cast kind bytes None more = refl
+
+pub cast-wide : (to : Ty) (from : Option Ty) (first : Option (List ℕ)) (bytes : List ℕ) → first ≡ Some bytes → 16 < length bytes → cast_to to from first ≡ Err (error.NotSupported (codes "comparison of this type"))
+unfolding cast_to
+cast-wide to from first bytes f more = ap (cast_to to from) f ∙ unbuilt-cast (option_and_then kind_of from) bytes (fixed_size to) more

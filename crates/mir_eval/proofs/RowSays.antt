@@ -17,7 +17,7 @@ use Rattle.mir.specs.declared.operand.Operand.{Operand}
 use Rattle.mir.specs.declared.operand.OperandKind.{OperandKind}
 use Rattle.mir.specs.declared.operand.OperandKind.TheVariants as operand
 use Rattle.mir.specs.declared.operand.Place.{Place}
-use Rattle.mir.specs.declared.operand.Rvalue.TheVariants.{Use, CheckedBinaryOp, UnaryOp}
+use Rattle.mir.specs.declared.operand.Rvalue.TheVariants.{Use, CheckedBinaryOp, UnaryOp, Cast}
 use Rattle.mir.specs.declared.statement.StatementKind.{StatementKind}
 use Rattle.mir.specs.declared.statement.StatementKind.TheVariants.{Assign, FakeRead, StorageLive, StorageDead}
 use Rattle.mir.specs.declared.switch.SwitchTargets.{SwitchTargets}
@@ -93,6 +93,7 @@ module _ (frame : Frame) (memory : Memory) where
         (sym (makes one.kind other.kind says.2) ∙ ap (λ (o : Operator). operated o (operand_type frame.body one.kind) (operand_type frame.body other.kind) (operand_bytes frame memory one.kind) (operand_bytes frame memory other.kind)) (sym says.1))
     combines op kind left right m makes is (Assign place (Use given)) says = absurd says
     combines op kind left right m makes is (Assign place (UnaryOp operator given)) says = absurd says
+    combines op kind left right m makes is (Assign place (Cast cast given ty)) says = absurd says
     combines op kind left right m makes is (FakeRead place) says = absurd says
     combines op kind left right m makes is (StorageLive local) says = absurd says
     combines op kind left right m makes is (StorageDead local) says = absurd says
@@ -117,6 +118,7 @@ module _ (frame : Frame) (memory : Memory) where
     copies from does (Assign place (Use one)) says = puts (source.Local from) does place one says.0 says.1
     copies from does (Assign place (CheckedBinaryOp operator one other)) says = absurd says
     copies from does (Assign place (UnaryOp operator one)) says = absurd says
+    copies from does (Assign place (Cast cast one ty)) says = absurd says
     copies from does (FakeRead place) says = absurd says
     copies from does (StorageLive local) says = absurd says
     copies from does (StorageDead local) says = absurd says
@@ -130,6 +132,7 @@ module _ (frame : Frame) (memory : Memory) where
     puts-short short does (Assign place (Use one)) says = puts (source.Constant short) does place one says.0 says.1
     puts-short short does (Assign place (CheckedBinaryOp operator one other)) says = absurd says
     puts-short short does (Assign place (UnaryOp operator one)) says = absurd says
+    puts-short short does (Assign place (Cast cast one ty)) says = absurd says
     puts-short short does (FakeRead place) says = absurd says
     puts-short short does (StorageLive local) says = absurd says
     puts-short short does (StorageDead local) says = absurd says

@@ -2,10 +2,10 @@
 use Rattle.std.proofs.Common.{◌≡◌, ℕ, ◌<◌, ◌≤◌, ◌⊎◌, ⊎_elim, Bool, true, false, ◌&&◌, eqb, List, length, Option, Some, None, refl, ap, ◌∙◌, arith}
 use Rattle.std.proofs.lemmas.Bool.Decides.{nat_tests}
 use Rattle.numbers.specs.declared.operator.Kind.{Kind}
-use Rattle.numbers.specs.declared.operator.Kind.TheVariants.{Signed, Unsigned, Boolean}
+use Rattle.numbers.specs.declared.operator.Kind.TheVariants.{Signed, Unsigned, Boolean, Character}
 use Rattle.numbers.specs.declared.operator.Operator.{Operator}
 use Rattle.numbers.specs.Bytes.{is_width}
-use Rattle.numbers.specs.Operators.{Undefined, combined, computed, denied, inverted, is_on_booleans, is_shift, negated, shift, sign_of}
+use Rattle.numbers.specs.Operators.{Undefined, combined, computed, converted, denied, inverted, is_comparison, is_on_booleans, is_shift, negated, shift, sign_of}
 use Rattle.numbers.proofs.Keeping.{width_below}
 use Rattle.mir.specs.declared.operand.UnOp.{UnOp}
 use Rattle.mir.specs.declared.operand.UnOp.TheVariants as one
@@ -20,6 +20,9 @@ not-a-width n more = no-width n (is_width n) refl more
 
 not-one : (n : ℕ) → 16 < n → eqb n 1 ≡ false
 not-one n more = grind (arith, nat_tests)
+
+unlike-four : (n : ℕ) → 16 < n → eqb n 4 ≡ false
+unlike-four n more = grind (arith, nat_tests)
 
 unlike : (m n : ℕ) → m ≤ 16 → 16 < n → eqb m n ≡ false
 unlike m n few more = grind (arith, nat_tests)
@@ -55,6 +58,19 @@ module _ (op : Operator) (left right : List ℕ) (more : (16 < length left) ⊎ 
   truths =
       ⊎_elim (λ h. truths-left (is_on_booleans op) h) (λ h. truths-right (is_on_booleans op) (eqb (length left) 1) h) more
 
+  characters-left : (b : Bool) → 16 < length left → (b && eqb (length left) 4 && eqb (length right) 4) ≡ false
+  characters-left true h = rw (unlike-four (length left) h) refl
+  characters-left false h = refl
+
+  characters-right : (b c : Bool) → 16 < length right → (b && c && eqb (length right) 4) ≡ false
+  characters-right true true h = unlike-four (length right) h
+  characters-right true false h = refl
+  characters-right false c h = refl
+
+  characters : (is_comparison op && eqb (length left) 4 && eqb (length right) 4) ≡ false
+  characters =
+      ⊎_elim (λ h. characters-left (is_comparison op) h) (λ h. characters-right (is_comparison op) (eqb (length left) 4) h) more
+
   no-shift : (l r : Option Bool) → shift op l r left right ≡ Undefined
   unfolding shift
   no-shift (Some l) (Some r) = rw widths refl
@@ -80,6 +96,15 @@ module _ (op : Operator) (left right : List ℕ) (more : (16 < length left) ⊎ 
   no-combination None (Some Unsigned) = refl
   no-combination None (Some Boolean) = refl
   no-combination None None = refl
+  no-combination (Some Character) (Some Character) = rw characters refl
+  no-combination (Some Signed) (Some Character) = refl
+  no-combination (Some Unsigned) (Some Character) = refl
+  no-combination (Some Boolean) (Some Character) = refl
+  no-combination (Some Character) (Some Signed) = refl
+  no-combination (Some Character) (Some Unsigned) = refl
+  no-combination (Some Character) (Some Boolean) = refl
+  no-combination (Some Character) None = refl
+  no-combination None (Some Character) = refl
 
   by-shift : (b : Bool) (l r : Option Kind) → is_shift op ≡ b → computed op l r left right ≡ Undefined
   unfolding computed
@@ -100,6 +125,7 @@ module _ (bytes : List ℕ) (more : 16 < length bytes) where
   no-negation (Some Signed) = rw (not-a-width (length bytes) more) refl
   no-negation (Some Unsigned) = rw (not-a-width (length bytes) more) refl
   no-negation (Some Boolean) = no-denial
+  no-negation (Some Character) = refl
   no-negation None = refl
 
   no-inversion : (kind : Option Kind) → inverted kind bytes ≡ Undefined
@@ -107,6 +133,7 @@ module _ (bytes : List ℕ) (more : 16 < length bytes) where
   no-inversion (Some Signed) = rw (not-a-width (length bytes) more) refl
   no-inversion (Some Unsigned) = rw (not-a-width (length bytes) more) refl
   no-inversion (Some Boolean) = no-denial
+  no-inversion (Some Character) = refl
   no-inversion None = refl
 
   -- an operator on one operand
@@ -114,3 +141,9 @@ module _ (bytes : List ℕ) (more : 16 < length bytes) where
   unfolding computed_of
   no-answer-of-one one.Neg kind = no-negation kind
   no-answer-of-one one.Not kind = no-inversion kind
+
+  -- a cast
+  pub no-conversion : (kind : Option Kind) (size : ℕ) → converted kind size bytes ≡ Undefined
+  unfolding converted
+  no-conversion (Some kind) size = rw (not-a-width (length bytes) more) refl
+  no-conversion None size = refl

@@ -2,7 +2,7 @@
 
 ghost use Rattle.std.specs.Prelude.{◌≡◌, ◌≢◌, ◌<◌, ◌≤◌, IfOk, IsSome, Ok, Some, option_and_then, option_map};
 ghost use Rattle.std.specs.List.{concat};
-ghost use Rattle.mir.specs.Run.{copied, read, answered, operated, computed_of, operated_on, rvalue_bytes, operand_bytes, operand_type, after_statement, switched, terminated};
+ghost use Rattle.mir.specs.Run.{copied, read, answered, operated, computed_of, cast_to, operated_on, rvalue_bytes, operand_bytes, operand_type, after_statement, switched, terminated};
 ghost use Rattle.mir_eval.specs.Machine.{call_of};
 ghost use Rattle.mir_eval.specs.declared.steps.Exit.TheVariants.{Calls};
 ghost use Rattle.numbers.specs.Computed.{answer_of, count_of};
@@ -14,13 +14,14 @@ use crate::faults::Fault;
 use crate::frames::StackFrame;
 use crate::pieces::{gather, whole};
 use mir::{
-    BasicBlockId, BinOp, Interval, OperandKind, Rvalue, StatementKind, SwitchTargets, Terminator,
-    TerminatorKind, UnOp,
+    BasicBlockId, BinOp, CastKind, Interval, OperandKind, Rvalue, StatementKind, SwitchTargets, Terminator,
+    TerminatorKind, UnOp, fixed_size,
 };
 use mir_mem::{Memory, View};
 use mir_ops::unsigned_number;
 use mir_rows::{constant_bytes, operand_kind};
-use numbers::{Computed, Kind, compute, invert, negate};
+use numbers::{Computed, Kind, compute, convert, invert, negate};
+use types::Ty;
 
 /// Where a block leads that doesn't fault: out of the body, to another block of it, or to a call, which its terminator is.
 #[derive(Clone, Copy, PartialEq, Eq, Debug)]
@@ -177,6 +178,30 @@ fn operate_on<M: Memory>(
     }
 }
 
+/// The bytes of a number that is cast to a type.
+#[tactic(auto, unfolding(mir::specs::Run::cast_to))]
+fn cast<M: Memory>(
+    frame: StackFrame<'_, '_>,
+    memory: &M,
+    kind: &OperandKind,
+    ty: &Ty,
+) -> Result<([u8; 16], u8), Fault>
+    ensures bytes { operated_bytes result ≡ cast_to ty.now (operand_type frame.entry.body.now kind.now) (operand_bytes (frame_of frame.entry) (M.areas memory.now) kind.now) }
+    ensures count { IfOk result (λ r. r.1 ≤ 16) }
+{
+    let Some(view) = operand(frame, memory, kind) else {
+        return Err(Fault::BadRead);
+    };
+    let Some(size) = fixed_size(ty) else {
+        return Err(Fault::Undefined);
+    };
+    let own = operand_kind(frame.body.body(), kind);
+    match gather(&view) {
+        Some(bytes) => answered(convert(own, size, bytes.bytes())),
+        None => Err(Fault::Undefined),
+    }
+}
+
 /// Copies what an operator made to a cell.
 #[tactic(auto, unfolding(mir::specs::Run::copied))]
 fn assign_made<M: Memory>(
@@ -205,6 +230,10 @@ fn assign<M: Memory>(
 {
     match rvalue {
         Rvalue::Use(operand) => assign_operand(frame, memory, to, &operand.kind),
+        Rvalue::Cast(CastKind::IntToInt, operand, ty) => {
+            let made = cast(frame, memory, &operand.kind, ty);
+            assign_made(memory, to, made)
+        }
         Rvalue::CheckedBinaryOp(op, left, right) => {
             let made = operate(frame, memory, *op, &left.kind, &right.kind);
             assign_made(memory, to, made)

@@ -12,7 +12,7 @@ use Rattle.mir.specs.declared.operand.Operand.{Operand}
 use Rattle.mir.specs.declared.operand.OperandKind.{OperandKind}
 use Rattle.mir.specs.declared.operand.OperandKind.TheVariants.{Copy, Constant}
 use Rattle.mir.specs.declared.operand.Rvalue.{Rvalue}
-use Rattle.mir.specs.declared.operand.Rvalue.TheVariants.{Use, CheckedBinaryOp, UnaryOp}
+use Rattle.mir.specs.declared.operand.Rvalue.TheVariants.{Use, Cast, CheckedBinaryOp, UnaryOp}
 use Rattle.mir.specs.declared.statement.Statement.{Statement}
 use Rattle.mir.specs.declared.statement.StatementKind.{StatementKind}
 use Rattle.mir.specs.declared.statement.StatementKind.TheVariants.{Assign, FakeRead, StorageLive, StorageDead}
@@ -33,6 +33,7 @@ module _ (later : List (Query × Answer)) (frame : Frame) where
   same_rvalue : (memory : Memory) (rvalue : Rvalue) → rvalue_bytes (telling later frame) memory rvalue ≡ rvalue_bytes frame memory rvalue
   unfolding rvalue_bytes
   same_rvalue memory (Use operand) = ap read (same_operand memory operand.kind)
+  same_rvalue memory (Cast kind operand ty) = rw (same_operand memory operand.kind)
   same_rvalue memory (CheckedBinaryOp op left right) = rw (same_operand memory left.kind, same_operand memory right.kind)
   same_rvalue memory (UnaryOp op operand) = rw (same_operand memory operand.kind)
 

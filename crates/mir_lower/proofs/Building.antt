@@ -4,7 +4,8 @@ use Rattle.std.specs.Prelude.{All, flat_map, if◌then◌else◌, option_map}
 use Rattle.std.proofs.lemmas.List.Elements.{All-nil, All-cons, All-append, All-contains, All-weaker, All-head, All-tail}
 use Rattle.mir.specs.declared.ids.LocalId.{LocalId}
 use Rattle.source_meaning.specs.Around.{is_meant, meant}
-use Rattle.source_meaning.specs.Built.{IsBinding, NamesBinding, AssignsBinding, CallsFunction, IsBuiltStatement}
+use Rattle.source_meaning.specs.Built.{IsBinding, NamesBinding, AssignsBinding, CombinesBinding, CallsFunction, IsBuiltStatement}
+use Rattle.numbers.specs.declared.operator.Operator.{Operator}
 use Rattle.source_meaning.specs.Core.{CoreExpr, CoreLiteral, Operation}
 use Rattle.source_meaning.specs.Core as expr
 use Rattle.source_meaning.specs.Source.{Source, Binding, node}
@@ -74,6 +75,9 @@ built-if source e condition then_branch else_branch is test one other =
 
 pub built-assign : (source : Source) (e assigned value : ℕ) → node source e ≡ Some (expr.Assign assigned value) → AssignsBinding source assigned → IsBuilt source value → IsBuilt source e
 built-assign source e assigned value is names built = built-node source e (Some (expr.Assign assigned value)) is names (one-built source value built)
+
+pub built-compound : (source : Source) (e : ℕ) (op : Operator) (assigned value : ℕ) → node source e ≡ Some (expr.Compound op assigned value) → CombinesBinding source assigned → IsBuilt source value → IsBuilt source e
+built-compound source e op assigned value is names built = built-node source e (Some (expr.Compound op assigned value)) is names (one-built source value built)
 
 -- the expressions that statements evaluate
 through-parts : (source : Source) (statements : List Statement) → All (IsBuiltThrough source) statements → All (IsBuilt source) (flat_map statement_parts statements)

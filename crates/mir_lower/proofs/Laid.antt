@@ -4,7 +4,7 @@ use Rattle.std.specs.Prelude.{option_map, All}
 use Rattle.source_meaning.specs.Core as expr
 use Rattle.source_meaning.specs.Around.{Opened}
 use Rattle.source_meaning.proofs.Never.{undiverted-type, unadjusted-plain}
-use Rattle.source_meaning.specs.Core.{CoreExpr, CoreLiteral, Truth, Number, is_truth}
+use Rattle.source_meaning.specs.Core.{CoreExpr, CoreLiteral, Truth, Number, Character, is_truth}
 use Rattle.world.specs.declared.layout.Layout.{Layout}
 use Rattle.mir.specs.declared.operand.OperandKind.{OperandKind}
 use Rattle.source_meaning.specs.Meaning.{literal_bytes}
@@ -39,6 +39,7 @@ opened-laid source e (Some (expr.Strict operation operands)) outer laid all = al
 opened-laid source e (Some (expr.Logic op left right)) outer laid all = all
 opened-laid source e (Some (expr.If condition then_branch else_branch)) outer laid all = all
 opened-laid source e (Some (expr.Assign assigned value)) outer laid all = all
+opened-laid source e (Some (expr.Compound op assigned value)) outer laid all = all
 opened-laid source e (Some (expr.Block statements tail)) outer laid all = all
 opened-laid source e (Some (expr.Break label value)) outer laid all = all
 opened-laid source e (Some (expr.Continue label)) outer laid all = all
@@ -63,13 +64,15 @@ laid-unadjusted source e form is laid =
     record { of_itself = laid; of_value = subst (IsLaidOut source) (sym (undiverted-type source e found.0)) laid }
 
 -- a number's layout was looked up
+found-laid : (source : Source) (e : ℕ) (bytes : List ℕ) (f : Layout → List ℕ) (found : Option Layout) → own_layout source e ≡ found → option_map f found ≡ Some bytes → IsLaidOut source (own_type source e)
+found-laid source e bytes f (Some layout) is h = record { layout = layout; found = is }
+found-laid source e bytes f None is h = absurd cc
+
 number-laid : (source : Source) (e : ℕ) (l : CoreLiteral) (bytes : List ℕ) → literal_bytes source e l ≡ Some bytes → is_truth (Some (expr.Literal l)) ≡ false → IsLaidOut source (own_type source e)
 unfolding literal_bytes
 number-laid source e (Truth test) bytes has_bytes truth = absurd cc
-number-laid source e (Number n) bytes has_bytes truth = by-layout _ (own_layout source e) refl has_bytes where
-  by-layout : (f : Layout → List ℕ) (found : Option Layout) → own_layout source e ≡ found → option_map f found ≡ Some bytes → IsLaidOut source (own_type source e)
-  by-layout f (Some layout) is h = record { layout = layout; found = is }
-  by-layout f None is h = absurd cc
+number-laid source e (Number n) bytes has_bytes truth = found-laid source e bytes _ (own_layout source e) refl has_bytes
+number-laid source e (Character code) bytes has_bytes truth = found-laid source e bytes _ (own_layout source e) refl has_bytes
 
 pub lays-literal : (source : Source) (s : Shape) (e : ℕ) (l : CoreLiteral) (operand : OperandKind) → unadjusted source e ≡ Some (expr.Literal l) → IsLiteral source e l operand → is_truth (unadjusted source e) ≡ false → LaysOut source s e
 lays-literal source s e l operand form is truth plain layouts f needs =

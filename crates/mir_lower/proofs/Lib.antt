@@ -9,6 +9,7 @@ pub mod Branching
 pub mod Building
 pub mod CallLeads
 pub mod Calls
+pub mod Compounds
 pub mod Conditions
 pub mod Covering
 pub mod Drops

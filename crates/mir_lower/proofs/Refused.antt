@@ -56,6 +56,7 @@ unbuilt-statement source e st (Some (expr.Strict operation operands)) statements
 unbuilt-statement source e st (Some (expr.Logic op left right)) statements same within unbuilt = absurd same
 unbuilt-statement source e st (Some (expr.If condition then_branch else_branch)) statements same within unbuilt = absurd same
 unbuilt-statement source e st (Some (expr.Assign assigned value)) statements same within unbuilt = absurd same
+unbuilt-statement source e st (Some (expr.Compound op assigned value)) statements same within unbuilt = absurd same
 unbuilt-statement source e st (Some (expr.Loop label body)) statements same within unbuilt = absurd same
 unbuilt-statement source e st (Some (expr.Break label value)) statements same within unbuilt = absurd same
 unbuilt-statement source e st (Some (expr.Continue label)) statements same within unbuilt = absurd same
@@ -72,6 +73,7 @@ lacking-statement source e st (Some (expr.Strict operation operands)) statements
 lacking-statement source e st (Some (expr.Logic op left right)) statements same within lacks = absurd same
 lacking-statement source e st (Some (expr.If condition then_branch else_branch)) statements same within lacks = absurd same
 lacking-statement source e st (Some (expr.Assign assigned value)) statements same within lacks = absurd same
+lacking-statement source e st (Some (expr.Compound op assigned value)) statements same within lacks = absurd same
 lacking-statement source e st (Some (expr.Loop label body)) statements same within lacks = absurd same
 lacking-statement source e st (Some (expr.Break label value)) statements same within lacks = absurd same
 lacking-statement source e st (Some (expr.Continue label)) statements same within lacks = absurd same
@@ -158,6 +160,7 @@ part-of-block source st child (Some (expr.Strict operation operands)) statements
 part-of-block source st child (Some (expr.Logic op left right)) statements same within is = absurd same
 part-of-block source st child (Some (expr.If condition then_branch else_branch)) statements same within is = absurd same
 part-of-block source st child (Some (expr.Assign assigned value)) statements same within is = absurd same
+part-of-block source st child (Some (expr.Compound op assigned value)) statements same within is = absurd same
 part-of-block source st child (Some (expr.Loop label body)) statements same within is = absurd same
 part-of-block source st child (Some (expr.Break label value)) statements same within is = absurd same
 part-of-block source st child (Some (expr.Continue label)) statements same within is = absurd same

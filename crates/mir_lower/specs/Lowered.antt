@@ -1,7 +1,12 @@
 -- What lowering does to the graph.
 use Rattle.std.specs.Prelude.{◌≡◌, ℕ, false, List, ◌++◌, ◌∷◌, [], All, Contains, flat_map, Option, Some, slice_get}
 use Rattle.mir.specs.declared.body.Local.{Local}
+use Rattle.mir.specs.declared.operand.CastKind.TheVariants.{IntToInt}
+use Rattle.mir.specs.declared.operand.Operand.{Operand}
 use Rattle.mir.specs.declared.operand.OperandKind.{OperandKind}
+use Rattle.mir.specs.declared.operand.Rvalue.{Rvalue}
+use Rattle.mir.specs.declared.operand.Rvalue.TheVariants.{Cast}
+use Rattle.types.specs.declared.ty.Ty.{Ty}
 use Rattle.source_meaning.specs.Core as expr
 use Rattle.source_meaning.specs.Core.{CoreExpr, is_truth}
 use Rattle.world.specs.declared.body.Statement.{Statement}
@@ -9,7 +14,7 @@ use Rattle.types.specs.declared.ids.BindingId.{BindingId}
 use Rattle.types.specs.declared.ids.ExprId.{ExprId}
 use Rattle.world.specs.declared.infer.ValueNs.TheVariants.{LocalBinding}
 use Rattle.source_meaning.specs.Events.{marked, marked_itself, marked_as_place, marked_as_operand, marked_by_statement, marked_by_tail}
-use Rattle.source_meaning.specs.Source.{Source, Cell, node, unadjusted, own_type, node_type, named_by, pattern, target, bound_by}
+use Rattle.source_meaning.specs.Source.{Source, Cell, node, unadjusted, own_type, node_type, named_by, pattern, target, compound_target, bound_by}
 use Rattle.source_meaning.specs.Steps.{statement_parts}
 use Rattle.source_meaning.specs.Around.{Opened}
 use Rattle.source_meaning.specs.Valid.{IsPlainFrom, JumpsFit, IsLaidOut, NeedsLayout, IsLaidOutNode}
@@ -96,6 +101,18 @@ pub record IsTargeted (source : Source) (s : Shape) (assigned local : ℕ) : Typ
   pub binding : BindingId
   pub names : target source assigned ≡ Some binding
   pub found : binding_local s binding.0 ≡ Some local
+
+-- the target of a compound assignment names a binding that has a local
+pub record IsCombinedIn (source : Source) (s : Shape) (assigned local : ℕ) : Type 0 where
+  pub binding : BindingId
+  pub names : compound_target source assigned ≡ Some binding
+  pub found : binding_local s binding.0 ≡ Some local
+
+-- an operand is cast to the type of an expression itself
+pub record IsConversion (source : Source) (e : ℕ) (operand : Operand) (rvalue : Rvalue) : Type 0 where
+  pub ty : Ty
+  pub typed : own_type source e ≡ Some ty
+  pub is : rvalue ≡ Cast IntToInt operand ty
 
 -- the value of a cell was assigned to a target: no cell is marked as in use
 pub record Assigns (source : Source) (old new : Shape) (assigned : ℕ) (cell : Cell) : Type 0 where

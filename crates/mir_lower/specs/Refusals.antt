@@ -10,9 +10,9 @@ use Rattle.mir.specs.declared.errors.MirLowerError.{MirLowerError}
 use Rattle.mir.specs.declared.errors.MirLowerError.TheVariants as refusal
 use Rattle.types.specs.declared.ids.BindingId.{BindingId}
 use Rattle.source_meaning.specs.Calls.{parameters, parameter_cells}
-use Rattle.source_meaning.specs.Source.{Source, Cell, Binding, binding_type, cell_type, pattern, target_path, pattern_named_by, root}
+use Rattle.source_meaning.specs.Source.{Source, Cell, Binding, binding_type, cell_type, pattern, target_path, pattern_named_by, compound_path, named_by, root}
 use Rattle.source_meaning.specs.Valid.{Evaluates}
-use Rattle.body_forms.specs.Refusals.{AssignsNone, BindsNone, IsUnbuiltTarget, RefusesNode}
+use Rattle.body_forms.specs.Refusals.{AssignsNone, BindsNone, CombinesNone, IsUnbuiltOperand, IsUnbuiltTarget, RefusesNode}
 
 -- inference met an error in the body
 abbrev pub HasTypingErrors : InferenceResult → Type 0
@@ -32,6 +32,14 @@ RefusesTarget source p (refusal.UnresolvedName name) = (target_path source p ≡
 RefusesTarget source p refusal.InaccessibleLocal = AssignsNone source p
 RefusesTarget source p refusal.NoMemory = Unit {0}
 RefusesTarget source p _ = ⊥
+
+-- the refusal of a compound assignment's target: it isn't built, its name is resolved to nothing, or the body lacks its binding
+abbrev pub RefusesCombined : Source → ℕ → MirLowerError → Type 0
+RefusesCombined source e (refusal.NotSupported text) = (text ≡ codes "form not built") × IsUnbuiltOperand source e
+RefusesCombined source e (refusal.UnresolvedName name) = (compound_path source e ≡ Some name) × (named_by source e ≡ None)
+RefusesCombined source e refusal.InaccessibleLocal = CombinesNone source e
+RefusesCombined source e refusal.NoMemory = Unit {0}
+RefusesCombined source e _ = ⊥
 
 -- a refusal has its cause at an expression that is evaluated where another is
 abbrev pub RefusesAt : Source → ℕ → MirLowerError → Type 0

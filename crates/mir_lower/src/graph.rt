@@ -1,6 +1,6 @@
 //! The graph that lowering builds: blocks, one of which is open, and locals.
 
-ghost use Rattle.std.specs.Prelude.{◌≡◌, ◌<◌, ◌≤◌, ◌^◌, ◌∷◌, ℕ, List, length, IfOk, IfSome, IfNone, OnOk, Some, None, [], slice_get};
+ghost use Rattle.std.specs.Prelude.{◌≡◌, ◌<◌, ◌≤◌, ◌^◌, ◌∷◌, ◌++◌, ℕ, List, length, IfOk, IfSome, IfNone, OnOk, Some, None, [], slice_get};
 ghost use Rattle.std.specs.Option.{option_map};
 ghost use Rattle.mir_lower.specs.Graph.{OpenTarget, with_targets, target_of_blocks, meant_target, shape, first_shape, with_statement, with_terminator, with_block, with_reserved, with_entered, with_binding, with_temp, with_mark, temp_of, binding_local, no_statements, cell_of, with_never, never_of};
 ghost use Rattle.source_meaning.specs.Around.{is_meant};
@@ -233,7 +233,8 @@ impl Graph {
 
     /// Marks a local as in use in the innermost open scope.
     pub fn mark(&mut self, held: Held, local: LocalId) -> Result<(), NoMemory>
-        ensures { OnOk result (shape self.new ≡ with_mark (cell_of held) (shape self.old)) }
+        ensures marked { OnOk result (shape self.new ≡ with_mark (cell_of held) (shape self.old)) }
+        ensures local { OnOk result (self.new.scope.items ≡ self.old.scope.items ++ record { held = held; local = local } ∷ []) }
     {
         self.scope.push(Marked { held, local })?;
         Ok(())
@@ -294,6 +295,7 @@ impl Graph {
     /// Takes back the last mark of a scope and of those inside it, where one is left.
     pub fn pop_mark(&mut self, token: DropScopeToken) -> Option<Marked>
         ensures last { IfSome result (λ marked. shape self.old ≡ with_mark (cell_of marked.held) (shape self.new)) }
+        ensures local { IfSome result (λ marked. self.old.scope.items ≡ self.new.scope.items ++ marked ∷ []) }
         ensures within { IfSome result (λ marked. token.0 ≤ length (shape self.new).scope) }
         ensures same { IfNone result (shape self.new ≡ shape self.old) }
         ensures none { IfNone result (length (shape self.old).scope ≤ token.0) }
@@ -317,6 +319,7 @@ impl Graph {
     pub fn pop_loop(&mut self)
         ensures rest { shape self.new ≡ with_targets (shape self.new).targets (shape self.old) }
         ensures outer { (first : OpenTarget) (outer : List OpenTarget) → (shape self.old).targets ≡ first ∷ outer → shape self.new ≡ with_targets outer (shape self.old) }
+        ensures none { (shape self.old).targets ≡ [] → shape self.new ≡ shape self.old }
     {
         self.loops.pop();
     }

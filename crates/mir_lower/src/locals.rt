@@ -10,13 +10,15 @@ ghost use Rattle.world.specs.declared.infer.ValueNs.TheVariants.{LocalBinding};
 ghost use Rattle.body_forms.specs.Contexts.{source_of};
 ghost use Rattle.mir_lower.specs.Graph.{shape, with_statement, local_of};
 ghost use Rattle.mir_lower.specs.Growth.{IsSound, IsOpen, IsReady, IsReadyPart};
-ghost use Rattle.mir_lower.specs.Lowered.{IsGiven, IsNamed, Binds, IsTargeted, Assigns};
-ghost use Rattle.source_meaning.specs.Built.{AssignsBinding, BindsBinding, NamesBinding};
-ghost use Rattle.mir_lower.specs.Refusals.{RefusesPattern, RefusesTarget};
+ghost use Rattle.mir_lower.specs.Lowered.{IsGiven, IsNamed, Binds, IsCombinedIn, IsTargeted, Assigns};
+ghost use Rattle.source_meaning.specs.Built.{AssignsBinding, BindsBinding, CombinesBinding, NamesBinding};
+ghost use Rattle.mir_lower.specs.Refusals.{RefusesCombined, RefusesPattern, RefusesTarget};
 ghost use Rattle.body_forms.specs.Refusals.{RefusesNode};
 
 use crate::graph::{Graph, Held};
-use body_forms::{Context, form_not_built, name_bound, node_ty, own_ty, target_path};
+use body_forms::{
+    Context, compound_path, form_not_built, name_bound, node_ty, own_ty, target_path,
+};
 use mir::{
     LocalId, MirLowerError, MirSpan, Operand, OperandKind, Place, Rvalue, Statement, StatementKind,
 };
@@ -209,6 +211,32 @@ fn target_local(context: &Context<'_>, graph: &Graph, pat: PatId) -> Result<Loca
     match binding_named(*named) {
         Some(binding) => match graph.binding_local(binding) {
             Some(local) => Ok(local),
+            None => Err(MirLowerError::InaccessibleLocal),
+        },
+        None => Err(form_not_built(context.alloc)),
+    }
+}
+
+/// The place that the target of a compound assignment names: the local of a binding.
+pub(crate) fn combined_place(
+    context: &Context<'_>,
+    graph: &Graph,
+    e: ExprId,
+) -> Result<Place, MirLowerError>
+    requires { IsSound (source_of context.now) (shape graph.now) }
+    ensures lowered { IfOk result (λ place. IsCombinedIn (source_of context.now) (shape graph.now) e.0 place.local.0) }
+    ensures built { OnOk result (CombinesBinding (source_of context.now) e.0) }
+    ensures refused { IfErr result (RefusesCombined (source_of context.now) e.0) }
+{
+    let Some(name) = compound_path(context, e) else {
+        return Err(form_not_built(context.alloc));
+    };
+    let Some(named) = context.infer.value_res.get(&e) else {
+        return Err(unresolved(context, name));
+    };
+    match binding_named(*named) {
+        Some(binding) => match graph.binding_local(binding) {
+            Some(local) => Ok(Place { local }),
             None => Err(MirLowerError::InaccessibleLocal),
         },
         None => Err(form_not_built(context.alloc)),

@@ -1,9 +1,11 @@
 //! Lowering expressions: as an operand, to a place, and into a place.
 
-ghost use Rattle.std.specs.Prelude.{◌≡◌, ◌∷◌, false, [], IfOk, IfErr, OnOk, Some, None};
+ghost use Rattle.std.specs.Prelude.{◌≡◌, ◌<◌, ◌∷◌, false, length, [], IfOk, IfErr, OnOk, Some, None};
+ghost use Rattle.mir.specs.declared.errors.MirLowerError.TheVariants as refusal;
+ghost use Rattle.world.specs.Checked.{IsCheckedBody};
 ghost use Rattle.mir.specs.declared.operand.OperandKind.TheVariants.{Copy};
 ghost use Rattle.source_meaning.specs.Source.{Cell, node, unadjusted};
-ghost use Rattle.source_meaning.specs.Core.{Combine, is_path};
+ghost use Rattle.source_meaning.specs.Core.{Combine, Convert, Keep, is_path};
 ghost use Rattle.source_meaning.specs.Core as expr;
 ghost use Rattle.source_meaning.specs.Meaning.{deciding_byte};
 ghost use Rattle.source_meaning.specs.Steps.{parts_of};
@@ -13,7 +15,7 @@ ghost use Rattle.body_forms.specs.Contexts.{source_of};
 ghost use Rattle.body_forms.specs.Form.{core_value, operation_of};
 ghost use Rattle.mir_lower.specs.Graph.{shape, local_of};
 ghost use Rattle.mir_lower.specs.Growth.{IsPlaced, IsReady, ArePartsReady, IsReadyPart};
-ghost use Rattle.mir_lower.specs.Lowered.{HasStatements, LowersInto, LowersPlace, LowersOperand, LowersOperands, LowersStatements, LowersTail, IsStatementOf, LowersOwn};
+ghost use Rattle.mir_lower.specs.Lowered.{HasStatements, IsConversion, LowersInto, LowersPlace, LowersOperand, LowersOperands, LowersStatements, LowersTail, IsStatementOf, LowersOwn};
 ghost use Rattle.mir_lower.specs.Built.{IsBuilt, IsBuiltThrough};
 ghost use Rattle.mir_lower.specs.Refusals.{RefusesAt};
 ghost use Rattle.std.specs.Prelude.{All, Contains, IfSome, map};
@@ -24,12 +26,14 @@ use crate::call::call;
 use crate::graph::Graph;
 use crate::jump::{enter_loop, jump, leave_loop, return_from, target_of_jump};
 use crate::leave::leave_scope;
-use crate::locals::{assign, assign_target, bind, fake_read, new_never, new_temp, place_named};
+use crate::locals::{
+    assign, assign_target, bind, combined_place, fake_read, new_never, new_temp, place_named,
+};
 use body_forms::{
     Context, Form, LiteralValue, diverges, form_at, form_not_built, literal_at, lower_callee,
-    lower_literal, method_args, path_at,
+    lower_literal, method_args, own_ty, path_at,
 };
-use mir::{BinOp, LocalId, MirLowerError, MirSpan, Operand, OperandKind, Place, Rvalue, UnOp};
+use mir::{BinOp, CastKind, LocalId, MirLowerError, MirSpan, Operand, OperandKind, Place, Rvalue, UnOp};
 use world::{ExprId, LabelId, List, LogicOp, PatId, Statement, Text, TryClone};
 
 /// A place as an operand.
@@ -40,6 +44,21 @@ fn copied(place: Place, e: ExprId) -> Operand
         kind: OperandKind::Copy(place),
         span: Some(MirSpan::ExprId(e)),
     }
+}
+
+/// A number converted to the type of the cast that an expression is.
+fn converted(
+    context: &Context<'_>,
+    e: ExprId,
+    value: Operand,
+) -> Result<Rvalue, MirLowerError>
+    requires checked { IsCheckedBody context.now.body.now context.now.infer.now }
+    requires within { e.0 < length context.now.body.now.exprs }
+    ensures made { IfOk result (λ rvalue. IsConversion (source_of context.now) e.0 value rvalue) }
+    ensures refused { IfErr result (λ error. error ≡ refusal.NoMemory) }
+{
+    let ty = own_ty(context, e).try_clone(context.alloc)?;
+    Ok(Rvalue::Cast(CastKind::IntToInt, value, ty))
 }
 
 /// The byte of a left operand at which the right one isn't evaluated.
@@ -186,6 +205,8 @@ fn lower_own(
         Form::Literal(literal) => literal_into(context, graph, e, literal, place),
         Form::Path(name) => name_into(context, graph, e, name, place),
         Form::Unary(op, operand) => lower_unary(context, graph, e, op, operand, place),
+        Form::Coercion(operand) => lower_coercion(context, graph, e, operand, place),
+        Form::Cast(operand) => lower_cast(context, graph, e, operand, place),
         Form::Binary(op, lhs, rhs) => lower_binary(context, graph, e, op, lhs, rhs, place),
         Form::Logic(op, lhs, rhs) => lower_logic(context, graph, e, op, lhs, rhs, place),
         Form::If(condition, then_branch, else_branch) => {
@@ -200,6 +221,9 @@ fn lower_own(
             )
         }
         Form::Assign(target, value) => lower_assignment(context, graph, e, target, value),
+        Form::Compound(op, target, value) => {
+            lower_compound(context, graph, e, op, target, value)
+        }
         Form::Block(statements, tail) => lower_block(context, graph, e, statements, tail, place),
         Form::Labelled(label, statements, tail) => {
             lower_labelled(context, graph, e, label, statements, tail, place)
@@ -238,6 +262,47 @@ fn lower_unary(
 {
     let value = lower_operand(context, graph, operand)?;
     assign(graph, place, Rvalue::UnaryOp(op, value), MirSpan::ExprId(e))
+}
+
+/// A cast that is a coercion: the operand, whose bytes are kept as they are.
+#[cycle(lower)]
+fn lower_coercion(
+    context: &Context<'_>,
+    graph: &mut Graph,
+    e: ExprId,
+    operand: ExprId,
+    place: Place,
+) -> Result<(), MirLowerError>
+    requires ready { IsReady (source_of context.now) (shape graph.old) e.0 }
+    requires form { node (source_of context.now) e.0 ≡ Some (expr.Strict Keep (operand.0 ∷ [])) }
+    ensures lowered { OnOk result ((cell : Cell) → local_of (shape graph.old) cell ≡ Some place.local.0
+        → LowersOwn (source_of context.now) (shape graph.old) (shape graph.new) e.0 cell) }
+    ensures built { OnOk result (IsBuilt (source_of context.now) e.0) }
+    ensures refused { IfErr result (RefusesAt (source_of context.now) e.0) }
+{
+    let value = lower_operand(context, graph, operand)?;
+    assign(graph, place, Rvalue::Use(value), MirSpan::ExprId(e))
+}
+
+/// A cast between integers, `bool` and `char`: the operand, and then the number that it is, in the size of the cast's own type.
+#[cycle(lower)]
+fn lower_cast(
+    context: &Context<'_>,
+    graph: &mut Graph,
+    e: ExprId,
+    operand: ExprId,
+    place: Place,
+) -> Result<(), MirLowerError>
+    requires ready { IsReady (source_of context.now) (shape graph.old) e.0 }
+    requires form { node (source_of context.now) e.0 ≡ Some (expr.Strict Convert (operand.0 ∷ [])) }
+    ensures lowered { OnOk result ((cell : Cell) → local_of (shape graph.old) cell ≡ Some place.local.0
+        → LowersOwn (source_of context.now) (shape graph.old) (shape graph.new) e.0 cell) }
+    ensures built { OnOk result (IsBuilt (source_of context.now) e.0) }
+    ensures refused { IfErr result (RefusesAt (source_of context.now) e.0) }
+{
+    let value = lower_operand(context, graph, operand)?;
+    let rvalue = converted(context, e, value)?;
+    assign(graph, place, rvalue, MirSpan::ExprId(e))
 }
 
 /// An operator on two operands: the operands from left to right, and then the operation.
@@ -344,6 +409,33 @@ fn lower_assignment(
     let place = lower_place(context, graph, value)?;
     fake_read(graph, place, value)?;
     assign_target(context, graph, target, place)
+}
+
+/// A compound assignment: the value's operand, and then the local that is the target is assigned what the operator makes of both.
+/// The assignment itself is `()`, of which nothing is written.
+#[cycle(lower)]
+fn lower_compound(
+    context: &Context<'_>,
+    graph: &mut Graph,
+    e: ExprId,
+    op: BinOp,
+    target: ExprId,
+    value: ExprId,
+) -> Result<(), MirLowerError>
+    requires ready { IsReady (source_of context.now) (shape graph.old) e.0 }
+    requires form { node (source_of context.now) e.0 ≡ Some (expr.Compound op target.0 value.0) }
+    ensures lowered { OnOk result ((cell : Cell) → LowersOwn (source_of context.now) (shape graph.old) (shape graph.new) e.0 cell) }
+    ensures built { OnOk result (IsBuilt (source_of context.now) e.0) }
+    ensures refused { IfErr result (RefusesAt (source_of context.now) e.0) }
+{
+    let given = lower_operand(context, graph, value)?;
+    let place = combined_place(context, graph, target)?;
+    assign(
+        graph,
+        place,
+        Rvalue::CheckedBinaryOp(op, copied(place, target), given),
+        MirSpan::ExprId(e),
+    )
 }
 
 /// A block: its statements, its tail, and then its scope is left.

@@ -227,6 +227,7 @@ pub fn made_of(op: Operator, kind: Kind, left: &[u8], right: &[u8]) -> Option<Ma
     match kind {
         Kind::Signed => two_signed(op, left, right),
         Kind::Unsigned => two_unsigned(op, left, right),
+        Kind::Character => None,
         Kind::Boolean => {
             if left.len() == 1 {
                 Some(on_booleans(op, left, right)?)

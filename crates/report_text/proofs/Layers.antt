@@ -27,6 +27,7 @@ use Rattle.report_text.specs.Types.{rendered_text, tuple_text, array_text, point
 pub rendered_kind : (world : HirDatabase) (ty : Ty) → (rendered_ty world ty).kind ≡ kind_of ty
 unfolding rendered_ty kind_of
 rendered_kind world type.Bool = search (the_lemmas, rules)
+rendered_kind world type.Char = search (the_lemmas, rules)
 rendered_kind world (type.Int _) = search (the_lemmas, rules)
 rendered_kind world (type.Uint _) = search (the_lemmas, rules)
 rendered_kind world _ = search (the_lemmas, rules)

@@ -1,7 +1,7 @@
 -- The texts of types, generic arguments and constants, with the names that a world gives to items and parameters.
 use Rattle.std.specs.Prelude.{ℕ, List, [], ◌∷◌, ◌++◌, codes, map, Option, Some, None}
 use Rattle.numbers.specs.declared.operator.Kind.{Kind}
-use Rattle.numbers.specs.declared.operator.Kind.TheVariants.{Signed, Unsigned, Boolean}
+use Rattle.numbers.specs.declared.operator.Kind.TheVariants.{Signed, Unsigned, Boolean, Character}
 use Rattle.types.specs.declared.scalars.FloatTy.{FloatTy}
 use Rattle.types.specs.declared.scalars.FloatTy.TheVariants.{F16, F32, F64, F128}
 use Rattle.types.specs.declared.scalars.IntTy.{IntTy}
@@ -119,9 +119,10 @@ ty_layer_text world (one.Alias id args) = with_args (alias_name world id) args
 ty_layer_text world (one.Ty::Param param) = type_param_name world param.id
 ty_layer_text world one.Ty::Error = codes "{error}"
 
--- the kind of a type's values if they are integers or booleans, from the type's outermost constructor
+-- the kind of a type's values if they are integers, booleans or characters, from the type's outermost constructor
 abbrev pub ty_layer_kind : Over Ty-F → Option Kind
 ty_layer_kind one.Bool = Some Boolean
+ty_layer_kind one.Char = Some Character
 ty_layer_kind (one.Int _) = Some Signed
 ty_layer_kind (one.Uint _) = Some Unsigned
 ty_layer_kind _ = None

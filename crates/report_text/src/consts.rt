@@ -50,6 +50,7 @@ fn bytes_text(alloc: Global, kind: Option<Kind>, bytes: &[u8]) -> Result<Bytes, 
         Some(Kind::Signed) => number_text(alloc, true, bytes),
         Some(Kind::Unsigned) => number_text(alloc, false, bytes),
         Some(Kind::Boolean) => hex_text(alloc, bytes),
+        Some(Kind::Character) => hex_text(alloc, bytes),
         None => hex_text(alloc, bytes),
     }
 }

@@ -8,7 +8,7 @@ use Rattle.world.specs.declared.items.FunctionRow.{FunctionRow}
 use Rattle.world.specs.declared.items.Special.{Special}
 use Rattle.types.specs.declared.ty.Ty.{Ty}
 use Rattle.source_meaning.specs.Built.{are_none, is_direct, IsBuiltStatement, IsBuiltForm}
-use Rattle.source_meaning.specs.Core.{CoreExpr, Literal, Path, Strict, Logic, If, Assign, Block, Labelled, Loop, Break, Continue, Return, Call}
+use Rattle.source_meaning.specs.Core.{CoreExpr, Literal, Path, Strict, Logic, If, Assign, Compound, Block, Labelled, Loop, Break, Continue, Return, Call}
 use Rattle.source_meaning.specs.Source.{Source, node}
 use Rattle.source_meaning.specs.Valid.{IsPlainStatement, HasPlainForm, IsPlainNode}
 
@@ -34,6 +34,8 @@ plain_form_is_built source e (Some (Strict operation operands)) ty plain = tt
 plain_form_is_built source e (Some (Logic op left right)) ty plain = tt
 plain_form_is_built source e (Some (If condition then_branch else_branch)) ty plain = tt
 plain_form_is_built source e (Some (Assign assigned value)) ty plain =
+    record { binding = plain.binding; names = plain.names; there = record { ty = plain.ty; typed = plain.binding_has } }
+plain_form_is_built source e (Some (Compound op assigned value)) ty plain =
     record { binding = plain.binding; names = plain.names; there = record { ty = plain.ty; typed = plain.binding_has } }
 plain_form_is_built source e (Some (Block statements tail)) ty plain = λ k d less. plain_statement_is_built source (get_or statements k d) (plain.0 k d less)
 plain_form_is_built source e (Some (Labelled label statements tail)) ty plain = λ k d less. plain_statement_is_built source (get_or statements k d) (plain.0 k d less)

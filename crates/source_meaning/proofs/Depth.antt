@@ -7,7 +7,8 @@ use Rattle.types.specs.declared.ids.ExprId.{ExprId}
 use Rattle.types.specs.declared.operators.LogicOp.{LogicOp}
 use Rattle.world.specs.Checked.{IsCheckedBody}
 use Rattle.world.specs.Nodes.{optional}
-use Rattle.source_meaning.specs.Core.{Operation, Strict, Logic, If, Assign, Block, Call}
+use Rattle.numbers.specs.declared.operator.Operator.{Operator}
+use Rattle.source_meaning.specs.Core.{Operation, Strict, Logic, If, Assign, Compound, Block, Call}
 use Rattle.source_meaning.specs.Source.{Source, node}
 use Rattle.source_meaning.specs.Steps.{parts_of, statement_parts}
 use Rattle.source_meaning.specs.Valid.{Evaluates, itself, part, NeedsLayout, own, inside}
@@ -52,6 +53,10 @@ if_part_is_part source e condition then_branch else_branch child is within =
 -- an assignment evaluates its value
 pub assigned_is_part : (source : Source) (e assigned value : ℕ) → node source e ≡ Some (Assign assigned value) → Contains (parts_of (node source e)) value
 assigned_is_part source e assigned value is = subst (λ form. Contains (parts_of form) value) (sym is) (first_is_contained value [])
+
+-- and a compound one too
+pub combined_is_part : (source : Source) (e : ℕ) (op : Operator) (assigned value : ℕ) → node source e ≡ Some (Compound op assigned value) → Contains (parts_of (node source e)) value
+combined_is_part source e op assigned value is = subst (λ form. Contains (parts_of form) value) (sym is) (first_is_contained value [])
 
 -- a block evaluates what its statements do
 pub statement_part_is_part : (source : Source) (e : ℕ) (statements : List Statement) (tail : Option ExprId) (one : Statement) (child : ℕ) → node source e ≡ Some (Block statements tail) → Contains statements one → Contains (statement_parts one) child → Contains (parts_of (node source e)) child

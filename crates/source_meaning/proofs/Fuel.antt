@@ -6,13 +6,14 @@ use Rattle.world.specs.declared.body.Statement.TheVariants as statement
 use Rattle.types.specs.declared.ids.ExprId.{ExprId}
 use Rattle.types.specs.declared.ids.LabelId.{LabelId}
 use Rattle.types.specs.declared.operators.LogicOp.{LogicOp}
+use Rattle.numbers.specs.declared.operator.Operator.{Operator}
 use Rattle.source_meaning.specs.Around.{Around, Target, at_root, marking, inside, target_of}
 use Rattle.source_meaning.specs.Calls.{source_called, must_not_return, parameter_cells, started}
 use Rattle.source_meaning.specs.Core as expr
 use Rattle.source_meaning.specs.Core.{CoreExpr, Operation}
 use Rattle.source_meaning.specs.Ends.{Cost, turns_alone, End, Go, Jumps, Break, Continue, Return, Faults, Stuck, More, IsOver, after, then_do}
 use Rattle.source_meaning.specs.Events.{marked, marked_as_operand, marked_by_statement}
-use Rattle.source_meaning.specs.Meaning.{Levels, Callees, no_fuel, place_of, operand_of, operands_of, strict_into, is_byte, deciding_byte, decided_into, branched, logic_into, tail_into, branch_into, if_into, assign_into, statement_of, statements_of, block_into, caught, again_into, labelled_into, turn_of, loop_into, break_to, return_into, call_returned, call_diverged, call_ended, entered_from, entered_into, into_of, level_above, level_at, returned, body_meaning, callees_at, meaning_from}
+use Rattle.source_meaning.specs.Meaning.{Levels, Callees, no_fuel, place_of, operand_of, operands_of, strict_into, is_byte, deciding_byte, decided_into, branched, logic_into, tail_into, branch_into, if_into, assign_into, compound_into, statement_of, statements_of, block_into, caught, again_into, labelled_into, turn_of, loop_into, break_to, return_into, call_returned, call_diverged, call_ended, entered_from, entered_into, into_of, level_above, level_at, returned, body_meaning, callees_at, meaning_from}
 use Rattle.source_meaning.specs.Source.{Source, Store, Path, Result, Node, Operand, operand_bytes, zeroed, node, unadjusted, never_marks, own_path, target, root}
 
 -- what is over after a cost is over
@@ -130,8 +131,8 @@ module _ (source : Source) (below above : Levels) (agrees : Agrees below above) 
       then_do_agrees ((below around).operand e store) ((above around).operand e store) _ _ (agrees.operand around e store) (λ first later o.
       then_do_agrees (operands_of source below behind rest later) (operands_of source above behind rest later) _ _ (operands_agree behind rest later) (λ others last o'. refl) o) over
 
-  strict_agrees : (around : Around) (operation : Operation) (operands : List ℕ) (path : Path) (store : Store) → IsOver (strict_into source below around operation operands path store) → strict_into source above around operation operands path store ≡ strict_into source below around operation operands path store
-  strict_agrees around operation operands path store over =
+  strict_agrees : (around : Around) (e : ℕ) (operation : Operation) (operands : List ℕ) (path : Path) (store : Store) → IsOver (strict_into source below around e operation operands path store) → strict_into source above around e operation operands path store ≡ strict_into source below around e operation operands path store
+  strict_agrees around e operation operands path store over =
       then_do_agrees (operands_of source below around operands store) (operands_of source above around operands store) _ _ (operands_agree around operands store) (λ given later o. refl) over
 
   statement_agrees : (around : Around) (statement : Statement) (store : Store) → IsOver (statement_of source (below around) statement store) → statement_of source (above around) statement store ≡ statement_of source (below around) statement store
@@ -169,6 +170,9 @@ module _ (source : Source) (below above : Levels) (agrees : Agrees below above) 
   if_agrees around condition then_branch else_branch path store over =
       then_do_agrees ((below around).operand condition store) ((above around).operand condition store) _ _ (agrees.operand around condition store) (λ given later o.
       branched_agrees _ _ (branch_agrees (marking (marked_as_operand source condition) around) then_branch else_branch (is_byte 1 (operand_bytes later given)) path later) o) over
+
+  compound_agrees : (around : Around) (op : Operator) (assigned value : ℕ) (store : Store) → IsOver (compound_into source (below around) op assigned value store) → compound_into source (above around) op assigned value store ≡ compound_into source (below around) op assigned value store
+  compound_agrees around op assigned value store over = then_do_agrees ((below around).operand value store) ((above around).operand value store) _ _ (agrees.operand around value store) (λ given later o. refl) over
 
   assign_agrees : (around : Around) (assigned value : ℕ) (store : Store) → IsOver (assign_into source (below around) assigned value store) → assign_into source (above around) assigned value store ≡ assign_into source (below around) assigned value store
   assign_agrees around assigned value store over = then_do_agrees ((below around).place value store) ((above around).place value store) _ _ (agrees.place around value store) (λ from later o. refl) over
@@ -208,10 +212,11 @@ module _ (source : Source) (below above : Levels) (agrees : Agrees below above) 
 
   module _ (callees others : Callees) (callees_agree : CalleesAgree callees others) where
     into_agrees : (around : Around) (e : ℕ) (form : Option CoreExpr) (path : Path) (store : Store) → IsOver (into_of source below callees around e form path store) → into_of source above others around e form path store ≡ into_of source below callees around e form path store
-    into_agrees around e (Some (expr.Strict operation operands)) path store over = strict_agrees around operation operands path store over
+    into_agrees around e (Some (expr.Strict operation operands)) path store over = strict_agrees around e operation operands path store over
     into_agrees around e (Some (expr.Logic op left right)) path store over = logic_agrees around op left right path store over
     into_agrees around e (Some (expr.If condition then_branch else_branch)) path store over = if_agrees around condition then_branch else_branch path store over
     into_agrees around e (Some (expr.Assign assigned value)) path store over = assign_agrees around assigned value store over
+    into_agrees around e (Some (expr.Compound op assigned value)) path store over = compound_agrees around op assigned value store over
     into_agrees around e (Some (expr.Block statements tail)) path store over = block_agrees around statements tail path store over
     into_agrees around e (Some (expr.Labelled label statements tail)) path store over = labelled_agrees around e label statements tail path store over
     into_agrees around e (Some (expr.Loop label body)) path store over = loop_agrees around e label body path store over

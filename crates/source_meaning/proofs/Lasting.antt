@@ -14,6 +14,7 @@ use Rattle.world.specs.declared.database.BodyRow.{BodyRow}
 use Rattle.world.specs.declared.database.HirDatabase.{HirDatabase}
 use Rattle.world.specs.Checked.{IsChecked, IsCheckedBody}
 use Rattle.world.specs.Nodes.{optional}
+use Rattle.numbers.specs.declared.operator.Operator.{Operator}
 use Rattle.numbers.specs.Operators.{Answer, Computes, Panics, Undefined}
 use Rattle.source_meaning.specs.Around.{Around, Target, at_root, marking, inside, target_of}
 use Rattle.source_meaning.specs.Calls.{source_at, source_called, must_not_return, parameter_cells, started}
@@ -22,8 +23,8 @@ use Rattle.source_meaning.specs.Core.{CoreExpr}
 use Rattle.source_meaning.specs.Ends.{Cost, plus, turns_alone, End, Go, Jumps, Break, Continue, Return, Faults, Stuck, More, GoesOn, after, then_do}
 use Rattle.source_meaning.specs.Entering.{entering}
 use Rattle.source_meaning.specs.Events.{marked, marked_as_operand, marked_by_statement}
-use Rattle.source_meaning.specs.Meaning.{Levels, Callees, constant_cost, put, put_literal, put_answer, literal_operand, literal_bytes, named_place, named_into, bind, place_of, operand_of, operands_of, is_byte, deciding_byte, reading_cost, decided_into, branched, logic_into, tail_into, branch_into, if_into, statement_of, statements_of, block_into, caught, again_into, turn_of, break_to, continue_to, return_into, call_returned, call_diverged, call_ended, entered_from, entered_into, into_of, level_at, returned, body_meaning, callees_at, meaning_from}
-use Rattle.source_meaning.specs.Source.{Source, Store, Path, Result, Node, Binding, Operand, Literally, operand_bytes, zeroed, node, unadjusted, never_marks, own_path, own_type, named_by, pattern, target, root}
+use Rattle.source_meaning.specs.Meaning.{Levels, Callees, constant_cost, put, put_literal, put_answer, literal_operand, literal_bytes, named_place, named_into, bind, combine_into, place_of, operand_of, operands_of, is_byte, deciding_byte, reading_cost, decided_into, branched, logic_into, tail_into, branch_into, if_into, statement_of, statements_of, block_into, caught, again_into, turn_of, break_to, continue_to, return_into, call_returned, call_diverged, call_ended, entered_from, entered_into, into_of, level_at, returned, body_meaning, callees_at, meaning_from}
+use Rattle.source_meaning.specs.Source.{Source, Store, Path, Result, Node, Binding, Operand, Literally, operand_bytes, zeroed, node, unadjusted, never_marks, own_path, own_type, named_by, pattern, target, compound_target, root}
 use Rattle.source_meaning.specs.Steps.{parts_of, statement_parts}
 use Rattle.source_meaning.proofs.Calls.{called_row, above_roots, root_is_below}
 use Rattle.source_meaning.proofs.Core.{part_is_below}
@@ -279,6 +280,10 @@ module _ (limit : ℕ) where
     continue_lasts around (Some target) store = tt
     continue_lasts around None store = tt
 
+    combined_lasts : (op : Operator) (assigned : Option BindingId) (given : Operand) (store : Store) → Lasts limit (combine_into source op assigned given store)
+    combined_lasts op (Some id) given store = put_answer_lasts store (record { cell = Binding id.0 }) _
+    combined_lasts op None given store = tt
+
     return_lasts : (around : Around) (value : Option ExprId) (store : Store) → ((child : ℕ) → Contains (optional value) child → LastsIn below child) → Lasts limit (return_into source below around value store)
     return_lasts around value store ends = then_do_lasts (tail_into (below around) value around.result store) _ (tail_lasts around value around.result store ends) (λ done later. tt)
 
@@ -294,6 +299,9 @@ module _ (limit : ℕ) where
     into_lasts callees around e (Some (expr.Assign assigned value)) path store is repeats enters ends =
         let value_ends = ends value (first_is_contained value []) in
         then_do_lasts ((below around).place value store) _ (value_ends.place around store) (λ from later. bind_lasts (target source assigned) from later)
+    into_lasts callees around e (Some (expr.Compound op assigned value)) path store is repeats enters ends =
+        let value_ends = ends value (first_is_contained value []) in
+        then_do_lasts ((below around).operand value store) _ (value_ends.operand around store) (λ given later. combined_lasts op (compound_target source assigned) given later)
     into_lasts callees around e (Some (expr.Block statements tail)) path store is repeats enters ends =
         block_lasts around statements tail path store (λ child within. ends child (subst (λ parts. Contains parts child) (sym (block_parts statements tail)) within))
     into_lasts callees around e (Some (expr.Labelled label statements tail)) path store is repeats enters ends =

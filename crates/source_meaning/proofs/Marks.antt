@@ -11,7 +11,8 @@ use Rattle.types.specs.declared.operators.LogicOp.{LogicOp}
 use Rattle.world.specs.declared.body.Statement.{Statement}
 use Rattle.world.specs.declared.body.Statement.TheVariants as statement
 use Rattle.world.specs.Checked.{IsCheckedBody}
-use Rattle.source_meaning.specs.Core.{CoreExpr, CoreLiteral, Operation, Literal, Path, Strict, Logic, If, Assign, Block, Labelled, Loop, Break, Continue, Return, Call, is_literal, is_path}
+use Rattle.numbers.specs.declared.operator.Operator.{Operator}
+use Rattle.source_meaning.specs.Core.{CoreExpr, CoreLiteral, Operation, Literal, Path, Strict, Logic, If, Assign, Compound, Block, Labelled, Loop, Break, Continue, Return, Call, is_literal, is_path}
 use Rattle.source_meaning.specs.Events.{Event, Opens, Marks, Closes, place_events, operand_events, step_events, form_events, events_in, events, events_through, Scopes, after_event, scopes_after, innermost, marks_of, marked, marked_itself, marked_as_place, marked_as_operand, marked_by_statement, marked_by_tail, marked_in_block}
 use Rattle.source_meaning.specs.Laws.{ScopesNest}
 use Rattle.source_meaning.specs.Source.{Source, Cell, Node, Binding, Never, node, unadjusted, diverges, never_marks, pattern, bound_by}
@@ -146,6 +147,7 @@ module _ (source : Source) (below : ℕ → List Event) (closed : (e : ℕ) → 
   form_is_closed (Some (Logic op left right)) = logic_is_closed left right
   form_is_closed (Some (If condition then_branch else_branch)) = if_is_closed condition then_branch else_branch
   form_is_closed (Some (Assign assigned value)) = assign_is_closed value
+  form_is_closed (Some (Compound op assigned value)) = operands_are_closed (value ∷ [])
   form_is_closed (Some (Block statements tail)) =
       subst IsClosed (sym (block_events_are statements tail)) (scope_is_closed (flat_map (step_events source below) (block_steps statements tail)) (inner_is_closed statements tail))
   form_is_closed (Some (Labelled label statements tail)) =
@@ -315,6 +317,10 @@ module _ (source : Source) (checked : IsCheckedBody source.body source.infer) (e
   pub assign_marks : (assigned value : ℕ) → node source e ≡ Some (Assign assigned value) → marked_itself source e ≡ marked_as_place source value
   unfolding marked_as_place
   assign_marks assigned value is = form_marks (Some (Assign assigned value)) is ∙ ap marks_of (append-nil (place_events source (events source) value))
+
+  pub compound_marks : (op : Operator) (assigned value : ℕ) → node source e ≡ Some (Compound op assigned value) → marked_itself source e ≡ marked_as_operand source value
+  unfolding marked_as_operand
+  compound_marks op assigned value is = form_marks (Some (Compound op assigned value)) is ∙ ap marks_of (append-nil (operand_events source (events source) value))
 
   pub block_marks : (statements : List Statement) (tail : Option ExprId) → node source e ≡ Some (Block statements tail) → marked_itself source e ≡ []
   block_marks statements tail is =

@@ -1,8 +1,8 @@
 -- What `NeverToAny` changes: the type of an expression's value, and where the expression itself goes.
 use Rattle.std.proofs.Common.{◌≡◌, ℕ, Bool, true, false, cond, Option, Some, None, is_some, refl, ap, ◌∙◌}
 use Rattle.types.specs.declared.ty.Ty.{Ty}
-use Rattle.source_meaning.specs.Core.{CoreExpr, never_target}
-use Rattle.source_meaning.specs.Source.{Source, Never, Path, cell_type, node, diverges, unadjusted, type_after, own_type, node_type, own_path}
+use Rattle.source_meaning.specs.Core.{CoreExpr, never_target, type_after}
+use Rattle.source_meaning.specs.Source.{Source, Never, Path, cell_type, node, diverges, unadjusted, own_type, node_type, own_path}
 
 type-unchanged : (target own : Option Ty) → is_some target ≡ false → type_after target own ≡ own
 type-unchanged (Some ty) own is = absurd cc

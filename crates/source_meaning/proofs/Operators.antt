@@ -1,15 +1,16 @@
 -- What operators make of operands of plain types: bytes of the right number, or a panic.
-use Rattle.std.proofs.Common.{◌≡◌, ℕ, Bool, true, false, if◌then◌else◌, ◌==◌, ◌&&◌, List, length, Option, ℤ, pos, negsuc, refl, sym, ◌∙◌, subst, eq-eqb}
+use Rattle.std.proofs.Common.{◌≡◌, ℕ, Bool, true, false, if◌then◌else◌, ◌==◌, ◌&&◌, List, length, Option, Some, ℤ, pos, negsuc, refl, sym, ap, ◌∙◌, subst, eq-eqb}
 use Rattle.std.proofs.lemmas.Bool.{false≢true}
-use Rattle.types.specs.declared.ty.Ty.{Ty, Bool as BoolTy, Int as IntTy, Uint as UintTy}
+use Rattle.types.specs.declared.ty.Ty.{Ty, Bool as BoolTy, Int as IntTy, Uint as UintTy, Char as CharTy}
 use Rattle.numbers.specs.Bytes.{is_width}
 use Rattle.numbers.specs.declared.operator.Kind.{Kind}
+use Rattle.numbers.specs.declared.operator.Kind.TheVariants.{Signed, Unsigned, Boolean, Character}
 use Rattle.numbers.specs.declared.operator.Operator.{Operator}
 use Rattle.numbers.specs.declared.operator.Operator.TheVariants.{Add, Sub, Mul, Div, Rem, BitXor, BitAnd, BitOr, Shl, Shr, Eq, Ne, Lt, Le, Gt, Ge}
-use Rattle.numbers.specs.Operators.{Answer, Computes, Panics, Undefined, kept, divided, truth_value, by_bits, on_integers, shifted, shifted_by, sign_of, shift, is_shift, is_on_booleans, is_comparison, combined, computed, denied, negated, inverted, kind_of}
+use Rattle.numbers.specs.Operators.{Answer, Computes, Panics, Undefined, kept, divided, truth_value, by_bits, on_integers, shifted, shifted_by, sign_of, shift, is_shift, is_on_booleans, is_comparison, combined, computed, converted, denied, negated, inverted, kind_of}
 use Rattle.numbers.proofs.Digits.{length-low_digits, length-low_bytes}
 use Rattle.numbers.proofs.Lengths.{length-compared, length-computed}
-use Rattle.source_meaning.specs.Valid.{IsInteger, IsScalar}
+use Rattle.source_meaning.specs.Valid.{IsInteger, IsScalar, IsNumber}
 
 -- an answer with a meaning
 abbrev IsDefined : Answer → Type 0
@@ -28,11 +29,12 @@ fits_from_defined size (Computes bytes) defined long = long bytes refl
 fits_from_defined size (Panics word) defined long = tt
 fits_from_defined size Undefined defined long = defined
 
--- a value of an integer type, or of `bool`, may have `size` bytes
+-- a value of an integer type, of `bool` or of `char` may have `size` bytes
 abbrev pub IsLengthOf : Ty → ℕ → Type 0
 IsLengthOf BoolTy size = size ≡ 1
 IsLengthOf (IntTy ty) size = is_width size ≡ true
 IsLengthOf (UintTy ty) size = is_width size ≡ true
+IsLengthOf CharTy size = size ≡ 4
 IsLengthOf _ size = ⊥
 
 -- a type has an operator, if it is no shift
@@ -40,6 +42,7 @@ abbrev pub IsAllowed : Operator → Ty → Type 0
 IsAllowed op BoolTy = is_on_booleans op ≡ true
 IsAllowed op (IntTy ty) = Unit {0}
 IsAllowed op (UintTy ty) = Unit {0}
+IsAllowed op CharTy = is_comparison op ≡ true
 IsAllowed op _ = ⊥
 
 pub allowed_on_integer : (op : Operator) (ty : Ty) → IsInteger ty → IsAllowed op ty
@@ -53,6 +56,21 @@ allowed_on_scalar op BoolTy on_booleans scalar = on_booleans
 allowed_on_scalar op (IntTy ty) on_booleans scalar = tt
 allowed_on_scalar op (UintTy ty) on_booleans scalar = tt
 allowed_on_scalar op _ on_booleans scalar = absurd scalar
+
+pub allowed_on_number : (op : Operator) (ty : Ty) → is_on_booleans op ≡ true → is_comparison op ≡ true → IsNumber ty → IsAllowed op ty
+allowed_on_number op BoolTy on_booleans compares number = on_booleans
+allowed_on_number op (IntTy ty) on_booleans compares number = tt
+allowed_on_number op (UintTy ty) on_booleans compares number = tt
+allowed_on_number op CharTy on_booleans compares number = compares
+allowed_on_number op _ on_booleans compares number = absurd number
+
+-- and then the number of them is one that an integer type has
+pub length_is_width : (ty : Ty) (size : ℕ) → IsNumber ty → IsLengthOf ty size → is_width size ≡ true
+length_is_width BoolTy size number long = ap is_width long
+length_is_width (IntTy ty) size number long = long
+length_is_width (UintTy ty) size number long = long
+length_is_width CharTy size number long = ap is_width long
+length_is_width _ size number long = absurd number
 
 either_is_defined : (test : Bool) (one other : Answer) → IsDefined one → IsDefined other → IsDefined (if test then one else other)
 either_is_defined true one other defined defined' = defined
@@ -122,6 +140,8 @@ combined_is_defined op (IntTy ty) left right is allowed long same =
     where_true_is_defined (is_width (length left) && (length left == length right)) _ Undefined (both_hold _ _ long (eq-eqb _ _ same)) (on_integers_is_defined op true left right is)
 combined_is_defined op (UintTy ty) left right is allowed long same =
     where_true_is_defined (is_width (length left) && (length left == length right)) _ Undefined (both_hold _ _ long (eq-eqb _ _ same)) (on_integers_is_defined op false left right is)
+combined_is_defined op CharTy left right is allowed long same =
+    where_true_is_defined (is_comparison op && (length left == 4) && (length right == 4)) _ Undefined (both_hold _ _ (both_hold _ _ allowed (eq-eqb _ _ long)) (eq-eqb _ _ (sym same ∙ long))) (on_integers_is_defined op false left right is)
 combined_is_defined op _ left right is allowed long same = absurd long
 
 -- a shift of an integer by an integer
@@ -203,3 +223,21 @@ negated_fits ty kind bytes integer is long = subst (λ k. Fits (length bytes) (n
 
 pub inverted_fits : (ty : Ty) (kind : Option Kind) (bytes : List ℕ) → IsScalar ty → kind ≡ kind_of ty → IsLengthOf ty (length bytes) → Fits (length bytes) (inverted kind bytes)
 inverted_fits ty kind bytes scalar is long = subst (λ k. Fits (length bytes) (inverted k bytes)) (sym is) (inverted_of_type ty bytes scalar long)
+
+-- a cast takes as many as the type that it leads to
+converted_of_kind : (kind : Kind) (size : ℕ) (bytes : List ℕ) → is_width (length bytes) ≡ true → is_width size ≡ true → Fits size (converted (Some kind) size bytes)
+unfolding converted
+converted_of_kind kind size bytes long wide = where_true_fits size (is_width (length bytes) && is_width size) _ Undefined (both_hold _ _ long wide) (length-low_bytes _ _)
+
+number_has_kind : (ty : Ty) → IsNumber ty → (kind : Kind) × (kind_of ty ≡ Some kind)
+unfolding kind_of
+number_has_kind BoolTy number = (Boolean, refl)
+number_has_kind (IntTy ty) number = (Signed, refl)
+number_has_kind (UintTy ty) number = (Unsigned, refl)
+number_has_kind CharTy number = (Character, refl)
+number_has_kind _ number = absurd number
+
+pub converted_fits : (ty : Ty) (kind : Option Kind) (size : ℕ) (bytes : List ℕ) → IsNumber ty → kind ≡ kind_of ty → IsLengthOf ty (length bytes) → is_width size ≡ true → Fits size (converted kind size bytes)
+converted_fits ty kind size bytes number is long wide =
+    let own = number_has_kind ty number in
+    subst (λ k. Fits size (converted k size bytes)) (sym (is ∙ own.1)) (converted_of_kind own.0 size bytes (length_is_width ty (length bytes) number long) wide)

@@ -1,6 +1,6 @@
 -- A plain body of a checked world is never stuck, and never ends in a jump: each value has the size of its type.
 use Rattle.std.specs.Prelude.{All, flat_map, Contains}
-use Rattle.std.proofs.Common.{⊎_elim, ◌⊎◌, inl, inr, ◌≡◌, ◌≢◌, ℕ, zero, suc, Bool, true, false, cond, if◌then◌else◌, ◌==◌, List, [], ◌∷◌, ◌++◌, length, map, Option, Some, None, unwrap_or, option_map, option_and_then, ℤ, refl, sym, ap, ◌∙◌, subst, arith, eq-eqb}
+use Rattle.std.proofs.Common.{⊎_elim, ◌⊎◌, inl, inr, ◌≡◌, ◌≢◌, ℕ, zero, suc, Bool, true, false, cond, if◌then◌else◌, ◌==◌, List, [], ◌∷◌, ◌++◌, length, map, Option, Some, None, unwrap_or, option_map, option_and_then, ℤ, pos, refl, sym, ap, ◌∙◌, subst, arith, eq-eqb}
 use Rattle.std.proofs.lemmas.Bool.{false≢true}
 use Rattle.std.proofs.lemmas.List.{length-replicate}
 use Rattle.std.proofs.lemmas.List.Elements.{All-head, All-tail, Contains-append_left, Contains-append_right, Contains-append_cases}
@@ -10,32 +10,33 @@ use Rattle.types.specs.declared.ids.ExprId.{ExprId}
 use Rattle.types.specs.declared.ids.LabelId.{LabelId}
 use Rattle.types.specs.declared.operators.LogicOp.{LogicOp}
 use Rattle.types.specs.declared.ty.Ty.{Ty, Bool as BoolTy, Int as IntType, Uint as UintType}
-use Rattle.world.specs.Checked.{IsChecked, IsCheckedBody}
+use Rattle.world.specs.Checked.{IsChecked, IsCheckedBody, fixed_size}
 use Rattle.world.specs.Lookups.{layout_of}
 use Rattle.world.specs.Nodes.{optional}
 use Rattle.numbers.specs.Bytes.{low_bytes}
+use Rattle.numbers.specs.declared.operator.Operator.{Operator}
 use Rattle.numbers.specs.Operators.{Answer, Computes, Panics, Undefined, kind_of}
 use Rattle.numbers.proofs.Digits.{length-low_bytes}
 use Rattle.source_meaning.specs.Around.{Opened, Target, Around, at_root, marking, entered, inside as inside_of, is_meant, meant, target_of}
 use Rattle.source_meaning.specs.Calls.{must_not_return, parameter_cells, parameters}
 use Rattle.source_meaning.specs.Core as expr
-use Rattle.source_meaning.specs.Core.{CoreExpr, CoreLiteral, Truth, Number, Operation, is_truth}
+use Rattle.source_meaning.specs.Core.{CoreExpr, CoreLiteral, Truth, Number, Character, Operation, Combine, is_truth}
 use Rattle.source_meaning.specs.Ends.{Cost, no_cost, turns_alone, plus, End, Go, Jumps, Jump, Break, Continue, Return, Faults, Stuck, More, JumpsNowhere, after, then_do}
 use Rattle.source_meaning.specs.Entering.{entering}
 use Rattle.source_meaning.specs.Events.{marked, marked_as_operand, marked_by_statement}
-use Rattle.source_meaning.specs.Meaning.{Level, Levels, Callees, value_of, answered, truth_byte, literal_bytes, constant_cost, put, put_literal, put_answer, literal_operand, named_place, named_into, bind, operands_of, strict_into, is_byte, deciding_byte, reading_cost, decided_into, branched, logic_into, tail_into, branch_into, if_into, assign_into, statement_of, statements_of, block_into, caught, again_into, labelled_into, turn_of, loop_into, break_to, break_into, continue_to, continue_into, return_into, call_ended, entered_from, entered_into, call_into, no_fuel, place_of, operand_of, into_of, level_above, level_at, returned, body_meaning, callees_at, meaning_from}
-use Rattle.source_meaning.specs.Source.{Source, Store, IsSized, Path, Cell, Result, Node, Binding, Operand, Literally, At, operand_bytes, zeroed, node, unadjusted, never_marks, own_path, own_type, node_type, own_layout, pattern, target, root, cell_type, binding_type, cell_size}
+use Rattle.source_meaning.specs.Meaning.{Level, Levels, Callees, value_of, own_size, answered, truth_byte, literal_bytes, constant_cost, put, put_literal, put_answer, literal_operand, named_place, named_into, bind, operands_of, strict_into, is_byte, deciding_byte, reading_cost, decided_into, branched, logic_into, tail_into, branch_into, if_into, assign_into, combine_into, compound_into, statement_of, statements_of, block_into, caught, again_into, labelled_into, turn_of, loop_into, break_to, break_into, continue_to, continue_into, return_into, call_ended, entered_from, entered_into, call_into, no_fuel, place_of, operand_of, into_of, level_above, level_at, returned, body_meaning, callees_at, meaning_from}
+use Rattle.source_meaning.specs.Source.{Source, Store, IsSized, Path, Cell, Result, Node, Binding, Operand, Literally, At, operand_bytes, zeroed, node, unadjusted, never_marks, own_path, own_type, node_type, own_layout, pattern, target, compound_target, root, cell_type, binding_type, cell_size}
 use Rattle.source_meaning.specs.Steps.{parts_of, statement_parts, tail_steps}
 use Rattle.source_meaning.specs.Steps as step
-use Rattle.source_meaning.specs.Valid.{Evaluates, itself, part, IsScalar, IsBool, IsPlainLiteral, HaveTypes, IsPlainLet, IsPlainStatement, IsPlainTail, IsPlainAssign, HasPlainForm, IsPlainNode, EvaluatesIn, itself_in, part_in, opened_in, HasPlainTarget, HasOpenTarget, FitsAround, JumpsFit, IsPlain, AreBound, IsLaidOut, IsLaidOutNode, sized_parts, NeedsLayout, own, inside, AreLaidOut, Calls, through, at_once, IsPlainThroughout, AreLaidOutThroughout}
+use Rattle.source_meaning.specs.Valid.{Evaluates, itself, part, IsNumber, IsBool, IsPlainLiteral, HaveTypes, IsPlainLet, IsPlainStatement, IsPlainTail, IsPlainAssign, IsPlainCompound, HasPlainForm, IsPlainNode, EvaluatesIn, itself_in, part_in, opened_in, HasPlainTarget, HasOpenTarget, FitsAround, JumpsFit, IsPlain, AreBound, IsLaidOut, IsLaidOutNode, sized_parts, NeedsLayout, own, inside, AreLaidOut, Calls, through, at_once, IsPlainThroughout, AreLaidOutThroughout}
 use Rattle.source_meaning.proofs.Calls.{called_world, called_by_name, AreFor, started_is_sized}
 use Rattle.source_meaning.proofs.Depth.{evaluates_then, operand_is_part, argument_is_part, logic_operand_is_part, if_part_is_part}
-use Rattle.source_meaning.proofs.Layouts.{scalar_has_length, bool_is_scalar, bool_length_is_one}
+use Rattle.source_meaning.proofs.Layouts.{number_has_length, number_has_size, bool_is_number, bool_length_is_one}
 use Rattle.source_meaning.proofs.Never.{undiverted-type, own_path-fits, unadjusted-plain}
 use Rattle.source_meaning.proofs.Operators.{Fits, IsLengthOf}
 use Rattle.source_meaning.proofs.Parts.{first_is_contained, rest_is_contained, operand_is_sized, first_is_sized, right_is_sized, branch_is_sized, sized_part_is_part, sized_block_parts, sized_tail}
 use Rattle.source_meaning.proofs.Stores.{with_bytes_is_sized}
-use Rattle.source_meaning.proofs.Values.{size_at, IsValueOf, AreValues, typed_fits}
+use Rattle.source_meaning.proofs.Values.{size_at, IsValueOf, AreValues, combined_fits, typed_fits}
 
 -- how many bytes the values of an expression itself have
 abbrev pub size_of : Source → ℕ → ℕ
@@ -105,12 +106,17 @@ pub record AreSoundCallees (source : Source) (callees : Callees) : Type 0 where
   pub settle : (called : Source) → Calls source called → (start : Store) → IsSized called start → IsSettled called (callees called start)
   pub laid_out : (called : Source) → Calls source called → AreLaidOut called
 
+-- the type of each binding that no closure owns has a layout
+abbrev pub AreBindingsLaidOut : Source → Type 0
+AreBindingsLaidOut source = (b : ℕ) (ty : Ty) → binding_type source b ≡ Some ty → IsLaidOut source (Some ty)
+
 -- an expression that is evaluated in the body, all of whose parts are plain, have layouts where they need them, and jump to open blocks
 pub record IsFine (source : Source) (outer : List Opened) (e : ℕ) : Type 0 where
   pub evaluated : Evaluates source (root source) e
   pub jumps : JumpsFit source outer e
   pub plain : (f : ℕ) → Evaluates source e f → IsPlainNode source f
   pub laid_out : (f : ℕ) → NeedsLayout source e f → IsLaidOutNode source f
+  pub bindings : AreBindingsLaidOut source
 
 -- the same of an operand: a truth value needs no layout
 pub record IsFineOperand (source : Source) (outer : List Opened) (e : ℕ) : Type 0 where
@@ -118,6 +124,7 @@ pub record IsFineOperand (source : Source) (outer : List Opened) (e : ℕ) : Typ
   pub jumps : JumpsFit source outer e
   pub plain : (f : ℕ) → Evaluates source e f → IsPlainNode source f
   pub laid_out : (is_truth (unadjusted source e) ≡ true) ⊎ ((f : ℕ) → NeedsLayout source e f → IsLaidOutNode source f)
+  pub bindings : AreBindingsLaidOut source
 
 -- the one element of a list
 only_target : (one target : Target) → Contains (one ∷ []) target → one ≡ target
@@ -153,6 +160,7 @@ module _ (source : Source) (checked : IsChecked source.world) where
         jumps = part_jumps outer e child form is contained fine.jumps;
         plain = λ f rest. fine.plain f (part contained rest);
         laid_out = λ f rest. fine.laid_out f (inside needed rest);
+        bindings = fine.bindings;
       }
 
   -- a part that is evaluated to an operand: it needs a layout where it is no truth value
@@ -163,6 +171,7 @@ module _ (source : Source) (checked : IsChecked source.world) where
         jumps = part_jumps outer e child form is contained fine.jumps;
         plain = λ f rest. fine.plain f (part contained rest);
         laid_out = by_truth (is_truth (unadjusted source child)) refl;
+        bindings = fine.bindings;
       }
     where
       by_truth : (test : Bool) → is_truth (unadjusted source child) ≡ test → (is_truth (unadjusted source child) ≡ true) ⊎ ((f : ℕ) → NeedsLayout source child f → IsLaidOutNode source f)
@@ -172,7 +181,7 @@ module _ (source : Source) (checked : IsChecked source.world) where
 
   -- an operand that is no truth value is as any other expression
   fine_as_place : (outer : List Opened) (e : ℕ) → is_truth (unadjusted source e) ≡ false → IsFineOperand source outer e → IsFine source outer e
-  fine_as_place outer e is fine = record { evaluated = fine.evaluated; jumps = fine.jumps; plain = fine.plain; laid_out = ⊎_elim (λ truth. absurd (false≢true (sym is ∙ truth))) (λ laid. laid) fine.laid_out }
+  fine_as_place outer e is fine = record { evaluated = fine.evaluated; jumps = fine.jumps; plain = fine.plain; laid_out = ⊎_elim (λ truth. absurd (false≢true (sym is ∙ truth))) (λ laid. laid) fine.laid_out; bindings = fine.bindings }
 
   length_of_bool : (ty : Ty) → IsBool ty → IsLengthOf ty 1
   length_of_bool BoolTy is_bool = refl
@@ -190,7 +199,7 @@ module _ (source : Source) (checked : IsChecked source.world) where
 
   -- bytes that a literal of a type may have
   record IsLiteralOf (ty : Ty) (bytes : List ℕ) : Type 0 where
-    long : IsScalar ty → IsLengthOf ty (length bytes)
+    long : IsNumber ty → IsLengthOf ty (length bytes)
     size : (length bytes ≡ size_at source (Some ty)) ⊎ IsBool ty
 
   -- an operand of an expression's type
@@ -222,11 +231,17 @@ module _ (source : Source) (checked : IsChecked source.world) where
   no_fuel_is_sound : (outer : List Opened) (around : Around) → IsSoundLevel outer around.targets (no_fuel around)
   no_fuel_is_sound outer around = record { place = λ e store fine sized. tt; operand = λ e store fine sized. tt; into = λ e path store fine sized fits. tt; own = λ e path store fine sized fits. tt }
 
-  -- the values of a scalar type with a layout have a length that it may have
-  scalar_size : (ty : Ty) → IsLaidOut source (Some ty) → IsScalar ty → IsLengthOf ty (size_at source (Some ty))
+  -- the values of a number's type with a layout have a length that it may have
+  scalar_size : (ty : Ty) → IsLaidOut source (Some ty) → IsNumber ty → IsLengthOf ty (size_at source (Some ty))
   scalar_size ty laid scalar =
       let size : size_at source (Some ty) ≡ laid.layout.size = ap (λ given. unwrap_or (option_map (λ layout. layout.size) given) 0) laid.found in
-      subst (IsLengthOf ty) (sym size) (scalar_has_length source.world ty laid.layout checked scalar laid.found)
+      subst (IsLengthOf ty) (sym size) (number_has_length source.world ty laid.layout checked scalar laid.found)
+
+  -- the size of a number's type is that of its layout
+  own_size_is : (e : ℕ) (ty : Ty) → own_type source e ≡ Some ty → IsLaidOut source (Some ty) → IsNumber ty → own_size source e ≡ Some (size_at source (Some ty))
+  own_size_is e ty is laid number =
+      let size : size_at source (Some ty) ≡ laid.layout.size = ap (λ given. unwrap_or (option_map (λ layout. layout.size) given) 0) laid.found in
+      ap (option_and_then fixed_size) is ∙ number_has_size source.world ty laid.layout checked number laid.found ∙ ap Some (sym size)
 
   laid_at : (outer : List Opened) (e : ℕ) (ty : Ty) → IsFine source outer e → own_type source e ≡ Some ty → IsLaidOut source (Some ty)
   laid_at outer e ty fine is = let laid = fine.laid_out e own in subst (IsLaidOut source) is laid.of_itself
@@ -244,7 +259,7 @@ module _ (source : Source) (checked : IsChecked source.world) where
       let same : given ≡ ty = (let one = fits.0 in cc) in
       record {
         kind = ap kind_of same;
-        long = subst (λ t. IsScalar t → IsLengthOf t (length bytes)) same fits.1.long;
+        long = subst (λ t. IsNumber t → IsLengthOf t (length bytes)) same fits.1.long;
         size = subst (λ t. (length bytes ≡ size_at source (Some t)) ⊎ IsBool t) same fits.1.size;
       }
   operand_is_value e ty (At path) store sized is fits =
@@ -252,6 +267,16 @@ module _ (source : Source) (checked : IsChecked source.world) where
       record {
         kind = ap (option_and_then kind_of) (fits.0 ∙ is);
         long = λ scalar. subst (IsLengthOf ty) (sym size) (scalar_size ty (subst (IsLaidOut source) is fits.1) scalar);
+        size = inl size;
+      }
+
+  -- what lies in a binding's cell
+  binding_is_value : (b : ℕ) (ty : Ty) (store : Store) → IsSized source store → binding_type source b ≡ Some ty → IsLaidOut source (Some ty) → IsValueOf source ty (value_of source store (At (record { cell = Binding b })))
+  binding_is_value b ty store sized is laid =
+      let size : length (store (Binding b)) ≡ size_at source (Some ty) = sized.holds_all (Binding b) ∙ ap (size_at source) is in
+      record {
+        kind = ap (option_and_then kind_of) is;
+        long = λ number. subst (IsLengthOf ty) (sym size) (scalar_size ty laid number);
         size = inl size;
       }
 
@@ -283,7 +308,7 @@ module _ (source : Source) (checked : IsChecked source.world) where
       let laid = same_layout called same (Some ty) (laid_out.bindings b ty is') in
       ⊎_elim (λ long. long ∙ sym size)
       (λ is_bool.
-      let scalar = bool_is_scalar ty is_bool in
+      let scalar = bool_is_number ty is_bool in
       bool_length_is_one ty (length (operand_bytes store operand)) is_bool (value.long scalar) ∙ sym (bool_length_is_one ty (size_at source (Some ty)) is_bool (scalar_size ty laid scalar)) ∙ sym size)
       value.size
 
@@ -337,8 +362,9 @@ module _ (source : Source) (checked : IsChecked source.world) where
   literal_has_size : (outer : List Opened) (e : ℕ) (given : CoreLiteral) (ty : Ty) → IsFine source outer e → own_type source e ≡ Some ty → IsPlainLiteral given ty → (bytes : List ℕ) × (literal_bytes source e given ≡ Some bytes) × (length bytes ≡ size_of source e)
   unfolding literal_bytes
   literal_has_size outer e (Truth test) ty fine is plain =
-      (truth_byte test ∷ [], refl, sym (ap (size_at source) is ∙ bool_length_is_one ty (size_at source (Some ty)) plain (scalar_size ty (laid_at outer e ty fine is) (bool_is_scalar ty plain))))
+      (truth_byte test ∷ [], refl, sym (ap (size_at source) is ∙ bool_length_is_one ty (size_at source (Some ty)) plain (scalar_size ty (laid_at outer e ty fine is) (bool_is_number ty plain))))
   literal_has_size outer e (Number number) ty fine is plain = number_has_bytes outer e number fine
+  literal_has_size outer e (Character code) ty fine is plain = number_has_bytes outer e (pos code) fine
 
   literal_operand_is_sound : (targets : List Target) (e : ℕ) (ty : Ty) (store : Store) (given : Option (List ℕ)) (bytes : List ℕ) → IsSized source store → own_type source e ≡ Some ty → node_type source e ≡ Some ty → given ≡ Some bytes → IsLiteralOf ty bytes → IsSound source targets (OperandFits e) (literal_operand source e store given)
   literal_operand_is_sound targets e ty store given bytes sized own_is is is' fits =
@@ -391,25 +417,32 @@ module _ (source : Source) (checked : IsChecked source.world) where
         let as_place = fine_as_place outer e truth fine in
         then_do_is_sound source around.targets (PathFits e) (OperandFits e) ((below around).place e store) _ ((sound outer around stands).place e store as_place sized) (λ path later sized' fits. (let laid = as_place.laid_out e own in (sized', (fits, laid.of_value))))
 
+    -- a literal whose bytes are those of a number
+    number_is_sound : (outer : List Opened) (around : Around) (e : ℕ) (given : CoreLiteral) (number : ℤ) (store : Store) → unadjusted source e ≡ Some (expr.Literal given) → is_truth (Some (expr.Literal given)) ≡ false → IsFineOperand source outer e → IsSized source store →
+        IsSound source around.targets (OperandFits e) (literal_operand source e store (option_map (λ layout. low_bytes layout.size number) (own_layout source e)))
+    number_is_sound outer around e given number store is no_truth fine sized =
+        let plain = fine.plain e itself in
+        let form = form_at e _ is plain in
+        let as_place = fine_as_place outer e (ap is_truth is ∙ no_truth) fine in
+        let bytes = number_has_bytes outer e number as_place in
+        let size : length bytes.0 ≡ size_at source (Some plain.ty) = bytes.2 ∙ ap (size_at source) plain.has_type in
+        literal_operand_is_sound around.targets e plain.ty store (option_map (λ layout. low_bytes layout.size number) (own_layout source e)) bytes.0 sized plain.has_type form.1 bytes.1
+        (record { long = λ scalar. subst (IsLengthOf plain.ty) (sym size) (scalar_size plain.ty (laid_at outer e plain.ty as_place plain.has_type) scalar); size = inl size })
+
     operand_is_sound : (outer : List Opened) (around : Around) (stands : Stands outer around) (e : ℕ) (form : Option CoreExpr) (store : Store) → unadjusted source e ≡ form → IsFineOperand source outer e → IsSized source store → IsSound source around.targets (OperandFits e) (operand_of source below around e form store)
     unfolding literal_bytes
     operand_is_sound outer around stands e (Some (expr.Literal (Truth test))) store is fine sized =
         let plain = fine.plain e itself in
         let form = form_at e _ is plain in
         literal_operand_is_sound around.targets e plain.ty store (Some (truth_byte test ∷ [])) (truth_byte test ∷ []) sized plain.has_type form.1 refl (record { long = λ scalar. length_of_bool plain.ty form.0; size = inr form.0 })
-    operand_is_sound outer around stands e (Some (expr.Literal (Number number))) store is fine sized =
-        let plain = fine.plain e itself in
-        let form = form_at e _ is plain in
-        let as_place = fine_as_place outer e (ap is_truth is) fine in
-        let bytes = number_has_bytes outer e number as_place in
-        let size : length bytes.0 ≡ size_at source (Some plain.ty) = bytes.2 ∙ ap (size_at source) plain.has_type in
-        literal_operand_is_sound around.targets e plain.ty store (option_map (λ layout. low_bytes layout.size number) (own_layout source e)) bytes.0 sized plain.has_type form.1 bytes.1
-        (record { long = λ scalar. subst (IsLengthOf plain.ty) (sym size) (scalar_size plain.ty (laid_at outer e plain.ty as_place plain.has_type) scalar); size = inl size })
+    operand_is_sound outer around stands e (Some (expr.Literal (Number number))) store is fine sized = number_is_sound outer around e (Number number) number store is refl fine sized
+    operand_is_sound outer around stands e (Some (expr.Literal (Character code))) store is fine sized = number_is_sound outer around e (Character code) (pos code) store is refl fine sized
     operand_is_sound outer around stands e (Some (expr.Path name)) store is fine sized = as_place_is_sound outer around stands e store (ap is_truth is) fine sized
     operand_is_sound outer around stands e (Some (expr.Strict operation operands)) store is fine sized = as_place_is_sound outer around stands e store (ap is_truth is) fine sized
     operand_is_sound outer around stands e (Some (expr.Logic op left right)) store is fine sized = as_place_is_sound outer around stands e store (ap is_truth is) fine sized
     operand_is_sound outer around stands e (Some (expr.If condition then_branch else_branch)) store is fine sized = as_place_is_sound outer around stands e store (ap is_truth is) fine sized
     operand_is_sound outer around stands e (Some (expr.Assign assigned value)) store is fine sized = as_place_is_sound outer around stands e store (ap is_truth is) fine sized
+    operand_is_sound outer around stands e (Some (expr.Compound op assigned value)) store is fine sized = as_place_is_sound outer around stands e store (ap is_truth is) fine sized
     operand_is_sound outer around stands e (Some (expr.Block statements tail)) store is fine sized = as_place_is_sound outer around stands e store (ap is_truth is) fine sized
     operand_is_sound outer around stands e (Some (expr.Labelled label statements tail)) store is fine sized = as_place_is_sound outer around stands e store (ap is_truth is) fine sized
     operand_is_sound outer around stands e (Some (expr.Loop label body)) store is fine sized = as_place_is_sound outer around stands e store (ap is_truth is) fine sized
@@ -426,16 +459,17 @@ module _ (source : Source) (checked : IsChecked source.world) where
         then_do_is_sound source around.targets (OperandFits e) (OperandsFit (e ∷ rest)) ((below around).operand e store) _ ((sound outer around stands).operand e store (fine e (first_is_contained e rest)) sized) (λ first later sized' fits.
         then_do_is_sound source around.targets (OperandsFit rest) (OperandsFit (e ∷ rest)) (operands_of source below (marking (marked_as_operand source e) around) rest later) _ (operands_are_sound outer (marking (marked_as_operand source e) around) (marks_stand (marked_as_operand source e) stands) rest later (λ child within. fine child (rest_is_contained e rest child within)) sized') (λ others last sized'' fit. (sized'', (fits, fit))))
 
-    strict_is_sound : (outer : List Opened) (around : Around) (stands : Stands outer around) (e : ℕ) (operation : Operation) (operands : List ℕ) (path : Path) (store : Store) → node source e ≡ Some (expr.Strict operation operands) → IsFine source outer e → IsSized source store → OwnFits e path → IsSound source around.targets Nothing (strict_into source below around operation operands path store)
+    strict_is_sound : (outer : List Opened) (around : Around) (stands : Stands outer around) (e : ℕ) (operation : Operation) (operands : List ℕ) (path : Path) (store : Store) → node source e ≡ Some (expr.Strict operation operands) → IsFine source outer e → IsSized source store → OwnFits e path → IsSound source around.targets Nothing (strict_into source below around e operation operands path store)
     strict_is_sound outer around stands e operation operands path store is fine sized fits =
         let plain = fine.plain e itself in
         let form = form_of e _ is plain in
         then_do_is_sound source around.targets (OperandsFit operands) Nothing (operands_of source below around operands store) _ (operands_are_sound outer around stands operands store (λ child within.
         operand_is_fine outer e child (Some (expr.Strict operation operands)) is (operand_is_part source e operation operands child is within) (operand_is_sized source operands child within) fine) sized) (λ given later sized' fit.
         put_answer_is_sound source around.targets later path _ sized'
-        (subst (λ size. Fits size (answered operation (map (value_of source later) given))) (sym (ap (size_at source) (fits ∙ plain.has_type)))
-        (typed_fits source operation form.types (map (value_of source later) given) plain.ty form.typed (operands_are_values operands form.types given later sized' form.operands_have fit)
-        (λ scalar. scalar_size plain.ty (laid_at outer e plain.ty fine plain.has_type) scalar))))
+        (subst (λ size. Fits size (answered (own_size source e) operation (map (value_of source later) given))) (sym (ap (size_at source) (fits ∙ plain.has_type)))
+        (typed_fits source operation form.types (map (value_of source later) given) plain.ty (own_size source e) form.typed (operands_are_values operands form.types given later sized' form.operands_have fit)
+        (λ number. scalar_size plain.ty (laid_at outer e plain.ty fine plain.has_type) number)
+        (λ number. own_size_is e plain.ty plain.has_type (laid_at outer e plain.ty fine plain.has_type) number))))
 
     statement_is_sound : (outer : List Opened) (around : Around) (stands : Stands outer around) (given : Statement) (store : Store) → IsPlainStatement source given → ((child : ℕ) → Contains (statement_parts given) child → IsFine source outer child) → IsSized source store → IsSound source around.targets Nothing (statement_of source (below around) given store)
     statement_is_sound outer around stands (statement.Let pat (Some e) None) store plain parts sized =
@@ -508,6 +542,27 @@ module _ (source : Source) (checked : IsChecked source.world) where
         let form = form_of e _ is (fine.plain e itself) in
         let value_is_fine = part_is_fine outer e value (Some (expr.Assign assigned value)) is (first_is_contained value []) fine in
         then_do_is_sound source around.targets (PathFits value) Nothing ((below around).place value store) _ ((sound outer around stands).place value store value_is_fine sized) (λ path later sized' fits. assigned_is_sound around.targets assigned value path later form sized' fits)
+
+    -- what an operator makes of a local and a value has the size of the local
+    combined_is_sound : (targets : List Target) (op : Operator) (assigned value : ℕ) (given : Operand) (store : Store) → IsPlainCompound source op assigned value → AreBindingsLaidOut source → IsSized source store → OperandFits value given → IsSound source targets Nothing (combine_into source op (compound_target source assigned) given store)
+    unfolding answered
+    combined_is_sound targets op assigned value given store plain laid sized fits =
+        let own = laid plain.binding.0 plain.ty plain.binding_has in
+        let cell : Path = record { cell = Binding plain.binding.0 } in
+        subst (λ target. IsSound source targets Nothing (combine_into source op target given store)) (sym plain.names)
+        (put_answer_is_sound source targets store cell _ sized
+        (subst (λ size. Fits size (answered None (Combine op) (value_of source store (At cell) ∷ value_of source store given ∷ []))) (sym (ap (size_at source) plain.binding_has))
+        (combined_fits source op plain.ty plain.other plain.ty (value_of source store (At cell)) (value_of source store given) plain.typed (λ number. scalar_size plain.ty own number)
+        (binding_is_value plain.binding.0 plain.ty store sized plain.binding_has own) (operand_is_value value plain.other given store sized plain.value_has fits))))
+
+    compound_is_sound : (outer : List Opened) (around : Around) (stands : Stands outer around) (e : ℕ) (op : Operator) (assigned value : ℕ) (store : Store) → node source e ≡ Some (expr.Compound op assigned value) → IsFine source outer e → IsSized source store → IsSound source around.targets Nothing (compound_into source (below around) op assigned value store)
+    compound_is_sound outer around stands e op assigned value store is fine sized =
+        let form = form_of e _ is (fine.plain e itself) in
+        let whole = Some (expr.Compound op assigned value) in
+        let part_is = subst (λ form. Contains (parts_of form) value) (sym is) (first_is_contained value []) in
+        then_do_is_sound source around.targets (OperandFits value) Nothing ((below around).operand value store) _ ((sound outer around stands).operand value store
+        (operand_is_fine outer e value whole is part_is (operand_is_sized source (value ∷ []) value (first_is_contained value [])) fine) sized) (λ given later sized' fits.
+        combined_is_sound around.targets op assigned value given later form fine.bindings sized' fits)
 
     -- what stands in a block, inside its scope
     inner_is_sound : (outer : List Opened) (around : Around) (stands : Stands outer around) (statements : List Statement) (tail : Option ExprId) (ty : Ty) (path : Path) (store : Store) → All (IsPlainStatement source) statements × IsPlainTail source tail ty → cell_type source path.cell ≡ Some ty → ((child : ℕ) → Contains (flat_map statement_parts statements ++ optional tail) child → IsFine source outer child) → IsSized source store → IsSound source around.targets Nothing (block_into source below around statements tail path store)
@@ -640,6 +695,7 @@ module _ (source : Source) (checked : IsChecked source.world) where
     into_is_sound callees callees_are outer around stands e (Some (expr.Logic op left right)) path store is fine sized fits = logic_is_sound outer around stands e op left right path store is fine sized fits
     into_is_sound callees callees_are outer around stands e (Some (expr.If condition then_branch else_branch)) path store is fine sized fits = if_is_sound outer around stands e condition then_branch else_branch path store is fine sized fits
     into_is_sound callees callees_are outer around stands e (Some (expr.Assign assigned value)) path store is fine sized fits = assign_is_sound outer around stands e assigned value store is fine sized
+    into_is_sound callees callees_are outer around stands e (Some (expr.Compound op assigned value)) path store is fine sized fits = compound_is_sound outer around stands e op assigned value store is fine sized
     into_is_sound callees callees_are outer around stands e (Some (expr.Block statements tail)) path store is fine sized fits = block_is_sound outer around stands e statements tail path store is fine sized fits
     into_is_sound callees callees_are outer around stands e (Some (expr.Labelled label statements tail)) path store is fine sized fits = labelled_is_sound outer around stands e label statements tail path store is fine sized fits
     into_is_sound callees callees_are outer around stands e (Some (expr.Break label value)) path store is fine sized fits = break_is_sound outer around stands e label value store is fine sized
@@ -688,7 +744,7 @@ body_is_settled : (source : Source) (checked : IsChecked source.world) (levels :
     ((outer : List Opened) (around : Around) → Stands source checked outer around → IsSoundLevel source checked outer around.targets (levels around)) → (store : Store) → IsSized source store → IsSettled source (body_meaning source levels store)
 body_is_settled source checked levels plain laid_out sound store sized =
     let first = marking (parameter_cells source) (at_root (record { cell = Result })) in
-    let root_is_fine : IsFine source [] (root source) = record { evaluated = itself; jumps = plain.jumps; plain = plain.nodes; laid_out = laid_out.nodes } in
+    let root_is_fine : IsFine source [] (root source) = record { evaluated = itself; jumps = plain.jumps; plain = plain.nodes; laid_out = laid_out.nodes; bindings = laid_out.bindings } in
     let level = sound [] first (root_stands source checked) in
     after_is_settled source (entering source) _ (returned_is_settled source ((levels first).into (root source) _ _) (level.into (root source) _ _ root_is_fine sized refl))
 

@@ -1,16 +1,16 @@
 -- What operations make of values of the types that they are on: a value of the result's size, or a panic.
 use Rattle.std.proofs.Common.{⊎_elim, ◌⊎◌, ◌≡◌, ℕ, false, true, List, [], ◌∷◌, length, Option, Some, unwrap_or, option_map, option_and_then, refl, sym, ◌∙◌, subst}
-use Rattle.types.specs.declared.ty.Ty.{Ty, Bool as BoolTy, Int as IntType, Uint as UintType}
+use Rattle.types.specs.declared.ty.Ty.{Ty, Bool as BoolTy, Int as IntType, Uint as UintType, Char as CharType}
 use Rattle.world.specs.Lookups.{layout_of}
 use Rattle.numbers.specs.declared.operator.Operator.{Operator}
 use Rattle.numbers.specs.declared.operator.Operator.TheVariants.{Add, Sub, Mul, Div, Rem, BitXor, BitAnd, BitOr, Shl, Shr, Eq, Ne, Lt, Le, Gt, Ge}
 use Rattle.numbers.specs.Operators.{computed, negated, inverted, is_shift, is_comparison, is_on_booleans, kind_of}
-use Rattle.source_meaning.specs.Core.{Operation, Negate, Invert, Combine}
+use Rattle.source_meaning.specs.Core.{Operation, Negate, Invert, Keep, Convert, Combine}
 use Rattle.source_meaning.specs.Meaning.{Value, answered}
 use Rattle.source_meaning.specs.Source.{Source}
-use Rattle.source_meaning.specs.Valid.{IsScalar, IsBool, AreIntegers, AreScalars, AreShifted, AreCompared, IsCombined, IsTyped}
-use Rattle.source_meaning.proofs.Layouts.{integer_is_scalar, bool_is_scalar, bool_length_is_one}
-use Rattle.source_meaning.proofs.Operators.{Fits, IsLengthOf, IsAllowed, allowed_on_integer, allowed_on_scalar, unshifted_fits, compared_fits, shift_fits, negated_fits, inverted_fits}
+use Rattle.source_meaning.specs.Valid.{IsScalar, IsNumber, IsBool, AreIntegers, AreScalars, AreShifted, AreCompared, IsCombined, IsTyped}
+use Rattle.source_meaning.proofs.Layouts.{integer_is_number, bool_is_number, scalar_is_number, bool_length_is_one}
+use Rattle.source_meaning.proofs.Operators.{Fits, IsLengthOf, IsAllowed, allowed_on_integer, allowed_on_scalar, allowed_on_number, length_is_width, converted_fits, unshifted_fits, compared_fits, shift_fits, negated_fits, inverted_fits}
 
 -- how many bytes the values of a type have
 abbrev pub size_at : Source → Option Ty → ℕ
@@ -19,7 +19,7 @@ size_at source ty = unwrap_or (option_map (λ layout. layout.size) (option_and_t
 -- a value of a type: of its kind, and as long as its layout says, or as a truth value is
 pub record IsValueOf (source : Source) (ty : Ty) (value : Value) : Type 0 where
   pub kind : value.kind ≡ kind_of ty
-  pub long : IsScalar ty → IsLengthOf ty (length value.bytes)
+  pub long : IsNumber ty → IsLengthOf ty (length value.bytes)
   pub size : (length value.bytes ≡ size_at source (Some ty)) ⊎ IsBool ty
 
 abbrev pub AreValues : Source → List Ty → List Value → Type 0
@@ -40,14 +40,15 @@ module _ (source : Source) where
   pair ty other (left ∷ right ∷ more ∷ rest) are = absurd are.1.1
 
   -- two values of one type have the same length
-  same_length : (ty : Ty) (left right : Value) → IsScalar ty → IsValueOf source ty left → IsValueOf source ty right → length left.bytes ≡ length right.bytes
+  same_length : (ty : Ty) (left right : Value) → IsNumber ty → IsValueOf source ty left → IsValueOf source ty right → length left.bytes ≡ length right.bytes
   same_length BoolTy left right scalar is is' = is.long tt ∙ sym (is'.long tt)
   same_length (IntType ty) left right scalar is is' = ⊎_elim (λ size. ⊎_elim (λ size'. size ∙ sym size') (λ none. absurd none) is'.size) (λ none. absurd none) is.size
   same_length (UintType ty) left right scalar is is' = ⊎_elim (λ size. ⊎_elim (λ size'. size ∙ sym size') (λ none. absurd none) is'.size) (λ none. absurd none) is.size
+  same_length CharType left right scalar is is' = is.long tt ∙ sym (is'.long tt)
   same_length _ left right scalar is is' = absurd scalar
 
   -- and that of the type's layout, where it has the length of a value
-  value_size : (ty : Ty) (value : Value) → IsScalar ty → IsLengthOf ty (size_at source (Some ty)) → IsValueOf source ty value → length value.bytes ≡ size_at source (Some ty)
+  value_size : (ty : Ty) (value : Value) → IsNumber ty → IsLengthOf ty (size_at source (Some ty)) → IsValueOf source ty value → length value.bytes ≡ size_at source (Some ty)
   value_size ty value scalar long is =
       ⊎_elim (λ size. size) (λ is_bool. bool_length_is_one ty (length value.bytes) is_bool (is.long scalar) ∙ sym (bool_length_is_one ty (size_at source (Some ty)) is_bool long)) is.size
 
@@ -55,34 +56,36 @@ module _ (source : Source) where
     abbrev ComputedFits : Type 0
     ComputedFits = Fits (size_at source (Some ty)) (computed op left.kind right.kind left.bytes right.bytes)
 
-    unshifted : is_shift op ≡ false → is_comparison op ≡ false → IsAllowed op ty → IsScalar ty → IsLengthOf ty (size_at source (Some ty)) → IsValueOf source ty left → IsValueOf source ty right → ComputedFits
+    unshifted : is_shift op ≡ false → is_comparison op ≡ false → IsAllowed op ty → IsNumber ty → IsLengthOf ty (size_at source (Some ty)) → IsValueOf source ty left → IsValueOf source ty right → ComputedFits
     unshifted no_shift no_comparison allowed scalar long is is' =
         subst (λ size. Fits size (computed op left.kind right.kind left.bytes right.bytes)) (value_size ty left scalar long is)
         (unshifted_fits op ty left.kind right.kind left.bytes right.bytes no_shift no_comparison allowed is.kind is'.kind (is.long scalar) (same_length ty left right scalar is is'))
 
-    integers : (a b : Ty) → is_shift op ≡ false → is_comparison op ≡ false → AreIntegers a b ty → (IsScalar ty → IsLengthOf ty (size_at source (Some ty))) → IsValueOf source a left → IsValueOf source b right → ComputedFits
+    integers : (a b : Ty) → is_shift op ≡ false → is_comparison op ≡ false → AreIntegers a b ty → (IsNumber ty → IsLengthOf ty (size_at source (Some ty))) → IsValueOf source a left → IsValueOf source b right → ComputedFits
     integers a b no_shift no_comparison are long is is' =
-        let scalar = integer_is_scalar ty are.0 in
+        let scalar = integer_is_number ty are.0 in
         unshifted no_shift no_comparison (allowed_on_integer op ty are.0) scalar (long scalar) (subst (λ t. IsValueOf source t left) are.1 is) (subst (λ t. IsValueOf source t right) are.2 is')
 
-    scalars : (a b : Ty) → is_shift op ≡ false → is_comparison op ≡ false → is_on_booleans op ≡ true → AreScalars a b ty → (IsScalar ty → IsLengthOf ty (size_at source (Some ty))) → IsValueOf source a left → IsValueOf source b right → ComputedFits
+    scalars : (a b : Ty) → is_shift op ≡ false → is_comparison op ≡ false → is_on_booleans op ≡ true → AreScalars a b ty → (IsNumber ty → IsLengthOf ty (size_at source (Some ty))) → IsValueOf source a left → IsValueOf source b right → ComputedFits
     scalars a b no_shift no_comparison on_booleans are long is is' =
-        unshifted no_shift no_comparison (allowed_on_scalar op ty on_booleans are.0) are.0 (long are.0) (subst (λ t. IsValueOf source t left) are.1 is) (subst (λ t. IsValueOf source t right) are.2 is')
+        let number = scalar_is_number ty are.0 in
+        unshifted no_shift no_comparison (allowed_on_scalar op ty on_booleans are.0) number (long number) (subst (λ t. IsValueOf source t left) are.1 is) (subst (λ t. IsValueOf source t right) are.2 is')
 
-    shifted : (a b : Ty) → is_shift op ≡ true → is_comparison op ≡ false → AreShifted a b ty → (IsScalar ty → IsLengthOf ty (size_at source (Some ty))) → IsValueOf source a left → IsValueOf source b right → ComputedFits
+    shifted : (a b : Ty) → is_shift op ≡ true → is_comparison op ≡ false → AreShifted a b ty → (IsNumber ty → IsLengthOf ty (size_at source (Some ty))) → IsValueOf source a left → IsValueOf source b right → ComputedFits
     shifted a b shifts no_comparison are long is is' =
         let one = subst (λ t. IsValueOf source t left) are.2 is in
-        let scalar = integer_is_scalar ty are.0 in
+        let scalar = integer_is_number ty are.0 in
         subst (λ size. Fits size (computed op left.kind right.kind left.bytes right.bytes)) (value_size ty left scalar (long scalar) one)
-        (shift_fits op ty b left.kind right.kind left.bytes right.bytes shifts no_comparison are.0 are.1 one.kind is'.kind (one.long scalar) (is'.long (integer_is_scalar b are.1)))
+        (shift_fits op ty b left.kind right.kind left.bytes right.bytes shifts no_comparison are.0 are.1 one.kind is'.kind (one.long scalar) (is'.long (integer_is_number b are.1)))
 
-    compared : (a b : Ty) → is_shift op ≡ false → is_comparison op ≡ true → is_on_booleans op ≡ true → AreCompared a b ty → (IsScalar ty → IsLengthOf ty (size_at source (Some ty))) → IsValueOf source a left → IsValueOf source b right → ComputedFits
+    compared : (a b : Ty) → is_shift op ≡ false → is_comparison op ≡ true → is_on_booleans op ≡ true → AreCompared a b ty → (IsNumber ty → IsLengthOf ty (size_at source (Some ty))) → IsValueOf source a left → IsValueOf source b right → ComputedFits
     compared a b no_shift compares on_booleans are long is is' =
         let other = subst (λ t. IsValueOf source t right) are.2 is' in
-        subst (λ size. Fits size (computed op left.kind right.kind left.bytes right.bytes)) (sym (bool_length_is_one ty (size_at source (Some ty)) are.0 (long (bool_is_scalar ty are.0))))
-        (compared_fits op a left.kind right.kind left.bytes right.bytes no_shift compares (allowed_on_scalar op a on_booleans are.1) is.kind other.kind (is.long are.1) (same_length a left right are.1 is other))
+        subst (λ size. Fits size (computed op left.kind right.kind left.bytes right.bytes)) (sym (bool_length_is_one ty (size_at source (Some ty)) are.0 (long (bool_is_number ty are.0))))
+        (compared_fits op a left.kind right.kind left.bytes right.bytes no_shift compares (allowed_on_number op a on_booleans compares are.1) is.kind other.kind (is.long are.1) (same_length a left right are.1 is other))
 
-  combined_fits : (op : Operator) (a b ty : Ty) (left right : Value) → IsCombined op a b ty → (IsScalar ty → IsLengthOf ty (size_at source (Some ty))) → IsValueOf source a left → IsValueOf source b right → Fits (size_at source (Some ty)) (computed op left.kind right.kind left.bytes right.bytes)
+  -- what an operator makes of values of types that fit it has the size of its own type
+  pub combined_fits : (op : Operator) (a b ty : Ty) (left right : Value) → IsCombined op a b ty → (IsNumber ty → IsLengthOf ty (size_at source (Some ty))) → IsValueOf source a left → IsValueOf source b right → Fits (size_at source (Some ty)) (computed op left.kind right.kind left.bytes right.bytes)
   unfolding is_shift is_comparison is_on_booleans
   combined_fits Add a b ty left right are = integers Add ty left right a b refl refl are
   combined_fits Sub a b ty left right are = integers Sub ty left right a b refl refl are
@@ -101,23 +104,42 @@ module _ (source : Source) where
   combined_fits Gt a b ty left right are = compared Gt ty left right a b refl refl refl are
   combined_fits Ge a b ty left right are = compared Ge ty left right a b refl refl refl are
 
-  -- what an operation makes of values of types that fit it has the size of its own type
-  pub typed_fits : (operation : Operation) (types : List Ty) (values : List Value) (ty : Ty) → IsTyped operation types ty → AreValues source types values → (IsScalar ty → IsLengthOf ty (size_at source (Some ty))) → Fits (size_at source (Some ty)) (answered operation values)
+  -- a value keeps the size of its type
+  kept_fits : (ty : Ty) (value : Value) → (IsNumber ty → IsLengthOf ty (size_at source (Some ty))) → IsValueOf source ty value → length value.bytes ≡ size_at source (Some ty)
+  kept_fits ty value long is =
+      ⊎_elim (λ size. size) (λ is_bool. (let number = bool_is_number ty is_bool in value_size ty value number (long number) is)) is.size
+
+  -- What an operation makes of values of types that fit it has the size of its own type. `size`: that of its own type, where it is a
+  -- number's.
+  pub typed_fits : (operation : Operation) (types : List Ty) (values : List Value) (ty : Ty) (size : Option ℕ) → IsTyped operation types ty → AreValues source types values → (IsNumber ty → IsLengthOf ty (size_at source (Some ty))) → (IsNumber ty → size ≡ Some (size_at source (Some ty))) →
+      Fits (size_at source (Some ty)) (answered size operation values)
   unfolding answered
-  typed_fits Negate (a ∷ []) values ty typed are long =
+  typed_fits Negate (a ∷ []) values ty own typed are long fixed =
       let value = single a values are in
       let one = subst (λ t. IsValueOf source t value.0) typed.1 value.2 in
-      let scalar = integer_is_scalar ty typed.0 in
-      subst (λ given. Fits (size_at source (Some ty)) (answered Negate given)) (sym value.1)
-      (subst (λ size. Fits size (negated value.0.kind value.0.bytes)) (value_size ty value.0 scalar (long scalar) one) (negated_fits ty value.0.kind value.0.bytes typed.0 one.kind (one.long scalar)))
-  typed_fits Invert (a ∷ []) values ty typed are long =
+      let number = integer_is_number ty typed.0 in
+      subst (λ given. Fits (size_at source (Some ty)) (answered own Negate given)) (sym value.1)
+      (subst (λ size. Fits size (negated value.0.kind value.0.bytes)) (value_size ty value.0 number (long number) one) (negated_fits ty value.0.kind value.0.bytes typed.0 one.kind (one.long number)))
+  typed_fits Invert (a ∷ []) values ty own typed are long fixed =
       let value = single a values are in
       let one = subst (λ t. IsValueOf source t value.0) typed.1 value.2 in
-      subst (λ given. Fits (size_at source (Some ty)) (answered Invert given)) (sym value.1)
-      (subst (λ size. Fits size (inverted value.0.kind value.0.bytes)) (value_size ty value.0 typed.0 (long typed.0) one) (inverted_fits ty value.0.kind value.0.bytes typed.0 one.kind (one.long typed.0)))
-  typed_fits (Combine op) (a ∷ b ∷ []) values ty typed are long =
+      let number = scalar_is_number ty typed.0 in
+      subst (λ given. Fits (size_at source (Some ty)) (answered own Invert given)) (sym value.1)
+      (subst (λ size. Fits size (inverted value.0.kind value.0.bytes)) (value_size ty value.0 number (long number) one) (inverted_fits ty value.0.kind value.0.bytes typed.0 one.kind (one.long number)))
+  typed_fits Keep (a ∷ []) values ty own typed are long fixed =
+      let value = single a values are in
+      let one = subst (λ t. IsValueOf source t value.0) typed value.2 in
+      subst (λ given. Fits (size_at source (Some ty)) (answered own Keep given)) (sym value.1) (kept_fits ty value.0 long one)
+  typed_fits Convert (a ∷ []) values ty own typed are long fixed =
+      let value = single a values are in
+      subst (λ given. Fits (size_at source (Some ty)) (answered own Convert given)) (sym value.1)
+      (subst (λ size. Fits (size_at source (Some ty)) (answered size Convert (value.0 ∷ []))) (sym (fixed typed.1))
+      (converted_fits a value.0.kind (size_at source (Some ty)) value.0.bytes typed.0 value.2.kind (value.2.long typed.0) (length_is_width ty (size_at source (Some ty)) typed.1 (long typed.1))))
+  typed_fits (Combine op) (a ∷ b ∷ []) values ty own typed are long fixed =
       let given = pair a b values are in
-      subst (λ all. Fits (size_at source (Some ty)) (answered (Combine op) all)) (sym given.2) (combined_fits op a b ty given.0 given.1 typed long given.3 given.4)
-  typed_fits Negate _ values ty typed are long = absurd typed
-  typed_fits Invert _ values ty typed are long = absurd typed
-  typed_fits (Combine op) _ values ty typed are long = absurd typed
+      subst (λ all. Fits (size_at source (Some ty)) (answered own (Combine op) all)) (sym given.2) (combined_fits op a b ty given.0 given.1 typed long given.3 given.4)
+  typed_fits Negate _ values ty own typed are long fixed = absurd typed
+  typed_fits Invert _ values ty own typed are long fixed = absurd typed
+  typed_fits Keep _ values ty own typed are long fixed = absurd typed
+  typed_fits Convert _ values ty own typed are long fixed = absurd typed
+  typed_fits (Combine op) _ values ty own typed are long fixed = absurd typed

@@ -3,7 +3,7 @@
 use Rattle.std.specs.Prelude.{◌≡◌, ℕ, Bool, true, false, not, ◌&&◌, All, List, [], ◌∷◌, Option, Some, None, is_some}
 use Rattle.source_meaning.specs.Core.{CoreExpr}
 use Rattle.source_meaning.specs.Core as expr
-use Rattle.source_meaning.specs.Source.{Source, binding_type, named_by, pattern, target}
+use Rattle.source_meaning.specs.Source.{Source, binding_type, named_by, pattern, target, compound_target}
 use Rattle.types.specs.declared.ids.BindingId.{BindingId}
 use Rattle.types.specs.declared.ids.FunctionId.{FunctionId}
 use Rattle.types.specs.declared.ids.GenericParamId.{GenericParamId}
@@ -38,6 +38,12 @@ pub record AssignsBinding (source : Source) (assigned : ℕ) : Type 0 where
   pub names : target source assigned ≡ Some binding
   pub there : IsBinding source binding
 
+-- the target of a compound assignment is a path to a binding of the body
+pub record CombinesBinding (source : Source) (assigned : ℕ) : Type 0 where
+  pub binding : BindingId
+  pub names : compound_target source assigned ≡ Some binding
+  pub there : IsBinding source binding
+
 -- a statement that is built: a `let` of a name with an initializer and without `else`, or an expression
 abbrev pub IsBuiltStatement : Source → Statement → Type 0
 IsBuiltStatement source (statement.Let pat (Some e) None) = BindsBinding source pat.0
@@ -69,6 +75,7 @@ IsBuiltForm source e (Some (expr.Strict operation operands)) = Unit {0}
 IsBuiltForm source e (Some (expr.Logic op left right)) = Unit {0}
 IsBuiltForm source e (Some (expr.If condition then_branch else_branch)) = Unit {0}
 IsBuiltForm source e (Some (expr.Assign assigned value)) = AssignsBinding source assigned
+IsBuiltForm source e (Some (expr.Compound op assigned value)) = CombinesBinding source assigned
 IsBuiltForm source e (Some (expr.Block statements tail)) = All (IsBuiltStatement source) statements
 IsBuiltForm source e (Some (expr.Labelled label statements tail)) = All (IsBuiltStatement source) statements
 IsBuiltForm source e (Some (expr.Loop label body)) = Unit {0}

@@ -1,15 +1,17 @@
 -- The expressions that have a meaning so far.
-use Rattle.std.specs.Prelude.{ℕ, Bool, true, false, not, ◌||◌, List, [], ◌∷◌, Option, Some, None, suc, is_some, if◌then◌else◌, ℤ, pos, option_map, option_and_then}
+use Rattle.std.specs.Prelude.{ℕ, Bool, true, false, not, ◌||◌, ◌&&◌, ◌==◌, List, [], ◌∷◌, Option, Some, None, suc, is_some, if◌then◌else◌, ℤ, pos, option_map, option_and_then}
 use Rattle.std.specs.BTreeMap.{is_at}
+use Rattle.std.specs.List.{list_any}
 use Rattle.std.specs.Map.{lookup}
 use Rattle.numbers.specs.declared.operator.Operator.{Operator}
-use Rattle.numbers.specs.Operators.{of_arith, of_compare}
+use Rattle.numbers.specs.Operators.{kind_of, of_arith, of_compare}
 use Rattle.types.specs.contracts.ids.ExprIdOrd.TheImpl as ExprIdOrd
 use Rattle.types.specs.contracts.ids.PatIdOrd.TheImpl as PatIdOrd
 use Rattle.types.specs.declared.ids.BindingId.{BindingId}
 use Rattle.types.specs.declared.ids.ExprId.{ExprId}
 use Rattle.types.specs.declared.ids.LabelId.{LabelId}
 use Rattle.types.specs.declared.ids.PatId.{PatId}
+use Rattle.types.specs.declared.operators.ArithOp.{ArithOp}
 use Rattle.types.specs.declared.operators.BinaryOp.{BinaryOp}
 use Rattle.types.specs.declared.operators.BinaryOp.TheVariants as binary
 use Rattle.types.specs.declared.operators.LogicOp.{LogicOp}
@@ -31,22 +33,27 @@ use Rattle.world.specs.declared.literal.Literal.{Literal as SomeLiteral}
 use Rattle.world.specs.declared.literal.Literal.TheVariants as literal
 use Rattle.world.specs.declared.pat.Pat.TheVariants as pat
 use Rattle.world.specs.declared.pat.Pat.{Pat}
+use Rattle.world.specs.Lookups.{type_of}
 use Rattle.world.specs.Nodes.{expr_numbers}
 
--- a literal with a meaning: a truth value, or a whole number
+-- a literal with a meaning: a truth value, a whole number, or a character, by its code point
 pub data CoreLiteral : Type 0 where
   Truth : Bool → CoreLiteral
   Number : ℤ → CoreLiteral
+  Character : ℕ → CoreLiteral
 
--- what is computed from operands that are all evaluated: unary minus, `!`, or an operator on two operands
+-- What is computed from operands that are all evaluated: unary minus, `!`, an operator on two operands, or a cast, which either is a
+-- coercion and keeps the bytes as they are, or converts a number, a truth value or a character to a type of another size or sign.
 pub data Operation : Type 0 where
   Negate : Operation
   Invert : Operation
+  Keep : Operation
+  Convert : Operation
   Combine : Operator → Operation
 
 -- An expression of a form that has a meaning. A strict form evaluates all its operands from left to right, and then
 -- computes one operation. `&&` and `||` evaluate their right operand only where the left one doesn't decide, and `if` one of
--- its branches. An assignment writes a value to what its target names. A `loop` evaluates its body again and again. A `break`
+-- its branches. An assignment writes a value to what its target names, and a compound one what an operator makes of that and the value. A `loop` evaluates its body again and again. A `break`
 -- ends a loop or a labelled block around it, with a value or without, and a `continue` starts it again. A `return` ends the
 -- body, with a value or without. A call evaluates its arguments from left to right, and then enters the body of a function: the one that
 -- its callee's type names, or, where it is a method call, the one that it is resolved to; the receiver is its first argument.
@@ -57,6 +64,7 @@ pub data CoreExpr : Type 0 where
   Logic : LogicOp → (left right : ℕ) → CoreExpr
   If : (condition then_branch : ℕ) → (else_branch : Option ExprId) → CoreExpr
   Assign : (assigned value : ℕ) → CoreExpr
+  Compound : Operator → (assigned value : ℕ) → CoreExpr
   Block : List Statement → (tail : Option ExprId) → CoreExpr
   Labelled : LabelId → List Statement → (tail : Option ExprId) → CoreExpr
   Loop : (label : Option LabelId) → (body : ℕ) → CoreExpr
@@ -65,11 +73,12 @@ pub data CoreExpr : Type 0 where
   Return : (value : Option ExprId) → CoreExpr
   Call : (callee : Option ℕ) → (args : List ℕ) → CoreExpr
 
--- a literal of a kind that has a meaning: a truth value or a whole number
+-- a literal of a kind that has a meaning: a truth value, a whole number or a character
 abbrev pub core_literal : SomeLiteral → Option CoreLiteral
 core_literal (literal.Bool test) = Some (Truth test)
 core_literal (literal.Int number suffix) = Some (Number number)
 core_literal (literal.Uint number suffix) = Some (Number (pos number))
+core_literal (literal.Char code) = Some (Character code)
 core_literal _ = None
 
 -- the operation of an operator on one operand, where it is one on values
@@ -82,35 +91,41 @@ unary_operation unary.Deref = None
 abbrev pub eager_form : ℕ → ℕ → Operator → CoreExpr
 eager_form lhs rhs op = Strict (Combine op) (lhs ∷ rhs ∷ [])
 
--- an operator on two operands: one on values, which always evaluates both, or `&&` or `||`; an assignment is none
+-- a compound assignment, which has an operator
+abbrev pub compound_form : ℕ → ℕ → Option ArithOp → Option CoreExpr
+compound_form lhs rhs (Some op) = Some (Compound (of_arith op) lhs rhs)
+compound_form lhs rhs None = None
+
+-- an operator on two operands: one on values, which always evaluates both, `&&` or `||`, or one that assigns what it makes
 abbrev pub binary_form : ℕ → ℕ → BinaryOp → Option CoreExpr
 binary_form lhs rhs (binary.ArithOp op) = Some (eager_form lhs rhs (of_arith op))
 binary_form lhs rhs (binary.CmpOp op) = Some (eager_form lhs rhs (of_compare op))
 binary_form lhs rhs (binary.LogicOp op) = Some (Logic op lhs rhs)
-binary_form lhs rhs (binary.Assignment op) = None
+binary_form lhs rhs (binary.Assignment op) = compound_form lhs rhs op
 
 -- an operator on one operand, where it has a meaning
 abbrev pub unary_form : ℕ → Option Operation → Option CoreExpr
 unary_form e operation = option_map (λ op. Strict op (e ∷ [])) operation
 
 -- The form of an expression, where it is one with a meaning. A path is not resolved to an item that a trait or an impl has,
--- or to a variant.
-abbrev pub core_of : Bool → Expr → Option CoreExpr
-core_of names_item (expr.Literal given) = option_map Literal (core_literal given)
-core_of names_item (expr.Path name) = if names_item then None else Some (Path name)
-core_of names_item (expr.UnaryOp e op) = unary_form e.0 (unary_operation op)
-core_of names_item (expr.BinaryOp lhs rhs op) = option_and_then (binary_form lhs.0 rhs.0) op
-core_of names_item (expr.If condition then_branch else_branch) = Some (If condition.0 then_branch.0 else_branch)
-core_of names_item (expr.Assignment target value) = Some (Assign target.0 value.0)
-core_of names_item (expr.Block statements tail None) = Some (Block statements tail)
-core_of names_item (expr.Block statements tail (Some label)) = Some (Labelled label statements tail)
-core_of names_item (expr.Loop body label) = Some (Loop label body.0)
-core_of names_item (expr.Break value label) = Some (Break label value)
-core_of names_item (expr.Continue label) = Some (Continue label)
-core_of names_item (expr.Return value) = Some (Return value)
-core_of names_item (expr.Call callee args) = Some (Call (Some callee.0) (expr_numbers args))
-core_of names_item (expr.MethodCall receiver args name) = Some (Call None (receiver.0 ∷ expr_numbers args))
-core_of names_item _ = None
+-- or to a variant. `casts`: what a cast of an operand computes, where it has a meaning.
+abbrev pub core_of : (names_item : Bool) → (casts : ExprId → Option Operation) → Expr → Option CoreExpr
+core_of names_item casts (expr.Literal given) = option_map Literal (core_literal given)
+core_of names_item casts (expr.Path name) = if names_item then None else Some (Path name)
+core_of names_item casts (expr.UnaryOp e op) = unary_form e.0 (unary_operation op)
+core_of names_item casts (expr.Cast operand) = unary_form operand.0 (casts operand)
+core_of names_item casts (expr.BinaryOp lhs rhs op) = option_and_then (binary_form lhs.0 rhs.0) op
+core_of names_item casts (expr.If condition then_branch else_branch) = Some (If condition.0 then_branch.0 else_branch)
+core_of names_item casts (expr.Assignment target value) = Some (Assign target.0 value.0)
+core_of names_item casts (expr.Block statements tail None) = Some (Block statements tail)
+core_of names_item casts (expr.Block statements tail (Some label)) = Some (Labelled label statements tail)
+core_of names_item casts (expr.Loop body label) = Some (Loop label body.0)
+core_of names_item casts (expr.Break value label) = Some (Break label value)
+core_of names_item casts (expr.Continue label) = Some (Continue label)
+core_of names_item casts (expr.Return value) = Some (Return value)
+core_of names_item casts (expr.Call callee args) = Some (Call (Some callee.0) (expr_numbers args))
+core_of names_item casts (expr.MethodCall receiver args name) = Some (Call None (receiver.0 ∷ expr_numbers args))
+core_of names_item casts _ = None
 
 -- the type that a step leads to, where it is `NeverToAny`, the one from `!` to any type
 abbrev pub never_step : Adjust → Ty → Option Ty
@@ -136,6 +151,31 @@ never_target infer e = never_steps (lookup (is_at (ExprIdOrd.ghosts.cmp e)) infe
 -- whether an expression's value is adjusted before it is used, in another way than by `NeverToAny` alone
 unfoldable pub is_adjusted_otherwise : InferenceResult → ExprId → Bool
 is_adjusted_otherwise infer e = are_other_steps (lookup (is_at (ExprIdOrd.ghosts.cmp e)) infer.expr_adjustments)
+
+-- a type after an adjustment to another, where there is one
+abbrev pub type_after : Option Ty → Option Ty → Option Ty
+type_after (Some target) own = Some target
+type_after None own = own
+
+-- the type of an expression's value, after `NeverToAny`
+abbrev pub value_type : InferenceResult → ExprId → Option Ty
+value_type infer e = type_after (never_target infer e) (type_of infer e.0)
+
+-- whether a type is an integer type, `bool` or `char`
+abbrev pub is_number_type : Option Ty → Bool
+is_number_type ty = is_some (option_and_then kind_of ty)
+
+-- whether a cast of an operand is a coercion, which inference found
+abbrev pub is_coercion : InferenceResult → ExprId → Bool
+is_coercion infer operand = list_any (λ (cast : ExprId). cast.0 == operand.0) infer.coercion_casts
+
+-- What the cast that an expression is computes, by its operand: a coercion keeps the bytes, and a cast between integers, `bool` and
+-- `char` converts them. No other cast has a meaning so far.
+unfoldable pub cast_operation : InferenceResult → (cast operand : ExprId) → Option Operation
+cast_operation infer cast operand =
+    if is_coercion infer operand then Some Keep
+    else if is_number_type (value_type infer operand) && is_number_type (type_of infer cast.0) then Some Convert
+    else None
 
 -- whether a path is resolved to an associated item or a variant
 unfoldable pub names_item : InferenceResult → ExprId → Bool
@@ -176,6 +216,20 @@ is_dereferenced_pattern infer p = is_positive (lookup (is_at (PatIdOrd.ghosts.cm
 abbrev pub path_of : Pat → Option (List ℕ)
 path_of (pat.Path name) = Some name
 path_of _ = None
+
+-- the text of an expression that is a path
+abbrev pub named_path : Expr → Option (List ℕ)
+named_path (expr.Path name) = Some name
+named_path _ = None
+
+-- whether there is more than one adjustment
+abbrev pub are_many : Option (List Adjustment) → Bool
+are_many (Some (step ∷ other ∷ steps)) = true
+are_many _ = false
+
+-- whether an expression's value is adjusted by more than one step
+unfoldable pub is_adjusted_twice : InferenceResult → ExprId → Bool
+is_adjusted_twice infer e = are_many (lookup (is_at (ExprIdOrd.ghosts.cmp e)) infer.expr_adjustments)
 
 -- the binding that a path names, where it names one
 abbrev pub local_named : ValueNs → Option BindingId

@@ -1,6 +1,6 @@
 -- What a typed body means: its value, or how else it ends, by evaluating its tree of expressions. It knows no
 -- basic blocks. Fuel bounds how deep the evaluation goes.
-use Rattle.std.specs.Prelude.{◌≡◌, ℕ, zero, suc, Bool, true, false, cond, if◌then◌else◌, ◌==◌, List, [], ◌∷◌, ◌++◌, length, map, flat_map, drop, Option, Some, None, option_and_then, option_map, codes}
+use Rattle.std.specs.Prelude.{◌≡◌, ℕ, zero, suc, pos, Bool, true, false, cond, if◌then◌else◌, ◌==◌, List, [], ◌∷◌, ◌++◌, length, map, flat_map, drop, Option, Some, None, option_and_then, option_map, codes}
 use Rattle.types.specs.declared.ids.BindingId.{BindingId}
 use Rattle.types.specs.declared.ids.ExprId.{ExprId}
 use Rattle.types.specs.declared.ids.LabelId.{LabelId}
@@ -10,27 +10,30 @@ use Rattle.world.specs.declared.body.Statement.{Statement}
 use Rattle.world.specs.declared.body.Statement.TheVariants as statement
 use Rattle.world.specs.declared.infer.ValueNs.{ValueNs}
 use Rattle.world.specs.declared.infer.ValueNs.TheVariants.{LocalBinding}
+use Rattle.world.specs.Checked.{fixed_size}
 use Rattle.world.specs.Lookups.{layout_of}
 use Rattle.numbers.specs.Bytes.{low_bytes}
 use Rattle.numbers.specs.declared.operator.Kind.{Kind}
-use Rattle.numbers.specs.Operators.{Answer, Computes, Panics, Undefined, computed, negated, inverted, kind_of}
+use Rattle.numbers.specs.declared.operator.Operator.{Operator}
+use Rattle.numbers.specs.Operators.{Answer, Computes, Panics, Undefined, computed, converted, negated, inverted, kind_of}
 use Rattle.source_meaning.specs.Calls.{source_called, must_not_return, parameter_cells, started}
 use Rattle.source_meaning.specs.Core as expr
-use Rattle.source_meaning.specs.Core.{CoreExpr, CoreLiteral, Truth, Number, Operation, Negate, Invert, Combine}
+use Rattle.source_meaning.specs.Core.{CoreExpr, CoreLiteral, Truth, Number, Character, Operation, Negate, Invert, Keep, Convert, Combine}
 use Rattle.source_meaning.specs.Ends.{Cost, no_cost, turns_alone, bytes_alone, plus, one_level_more, End, Go, Jumps, Break, Continue, Return, Faults, Panic, Undefined as UndefinedBehavior, Stuck, More, after, then_do, IsOver}
 use Rattle.source_meaning.specs.Entering.{room_of, entering, run_cost}
 use Rattle.source_meaning.specs.Around.{Around, Target, at_root, marking, inside, target_of}
 use Rattle.source_meaning.specs.Events.{marked, marked_as_place, marked_as_operand, marked_by_statement, marked_by_tail, marked_in_block}
-use Rattle.source_meaning.specs.Source.{Source, node, unadjusted, own_type, own_layout, named_by, pattern, target, root, Result, Node, Binding, Path, never_marks, own_path, Store, zeroed, with_cell_bytes, Operand, Literally, At, operand_bytes, operand_type, drops}
+use Rattle.source_meaning.specs.Source.{Source, node, unadjusted, own_type, own_layout, named_by, pattern, target, compound_target, root, Result, Node, Binding, Path, never_marks, own_path, Store, zeroed, with_cell_bytes, Operand, Literally, At, operand_bytes, operand_type, drops}
 
 -- the byte of a truth value: 1 for true
 abbrev pub truth_byte : Bool → ℕ
 truth_byte test = cond test 1 0
 
--- a literal's bytes: one for a truth value, and as many low bytes of a whole number as its type has
+-- a literal's bytes: one for a truth value, and as many low bytes of a whole number, or of a character's code point, as its type has
 unfoldable pub literal_bytes : Source → ℕ → CoreLiteral → Option (List ℕ)
 literal_bytes source e (Truth test) = Some (truth_byte test ∷ [])
 literal_bytes source e (Number number) = option_map (λ layout. low_bytes layout.size number) (own_layout source e)
+literal_bytes source e (Character code) = option_map (λ layout. low_bytes layout.size (pos code)) (own_layout source e)
 
 -- bytes are written where a path leads, if they are as many as lie there
 unfoldable pub put : Store → Path → List ℕ → End (Unit {0})
@@ -63,12 +66,23 @@ pub record Value : Type 0 where
 abbrev pub value_of : Source → Store → Operand → Value
 value_of source store operand = record { kind = operand_kind source operand; bytes = operand_bytes store operand }
 
--- what an operation makes of its operands' values
-unfoldable pub answered : Operation → List Value → Answer
-answered Negate (one ∷ []) = negated one.kind one.bytes
-answered Invert (one ∷ []) = inverted one.kind one.bytes
-answered (Combine op) (left ∷ right ∷ []) = computed op left.kind right.kind left.bytes right.bytes
-answered _ _ = Undefined
+-- how many bytes the type of an expression itself has, where it is an integer type, `bool` or `char`
+abbrev pub own_size : Source → ℕ → Option ℕ
+own_size source e = option_and_then fixed_size (own_type source e)
+
+-- a value converted to a type of a size
+abbrev pub converted_to : Option ℕ → Value → Answer
+converted_to (Some size) one = converted one.kind size one.bytes
+converted_to None one = Undefined
+
+-- what an operation makes of its operands' values; `size`: that of the type of the expression that it is
+unfoldable pub answered : (size : Option ℕ) → Operation → List Value → Answer
+answered size Negate (one ∷ []) = negated one.kind one.bytes
+answered size Invert (one ∷ []) = inverted one.kind one.bytes
+answered size Keep (one ∷ []) = Computes one.bytes
+answered size Convert (one ∷ []) = converted_to size one
+answered size (Combine op) (left ∷ right ∷ []) = computed op left.kind right.kind left.bytes right.bytes
+answered size _ _ = Undefined
 
 -- What each expression means at one amount of fuel: as a place, as an operand, evaluated into a path, and, before its value is
 -- adjusted, itself evaluated into a path.
@@ -128,9 +142,9 @@ operands_of source below around (e ∷ rest) store =
     then_do (operands_of source below (marking (marked_as_operand source e) around) rest later) (λ others last. Go (first ∷ others) last no_cost))
 
 -- the operands from left to right, and then the operation, which reads them all, computes, and writes
-abbrev pub strict_into : Source → Levels → Around → Operation → List ℕ → Path → Store → End (Unit {0})
-strict_into source below around operation operands path store =
-    then_do (operands_of source below around operands store) (λ given later. put_answer later path (answered operation (map (value_of source later) given)))
+abbrev pub strict_into : Source → Levels → Around → ℕ → Operation → List ℕ → Path → Store → End (Unit {0})
+strict_into source below around e operation operands path store =
+    then_do (operands_of source below around operands store) (λ given later. put_answer later path (answered (own_size source e) operation (map (value_of source later) given)))
 
 -- Whether bytes are one byte, and this is the given number. Other bytes than one have no answer.
 abbrev pub is_byte : ℕ → List ℕ → Option Bool
@@ -204,6 +218,16 @@ statement_of source below _ store = Stuck
 -- would be
 abbrev pub assign_into : Source → Level → (target value : ℕ) → Store → End (Unit {0})
 assign_into source below assigned value store = then_do (below.place value store) (λ path later. bind (target source assigned) path later)
+
+-- A local is assigned what an operator makes of its own value and another: both are read when the operation runs.
+abbrev pub combine_into : Source → Operator → Option BindingId → Operand → Store → End (Unit {0})
+combine_into source op (Some id) given store =
+    put_answer store (record { cell = Binding id.0 }) (answered None (Combine op) (value_of source store (At (record { cell = Binding id.0 })) ∷ value_of source store given ∷ []))
+combine_into source op None given store = Stuck
+
+-- the value's operand, and then the local that is the target is assigned; nothing is written where the assignment itself would be
+abbrev pub compound_into : Source → Level → Operator → (assigned value : ℕ) → Store → End (Unit {0})
+compound_into source below op assigned value store = then_do (below.operand value store) (λ given later. combine_into source op (compound_target source assigned) given later)
 
 -- statements in order
 unfoldable pub statements_of : Source → Levels → Around → List Statement → Store → End (Unit {0})
@@ -322,10 +346,11 @@ call_into source below callees around e callee args path store =
 abbrev pub into_of : Source → Levels → Callees → Around → ℕ → Option CoreExpr → Path → Store → End (Unit {0})
 into_of source below callees around e (Some (expr.Literal l)) path store = put_literal source e store path (literal_bytes source e l)
 into_of source below callees around e (Some (expr.Path name)) path store = named_into (named_by source e) path store
-into_of source below callees around e (Some (expr.Strict operation operands)) path store = strict_into source below around operation operands path store
+into_of source below callees around e (Some (expr.Strict operation operands)) path store = strict_into source below around e operation operands path store
 into_of source below callees around e (Some (expr.Logic op left right)) path store = logic_into source below around op left right path store
 into_of source below callees around e (Some (expr.If condition then_branch else_branch)) path store = if_into source below around condition then_branch else_branch path store
 into_of source below callees around e (Some (expr.Assign assigned value)) path store = assign_into source (below around) assigned value store
+into_of source below callees around e (Some (expr.Compound op assigned value)) path store = compound_into source (below around) op assigned value store
 into_of source below callees around e (Some (expr.Block statements tail)) path store = block_into source below around statements tail path store
 into_of source below callees around e (Some (expr.Labelled label statements tail)) path store = labelled_into source below around e label statements tail path store
 into_of source below callees around e (Some (expr.Loop label body)) path store = loop_into source below around e label body path store

@@ -12,7 +12,7 @@ use Rattle.world.specs.declared.layout.Layout.{Layout}
 use Rattle.types.specs.declared.ty.Ty.{Ty}
 use Rattle.types.specs.declared.ids.BindingId.{BindingId}
 use Rattle.world.specs.Lookups.{layout_of, type_of, expr_of, is_copy}
-use Rattle.source_meaning.specs.Core.{CoreExpr, core_of, is_adjusted_otherwise, is_adjusted_pattern, is_dereferenced_pattern, path_of, pattern_names_item, local_named, name_of, names_item, never_target}
+use Rattle.source_meaning.specs.Core.{CoreExpr, cast_operation, core_of, is_adjusted_otherwise, is_adjusted_twice, named_path, type_after, is_adjusted_pattern, is_dereferenced_pattern, path_of, pattern_names_item, local_named, name_of, names_item, never_target}
 
 -- a typed body in its world
 pub record Source : Type 0 where
@@ -25,7 +25,7 @@ pub record Source : Type 0 where
 unfoldable pub node : Source → ℕ → Option CoreExpr
 node source e =
     if is_adjusted_otherwise source.infer (record { 0 = e }) then None
-    else option_and_then (core_of (names_item source.infer (record { 0 = e }))) (expr_of source.body e)
+    else option_and_then (core_of (names_item source.infer (record { 0 = e })) (cast_operation source.infer (record { 0 = e }))) (expr_of source.body e)
 
 -- whether an expression's value is adjusted by `NeverToAny`
 abbrev pub diverges : Source → ℕ → Bool
@@ -34,11 +34,6 @@ diverges source e = is_some (never_target source.infer (record { 0 = e }))
 -- what an expression is for those that use its value: itself, where its value isn't adjusted
 abbrev pub unadjusted : Source → ℕ → Option CoreExpr
 unadjusted source e = cond (diverges source e) None (node source e)
-
--- a type after an adjustment to another, where there is one
-abbrev pub type_after : Option Ty → Option Ty → Option Ty
-type_after (Some target) own = Some target
-type_after None own = own
 
 -- the type of an expression itself, and of its value after its adjustments
 unfoldable pub own_type : Source → ℕ → Option Ty
@@ -82,6 +77,18 @@ target source p = option_and_then (λ name. option_and_then local_named (pattern
 -- what the path that an expression is names
 abbrev pub named_by : Source → ℕ → Option ValueNs
 named_by source e = lookup (is_at (ExprIdOrd.ghosts.cmp (record { 0 = e }))) source.infer.value_res
+
+-- The path that the target of a compound assignment is, where it is one that isn't resolved to an item of a trait or an impl, or to a
+-- variant. The one adjustment by which an operator's method would borrow it isn't looked at.
+unfoldable pub compound_path : Source → ℕ → Option (List ℕ)
+compound_path source e =
+    if is_adjusted_twice source.infer (record { 0 = e }) || names_item source.infer (record { 0 = e })
+    then None
+    else option_and_then named_path (expr_of source.body e)
+
+-- the binding that the target of a compound assignment names, where it is a path to one
+abbrev pub compound_target : Source → ℕ → Option BindingId
+compound_target source e = option_and_then (λ name. option_and_then local_named (named_by source e)) (compound_path source e)
 
 -- the expression that the body is
 abbrev pub root : Source → ℕ

@@ -41,6 +41,7 @@ steps_of (expr.Strict operation operands) = map Operand operands
 steps_of (expr.Logic op left right) = Operand left ∷ Into right ∷ []
 steps_of (expr.If condition then_branch else_branch) = Operand condition ∷ Into then_branch ∷ tail_steps else_branch
 steps_of (expr.Assign target value) = Place value ∷ []
+steps_of (expr.Compound op target value) = Operand value ∷ []
 steps_of (expr.Block statements tail) = Open ∷ block_steps statements tail ++ Close ∷ []
 steps_of (expr.Labelled label statements tail) = Open ∷ block_steps statements tail ++ Close ∷ []
 steps_of (expr.Loop label body) = Open ∷ Place body ∷ Close ∷ []

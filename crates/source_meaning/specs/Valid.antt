@@ -9,7 +9,7 @@ use Rattle.types.specs.declared.ids.LabelId.{LabelId}
 use Rattle.world.specs.declared.infer.ValueNs.TheVariants.{LocalBinding}
 use Rattle.world.specs.declared.items.FunctionRow.{FunctionRow}
 use Rattle.world.specs.declared.layout.Layout.{Layout}
-use Rattle.types.specs.declared.ty.Ty.{Ty, Bool as BoolTy, Int as IntTy, Uint as UintTy, Never as NeverTy}
+use Rattle.types.specs.declared.ty.Ty.{Ty, Bool as BoolTy, Int as IntTy, Uint as UintTy, Char as CharTy, Never as NeverTy}
 use Rattle.world.specs.declared.expr.Expr.TheVariants as whole
 use Rattle.world.specs.Lookups.{expr_of, layout_of, function_row}
 use Rattle.numbers.specs.declared.operator.Operator.{Operator}
@@ -17,8 +17,8 @@ use Rattle.numbers.specs.declared.operator.Operator.TheVariants.{Add, Sub, Mul, 
 use Rattle.source_meaning.specs.Around.{Opened, meant}
 use Rattle.source_meaning.specs.Calls.{function_called, source_of, source_called, parameters}
 use Rattle.source_meaning.specs.Core as expr
-use Rattle.source_meaning.specs.Core.{CoreExpr, CoreLiteral, Truth, Number, Operation, Negate, Invert, Combine, is_truth, IsNoCall}
-use Rattle.source_meaning.specs.Source.{Source, node, unadjusted, diverges, own_type, node_type, binding_type, pattern, pattern_type, target, named_by, root}
+use Rattle.source_meaning.specs.Core.{CoreExpr, CoreLiteral, Truth, Number, Character, Operation, Negate, Invert, Keep, Convert, Combine, is_truth, IsNoCall}
+use Rattle.source_meaning.specs.Source.{Source, node, unadjusted, diverges, own_type, node_type, binding_type, pattern, pattern_type, target, compound_target, named_by, root}
 use Rattle.source_meaning.specs.Steps.{Step, steps_of, step_part, parts_of}
 use Rattle.source_meaning.specs.Steps as step
 
@@ -39,14 +39,27 @@ IsScalar (IntTy ty) = Unit {0}
 IsScalar (UintTy ty) = Unit {0}
 IsScalar _ = ⊥
 
+-- an integer, `bool` or `char`
+abbrev pub IsNumber : Ty → Type 0
+IsNumber BoolTy = Unit {0}
+IsNumber (IntTy ty) = Unit {0}
+IsNumber (UintTy ty) = Unit {0}
+IsNumber CharTy = Unit {0}
+IsNumber _ = ⊥
+
+abbrev pub IsChar : Ty → Type 0
+IsChar CharTy = Unit {0}
+IsChar _ = ⊥
+
 abbrev pub IsBool : Ty → Type 0
 IsBool BoolTy = Unit {0}
 IsBool _ = ⊥
 
--- a number literal is of an integer type, and a truth value of `bool`
+-- a number literal is of an integer type, a truth value of `bool`, and a character of `char`
 abbrev pub IsPlainLiteral : CoreLiteral → Ty → Type 0
 IsPlainLiteral (Truth test) ty = IsBool ty
 IsPlainLiteral (Number number) ty = IsInteger ty
+IsPlainLiteral (Character code) ty = IsChar ty
 
 -- two integers of the result's type
 abbrev pub AreIntegers : Ty → Ty → Ty → Type 0
@@ -60,9 +73,9 @@ AreScalars left right ty = IsScalar ty × (left ≡ ty) × (right ≡ ty)
 abbrev pub AreShifted : Ty → Ty → Ty → Type 0
 AreShifted left right ty = IsInteger ty × IsInteger right × (left ≡ ty)
 
--- two integers or two truth values of one type, and a result of `bool`
+-- two integers, two truth values or two characters of one type, and a result of `bool`
 abbrev pub AreCompared : Ty → Ty → Ty → Type 0
-AreCompared left right ty = IsBool ty × IsScalar left × (right ≡ left)
+AreCompared left right ty = IsBool ty × IsNumber left × (right ≡ left)
 
 -- the types of an operator's two operands and of its result fit one another
 abbrev pub IsCombined : Operator → Ty → Ty → Ty → Type 0
@@ -84,10 +97,13 @@ IsCombined Gt left right ty = AreCompared left right ty
 IsCombined Ge left right ty = AreCompared left right ty
 
 -- The types of an operation's operands and of its result fit one another: `-` is on an integer, `!` on an integer or
--- `bool`, and gives a value of the same type.
+-- `bool`, and gives a value of the same type. A cast that is a coercion keeps its type, and any other one is between integers, `bool` and
+-- `char`.
 abbrev pub IsTyped : Operation → List Ty → Ty → Type 0
 IsTyped Negate (one ∷ []) ty = IsInteger ty × (one ≡ ty)
 IsTyped Invert (one ∷ []) ty = IsScalar ty × (one ≡ ty)
+IsTyped Keep (one ∷ []) ty = one ≡ ty
+IsTyped Convert (one ∷ []) ty = IsNumber one × IsNumber ty
 IsTyped (Combine op) (left ∷ right ∷ []) ty = IsCombined op left right ty
 IsTyped _ _ ty = ⊥
 
@@ -144,6 +160,17 @@ pub record IsPlainAssign (source : Source) (assigned value : ℕ) : Type 0 where
   pub binding_has : binding_type source binding.0 ≡ Some ty
   pub value_has : node_type source value ≡ Some ty
 
+-- the target of a compound assignment names a binding, of a type that has the operator and takes its result, with a value of the other
+-- operand's
+pub record IsPlainCompound (source : Source) (op : Operator) (assigned value : ℕ) : Type 0 where
+  pub binding : BindingId
+  pub ty : Ty
+  pub other : Ty
+  pub names : compound_target source assigned ≡ Some binding
+  pub binding_has : binding_type source binding.0 ≡ Some ty
+  pub value_has : node_type source value ≡ Some other
+  pub typed : IsCombined op ty other ty
+
 -- a path names a binding of its type
 pub record IsPlainPath (source : Source) (e : ℕ) (ty : Ty) : Type 0 where
   pub binding : BindingId
@@ -196,6 +223,7 @@ HasPlainForm source e (Some (expr.Strict operation operands)) ty = IsPlainStrict
 HasPlainForm source e (Some (expr.Logic op left right)) ty = IsPlainLogic source left right ty
 HasPlainForm source e (Some (expr.If condition then_branch else_branch)) ty = IsPlainIf source condition then_branch else_branch ty
 HasPlainForm source e (Some (expr.Assign assigned value)) ty = IsPlainAssign source assigned value
+HasPlainForm source e (Some (expr.Compound op assigned value)) ty = IsPlainCompound source op assigned value
 HasPlainForm source e (Some (expr.Block statements tail)) ty = All (IsPlainStatement source) statements × IsPlainTail source tail ty
 HasPlainForm source e (Some (expr.Labelled label statements tail)) ty = All (IsPlainStatement source) statements × IsPlainTail source tail ty
 HasPlainForm source e (Some (expr.Loop label body)) ty = Unit {0}

@@ -11,6 +11,6 @@ pub returns-clause-given : goal.returns-clause-given
 returns-clause-given c =
     let source = source_of c.args.context.now in
     given-marked source (shape c.args.graph.now) (shape c.mark.new.self) (shape c.push_statement.new.self) (Binding c.args.binding.0) c.args.local (BindingId c.args.binding)
-    (subst (λ (s : Shape). IsMarked source (shape c.args.graph.now) s (Binding c.args.binding.0) c.args.local.0) (sym c.in_ok-mark.ensures)
+    (subst (λ (s : Shape). IsMarked source (shape c.args.graph.now) s (Binding c.args.binding.0) c.args.local.0) (sym c.in_ok-mark.ensures.marked)
     (marks-cell source (shape c.args.graph.now) (Binding c.args.binding.0) c.args.local.0 c.requires.sound c.requires.opened c.requires.found))
     c.in_ok-push_statement.ensures

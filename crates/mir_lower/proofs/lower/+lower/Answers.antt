@@ -15,8 +15,8 @@ use Rattle.source_meaning.specs.Valid.{opened_in}
 use Rattle.mir_lower.specs.Lowered.{HasStatements, LowersOperand, LowersOperands, LowersStatements, LowersTail}
 use Rattle.mir.specs.declared.operand.Operand.{Operand}
 use Rattle.mir.specs.declared.operand.OperandKind.{OperandKind}
-use Rattle.mir.specs.declared.operand.Rvalue.TheVariants.{CheckedBinaryOp, UnaryOp as Unary}
-use Rattle.source_meaning.specs.Core.{Combine}
+use Rattle.mir.specs.declared.operand.Rvalue.TheVariants.{CheckedBinaryOp, UnaryOp as Unary, Use}
+use Rattle.source_meaning.specs.Core.{Combine, Convert, Keep}
 use Rattle.body_forms.specs.Form.{core_value, operation_of}
 use Rattle.world.specs.declared.body.Statement.{Statement}
 use Rattle.mir_lower.specs.Refusals.{RefusesAt}
@@ -24,16 +24,17 @@ use Rattle.std.specs.Prelude.{All, Contains, IfSome, ℕ}
 use Rattle.std.proofs.lemmas.List.Elements.{All-nil, All-more, Contains-get_or}
 use Rattle.world.specs.Nodes.{optional}
 use Rattle.mir_lower.specs.Built.{IsBuilt, IsBuiltThrough}
-use Rattle.mir_lower.proofs.Building.{built-return, has-target, built-labelled, built-loop, built-break, built-literal, built-path, built-strict, built-call, built-logic, built-if, built-assign, built-block, one-built, two-built}
+use Rattle.mir_lower.proofs.Building.{built-return, has-target, built-labelled, built-loop, built-break, built-literal, built-path, built-strict, built-call, built-logic, built-if, built-assign, built-compound, built-block, one-built, two-built}
 use Rattle.mir_lower.proofs.Adjusting.{lowers-undiverted, lowers-diverted}
 use Rattle.mir_lower.proofs.Assignments.{value-part, lowers-assign}
 use Rattle.mir_lower.proofs.Calls.{Collects, argument-in, arguments-from, built-arguments, collects-none, collects-more, collects-all, has-called, lowers-call}
 use Rattle.source_meaning.proofs.Parts.{call_parts}
 use Rattle.world.specs.Nodes.{expr_numbers}
+use Rattle.mir_lower.proofs.Compounds.{combined-part, lowers-compound, refuses-combined}
 use Rattle.mir_lower.proofs.Blocks.{idles-read, lowers-none, lowers-more, lowers-let, lowers-expr-statement, lowers-tail, lowers-no-tail, block-inner, lowers-block}
 use Rattle.mir_lower.proofs.Drops.{opened-within, scope-left}
 use Rattle.mir_lower.proofs.Operands.{lowers-literal-operand, lowers-place-operand, lowers-temp, lowers-name}
-use Rattle.mir_lower.proofs.Strict.{lowers-strict, unary-computes, binary-computes, lowers-one, lowers-two, first-part, second-part}
+use Rattle.mir_lower.proofs.Strict.{Computes, lowers-strict, unary-computes, keep-computes, cast-computes, binary-computes, lowers-one, lowers-two, first-part, second-part}
 use Rattle.mir_lower.proofs.Refused.{refuses-here, refuses-no-memory, refuses-part, refuses-unbuilt-form, refuses-statement, without-initializer, with-else, item-is-unbuilt, refuses-pattern, refuses-target, refused-exit, part-below, part-of-statement, refuses-break}
 use Rattle.mir_lower.proofs.Growing.{grows-trans}
 use Rattle.mir_lower.proofs.Steps.{local_of-grows, placed-later}
@@ -46,7 +47,7 @@ use Rattle.mir_lower.proofs.Returning.{return-part, lowers-return}
 use Rattle.mir_lower.proofs.Sparing.{spares-trans, scoped-spares}
 use Rattle.mir_lower.proofs.Conditions.{left-part, right-part, condition-part, then-part, else-part, tail-part, lowers-if, keeps-decided, lowers-logic}
 use Rattle.mir_lower.specs.Branches.{IsForked}
-use Rattle.source_meaning.specs.Meaning.{deciding_byte}
+use Rattle.source_meaning.specs.Meaning.{deciding_byte, own_size}
 use Rattle.source_meaning.specs.Steps.{parts_of}
 use Rattle.mir_lower.proofs.lower.+lower.Goals as goal
 
@@ -147,6 +148,9 @@ lower_own-returns-in-Unbuilt-clause-refused t c = refuses-unbuilt-form (source_o
 pub lower_own-returns-in-Assign-clause-lowered : goal.lower_own-returns-in-Assign-clause-lowered
 lower_own-returns-in-Assign-clause-lowered t c = on_ok_weaker c.lower_assignment.result (λ lowered cell found. lowered cell) c.lower_assignment.ensures.lowered
 
+pub lower_own-returns-in-Compound-clause-lowered : goal.lower_own-returns-in-Compound-clause-lowered
+lower_own-returns-in-Compound-clause-lowered t c = on_ok_weaker c.lower_compound.result (λ lowered cell found. lowered cell) c.lower_compound.ensures.lowered
+
 pub lower_own-returns-in-Break-clause-lowered : goal.lower_own-returns-in-Break-clause-lowered
 lower_own-returns-in-Break-clause-lowered t c = on_ok_weaker c.lower_break.result (λ lowered cell found. lowered cell) c.lower_break.ensures.lowered
 
@@ -176,7 +180,7 @@ lower_unary-returns-clause-lowered t c =
     let source = source_of c.args.context.now in
     let value = lowers-one source (shape c.args.graph.now) (shape c.lower_operand.new.graph) c.args.operand.0 c.in_ok-value.value.kind c.in_ok-value.ensures.lowered in
     on_ok_weaker c.assign.result
-    (λ added cell local. lowers-strict source (shape c.args.graph.now) (shape c.lower_operand.new.graph) (shape c.assign.new.graph) c.args.e.0 (operation_of c.args.op) (c.args.operand.0 ∷ []) (c.in_ok-value.value.kind ∷ []) (Unary c.args.op c.in_ok-value.value) c.args.place (ExprId c.args.e) c.requires.ready c.requires.form value (unary-computes source c.args.op c.in_ok-value.value) added cell local)
+    (λ added cell local. lowers-strict source (shape c.args.graph.now) (shape c.lower_operand.new.graph) (shape c.assign.new.graph) c.args.e.0 (operation_of c.args.op) (c.args.operand.0 ∷ []) (c.in_ok-value.value.kind ∷ []) (Unary c.args.op c.in_ok-value.value) c.args.place (ExprId c.args.e) c.requires.ready c.requires.form value (unary-computes source (own_size source c.args.e.0) c.args.op c.in_ok-value.value) added cell local)
     c.assign.ensures.added
 
 pub lower_unary-returns-clause-built : goal.lower_unary-returns-clause-built
@@ -186,6 +190,76 @@ lower_unary-returns-clause-built t c =
 
 pub lower_unary-returns-clause-refused : goal.lower_unary-returns-clause-refused
 lower_unary-returns-clause-refused t c =
+    IfErr-weaker c.assign.result _ _ (λ error none. refuses-no-memory (source_of c.args.context.now) c.args.e.0 error none) c.assign.ensures.refused
+
+-- a cast that is a coercion
+
+pub lower_coercion-lower_operand-requires : goal.lower_coercion-lower_operand-requires
+lower_coercion-lower_operand-requires t c =
+    let source = source_of c.args.context.now in
+    let is = first-part source c.args.e.0 c.args.operand.0 [] Keep c.requires.form in
+    let below = part-below source c.args.e.0 c.args.operand.0 c.requires.ready.checked is in
+    (omega (arith, below), part-ready source (shape c.args.graph.now) c.args.e.0 c.args.operand.0 (parts-ready source (shape c.args.graph.now) c.args.e.0 (λ outer. ap (λ n. opened_in c.args.e.0 n outer) c.requires.form) c.requires.ready) is)
+
+pub lower_coercion-returns-in_err-value-clause-refused : goal.lower_coercion-returns-in_err-value-clause-refused
+lower_coercion-returns-in_err-value-clause-refused t c =
+    let source = source_of c.args.context.now in
+    refused-exit (RefusesAt source c.args.e.0) _ c.from_residual.result c.from_residual.ensures.1
+    (λ error same. subst (RefusesAt source c.args.e.0) (sym same) (refuses-part source c.args.e.0 c.args.operand.0 _ (first-part source c.args.e.0 c.args.operand.0 [] Keep c.requires.form) c.in_err-value.ensures.refused))
+
+pub lower_coercion-returns-clause-lowered : goal.lower_coercion-returns-clause-lowered
+lower_coercion-returns-clause-lowered t c =
+    let source = source_of c.args.context.now in
+    let value = lowers-one source (shape c.args.graph.now) (shape c.lower_operand.new.graph) c.args.operand.0 c.in_ok-value.value.kind c.in_ok-value.ensures.lowered in
+    on_ok_weaker c.assign.result
+    (λ added cell local. lowers-strict source (shape c.args.graph.now) (shape c.lower_operand.new.graph) (shape c.assign.new.graph) c.args.e.0 Keep (c.args.operand.0 ∷ []) (c.in_ok-value.value.kind ∷ []) (Use c.in_ok-value.value) c.args.place (ExprId c.args.e) c.requires.ready c.requires.form value (keep-computes source (own_size source c.args.e.0) c.in_ok-value.value) added cell local)
+    c.assign.ensures.added
+
+pub lower_coercion-returns-clause-built : goal.lower_coercion-returns-clause-built
+lower_coercion-returns-clause-built t c =
+    let source = source_of c.args.context.now in
+    on_ok_weaker c.assign.result (λ added. built-strict source c.args.e.0 Keep (c.args.operand.0 ∷ []) c.requires.form (one-built source c.args.operand.0 c.in_ok-value.ensures.built)) c.assign.ensures.added
+
+pub lower_coercion-returns-clause-refused : goal.lower_coercion-returns-clause-refused
+lower_coercion-returns-clause-refused t c =
+    IfErr-weaker c.assign.result _ _ (λ error none. refuses-no-memory (source_of c.args.context.now) c.args.e.0 error none) c.assign.ensures.refused
+
+-- a cast between numbers
+
+pub lower_cast-lower_operand-requires : goal.lower_cast-lower_operand-requires
+lower_cast-lower_operand-requires t c =
+    let source = source_of c.args.context.now in
+    let is = first-part source c.args.e.0 c.args.operand.0 [] Convert c.requires.form in
+    let below = part-below source c.args.e.0 c.args.operand.0 c.requires.ready.checked is in
+    (omega (arith, below), part-ready source (shape c.args.graph.now) c.args.e.0 c.args.operand.0 (parts-ready source (shape c.args.graph.now) c.args.e.0 (λ outer. ap (λ n. opened_in c.args.e.0 n outer) c.requires.form) c.requires.ready) is)
+
+pub lower_cast-returns-in_err-value-clause-refused : goal.lower_cast-returns-in_err-value-clause-refused
+lower_cast-returns-in_err-value-clause-refused t c =
+    let source = source_of c.args.context.now in
+    refused-exit (RefusesAt source c.args.e.0) _ c.from_residual.result c.from_residual.ensures.1
+    (λ error same. subst (RefusesAt source c.args.e.0) (sym same) (refuses-part source c.args.e.0 c.args.operand.0 _ (first-part source c.args.e.0 c.args.operand.0 [] Convert c.requires.form) c.in_err-value.ensures.refused))
+
+pub lower_cast-returns-in_err-rvalue-clause-refused : goal.lower_cast-returns-in_err-rvalue-clause-refused
+lower_cast-returns-in_err-rvalue-clause-refused t c =
+    let source = source_of c.args.context.now in
+    refused-exit (RefusesAt source c.args.e.0) _ c.from_residual-in_err-rvalue.result c.from_residual-in_err-rvalue.ensures.1
+    (λ error same. subst (RefusesAt source c.args.e.0) (sym same) (refuses-no-memory source c.args.e.0 _ c.in_err-rvalue.ensures.refused))
+
+pub lower_cast-returns-clause-lowered : goal.lower_cast-returns-clause-lowered
+lower_cast-returns-clause-lowered t c =
+    let source = source_of c.args.context.now in
+    let value = lowers-one source (shape c.args.graph.now) (shape c.lower_operand.new.graph) c.args.operand.0 c.in_ok-value.value.kind c.in_ok-value.ensures.lowered in
+    on_ok_weaker c.assign.result
+    (λ added cell local. lowers-strict source (shape c.args.graph.now) (shape c.lower_operand.new.graph) (shape c.assign.new.graph) c.args.e.0 Convert (c.args.operand.0 ∷ []) (c.in_ok-value.value.kind ∷ []) c.in_ok-rvalue.rvalue c.args.place (ExprId c.args.e) c.requires.ready c.requires.form value (subst (Computes source (own_size source c.args.e.0) Convert (c.in_ok-value.value.kind ∷ [])) (sym c.in_ok-rvalue.ensures.made.is) (cast-computes source c.args.e.0 c.in_ok-rvalue.ensures.made.ty c.in_ok-value.value c.in_ok-rvalue.ensures.made.typed)) added cell local)
+    c.assign.ensures.added
+
+pub lower_cast-returns-clause-built : goal.lower_cast-returns-clause-built
+lower_cast-returns-clause-built t c =
+    let source = source_of c.args.context.now in
+    on_ok_weaker c.assign.result (λ added. built-strict source c.args.e.0 Convert (c.args.operand.0 ∷ []) c.requires.form (one-built source c.args.operand.0 c.in_ok-value.ensures.built)) c.assign.ensures.added
+
+pub lower_cast-returns-clause-refused : goal.lower_cast-returns-clause-refused
+lower_cast-returns-clause-refused t c =
     IfErr-weaker c.assign.result _ _ (λ error none. refuses-no-memory (source_of c.args.context.now) c.args.e.0 error none) c.assign.ensures.refused
 
 -- an operator on two operands
@@ -223,7 +297,7 @@ lower_binary-returns-clause-lowered t c =
     let y = c.in_ok-right.right in
     let values = lowers-two source (shape c.args.graph.now) (shape c.lower_operand.new.graph) (shape c.lower_operand-2.new.graph) c.args.lhs.0 c.args.rhs.0 x.kind y.kind c.in_ok-left.ensures.lowered c.in_ok-right.ensures.lowered in
     on_ok_weaker c.assign.result
-    (λ added cell local. lowers-strict source (shape c.args.graph.now) (shape c.lower_operand-2.new.graph) (shape c.assign.new.graph) c.args.e.0 (Combine c.args.op) (c.args.lhs.0 ∷ c.args.rhs.0 ∷ []) (x.kind ∷ y.kind ∷ []) (CheckedBinaryOp c.args.op x y) c.args.place (ExprId c.args.e) c.requires.ready c.requires.form values (binary-computes source c.args.op x y) added cell local)
+    (λ added cell local. lowers-strict source (shape c.args.graph.now) (shape c.lower_operand-2.new.graph) (shape c.assign.new.graph) c.args.e.0 (Combine c.args.op) (c.args.lhs.0 ∷ c.args.rhs.0 ∷ []) (x.kind ∷ y.kind ∷ []) (CheckedBinaryOp c.args.op x y) c.args.place (ExprId c.args.e) c.requires.ready c.requires.form values (binary-computes source (own_size source c.args.e.0) c.args.op x y) added cell local)
     c.assign.ensures.added
 
 pub lower_binary-returns-clause-built : goal.lower_binary-returns-clause-built
@@ -511,6 +585,42 @@ lower_assignment-returns-clause-built t c =
 pub lower_assignment-returns-clause-refused : goal.lower_assignment-returns-clause-refused
 lower_assignment-returns-clause-refused t c =
     IfErr-weaker c.assign_target.result _ _ (λ error refused. refuses-target (source_of c.args.context.now) c.args.e.0 error c.args.target.0 c.args.value.0 c.requires.form refused) c.assign_target.ensures.refused
+
+-- a compound assignment
+
+pub lower_compound-lower_operand-requires : goal.lower_compound-lower_operand-requires
+lower_compound-lower_operand-requires t c =
+    let source = source_of c.args.context.now in
+    let is = combined-part source c.args.e.0 c.args.op c.args.target.0 c.args.value.0 c.requires.form in
+    let below = part-below source c.args.e.0 c.args.value.0 c.requires.ready.checked is in
+    (omega (arith, below), part-ready source (shape c.args.graph.now) c.args.e.0 c.args.value.0 (parts-ready source (shape c.args.graph.now) c.args.e.0 (λ outer. ap (λ n. opened_in c.args.e.0 n outer) c.requires.form) c.requires.ready) is)
+
+pub lower_compound-returns-in_err-given-clause-refused : goal.lower_compound-returns-in_err-given-clause-refused
+lower_compound-returns-in_err-given-clause-refused t c =
+    let source = source_of c.args.context.now in
+    refused-exit (RefusesAt source c.args.e.0) _ c.from_residual.result c.from_residual.ensures.1
+    (λ error same. subst (RefusesAt source c.args.e.0) (sym same) (refuses-part source c.args.e.0 c.args.value.0 _ (combined-part source c.args.e.0 c.args.op c.args.target.0 c.args.value.0 c.requires.form) c.in_err-given.ensures.refused))
+
+pub lower_compound-returns-in_err-place-clause-refused : goal.lower_compound-returns-in_err-place-clause-refused
+lower_compound-returns-in_err-place-clause-refused t c =
+    let source = source_of c.args.context.now in
+    refused-exit (RefusesAt source c.args.e.0) _ c.from_residual-in_err-place.result c.from_residual-in_err-place.ensures.1
+    (λ error same. subst (RefusesAt source c.args.e.0) (sym same) (refuses-combined source c.args.e.0 _ c.args.op c.args.target.0 c.args.value.0 c.requires.form c.in_err-place.ensures.refused))
+
+pub lower_compound-returns-clause-lowered : goal.lower_compound-returns-clause-lowered
+lower_compound-returns-clause-lowered t c =
+    let source = source_of c.args.context.now in
+    on_ok_weaker c.assign.result
+    (λ added cell. lowers-compound source (shape c.args.graph.now) (shape c.lower_operand.new.graph) (shape c.assign.new.graph) c.args.e.0 c.args.op c.args.target.0 c.args.value.0 c.copied.result c.in_ok-given.given c.in_ok-place.place (ExprId c.args.e) cell c.requires.ready c.requires.form c.in_ok-given.ensures.lowered c.in_ok-place.ensures.lowered c.copied.ensures added)
+    c.assign.ensures.added
+
+pub lower_compound-returns-clause-built : goal.lower_compound-returns-clause-built
+lower_compound-returns-clause-built t c =
+    on_ok_weaker c.assign.result (λ added. built-compound (source_of c.args.context.now) c.args.e.0 c.args.op c.args.target.0 c.args.value.0 c.requires.form c.in_ok-place.ensures.built c.in_ok-given.ensures.built) c.assign.ensures.added
+
+pub lower_compound-returns-clause-refused : goal.lower_compound-returns-clause-refused
+lower_compound-returns-clause-refused t c =
+    IfErr-weaker c.assign.result _ _ (λ error none. refuses-no-memory (source_of c.args.context.now) c.args.e.0 error none) c.assign.ensures.refused
 
 -- statements in order
 

@@ -30,6 +30,15 @@ decreases-lower_own l = 11 * l.e.0 + 6
 abbrev pub decreases-lower_unary : goal.decreases-lower_unary
 decreases-lower_unary l = 11 * l.e.0 + 4
 
+abbrev pub decreases-lower_coercion : goal.decreases-lower_coercion
+decreases-lower_coercion l = 11 * l.e.0 + 4
+
+abbrev pub decreases-lower_cast : goal.decreases-lower_cast
+decreases-lower_cast l = 11 * l.e.0 + 4
+
+abbrev pub decreases-lower_compound : goal.decreases-lower_compound
+decreases-lower_compound l = 11 * l.e.0 + 4
+
 abbrev pub decreases-lower_binary : goal.decreases-lower_binary
 decreases-lower_binary l = 11 * l.e.0 + 4
 
