@@ -64,24 +64,6 @@ fn combine<M: Memory>(
     made_of(op, kind, left_bytes, right_bytes)
 }
 
-/// The same for operands of 16 bytes.
-fn combine_wide<M: Memory>(
-    frame: StackFrame<'_, '_>,
-    memory: &M,
-    op: BinOp,
-    kind: Kind,
-    left: &Source,
-    right: &Source,
-) -> Option<WideMade>
-    ensures { IfSome result (λ made. (one other : OperandKind) → AreOperands frame.entry.body.now kind left.now right.now one other → operated op (operand_type frame.entry.body.now one) (operand_type frame.entry.body.now other) (operand_bytes (frame_of frame.entry) (M.areas memory.now) one) (operand_bytes (frame_of frame.entry) (M.areas memory.now) other) ≡ Ok (wide_bytes made)) }
-{
-    let left_view = source(frame, memory, left)?;
-    let right_view = source(frame, memory, right)?;
-    let left_bytes = whole(&left_view)?;
-    let right_bytes = whole(&right_view)?;
-    wide_made_of(op, kind, left_bytes, right_bytes)
-}
-
 /// Assigns a number of at most 8 bytes or a truth value to a local.
 #[inline(always)]
 #[tactic(auto, unfolding(mir::specs::Run::copied))]
@@ -179,7 +161,11 @@ fn act_wide<M: Memory>(
             left,
             right,
         } => {
-            let made = combine_wide(frame, memory, *op, *kind, left, right)?;
+            let left_view = source(frame, memory, left)?;
+            let right_view = source(frame, memory, right)?;
+            let left_bytes = whole(&left_view)?;
+            let right_bytes = whole(&right_view)?;
+            let made = wide_made_of(*op, *kind, left_bytes, right_bytes)?;
             Some(assign_wide(frame, memory, *to, made))
         }
         _ => None,

@@ -14,8 +14,8 @@ use crate::faults::Fault;
 use crate::frames::StackFrame;
 use crate::pieces::{gather, whole};
 use mir::{
-    BasicBlockId, BinOp, CastKind, Interval, OperandKind, Rvalue, StatementKind, SwitchTargets, Terminator,
-    TerminatorKind, UnOp, fixed_size,
+    BasicBlockId, BinOp, CastKind, Interval, OperandKind, Rvalue, StatementKind, SwitchTargets,
+    Terminator, TerminatorKind, UnOp, fixed_size,
 };
 use mir_mem::{Memory, View};
 use mir_ops::unsigned_number;

@@ -235,7 +235,6 @@ pub fn made_of(op: Operator, kind: Kind, left: &[u8], right: &[u8]) -> Option<Ma
                 None
             }
         }
-        Kind::Character => None,
     }
 }
 
