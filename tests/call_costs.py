@@ -18,8 +18,11 @@ from dataclasses import dataclass, field
 
 ORIGIN = "tests/call_costs.py"
 NOT_BUILT = 'NotSupported("form not built")'
+UNDEFINED = 'NotSupported("comparison of this type")'
 DEFAULT_LIMITS = {"blocks": 10000000, "nesting": 100, "bytes": 1000000000}
-SIGNED = {"I8": 1, "I16": 2, "I32": 4, "I64": 8, "I128": 16, "Isize": 8}
+# How many bytes integers have by their names, and the others that casts are between.
+INTEGERS = {"8": 1, "16": 2, "32": 4, "64": 8, "128": 16, "size": 8}
+SIZES = {"Bool": 1, "Char": 4}
 RESULT = ("result",)
 # Calls nest in Python as they do in the world.
 STACK, DEPTH = 512 * 2**20, 10**6
@@ -105,8 +108,19 @@ def shown_type(ty):
 # The table of operators.
 
 
+def kind_of(ty):
+    """The kind of a type's values, where they are numbers, truth values or characters."""
+    return {"Int": "signed", "Uint": "unsigned", "Bool": "bool", "Char": "char"}.get(variant(ty)[0])
+
+
+def fixed_size(ty):
+    """How many bytes an integer type, `bool` or `char` has."""
+    name, part = variant(ty)
+    return SIZES[name] if part is None else INTEGERS[part[1:]]
+
+
 def number_of(kind, data):
-    """The number that bytes are, at a kind of types: "signed", "unsigned" or "bool"."""
+    """The number that bytes are, at a kind of types: "signed", "unsigned", "bool" or "char"."""
     return int.from_bytes(data, "little", signed=kind == "signed")
 
 
@@ -129,13 +143,15 @@ def divided(left, right):
 
 
 def arithmetic(op, kind, left, right, right_kind):
-    """An arithmetic operator on bytes. A panic is an `OverflowError` with its operator."""
+    """An arithmetic operator on bytes. A panic is an `OverflowError` with its operator, and no row in the table a `LookupError`."""
     a, b, size = number_of(kind, left), number_of(right_kind, right), len(left)
+    if "char" in (kind, right_kind):
+        raise LookupError("arithmetic on characters")
     if op in ("BitAnd", "BitOr", "BitXor"):
         made = {"BitAnd": lambda x, y: x & y, "BitOr": lambda x, y: x | y, "BitXor": lambda x, y: x ^ y}[op]
         return bytes(made(x, y) for x, y in zip(left, right))
     if kind == "bool":
-        raise Unknown("arithmetic on truth values")
+        raise LookupError("arithmetic on truth values")
     if op in ("Shl", "Shr"):
         if not 0 <= b < 8 * size:
             raise OverflowError(op)
@@ -202,6 +218,7 @@ class Reading:
                          "pat_variant_res", "pat_adjustments", "binding_modes")
         }
         self.rows["diverging"] = set(found.get("diverging", []))
+        self.rows["coercion_casts"] = set(found.get("coercion_casts", []))
         self.layouts = {key(ty): layout for ty, layout in world.get("layouts", [])}
         self.copies = {key(ty) for ty in found.get("copy_types", [])}
         self.marks, self.open, self.temps = [], [], []
@@ -308,7 +325,7 @@ class Reading:
 
     def own_literal(self, e, part):
         name, _ = variant(part)
-        if name not in ("Bool", "Int", "Uint"):
+        if name not in ("Bool", "Int", "Uint", "Char"):
             raise Refusal(NOT_BUILT)
         ty = self.body.infer["expr_types"][e]
         layout = self.layouts.get(key(ty))
@@ -327,16 +344,38 @@ class Reading:
             raise Refusal(NOT_BUILT)
         self.operand(part["expr"])
 
+    def own_cast(self, e, part):
+        types = [self.never_target(part["expr"]), self.body.infer["expr_types"][part["expr"]]]
+        given = next(ty for ty in types if ty is not None)
+        is_between = all(kind_of(ty) is not None for ty in (given, self.body.infer["expr_types"][e]))
+        if part["expr"] not in self.rows["coercion_casts"] and not is_between:
+            raise Refusal(NOT_BUILT)
+        self.operand(part["expr"])
+
     def own_binaryop(self, e, part):
         if part.get("op") is None:
             raise Refusal("IncompleteExpr")
-        if variant(part["op"])[0] == "Assignment":
-            raise Refusal(NOT_BUILT)
+        name, op = variant(part["op"])
+        if name == "Assignment":
+            self.compound(part, op)
+            return
         self.operand(part["lhs"])
         if variant(part["op"])[0] == "LogicOp":
             self.into(part["rhs"])
         else:
             self.operand(part["rhs"])
+
+    def compound(self, part, op):
+        """A compound assignment. One step in the adjustments of its target isn't looked at."""
+        if op.get("op") is None:
+            raise Refusal(NOT_BUILT)
+        self.operand(part["rhs"])
+        e = part["lhs"]
+        name, path = variant(self.exprs[e])
+        names_item = e in self.rows["assoc_res"] or e in self.rows["variant_res"]
+        if name != "Path" or names_item or len(self.rows["expr_adjustments"].get(e, [])) > 1:
+            raise Refusal(NOT_BUILT)
+        self.named(self.rows["value_res"], e, path)
 
     def own_if(self, e, part):
         self.operand(part["condition"])
@@ -598,16 +637,13 @@ class Run:
     def is_adjusted(self, frame, e):
         return bool(frame.body.rows["expr_adjustments"].get(e))
 
-    def kind(self, ty):
-        name, _ = variant(ty)
-        return {"Int": "signed", "Uint": "unsigned", "Bool": "bool"}.get(name)
-
     def literal(self, frame, e):
         """The bytes of a literal."""
         name, part = variant(self.form(frame, e)[1])
         if name == "Bool":
             return bytes([part])
-        return low_bytes(self.layouts[key(frame.body.infer["expr_types"][e])]["size"], int(part[0]))
+        number = part if name == "Char" else int(part[0])
+        return low_bytes(self.layouts[key(frame.body.infer["expr_types"][e])]["size"], number)
 
     def place(self, frame, e):
         """The cell that an expression is evaluated to."""
@@ -655,7 +691,9 @@ class Run:
 
     def own_unaryop(self, frame, e, part, cell):
         given = self.value(frame, self.operand(frame, part["expr"]))
-        kind = self.kind(self.operand_type(frame, part["expr"]))
+        kind = kind_of(self.operand_type(frame, part["expr"]))
+        if kind == "char":
+            raise Fault(UNDEFINED, frame.trail)
         if kind == "bool":
             made = bytes([given[0] ^ 1])
         elif part["op"] == "Not":
@@ -664,23 +702,47 @@ class Run:
             made = low_bytes(len(given), -number_of(kind, given))
         self.put(frame, cell, made)
 
+    def own_cast(self, frame, e, part, cell):
+        given = self.value(frame, self.operand(frame, part["expr"]))
+        if part["expr"] not in frame.body.rows["coercion_casts"]:
+            number = number_of(kind_of(self.operand_type(frame, part["expr"])), given)
+            given = low_bytes(fixed_size(frame.body.infer["expr_types"][e]), number)
+        self.put(frame, cell, given)
+
     def own_binaryop(self, frame, e, part, cell):
         name, op = variant(part["op"])
+        if name == "Assignment":
+            self.compound(frame, part, op["op"])
+            return
         left = self.operand(frame, part["lhs"])
         if name == "LogicOp":
             self.logic(frame, part, op, self.value(frame, left), cell)
             return
         right = self.operand(frame, part["rhs"])
         left, right = self.value(frame, left), self.value(frame, right)
-        kinds = [self.kind(self.operand_type(frame, part[side])) for side in ("lhs", "rhs")]
+        kinds = [kind_of(self.operand_type(frame, part[side])) for side in ("lhs", "rhs")]
         if name == "CmpOp":
             made = bytes([compared(op, number_of(kinds[0], left), number_of(kinds[1], right))])
         else:
-            try:
-                made = arithmetic(op, kinds[0], left, right, kinds[1])
-            except OverflowError as panic:
-                raise Fault(f'Panic("Overflow in {panic}")', frame.trail) from None
+            made = self.combined(frame, op, kinds, left, right)
         self.put(frame, cell, made)
+
+    def combined(self, frame, op, kinds, left, right):
+        """What an arithmetic operator makes of two values."""
+        try:
+            return arithmetic(op, kinds[0], left, right, kinds[1])
+        except OverflowError as panic:
+            raise Fault(f'Panic("Overflow in {panic}")', frame.trail) from None
+        except LookupError:
+            raise Fault(UNDEFINED, frame.trail) from None
+
+    def compound(self, frame, part, op):
+        """A compound assignment: once the right operand is evaluated, both are read, and the local is written."""
+        given = self.operand(frame, part["rhs"])
+        binding = frame.body.rows["value_res"][part["lhs"]]["LocalBinding"]
+        cell, types = ("binding", binding), (frame.body.infer["binding_types"][binding], self.operand_type(frame, part["rhs"]))
+        kinds = [kind_of(ty) for ty in types]
+        self.put(frame, cell, self.combined(frame, op, kinds, frame.cells[cell], self.value(frame, given)))
 
     def logic(self, frame, part, op, left, cell):
         self.enter(frame)

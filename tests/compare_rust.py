@@ -35,6 +35,7 @@ macro_rules! integers { ($($ty:ident)*) => { $(impl Bytes for $ty {
 })* }; }
 integers!(i8 i16 i32 i64 i128 isize u8 u16 u32 u64 u128 usize);
 impl Bytes for bool { fn text(self) -> String { (self as u8).text() } }
+impl Bytes for char { fn text(self) -> String { (self as u32).text() } }
 impl Bytes for () { fn text(self) -> String { "-".to_string() } }
 fn show<T: Bytes>(number: usize, run: fn() -> T) {
     println!("{number} {}", std::panic::catch_unwind(run).map_or("panic".to_string(), Bytes::text));

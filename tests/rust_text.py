@@ -1,9 +1,10 @@
-"""Reads bodies that are written in Rust: numbers, truth values, names, operators, blocks, `if`, loops, jumps, `let`,
-assignments, calls of functions by their names, and method calls. It reads functions too.
+"""Reads bodies that are written in Rust: numbers, truth values, characters, names, operators, casts, blocks, `if`, loops, jumps,
+`let`, assignments, calls of functions by their names, method calls, fields and indices. It reads functions too.
 
 A body is read as a tree of tuples, the first part of which says what it is:
 
     ("number", digits, suffix or None)      ("truth", bool)             ("path", name)
+    ("character", number)                   ("cast", operand, type)
     ("unary", operator, operand)            ("binary", operator, left, right)
     ("assign", operator or None, target, value)
     ("block", statements, tail or None, label or None)
@@ -11,6 +12,7 @@ A body is read as a tree of tuples, the first part of which says what it is:
     ("loop", body, label or None)
     ("leave", value or None, label or None)     ("again", label or None)        ("give_back", value or None)
     ("call", name, arguments)               ("method", receiver, name, arguments)
+    ("field", operand, name)                ("index", operand, index)
 
 A label is its text, as `'a`. `while c { .. }` is read as the loop with an `if` that it stands for,
 `loop { if c { .. } else { break } }`, where the loop's body is the `if` itself. An operator is one of the worlds' JSON, as
@@ -45,12 +47,22 @@ LEVELS = (("||",), ("&&",), tuple(COMPARISONS), ("|",), ("^",), ("&",), ("<<", "
 ENDS = (";", "}", ")", ",", "")
 
 TOKEN = re.compile(
-    r"\s*(\d+(?:[iu](?:8|16|32|64|128|size))?|'?[A-Za-z_]\w*|<<=|>>=|&&|\|\||<<|>>|->|[-+*/%&|^=!<>]=|[-+*/%&|^=!<>(){};:,.])"
+    r"\s*('(?:\\u\{[0-9a-f]+\}|\\.|[^\\'])'|\d+(?:[iu](?:8|16|32|64|128|size))?|'?[A-Za-z_]\w*|<<=|>>=|&&|\|\||<<|>>|->|[-+*/%&|^=!<>]=|[-+*/%&|^=!<>(){}\[\];:,.])"
 )
+# The characters that are written with a backslash and one letter or sign.
+ESCAPES = {"n": "\n", "r": "\r", "t": "\t", "0": "\0", "\\": "\\", "'": "'", '"': '"'}
 
 
 class NoBody(Exception):
     """A text that is no body of these forms, or one whose types don't fit."""
+
+
+def character_of(token):
+    """The number of a character, by its text between quotes."""
+    inside = token[1:-1]
+    if inside.startswith("\\u"):
+        return int(inside[3:-1], 16)
+    return ord(ESCAPES[inside[1]] if inside.startswith("\\") else inside)
 
 
 @dataclass
@@ -129,20 +141,39 @@ class Reader:
     def operation(self, level):
         """An expression of operators that bind at least as strongly as those of the level."""
         if level == len(LEVELS):
-            return self.operand()
+            return self.casted()
         left = self.operation(level + 1)
         while (token := self.take(*LEVELS[level])) is not None:
             left = ("binary", operator_of(token), left, self.operation(level + 1))
         return left
 
+    def casted(self):
+        """An expression that binds at least as strongly as a cast."""
+        found = self.operand()
+        while self.take("as"):
+            found = ("cast", found, self.type())
+        return found
+
     def operand(self):
-        """An expression without operators of two operands. A method call binds stronger than an operator of one operand."""
+        """An expression without casts and operators of two operands. A method call, a field and an index bind stronger than an operator
+        of one operand."""
         if self.next() in UNARY:
             return ("unary", UNARY[self.need()], self.operand())
         found = self.simple()
-        while self.take("."):
-            found = ("method", found, self.need(), self.arguments())
+        while (token := self.take(".", "[")) is not None:
+            found = self.index(found) if token == "[" else self.member(found)
         return found
+
+    def index(self, base):
+        """What follows the bracket of an index."""
+        index = self.expr()
+        self.need("]")
+        return ("index", base, index)
+
+    def member(self, of):
+        """What follows the dot of a method call or of a field."""
+        name = self.need()
+        return ("method", of, name, self.arguments()) if self.next() == "(" else ("field", of, name)
 
     def simple(self):
         """An expression without operators, and no method call."""
@@ -153,6 +184,8 @@ class Reader:
         if self.next() in ("loop", "while"):
             return self.loop(None)
         token = self.need()
+        if token[0] == "'" and token[-1] == "'":
+            return ("character", character_of(token))
         if token[0] == "'":
             self.need(":")
             return self.block(token) if self.next() == "{" else self.loop(token)
@@ -221,7 +254,8 @@ class Reader:
 
     def label(self):
         """The label that a jump has, or nothing."""
-        return self.need() if self.next().startswith("'") else None
+        is_label = self.next().startswith("'") and not self.next().endswith("'")
+        return self.need() if is_label else None
 
     def block(self, label=None):
         """Statements and a tail in braces."""

@@ -1,10 +1,12 @@
 """Makes the typed bodies of a world from the trees that `rust_text.py` reads.
 
 Types are found as Rust finds them: a literal without a suffix has the type that its uses ask for, and `i32` where none
-does. A block without a tail may have any type that is asked for, as where its end isn't reached. A jump, and a loop that
+does; the literal that a cast has as its operand has the type of the cast, where that is an integer's, and `u8` in a cast to `char`. A
+block without a tail may have any type that is asked for, as where its end isn't reached. A jump, and a loop that
 no `break` leaves, are of type `!`, and become of the type that is asked for, where one is.
 
-A call of a function that returns `!` is one that inference marks as diverging. A method is found by its name alone.
+A call of a function that returns `!` is one that inference marks as diverging. A method is found by its name alone. A cast to the
+type that its operand has already is a coercion. The target of a compound assignment is borrowed, as for a method of a trait.
 
 A jump means what it means here: one without a label the innermost loop or labelled block, where Rust refuses the block. A
 `return` leaves the body, as it does in a function. Rust refuses it in a constant.
@@ -15,6 +17,7 @@ from dataclasses import dataclass
 from rust_text import NoBody
 from worlds import (
     BOOL,
+    CHAR,
     INTEGER_SIZES,
     NEVER,
     UNIT,
@@ -33,6 +36,7 @@ from worlds import (
     let_statement,
     loop,
     path,
+    ref,
     return_with,
     sized,
     statement,
@@ -40,14 +44,15 @@ from worlds import (
 )
 
 INTEGERS = {name.lower(): integer(name) for name in INTEGER_SIZES}
-TYPES = {**INTEGERS, "bool": BOOL, "()": UNIT, "!": NEVER}
+TYPES = {**INTEGERS, "bool": BOOL, "char": CHAR, "()": UNIT, "!": NEVER}
 LAYOUTS = [
     *(sized(integer(name), size) for name, size in INTEGER_SIZES.items()),
     sized(BOOL, 1),
+    sized(CHAR, 4),
     sized(UNIT, 0),
     sized(NEVER, 0),
 ]
-SCALARS = [BOOL, *INTEGERS.values()]
+SCALARS = [BOOL, CHAR, *INTEGERS.values()]
 ALL = [*SCALARS, UNIT, NEVER]
 
 SHIFTS = ("Shl", "Shr")
@@ -92,6 +97,15 @@ def settled(ty):
     return TYPES["i32" if ty.is_integer else "!" if ty.is_endless else "()"]
 
 
+def castable(tree, target):
+    """The type that the operand of a cast to a type has at first: its own, unless it is a literal without a suffix."""
+    if tree[0] == "unary" and tree[1] != "Deref":
+        return castable(tree[2], target)
+    if tree[0] != "number" or tree[2] is not None:
+        return Unknown()
+    return target if target in INTEGERS else "u8" if target == "char" else Unknown()
+
+
 def literal_of(digits, suffix):
     """A number's literal: unsigned where its suffix is, or where it is too great for a signed one."""
     name = suffix.capitalize() if suffix else None
@@ -123,6 +137,7 @@ class Draft:
         self.expr_types, self.pat_types, self.binding_types = [], [], []
         self.value_res, self.pat_value_res, self.binding_modes = [], [], []
         self.labels, self.targets, self.endless = [], [], []
+        self.casts, self.borrowed = [], []
         self.scopes = [{}]
 
     def add(self, node, ty):
@@ -148,6 +163,33 @@ class Draft:
     def truth(self, test, ty):
         same(ty, "bool")
         return self.add({"Literal": {"Bool": test}}, ty)
+
+    def character(self, code, ty):
+        same(ty, "char")
+        return self.add({"Literal": {"Char": code}}, ty)
+
+    def cast(self, operand, target, ty):
+        """A cast. An operand that may be of any type, as a jump is, is of the cast's."""
+        given = castable(operand, target)
+        inside = self.expr(operand, given)
+        if isinstance(known(given), Unknown) and not known(given).is_integer:
+            same(given, target)
+        same(ty, target)
+        self.casts.append((inside, given, ty))
+        return self.add({"Cast": {"expr": inside}}, ty)
+
+    def coercions(self):
+        """The operands of the casts to a type that they have already."""
+        return [operand for operand, given, ty in self.casts if settled(given) == settled(ty)]
+
+    def field(self, operand, name, ty):
+        """A field, of any type, of a value of any type."""
+        return self.add({"Field": {"expr": self.expr(operand, Unknown()), "name": name}}, ty)
+
+    def index(self, base, index, ty):
+        """An element, of any type, of a value of any type."""
+        inside = self.expr(base, Unknown())
+        return self.add({"Index": {"base": inside, "index": self.expr(index, "usize")}}, ty)
 
     def path(self, name, ty):
         """A name, which may be one that nothing has."""
@@ -225,9 +267,10 @@ class Draft:
             lhs = self.named_target(target[1], inside)
             return self.add(assignment(lhs, self.expr(assigned, inside)), ty)
         lhs = self.expr(target, inside)
-        rhs = self.expr(assigned, inside)
+        rhs = self.expr(assigned, Unknown(is_integer=True) if op in SHIFTS else inside)
         if op is None:
             return self.add(assignment(self.add_pat(expr_pat(lhs), inside), rhs), ty)
+        self.borrowed.append((lhs, inside))
         return self.add({"BinaryOp": {"lhs": lhs, "rhs": rhs, "op": {"Assignment": {"op": op}}}}, ty)
 
     def branch(self, condition, first, second, ty):
@@ -308,10 +351,11 @@ class Draft:
         return place
 
     def adjustments(self):
-        """The expressions whose value is adjusted, each with the step: from `!` to the type that is asked for."""
-        for place, ty in self.endless:
-            if settled(ty) != NEVER:
-                yield [place, [{"kind": "NeverToAny", "target": settled(ty)}]]
+        """The expressions whose value is adjusted, each with the step: from `!` to the type that is asked for, or to a reference."""
+        steps = {place: {"kind": "NeverToAny", "target": settled(ty)} for place, ty in self.endless if settled(ty) != NEVER}
+        for place, ty in self.borrowed:
+            steps[place] = {"kind": {"Borrow": {"Ref": "Mut"}}, "target": ref(settled(ty), "Mut")}
+        return [[place, [steps[place]]] for place in sorted(steps)]
 
     def statement(self, form, *parts):
         """A statement, which is no node."""
@@ -345,7 +389,8 @@ class Draft:
                        self_param=self.self_param)
         names = {"value_res": self.value_res, "method_res": self.method_res, "pat_value_res": self.pat_value_res}
         modes = {"binding_modes": self.binding_modes, "diverging": self.diverging}
-        found = filled(**types, expr_adjustments=list(self.adjustments()), **names, **modes, copy_types=copy_types)
+        modes["coercion_casts"] = self.coercions()
+        found = filled(**types, expr_adjustments=self.adjustments(), **names, **modes, copy_types=copy_types)
         return {"body": {**nodes, "body_expr": len(self.exprs) - 1}, "infer": found}
 
 

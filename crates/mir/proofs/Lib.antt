@@ -1,4 +1,2 @@
-pub mod Interning
-mod Lengths
 pub mod Queries
 mod Targets

@@ -4,10 +4,5 @@ pub mod Areas
 pub mod Closed
 pub mod Errors
 pub mod Memory
-pub mod Elements
-pub mod ProjectedTypes
-pub mod ProjectionCodes
-pub mod ProjectionIds
-pub mod Projections
 pub mod Run
 pub mod Switches

@@ -11,12 +11,8 @@ mod closed;
 mod copies;
 mod errors;
 mod ids;
-mod interner;
 mod mem_fault;
 mod operand;
-mod projected_ty;
-mod projection;
-mod projection_store;
 mod sizes;
 mod span;
 mod statement;
@@ -29,12 +25,9 @@ pub use errors::{
     ConstEvalError, LayoutError, MirEvalError, MirLowerError, TrailEntry, layout_error_of,
 };
 pub use ids::{BasicBlockId, LocalId};
-pub use interner::Interner;
 pub use mem_fault::MemFault;
 pub use numbers::Operator as BinOp;
 pub use operand::{CastKind, Operand, OperandKind, Place, Rvalue, UnOp};
-pub use projection::{PlaceElem, ProjectionElem, ProjectionId};
-pub use projection_store::ProjectionStore;
 pub use sizes::fixed_size;
 pub use span::MirSpan;
 pub use statement::{Statement, StatementKind};
