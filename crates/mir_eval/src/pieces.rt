@@ -4,25 +4,9 @@ ghost use Rattle.std.specs.Prelude.{◌≡◌, ◌+◌, ◌++◌, ◌<◌, ◌�
 ghost use Rattle.std.specs.List.{concat};
 
 use mir_mem::View;
+use mir_rows::Short;
 use std::alloc::Global;
 use world::{Bytes, NoMemory};
-
-/// Bytes that were gathered: the first `count` of `room`.
-#[derive(Clone, Copy, PartialEq, Eq, Debug)]
-pub(crate) struct Gathered {
-    pub room: [u8; 16],
-    pub count: usize,
-    ghost fits: { count ≤ 16 },
-}
-
-impl Gathered {
-    /// The bytes.
-    pub(crate) fn bytes(&self) -> &[u8]
-        ensures { result.now ≡ take self.now.count self.now.room }
-    {
-        &self.room[..self.count]
-    }
-}
 
 /// The bytes of a view that lies in one piece.
 #[inline(always)]
@@ -46,7 +30,7 @@ fn put(room: &mut [u8; 16], count: usize, bytes: &[u8])
 }
 
 /// The bytes of a view, however many pieces it has, if there are at most 16.
-pub(crate) fn gather(view: &View<'_>) -> Option<Gathered>
+pub(crate) fn gather(view: &View<'_>) -> Option<Short>
     ensures some { IfSome result (λ all. take all.count all.room ≡ concat view.now) }
     ensures none { IfNone result (16 < length (concat view.now)) }
 {
@@ -62,7 +46,7 @@ pub(crate) fn gather(view: &View<'_>) -> Option<Gathered>
         count += piece.len();
         i += 1;
     }
-    Some(Gathered { room, count })
+    Some(Short { room, count })
 }
 
 /// Appends bytes to others.
