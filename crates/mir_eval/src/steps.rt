@@ -20,7 +20,7 @@ use mir::{
 use mir_mem::{Memory, View};
 use mir_ops::unsigned_number;
 use mir_rows::{constant_bytes, operand_kind};
-use numbers::{Computed, Kind, compute, convert, invert, negate};
+use numbers::{Computed, compute, convert, invert, negate};
 use types::Ty;
 
 /// Where a block leads that doesn't fault: out of the body, to another block of it, or to a call, which its terminator is.
@@ -142,20 +142,8 @@ fn operate<M: Memory>(
     ))
 }
 
-/// What an operator on one operand makes of it.
-#[tactic(auto, unfolding(mir::specs::Run::computed_of))]
-fn compute_one(op: UnOp, kind: Option<Kind>, bytes: &[u8]) -> Computed
-    ensures answer { answer_of result ≡ computed_of op kind bytes.now }
-    ensures count { count_of result ≤ 16 }
-{
-    match op {
-        UnOp::Not => invert(kind, bytes),
-        UnOp::Neg => negate(kind, bytes),
-    }
-}
-
 /// The bytes that an operator makes of one operand.
-#[tactic(auto, unfolding(mir::specs::Run::operated_on))]
+#[tactic(auto, unfolding(mir::specs::Run::operated_on, mir::specs::Run::computed_of))]
 fn operate_on<M: Memory>(
     frame: StackFrame<'_, '_>,
     memory: &M,
@@ -169,11 +157,11 @@ fn operate_on<M: Memory>(
         return Err(Fault::BadRead);
     };
     let own = operand_kind(frame.body.body(), kind);
-    if let Some(bytes) = whole(&view) {
-        return answered(compute_one(op, own, bytes));
-    }
     match gather(&view) {
-        Some(bytes) => answered(compute_one(op, own, bytes.bytes())),
+        Some(bytes) => match op {
+            UnOp::Not => answered(invert(own, bytes.bytes())),
+            UnOp::Neg => answered(negate(own, bytes.bytes())),
+        },
         None => Err(Fault::Undefined),
     }
 }
