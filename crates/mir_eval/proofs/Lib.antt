@@ -5,6 +5,7 @@ pub mod Filling
 pub mod Laying
 pub mod Leading
 pub mod Operated
+pub mod Padded
 pub mod Joined
 pub mod RowRuns
 pub mod RowSays

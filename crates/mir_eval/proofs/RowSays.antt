@@ -24,6 +24,8 @@ use Rattle.mir.specs.declared.switch.SwitchTargets.{SwitchTargets}
 use Rattle.mir.specs.Memory.{Memory, cell_bytes}
 use Rattle.mir.specs.Run.{Frame, GoesTo, after_statement, copied, operand_bytes, operand_type, operated, read, rvalue_bytes, switched, terminated}
 use Rattle.mir.specs.Switches.{first_target, target_of}
+use Rattle.mir_ops.specs.declared.made.Made.{Made}
+use Rattle.mir_ops.specs.Made.{made_bytes}
 use Rattle.mir_rows.specs.declared.row.Action.{Action}
 use Rattle.mir_rows.specs.declared.row.Action.TheVariants as action
 use Rattle.mir_rows.specs.declared.row.Short.{Short}
@@ -70,25 +72,25 @@ module _ (frame : Frame) (memory : Memory) where
   short-bytes given short bytes is are kind said = constant-bytes bytes kind (subst (λ (s : Source). IsSource s kind) is said ∙ ap Some are)
 
   -- what an operator makes of two sources
-  pub combined : {A : Type 0} (bytes : A → List ℕ) (op : Operator) (kind : Kind) (left right : Source) (made : Option A) (left_pieces right_pieces : List (List ℕ)) (l r : List ℕ) → l ≡ concat left_pieces → r ≡ concat right_pieces →
+  pub combined : (op : Operator) (kind : Kind) (left right : Source) (made : Option Made) (left_pieces right_pieces : List (List ℕ)) (l r : List ℕ) → l ≡ concat left_pieces → r ≡ concat right_pieces →
       ((one : OperandKind) → IsSource left one → operand_bytes frame memory one ≡ Some (concat left_pieces)) → ((one : OperandKind) → IsSource right one → operand_bytes frame memory one ≡ Some (concat right_pieces)) →
-      IfSome made (λ m. computed op (Some kind) (Some kind) l r ≡ Computes (bytes m)) →
-      IfSome made (λ m. (one other : OperandKind) → AreOperands frame.body kind left right one other → operated op (operand_type frame.body one) (operand_type frame.body other) (operand_bytes frame memory one) (operand_bytes frame memory other) ≡ Ok (bytes m))
-  combined bytes op kind left right None left_pieces right_pieces l r le re lf rf computes = tt
-  combined bytes op kind left right (Some m) left_pieces right_pieces l r le re lf rf computes =
+      IfSome made (λ m. computed op (Some kind) (Some kind) l r ≡ Computes (made_bytes m)) →
+      IfSome made (λ m. (one other : OperandKind) → AreOperands frame.body kind left right one other → operated op (operand_type frame.body one) (operand_type frame.body other) (operand_bytes frame memory one) (operand_bytes frame memory other) ≡ Ok (made_bytes m))
+  combined op kind left right None left_pieces right_pieces l r le re lf rf computes = tt
+  combined op kind left right (Some m) left_pieces right_pieces l r le re lf rf computes =
       λ one other are.
-      operated_if_made bytes (Some m) op kind (operand_type frame.body one) (operand_type frame.body other) (operand_bytes frame memory one) (operand_bytes frame memory other) l r
+      operated_if_made made_bytes (Some m) op kind (operand_type frame.body one) (operand_type frame.body other) (operand_bytes frame memory one) (operand_bytes frame memory other) l r
       are.left_kind are.right_kind (lf one are.left ∙ ap Some (sym le)) (rf other are.right ∙ ap Some (sym re)) computes
 
   module _ (out : Result Memory MirEvalError) (to : LocalId) where
-    combines : (op : Operator) (kind : Kind) (left right : Source) (m : List ℕ) →
-        ((one other : OperandKind) → AreOperands frame.body kind left right one other → operated op (operand_type frame.body one) (operand_type frame.body other) (operand_bytes frame memory one) (operand_bytes frame memory other) ≡ Ok m) →
-        out ≡ copied memory (slice_get frame.cells to.0) (Ok m) →
+    combines : (op : Operator) (kind : Kind) (left right : Source) (m : Made) →
+        ((one other : OperandKind) → AreOperands frame.body kind left right one other → operated op (operand_type frame.body one) (operand_type frame.body other) (operand_bytes frame memory one) (operand_bytes frame memory other) ≡ Ok (made_bytes m)) →
+        out ≡ copied memory (slice_get frame.cells to.0) (Ok (made_bytes m)) →
         (statement : StatementKind) → Says frame.body (action.Combine op kind to left right) statement → out ≡ after_statement frame memory statement
     unfolding after_statement rvalue_bytes
     combines op kind left right m makes is (Assign place (CheckedBinaryOp operator one other)) says =
         is
-        ∙ ap (λ (l : LocalId). copied memory (slice_get frame.cells l.0) (Ok m)) (sym says.0)
+        ∙ ap (λ (l : LocalId). copied memory (slice_get frame.cells l.0) (Ok (made_bytes m))) (sym says.0)
         ∙ ap (copied memory (slice_get frame.cells place.local.0))
         (sym (makes one.kind other.kind says.2) ∙ ap (λ (o : Operator). operated o (operand_type frame.body one.kind) (operand_type frame.body other.kind) (operand_bytes frame memory one.kind) (operand_bytes frame memory other.kind)) (sym says.1))
     combines op kind left right m makes is (Assign place (Use given)) says = absurd says
@@ -99,9 +101,9 @@ module _ (frame : Frame) (memory : Memory) where
     combines op kind left right m makes is (StorageDead local) says = absurd says
 
     -- a statement that assigns what an operator makes
-    pub does-combine : (given : Action) (op : Operator) (kind : Kind) (left right : Source) (m : List ℕ) → given ≡ action.Combine op kind to left right →
-        ((one other : OperandKind) → AreOperands frame.body kind left right one other → operated op (operand_type frame.body one) (operand_type frame.body other) (operand_bytes frame memory one) (operand_bytes frame memory other) ≡ Ok m) →
-        out ≡ copied memory (slice_get frame.cells to.0) (Ok m) →
+    pub does-combine : (given : Action) (op : Operator) (kind : Kind) (left right : Source) (m : Made) → given ≡ action.Combine op kind to left right →
+        ((one other : OperandKind) → AreOperands frame.body kind left right one other → operated op (operand_type frame.body one) (operand_type frame.body other) (operand_bytes frame memory one) (operand_bytes frame memory other) ≡ Ok (made_bytes m)) →
+        out ≡ copied memory (slice_get frame.cells to.0) (Ok (made_bytes m)) →
         (statement : StatementKind) → Says frame.body given statement → out ≡ after_statement frame memory statement
     does-combine given op kind left right m same makes is statement says =
         combines op kind left right m makes is statement (subst (λ (a : Action). Says frame.body a statement) same says)

@@ -1,16 +1,14 @@
 //! The cells of locals, and the bytes in them.
 
-ghost use Rattle.std.specs.Prelude.{◌≡◌, slice_get, option_map, IfNone, IfSome, Some, Ok};
+ghost use Rattle.std.specs.Prelude.{◌≡◌, slice_get, option_map, Some, Ok};
 ghost use Rattle.std.specs.List.{concat};
 ghost use Rattle.mir.specs.Memory.{cell_bytes};
 ghost use Rattle.mir.specs.Run.{copied, read};
 ghost use Rattle.mir_eval.specs.Steps.{left_with};
 
 use crate::faults::Fault;
-use crate::pieces::whole;
 use mir::{Interval, LocalId};
 use mir_mem::{Memory, View};
-use mir_ops::chunk_of;
 
 /// The cell of a local.
 pub(crate) fn cell_of(cells: &[Interval], local: LocalId) -> Option<Interval>
@@ -43,36 +41,12 @@ pub(crate) fn write<M: Memory>(memory: &mut M, to: Interval, bytes: &[u8]) -> Re
     }
 }
 
-/// Copies the bytes of a cell to the start of another one as one value, where they lie in one piece and are as many as most numbers
-/// have. Where they aren't, nothing has changed.
-#[inline(always)]
-fn copy_short<M: Memory>(memory: &mut M, from: Interval, to: Interval) -> Option<Result<(), Fault>>
-    ensures done { IfSome result (λ done. left_with (M.areas memory.new) done ≡ copied (M.areas memory.old) (Some to) (read (cell_bytes (M.areas memory.old) from))) }
-    ensures kept { IfNone result (M.areas memory.new ≡ M.areas memory.old) }
-{
-    let view = read(memory, from)?;
-    let bytes = whole(&view)?;
-    if let Some(word) = chunk_of::<8>(bytes) {
-        return Some(write(memory, to, &word));
-    }
-    if let Some(word) = chunk_of::<4>(bytes) {
-        return Some(write(memory, to, &word));
-    }
-    if let Some(byte) = chunk_of::<1>(bytes) {
-        return Some(write(memory, to, &byte));
-    }
-    None
-}
-
 /// Copies the bytes of a cell to the start of another one, where the memory has both.
 #[inline(always)]
 #[tactic(auto, unfolding(mir::specs::Areas::reading, mir::specs::Areas::after_write, mir::specs::Areas::after_copy, mir::specs::Run::copied))]
 pub(crate) fn copy<M: Memory>(memory: &mut M, from: Interval, to: Interval) -> Result<(), Fault>
     ensures { left_with (M.areas memory.new) result ≡ copied (M.areas memory.old) (Some to) (read (cell_bytes (M.areas memory.old) from)) }
 {
-    if let Some(done) = copy_short(memory, from, to) {
-        return done;
-    }
     match memory.copy(to.addr, from) {
         Ok(()) => Ok(()),
         Err(_) => {

@@ -4,9 +4,25 @@ ghost use Rattle.std.specs.Prelude.{◌≡◌, ◌+◌, ◌++◌, ◌<◌, ◌�
 ghost use Rattle.std.specs.List.{concat};
 
 use mir_mem::View;
-use mir_rows::Short;
 use std::alloc::Global;
 use world::{Bytes, NoMemory};
+
+/// Bytes that were gathered: the first `count` of `room`.
+#[derive(Clone, Copy, PartialEq, Eq, Debug)]
+pub(crate) struct Gathered {
+    pub room: [u8; 16],
+    pub count: usize,
+    ghost fits: { count ≤ 16 },
+}
+
+impl Gathered {
+    /// The bytes.
+    pub(crate) fn bytes(&self) -> &[u8]
+        ensures { result.now ≡ take self.now.count self.now.room }
+    {
+        &self.room[..self.count]
+    }
+}
 
 /// The bytes of a view that lies in one piece.
 #[inline(always)]
@@ -30,7 +46,7 @@ fn put(room: &mut [u8; 16], count: usize, bytes: &[u8])
 }
 
 /// The bytes of a view, however many pieces it has, if there are at most 16.
-pub(crate) fn gather(view: &View<'_>) -> Option<Short>
+pub(crate) fn gather(view: &View<'_>) -> Option<Gathered>
     ensures some { IfSome result (λ all. take all.count all.room ≡ concat view.now) }
     ensures none { IfNone result (16 < length (concat view.now)) }
 {
@@ -46,7 +62,7 @@ pub(crate) fn gather(view: &View<'_>) -> Option<Short>
         count += piece.len();
         i += 1;
     }
-    Some(Short { room, count })
+    Some(Gathered { room, count })
 }
 
 /// Appends bytes to others.

@@ -7,7 +7,7 @@ ghost use Rattle.mir.specs.declared.operand.OperandKind.{OperandKind};
 ghost use Rattle.mir.specs.declared.statement.Statement.{Statement};
 ghost use Rattle.mir.specs.declared.statement.StatementKind.{StatementKind};
 ghost use Rattle.mir.specs.Run.{after_statement, after_statements, copied, operand_bytes, operand_type, operated, read};
-ghost use Rattle.mir_ops.specs.Made.{made_bytes, wide_bytes};
+ghost use Rattle.mir_ops.specs.Made.{made_bytes};
 ghost use Rattle.mir_rows.specs.declared.row.Source.TheVariants.{Constant, Local};
 ghost use Rattle.mir_rows.specs.Rows.{AreOperands, AreRows, IsRow, IsSource, Says};
 ghost use Rattle.mir_eval.specs.Frames.{frame_of};
@@ -20,9 +20,7 @@ use crate::pieces::whole;
 use crate::steps::execute;
 use mir::{BasicBlock, BinOp, LocalId};
 use mir_mem::{Memory, View};
-use mir_ops::{
-    Made, Size, WideMade, byte_of, bytes1, bytes2, bytes4, bytes8, bytes16, made_of, wide_made_of,
-};
+use mir_ops::{Made, byte_of, bytes1, bytes2, bytes4, bytes8, bytes16, made_of};
 use mir_rows::{Action, Row, Short, Source};
 use numbers::Kind;
 
@@ -44,8 +42,8 @@ fn source<'r, M: Memory>(
     }
 }
 
-/// What an operator makes of two operands of one kind of at most 8 bytes, without the table. There is none where `made_of` has none, or
-/// where the bytes of one can't be read or don't lie in one piece.
+/// What an operator makes of two operands of one kind, without the table. There is none where `made_of` has none, or where the
+/// bytes of one can't be read or don't lie in one piece.
 #[inline(always)]
 fn combine<M: Memory>(
     frame: StackFrame<'_, '_>,
@@ -64,7 +62,7 @@ fn combine<M: Memory>(
     made_of(op, kind, left_bytes, right_bytes)
 }
 
-/// Assigns a number of at most 8 bytes or a truth value to a local.
+/// Assigns a number or a truth value to a local.
 #[inline(always)]
 #[tactic(auto, unfolding(mir::specs::Run::copied))]
 fn assign_made<M: Memory>(
@@ -78,30 +76,13 @@ fn assign_made<M: Memory>(
     let Some(to) = cell_of(frame.cells, to) else {
         return Err(Fault::BadWrite);
     };
-    match made.size {
-        Size::One => write(memory, to, &bytes1(made.word)),
-        Size::Two => write(memory, to, &bytes2(made.word)),
-        Size::Four => write(memory, to, &bytes4(made.word)),
-        Size::Eight => write(memory, to, &bytes8(made.word)),
-    }
-}
-
-/// Assigns to a local what an operator made of operands of 16 bytes.
-#[tactic(auto, unfolding(mir::specs::Run::copied))]
-fn assign_wide<M: Memory>(
-    frame: StackFrame<'_, '_>,
-    memory: &mut M,
-    to: LocalId,
-    made: WideMade,
-) -> Result<(), Fault>
-    ensures { left_with (M.areas memory.new) result ≡ copied (M.areas memory.old) (slice_get frame.entry.cells.now to.0) (Ok (wide_bytes made)) }
-{
-    let Some(to) = cell_of(frame.cells, to) else {
-        return Err(Fault::BadWrite);
-    };
     match made {
-        WideMade::Word(word) => write(memory, to, &bytes16(word)),
-        WideMade::Truth(truth) => write(memory, to, &byte_of(truth)),
+        Made::Word1(word) => write(memory, to, &bytes1(word)),
+        Made::Word2(word) => write(memory, to, &bytes2(word)),
+        Made::Word4(word) => write(memory, to, &bytes4(word)),
+        Made::Word8(word) => write(memory, to, &bytes8(word)),
+        Made::WideWord(word) => write(memory, to, &bytes16(word)),
+        Made::Truth(truth) => write(memory, to, &byte_of(truth)),
     }
 }
 
@@ -142,36 +123,6 @@ fn put<M: Memory>(
     }
 }
 
-/// Does an action that assigns what an operator makes of operands of 16 bytes. Where it can't, nothing has changed. It stays out of the
-/// loop over rows.
-#[inline(never)]
-fn act_wide<M: Memory>(
-    frame: StackFrame<'_, '_>,
-    memory: &mut M,
-    action: &Action,
-) -> Option<Result<(), Fault>>
-    ensures done { IfSome result (λ done. (statement : StatementKind) → Says frame.entry.body.now action.now statement → left_with (M.areas memory.new) done ≡ after_statement (frame_of frame.entry) (M.areas memory.old) statement) }
-    ensures kept { IfNone result (M.areas memory.new ≡ M.areas memory.old) }
-{
-    match action {
-        Action::Combine {
-            op,
-            kind,
-            to,
-            left,
-            right,
-        } => {
-            let left_view = source(frame, memory, left)?;
-            let right_view = source(frame, memory, right)?;
-            let left_bytes = whole(&left_view)?;
-            let right_bytes = whole(&right_view)?;
-            let made = wide_made_of(*op, *kind, left_bytes, right_bytes)?;
-            Some(assign_wide(frame, memory, *to, made))
-        }
-        _ => None,
-    }
-}
-
 /// Does an action, where it can be done without the statement that it is read off. Where it can't, nothing has changed.
 #[inline(always)]
 fn act<M: Memory>(
@@ -190,10 +141,8 @@ fn act<M: Memory>(
             left,
             right,
         } => {
-            match combine(frame, memory, *op, *kind, left, right) {
-                Some(made) => Some(assign_made(frame, memory, *to, made)),
-                None => act_wide(frame, memory, action),
-            }
+            let made = combine(frame, memory, *op, *kind, left, right)?;
+            Some(assign_made(frame, memory, *to, made))
         }
         Action::Copy { to, from } => Some(copy_local(frame, memory, *to, *from)),
         Action::Put { to, value } => Some(put(frame, memory, *to, value)),

@@ -206,8 +206,7 @@ impl<'a, M: Memory + Drop> Run<'a, M> {
                 self.point = Point::Entry(body.as_ref().body().start_block);
                 self.body = body;
                 let used = mem::replace(&mut self.cells, Vec::new(alloc));
-                // Without memory the list is given up, and the next body makes its own.
-                if self.spare.push(used).is_err() {}
+                set_aside(&mut self.spare, used);
                 self.cells = cells;
                 match next {
                     Some(block) => Went::On(block),
@@ -292,7 +291,7 @@ impl<'a, M: Memory + Drop> Run<'a, M> {
         self.point = Point::Entry(block);
         let levels = match call.target {
             Some(_) => self.levels,
-            None => self.levels + 1,
+            None => one_level_more(self.levels, self.program.nesting),
         };
         let caller = Suspended {
             body: mem::replace(&mut self.body, body),
@@ -528,6 +527,19 @@ impl<'a, M: Memory + Drop> Run<'a, M> {
             Err(fault) => self.go_on(alloc, block, Err(fault)),
         }
     }
+}
+
+/// Sets a list of cells aside. Without memory it is given up, and the next body makes its own.
+fn set_aside(spare: &mut Vec<Vec<Interval>>, used: Vec<Interval>) {
+    if spare.push(used).is_err() {}
+}
+
+/// One level of nesting more, where that is within the limit.
+fn one_level_more(levels: u32, most: u32) -> u32
+    requires { levels < most }
+    ensures { result ≡ levels + 1 }
+{
+    levels + 1
 }
 
 /// The error of a call whose callee's body can't be got.

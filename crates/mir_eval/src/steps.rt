@@ -13,12 +13,12 @@ use crate::cells::{cell_of, copy, read, write};
 use crate::faults::Fault;
 use crate::frames::StackFrame;
 use crate::pieces::{gather, whole};
+use crate::words::unsigned;
 use mir::{
     BasicBlockId, BinOp, CastKind, Interval, OperandKind, Rvalue, StatementKind, SwitchTargets,
     Terminator, TerminatorKind, UnOp, fixed_size,
 };
 use mir_mem::{Memory, View};
-use mir_ops::unsigned_number;
 use mir_rows::{constant_bytes, operand_kind};
 use numbers::{Computed, compute, convert, invert, negate};
 use types::Ty;
@@ -272,9 +272,9 @@ fn branch<M: Memory>(
         return Err(Fault::Undefined);
     }
     let number = match whole(&view) {
-        Some(bytes) => unsigned_number(bytes),
+        Some(bytes) => unsigned(bytes),
         None => match gather(&view) {
-            Some(bytes) => unsigned_number(bytes.bytes()),
+            Some(bytes) => unsigned(bytes.bytes()),
             None => return Err(Fault::Undefined),
         },
     };

@@ -6,6 +6,5 @@ mod made;
 mod operators;
 mod words;
 
-pub use made::{Made, Size, WideMade, byte_of, bytes1, bytes2, bytes4, bytes8, bytes16};
-pub use operators::{made_of, wide_made_of};
-pub use words::{chunk_of, unsigned_number};
+pub use made::{Made, byte_of, bytes1, bytes2, bytes4, bytes8, bytes16};
+pub use operators::made_of;

@@ -8,26 +8,26 @@ ghost use Rattle.mir_ops.specs.Made.{bytes_in, made_bytes};
 
 /// How many bytes a number has that fits a register.
 #[derive(Clone, Copy)]
-pub enum Size {
+pub(crate) enum Size {
     One,
     Two,
     Four,
     Eight,
 }
 
-/// What an operator makes of two operands of at most 8 bytes: the lowest bytes of a word, as many as the size is. A signed
-/// number is in two's complement, and a truth value is 0 or 1, in one byte.
+/// What an operator makes of two operands. A number is in two's complement if it's signed.
 #[derive(Clone, Copy)]
-pub struct Made {
-    pub word: u64,
-    pub size: Size,
-}
-
-/// What an operator makes of two operands of 16 bytes. A number is in two's complement if it's signed.
-#[derive(Clone, Copy)]
-pub enum WideMade {
+pub enum Made {
+    /// A number of 1 byte: the lowest byte of a word.
+    Word1(u64),
+    /// A number of 2 bytes: the lowest ones of a word.
+    Word2(u64),
+    /// A number of 4 bytes: the lowest ones of a word.
+    Word4(u64),
+    /// A number of 8 bytes.
+    Word8(u64),
     /// A number of 16 bytes.
-    Word(u128),
+    WideWord(u128),
     /// A truth value.
     Truth(bool),
 }
@@ -53,17 +53,11 @@ impl Size {
 pub(crate) fn word_of(size: Size, word: u64) -> Made
     ensures { made_bytes result ≡ low_digits (bytes_in size) word }
 {
-    Made { word, size }
-}
-
-/// A truth value.
-#[inline(always)]
-pub(crate) fn truth_of(truth: bool) -> Made
-    ensures { made_bytes result ≡ low_digits 1 (from_bool truth) }
-{
-    Made {
-        word: truth as u64,
-        size: Size::One,
+    match size {
+        Size::One => Made::Word1(word),
+        Size::Two => Made::Word2(word),
+        Size::Four => Made::Word4(word),
+        Size::Eight => Made::Word8(word),
     }
 }
 

@@ -3,9 +3,10 @@
 ghost use Rattle.std.specs.Prelude.{◌≡◌, length, IfSome, Some, true, false};
 ghost use Rattle.numbers.specs.Operators.{Computes, computed, on_integers};
 ghost use Rattle.numbers.specs.declared.operator.Kind.TheVariants as Kind;
-ghost use Rattle.mir_ops.specs.Made.{bytes_in, made_bytes, wide_bytes};
+ghost use Rattle.mir_ops.specs.Made.{bytes_in, made_bytes};
 
-use crate::made::{Made, Size, WideMade, truth_of, word_of};
+use crate::Made;
+use crate::made::{Size, word_of};
 use crate::words::{kept_signed, kept_unsigned, signed, unsigned, wide_signed, wide_word};
 use numbers::{Kind, Operator, word16};
 
@@ -29,41 +30,41 @@ fn on_unsigned(op: Operator, size: Size, left: &[u8], right: &[u8]) -> Option<Ma
         Operator::BitOr => Some(word_of(size, x | y)),
         Operator::Shl => None,
         Operator::Shr => None,
-        Operator::Eq => Some(truth_of(x == y)),
-        Operator::Lt => Some(truth_of(x < y)),
-        Operator::Le => Some(truth_of(x <= y)),
-        Operator::Ne => Some(truth_of(x != y)),
-        Operator::Ge => Some(truth_of(y <= x)),
-        Operator::Gt => Some(truth_of(y < x)),
+        Operator::Eq => Some(Made::Truth(x == y)),
+        Operator::Lt => Some(Made::Truth(x < y)),
+        Operator::Le => Some(Made::Truth(x <= y)),
+        Operator::Ne => Some(Made::Truth(x != y)),
+        Operator::Ge => Some(Made::Truth(y <= x)),
+        Operator::Gt => Some(Made::Truth(y < x)),
     }
 }
 
 /// What an operator makes of two unsigned numbers of 16 bytes. There is none for a shift, and where the operator panics.
 #[inline(never)]
-fn on_wide_unsigned(op: Operator, left: &[u8], right: &[u8]) -> Option<WideMade>
+fn on_wide_unsigned(op: Operator, left: &[u8], right: &[u8]) -> Option<Made>
     requires left { length left.now ≡ 16 }
     requires right { length right.now ≡ 16 }
-    ensures { IfSome result (λ made. on_integers op false left.now right.now ≡ Computes (wide_bytes made)) }
+    ensures { IfSome result (λ made. on_integers op false left.now right.now ≡ Computes (made_bytes made)) }
 {
     let x = word16(left);
     let y = word16(right);
     match op {
-        Operator::Add => Some(WideMade::Word(x.checked_add(y)?)),
-        Operator::Sub => Some(WideMade::Word(x.checked_sub(y)?)),
-        Operator::Mul => Some(WideMade::Word(x.checked_mul(y)?)),
-        Operator::Div => Some(WideMade::Word(x.checked_div(y)?)),
-        Operator::Rem => Some(WideMade::Word(x.checked_rem(y)?)),
-        Operator::BitXor => Some(WideMade::Word(x ^ y)),
-        Operator::BitAnd => Some(WideMade::Word(x & y)),
-        Operator::BitOr => Some(WideMade::Word(x | y)),
+        Operator::Add => Some(Made::WideWord(x.checked_add(y)?)),
+        Operator::Sub => Some(Made::WideWord(x.checked_sub(y)?)),
+        Operator::Mul => Some(Made::WideWord(x.checked_mul(y)?)),
+        Operator::Div => Some(Made::WideWord(x.checked_div(y)?)),
+        Operator::Rem => Some(Made::WideWord(x.checked_rem(y)?)),
+        Operator::BitXor => Some(Made::WideWord(x ^ y)),
+        Operator::BitAnd => Some(Made::WideWord(x & y)),
+        Operator::BitOr => Some(Made::WideWord(x | y)),
         Operator::Shl => None,
         Operator::Shr => None,
-        Operator::Eq => Some(WideMade::Truth(x == y)),
-        Operator::Lt => Some(WideMade::Truth(x < y)),
-        Operator::Le => Some(WideMade::Truth(x <= y)),
-        Operator::Ne => Some(WideMade::Truth(x != y)),
-        Operator::Ge => Some(WideMade::Truth(y <= x)),
-        Operator::Gt => Some(WideMade::Truth(y < x)),
+        Operator::Eq => Some(Made::Truth(x == y)),
+        Operator::Lt => Some(Made::Truth(x < y)),
+        Operator::Le => Some(Made::Truth(x <= y)),
+        Operator::Ne => Some(Made::Truth(x != y)),
+        Operator::Ge => Some(Made::Truth(y <= x)),
+        Operator::Gt => Some(Made::Truth(y < x)),
     }
 }
 
@@ -90,41 +91,41 @@ fn on_signed(op: Operator, size: Size, left: &[u8], right: &[u8]) -> Option<Made
         Operator::BitOr => on_unsigned(op, size, left, right),
         Operator::Shl => None,
         Operator::Shr => None,
-        Operator::Eq => Some(truth_of(x == y)),
-        Operator::Lt => Some(truth_of(x < y)),
-        Operator::Le => Some(truth_of(x <= y)),
-        Operator::Ne => Some(truth_of(x != y)),
-        Operator::Ge => Some(truth_of(y <= x)),
-        Operator::Gt => Some(truth_of(y < x)),
+        Operator::Eq => Some(Made::Truth(x == y)),
+        Operator::Lt => Some(Made::Truth(x < y)),
+        Operator::Le => Some(Made::Truth(x <= y)),
+        Operator::Ne => Some(Made::Truth(x != y)),
+        Operator::Ge => Some(Made::Truth(y <= x)),
+        Operator::Gt => Some(Made::Truth(y < x)),
     }
 }
 
 /// What an operator makes of two signed numbers of 16 bytes. There is none for a shift, and where the operator panics.
 #[inline(never)]
-fn on_wide_signed(op: Operator, left: &[u8], right: &[u8]) -> Option<WideMade>
+fn on_wide_signed(op: Operator, left: &[u8], right: &[u8]) -> Option<Made>
     requires left { length left.now ≡ 16 }
     requires right { length right.now ≡ 16 }
-    ensures { IfSome result (λ made. on_integers op true left.now right.now ≡ Computes (wide_bytes made)) }
+    ensures { IfSome result (λ made. on_integers op true left.now right.now ≡ Computes (made_bytes made)) }
 {
     let x = wide_signed(left);
     let y = wide_signed(right);
     match op {
-        Operator::Add => Some(WideMade::Word(wide_word(x.checked_add(y)?))),
-        Operator::Sub => Some(WideMade::Word(wide_word(x.checked_sub(y)?))),
-        Operator::Mul => Some(WideMade::Word(wide_word(x.checked_mul(y)?))),
-        Operator::Div => Some(WideMade::Word(wide_word(x.checked_div(y)?))),
-        Operator::Rem => Some(WideMade::Word(wide_word(x.checked_rem(y)?))),
+        Operator::Add => Some(Made::WideWord(wide_word(x.checked_add(y)?))),
+        Operator::Sub => Some(Made::WideWord(wide_word(x.checked_sub(y)?))),
+        Operator::Mul => Some(Made::WideWord(wide_word(x.checked_mul(y)?))),
+        Operator::Div => Some(Made::WideWord(wide_word(x.checked_div(y)?))),
+        Operator::Rem => Some(Made::WideWord(wide_word(x.checked_rem(y)?))),
         Operator::BitXor => on_wide_unsigned(op, left, right),
         Operator::BitAnd => on_wide_unsigned(op, left, right),
         Operator::BitOr => on_wide_unsigned(op, left, right),
         Operator::Shl => None,
         Operator::Shr => None,
-        Operator::Eq => Some(WideMade::Truth(x == y)),
-        Operator::Lt => Some(WideMade::Truth(x < y)),
-        Operator::Le => Some(WideMade::Truth(x <= y)),
-        Operator::Ne => Some(WideMade::Truth(x != y)),
-        Operator::Ge => Some(WideMade::Truth(y <= x)),
-        Operator::Gt => Some(WideMade::Truth(y < x)),
+        Operator::Eq => Some(Made::Truth(x == y)),
+        Operator::Lt => Some(Made::Truth(x < y)),
+        Operator::Le => Some(Made::Truth(x <= y)),
+        Operator::Ne => Some(Made::Truth(x != y)),
+        Operator::Ge => Some(Made::Truth(y <= x)),
+        Operator::Gt => Some(Made::Truth(y < x)),
     }
 }
 
@@ -167,8 +168,8 @@ fn small_unsigned(op: Operator, left: &[u8], right: &[u8]) -> Option<Made>
     sized_unsigned(op, Size::of(left.len())?, left, right)
 }
 
-/// What an operator makes of two unsigned numbers of one size of at most 8 bytes. There is none for a shift, where the operator panics, and
-/// for other bytes. Frequent sizes come first, and the compiled code for each knows its size.
+/// What an operator makes of two unsigned numbers of one size. There is none for a shift, where the operator panics, and for bytes that
+/// are no numbers. Frequent sizes come first, and the compiled code for each knows its size.
 #[inline(always)]
 fn two_unsigned(op: Operator, left: &[u8], right: &[u8]) -> Option<Made>
     requires { length right.now ≡ length left.now }
@@ -177,7 +178,8 @@ fn two_unsigned(op: Operator, left: &[u8], right: &[u8]) -> Option<Made>
     match left.len() {
         4 => sized_unsigned(op, Size::Four, left, right),
         8 => sized_unsigned(op, Size::Eight, left, right),
-        _ => Some(small_unsigned(op, left, right)?),
+        16 => on_wide_unsigned(op, left, right),
+        _ => small_unsigned(op, left, right),
     }
 }
 
@@ -201,8 +203,8 @@ fn small_signed(op: Operator, left: &[u8], right: &[u8]) -> Option<Made>
     sized_signed(op, Size::of(left.len())?, left, right)
 }
 
-/// What an operator makes of two signed numbers of one size of at most 8 bytes. There is none for a shift, where the operator panics, and
-/// for other bytes. Frequent sizes come first, and the compiled code for each knows its size.
+/// What an operator makes of two signed numbers of one size. There is none for a shift, where the operator panics, and for bytes that
+/// are no numbers. Frequent sizes come first, and the compiled code for each knows its size.
 #[inline(always)]
 fn two_signed(op: Operator, left: &[u8], right: &[u8]) -> Option<Made>
     requires { length right.now ≡ length left.now }
@@ -211,12 +213,13 @@ fn two_signed(op: Operator, left: &[u8], right: &[u8]) -> Option<Made>
     match left.len() {
         4 => sized_signed(op, Size::Four, left, right),
         8 => sized_signed(op, Size::Eight, left, right),
-        _ => Some(small_signed(op, left, right)?),
+        16 => on_wide_signed(op, left, right),
+        _ => small_signed(op, left, right),
     }
 }
 
-/// What an operator makes of two operands of one kind of at most 8 bytes. There is none for a shift, where the operator panics, and for
-/// bytes that are no such numbers of one type and no truth values.
+/// What an operator makes of two operands of one kind. There is none for a shift, where the operator panics, and for bytes that
+/// are no numbers of one type and no truth values.
 #[inline(always)]
 pub fn made_of(op: Operator, kind: Kind, left: &[u8], right: &[u8]) -> Option<Made>
     ensures { IfSome result (λ made. computed op (Some kind) (Some kind) left.now right.now ≡ Computes (made_bytes made)) }
@@ -230,30 +233,10 @@ pub fn made_of(op: Operator, kind: Kind, left: &[u8], right: &[u8]) -> Option<Ma
         Kind::Character => None,
         Kind::Boolean => {
             if left.len() == 1 {
-                Some(on_booleans(op, left, right)?)
+                on_booleans(op, left, right)
             } else {
                 None
             }
         }
-    }
-}
-
-/// What an operator makes of two numbers of 16 bytes of one kind. There is none for a shift, where the operator panics, and for
-/// other bytes.
-#[inline(never)]
-pub fn wide_made_of(op: Operator, kind: Kind, left: &[u8], right: &[u8]) -> Option<WideMade>
-    ensures { IfSome result (λ made. computed op (Some kind) (Some kind) left.now right.now ≡ Computes (wide_bytes made)) }
-{
-    if left.len() != 16 {
-        return None;
-    }
-    if right.len() != 16 {
-        return None;
-    }
-    match kind {
-        Kind::Signed => on_wide_signed(op, left, right),
-        Kind::Unsigned => on_wide_unsigned(op, left, right),
-        Kind::Boolean => None,
-        Kind::Character => None,
     }
 }

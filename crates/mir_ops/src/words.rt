@@ -1,6 +1,6 @@
 //! The number that bytes are, and the word of a number that its type has.
 
-ghost use Rattle.std.specs.Prelude.{◌≡◌, ◌+◌, ◌^◌, ◌<◌, ◌≤◌, ◌↔◌, ◌≤ℤ◌, IsTrue, IfSome, length, true};
+ghost use Rattle.std.specs.Prelude.{◌≡◌, ◌+◌, ◌^◌, ◌<◌, ◌↔◌, ◌≤ℤ◌, IsTrue, IfSome, length, true};
 ghost use Rattle.numbers.specs.Bytes.{value_of, number_of, holds, low_digits, low_bytes};
 ghost use Rattle.mir_ops.specs.Made.{bytes_in};
 
@@ -100,31 +100,4 @@ pub(crate) fn wide_word(value: i128) -> u128
     ensures { (holds true 16 value ≡ true) × (low_digits 16 result ≡ low_bytes 16 value) }
 {
     value.cast_unsigned()
-}
-
-/// `N` bytes, where there are as many.
-#[inline(always)]
-pub fn chunk_of<const N: usize>(bytes: &[u8]) -> Option<[u8; N]>
-    ensures { IfSome result (λ chunk. chunk ≡ bytes.now) }
-{
-    if bytes.len() != N {
-        return None;
-    }
-    match bytes.split_first_chunk::<N>() {
-        Some((chunk, _)) => Some(*chunk),
-        None => None,
-    }
-}
-
-/// The unsigned number that at most 16 bytes are, the lowest first.
-pub fn unsigned_number(bytes: &[u8]) -> u128
-    requires { length bytes.now ≤ 16 }
-    ensures { result ≡ value_of bytes.now }
-{
-    if bytes.len() == 1 {
-        return bytes[0] as u128;
-    }
-    let mut word = [0; 16];
-    word[..bytes.len()].copy_from_slice(bytes);
-    word16(&word)
 }

@@ -23,22 +23,22 @@ returns-in_ok-kept_signed-in-Rem-2 c =
     rw c.in-Rem.is (rest _ _ _ _ _ _ numbers _ _ held c.in_ok-checked_rem-in-Rem.ensures c.in_ok-kept_signed-in-Rem-2.ensures ∙ ap Computes (sym c.word_of-in-Rem.ensures))
 
 pub returns-in-Eq : goal.returns-in-Eq
-returns-in-Eq c = rw c.in-Eq.is (equal _ _ _ _ _ _ (numbers_at w64 _ _ _ c.args.left.now c.args.right.now c.requires.left c.signed-x.type_inv c.signed-y.type_inv c.signed-x.ensures c.signed-y.ensures) refl ∙ ap Computes (sym c.truth_of.ensures))
+returns-in-Eq c = rw c.in-Eq.is (equal _ _ _ _ _ _ (numbers_at w64 _ _ _ c.args.left.now c.args.right.now c.requires.left c.signed-x.type_inv c.signed-y.type_inv c.signed-x.ensures c.signed-y.ensures) refl)
 
 pub returns-in-Lt : goal.returns-in-Lt
-returns-in-Lt c = rw c.in-Lt.is (less _ _ _ _ _ _ (numbers_at w64 _ _ _ c.args.left.now c.args.right.now c.requires.left c.signed-x.type_inv c.signed-y.type_inv c.signed-x.ensures c.signed-y.ensures) ∙ ap Computes (sym c.truth_of-in-Lt.ensures))
+returns-in-Lt c = rw c.in-Lt.is (less _ _ _ _ _ _ (numbers_at w64 _ _ _ c.args.left.now c.args.right.now c.requires.left c.signed-x.type_inv c.signed-y.type_inv c.signed-x.ensures c.signed-y.ensures))
 
 pub returns-in-Le : goal.returns-in-Le
-returns-in-Le c = rw c.in-Le.is (at_most _ _ _ _ _ _ (numbers_at w64 _ _ _ c.args.left.now c.args.right.now c.requires.left c.signed-x.type_inv c.signed-y.type_inv c.signed-x.ensures c.signed-y.ensures) ∙ ap Computes (sym c.truth_of-in-Le.ensures))
+returns-in-Le c = rw c.in-Le.is (at_most _ _ _ _ _ _ (numbers_at w64 _ _ _ c.args.left.now c.args.right.now c.requires.left c.signed-x.type_inv c.signed-y.type_inv c.signed-x.ensures c.signed-y.ensures))
 
 pub returns-in-Ne : goal.returns-in-Ne
-returns-in-Ne c = rw c.in-Ne.is (unequal _ _ _ _ _ _ (numbers_at w64 _ _ _ c.args.left.now c.args.right.now c.requires.left c.signed-x.type_inv c.signed-y.type_inv c.signed-x.ensures c.signed-y.ensures) refl ∙ ap Computes (sym c.truth_of-in-Ne.ensures))
+returns-in-Ne c = rw c.in-Ne.is (unequal _ _ _ _ _ _ (numbers_at w64 _ _ _ c.args.left.now c.args.right.now c.requires.left c.signed-x.type_inv c.signed-y.type_inv c.signed-x.ensures c.signed-y.ensures) refl)
 
 pub returns-in-Ge : goal.returns-in-Ge
-returns-in-Ge c = rw c.in-Ge.is (at_least _ _ _ _ _ _ (numbers_at w64 _ _ _ c.args.left.now c.args.right.now c.requires.left c.signed-x.type_inv c.signed-y.type_inv c.signed-x.ensures c.signed-y.ensures) ∙ ap Computes (sym c.truth_of-in-Ge.ensures))
+returns-in-Ge c = rw c.in-Ge.is (at_least _ _ _ _ _ _ (numbers_at w64 _ _ _ c.args.left.now c.args.right.now c.requires.left c.signed-x.type_inv c.signed-y.type_inv c.signed-x.ensures c.signed-y.ensures))
 
 pub returns-in-Gt : goal.returns-in-Gt
-returns-in-Gt c = rw c.in-Gt.is (more _ _ _ _ _ _ (numbers_at w64 _ _ _ c.args.left.now c.args.right.now c.requires.left c.signed-x.type_inv c.signed-y.type_inv c.signed-x.ensures c.signed-y.ensures) ∙ ap Computes (sym c.truth_of-in-Gt.ensures))
+returns-in-Gt c = rw c.in-Gt.is (more _ _ _ _ _ _ (numbers_at w64 _ _ _ c.args.left.now c.args.right.now c.requires.left c.signed-x.type_inv c.signed-y.type_inv c.signed-x.ensures c.signed-y.ensures))
 
 pub returns-in-BitXor : goal.returns-in-BitXor
 unfolding on_integers

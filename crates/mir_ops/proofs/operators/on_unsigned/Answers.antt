@@ -28,19 +28,19 @@ pub returns-in-BitOr : goal.returns-in-BitOr
 returns-in-BitOr c = rw c.in-BitOr.is (ored _ _ _ _ _ (words_at _ _ _ c.args.left.now c.args.right.now c.requires.left c.unsigned-x.ensures.value c.unsigned-y.ensures.value) ∙ ap Computes (sym c.word_of-in-BitOr.ensures))
 
 pub returns-in-Eq : goal.returns-in-Eq
-returns-in-Eq c = rw c.in-Eq.is (equal _ _ _ _ _ (words_at _ _ _ c.args.left.now c.args.right.now c.requires.left c.unsigned-x.ensures.value c.unsigned-y.ensures.value) ∙ ap Computes (sym c.truth_of.ensures))
+returns-in-Eq c = rw c.in-Eq.is (equal _ _ _ _ _ (words_at _ _ _ c.args.left.now c.args.right.now c.requires.left c.unsigned-x.ensures.value c.unsigned-y.ensures.value))
 
 pub returns-in-Lt : goal.returns-in-Lt
-returns-in-Lt c = rw c.in-Lt.is (less _ _ _ _ _ (words_at _ _ _ c.args.left.now c.args.right.now c.requires.left c.unsigned-x.ensures.value c.unsigned-y.ensures.value) ∙ ap Computes (sym c.truth_of-in-Lt.ensures))
+returns-in-Lt c = rw c.in-Lt.is (less _ _ _ _ _ (words_at _ _ _ c.args.left.now c.args.right.now c.requires.left c.unsigned-x.ensures.value c.unsigned-y.ensures.value))
 
 pub returns-in-Le : goal.returns-in-Le
-returns-in-Le c = rw c.in-Le.is (at_most _ _ _ _ _ (words_at _ _ _ c.args.left.now c.args.right.now c.requires.left c.unsigned-x.ensures.value c.unsigned-y.ensures.value) ∙ ap Computes (sym c.truth_of-in-Le.ensures))
+returns-in-Le c = rw c.in-Le.is (at_most _ _ _ _ _ (words_at _ _ _ c.args.left.now c.args.right.now c.requires.left c.unsigned-x.ensures.value c.unsigned-y.ensures.value))
 
 pub returns-in-Ne : goal.returns-in-Ne
-returns-in-Ne c = rw c.in-Ne.is (unequal _ _ _ _ _ (words_at _ _ _ c.args.left.now c.args.right.now c.requires.left c.unsigned-x.ensures.value c.unsigned-y.ensures.value) ∙ ap Computes (sym c.truth_of-in-Ne.ensures))
+returns-in-Ne c = rw c.in-Ne.is (unequal _ _ _ _ _ (words_at _ _ _ c.args.left.now c.args.right.now c.requires.left c.unsigned-x.ensures.value c.unsigned-y.ensures.value))
 
 pub returns-in-Ge : goal.returns-in-Ge
-returns-in-Ge c = rw c.in-Ge.is (at_least _ _ _ _ _ (words_at _ _ _ c.args.left.now c.args.right.now c.requires.left c.unsigned-x.ensures.value c.unsigned-y.ensures.value) ∙ ap Computes (sym c.truth_of-in-Ge.ensures))
+returns-in-Ge c = rw c.in-Ge.is (at_least _ _ _ _ _ (words_at _ _ _ c.args.left.now c.args.right.now c.requires.left c.unsigned-x.ensures.value c.unsigned-y.ensures.value))
 
 pub returns-in-Gt : goal.returns-in-Gt
-returns-in-Gt c = rw c.in-Gt.is (more _ _ _ _ _ (words_at _ _ _ c.args.left.now c.args.right.now c.requires.left c.unsigned-x.ensures.value c.unsigned-y.ensures.value) ∙ ap Computes (sym c.truth_of-in-Gt.ensures))
+returns-in-Gt c = rw c.in-Gt.is (more _ _ _ _ _ (words_at _ _ _ c.args.left.now c.args.right.now c.requires.left c.unsigned-x.ensures.value c.unsigned-y.ensures.value))

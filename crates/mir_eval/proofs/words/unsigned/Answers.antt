@@ -1,8 +1,8 @@
 use Rattle.std.proofs.Common.{rules, ◌∙◌, length, ap}
 use Rattle.numbers.specs.Bytes.{value_of}
 use Rattle.numbers.proofs.Reading.{word1_is}
-use Rattle.mir_ops.proofs.Padded.{value_of-padded}
-use Rattle.mir_ops.proofs.words.unsigned_number.Goals as goal
+use Rattle.mir_eval.proofs.Padded.{value_of-padded}
+use Rattle.mir_eval.proofs.words.unsigned.Goals as goal
 
 pub returns-then-bytes-eq1 : goal.returns-then-bytes-eq1
 returns-then-bytes-eq1 c = word1_is c.args.bytes.now (search rules)
