@@ -28,7 +28,7 @@ use Rattle.mir_lower.specs.Stops.{MakesCall, WasRefused, without_arguments}
 use Rattle.source_meaning.proofs.Calls.{called_by_name, called_world}
 use Rattle.source_meaning.specs.Calls.{source_at, source_of as function_source}
 use Rattle.source_meaning.specs.Core as expr
-use Rattle.source_meaning.specs.Core.{CoreExpr, Number, is_truth}
+use Rattle.source_meaning.specs.Core.{CoreExpr, Number, Character, is_truth}
 use Rattle.source_meaning.specs.Source.{Source, diverges, node, unadjusted}
 use Rattle.source_meaning.specs.Steps.{Step, steps_of, step_part, parts_of}
 use Rattle.source_meaning.specs.Steps as step
@@ -71,6 +71,7 @@ parts-need source None child within = absurd (nothing-within child within)
 truth-is-no-number : (adjusted : Bool) (form : Option CoreExpr) → is_truth (cond adjusted None form) ≡ true → IsNumber form → ⊥
 truth-is-no-number true form truth number = cc
 truth-is-no-number false (Some (expr.Literal (Number n))) truth number = cc
+truth-is-no-number false (Some (expr.Literal (Character code))) truth number = cc
 truth-is-no-number false _ truth number = number
 
 -- and has no parts
