@@ -10,10 +10,11 @@ use Rattle.types.specs.declared.ids.GenericParamId.{GenericParamId}
 use Rattle.types.specs.declared.ids.PatId.{PatId}
 use Rattle.world.specs.declared.database.BodyRow.{BodyRow}
 use Rattle.world.specs.declared.database.HirDatabase.{HirDatabase}
+use Rattle.world.specs.declared.layout.Layout.{Layout}
 use Rattle.world.specs.declared.limits.Limits.{Limits}
 use Rattle.types.specs.declared.ids.DefWithBodyId.{DefWithBodyId}
 use Rattle.types.specs.declared.ty.GenericArgs.{GenericArgs}
-use Rattle.types.specs.declared.ty.Ty.{Ty, Bool as BoolTy, Char as CharTy, Int as IntTy, Uint as UintTy}
+use Rattle.types.specs.declared.ty.Ty.{Ty, Char as CharTy}
 use Rattle.world.specs.Lookups.{body_row, layout_of}
 use Rattle.world.specs.Checked.{IsChecked}
 use Rattle.numbers.specs.Bytes.{is_width}
@@ -31,11 +32,10 @@ use Rattle.body_forms.proofs.Causes.{built-is-complete, built-is-no-unbuilt, bui
 use Rattle.mir_lower.specs.Simulates.{Simulates}
 use Rattle.source_meaning.proofs.Built.{plain_is_built}
 use Rattle.source_meaning.specs.Entering.{entering}
-use Rattle.source_meaning.proofs.Layouts.{integer_is_number, number_has_length}
-use Rattle.source_meaning.proofs.Operators.{length_is_width}
+use Rattle.source_meaning.proofs.Layouts.{char_is_four, integer_is_width}
 use Rattle.source_meaning.specs.Calls.{names_bound, parameters, self_bound}
 use Rattle.source_meaning.specs.Source.{Source, Cell, node, root}
-use Rattle.source_meaning.specs.Valid.{Evaluates, at_once, IsChar, IsNumber as IsNumberType, IsPlain, HasPlainForm, IsPlainNode, HasDefinedCost, FitsAround, JumpsFit}
+use Rattle.source_meaning.specs.Valid.{Evaluates, at_once, IsChar, IsPlain, HasPlainForm, IsPlainNode, HasDefinedCost, FitsAround, JumpsFit}
 use Rattle.consteval.specs.Answers.{EndsEvaluation, EndsLowering, PassesBytesAtOnce, RefusesRun}
 use Rattle.consteval.specs.Refusals.{RefusesBody}
 use Rattle.consteval.specs.Built.{has_errors, has_generics, is_empty, is_erroneous, is_generic_function, is_unbuilt, is_unbuilt_definition}
@@ -120,18 +120,16 @@ wide-is-no-width size is wide =
     ∙ ap (λ b. b || size == 8 || size == 16) four ∙ ap (λ b. b || size == 16) eight ∙ sixteen in
     cc
 
-char-is-number : (ty : Ty) → IsChar ty → IsNumberType ty
-char-is-number BoolTy is = absurd is
-char-is-number (IntTy ty) is = absurd is
-char-is-number (UintTy ty) is = absurd is
-char-is-number CharTy is = tt
-char-is-number _ is = absurd is
+-- a character has as many bytes as an integer of some type
+char-is-width : (world : HirDatabase) (ty : Ty) (layout : Layout) → IsChecked world → IsChar ty → layout_of world ty ≡ Some layout → is_width layout.size ≡ true
+char-is-width world CharTy layout checked is found = ap is_width (char_is_four world layout checked found)
+char-is-width world _ layout checked is found = absurd is
 
--- a literal of a number or a character, of a plain form, has an integer type or `char`
-literal-has-number : (source : Source) (e : ℕ) (form : Option CoreExpr) (ty : Ty) → HasPlainForm source e form ty → IsNumber form → IsNumberType ty
-literal-has-number source e (Some (expr.Literal (Number n))) ty plain number = integer_is_number ty plain
-literal-has-number source e (Some (expr.Literal (Character code))) ty plain number = char-is-number ty plain
-literal-has-number source e _ ty plain number = absurd number
+-- and so has a literal of a plain form that is a number or a character
+literal-is-width : (source : Source) (e : ℕ) (form : Option CoreExpr) (ty : Ty) (layout : Layout) → IsChecked source.world → HasPlainForm source e form ty → IsNumber form → layout_of source.world ty ≡ Some layout → is_width layout.size ≡ true
+literal-is-width source e (Some (expr.Literal (Number n))) ty layout checked plain number found = integer_is_width source.world ty layout checked plain found
+literal-is-width source e (Some (expr.Literal (Character code))) ty layout checked plain number found = char-is-width source.world ty layout checked plain found
+literal-is-width source e _ ty layout checked plain number found = absurd number
 
 -- a jump that fits what stands around it has a target
 open-target : (source : Source) (form : Option CoreExpr) → form ≡ Some (expr.Continue None) → FitsAround source [] form → ⊥
@@ -177,8 +175,7 @@ refuses-node source e refusal.BreakWithoutLoop checked fits plain at refuses = a
 refuses-node source e refusal.UnresolvedLabel checked fits plain at refuses = absurd (named-target source refuses.2.0 refuses.0 (node source e) refuses.1 (fits refuses.2.0 e refuses.2.1) refuses.2.2)
 refuses-node source e (refusal.TypeError text) checked fits plain at refuses =
     let layout : layout_of source.world plain.ty ≡ Some refuses.2 = ap (option_and_then (layout_of source.world)) (sym plain.has_type) ∙ refuses.3 in
-    let number = literal-has-number source e (node source e) plain.ty plain.form refuses.1 in
-    absurd (wide-is-no-width refuses.2.size (length_is_width plain.ty refuses.2.size number (number_has_length source.world plain.ty refuses.2 checked number layout)) refuses.4)
+    absurd (wide-is-no-width refuses.2.size (literal-is-width source e (node source e) plain.ty refuses.2 checked plain.form refuses.1 layout) refuses.4)
 refuses-node source e (refusal.NotSupported text) checked fits plain at refuses = absurd (built-is-no-unbuilt source e (node source e) (plain_is_built source e plain) refuses.1)
 refuses-node source e refusal.NoMemory checked fits plain at refuses = inl refl
 
