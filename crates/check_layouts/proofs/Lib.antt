@@ -5,4 +5,3 @@ pub mod Found
 pub mod Inside
 pub mod Kept
 pub mod Placing
-pub mod Values

@@ -1,12 +1,12 @@
 -- Sizes and alignments that are the same on all targets.
-use Rattle.std.specs.Prelude.{ℕ, ◌%◌, ◌*◌, ◌==◌, nat_le, Bool, true, false, not, if◌then◌else◌, List, [], ◌∷◌, length, take, Option, Some, None}
+use Rattle.std.specs.Prelude.{ℕ, ◌%◌, ◌*◌, ◌==◌, Bool, true, false, not, List, [], ◌∷◌, take, Option, Some, None}
 use Rattle.std.specs.List.{list_any}
 use Rattle.std.specs.Option.{option_map}
 use Rattle.types.specs.Orders.{ty_cmp}
 use Rattle.types.specs.Places.{row_at}
 use Rattle.types.specs.declared.ids.AdtId.TheVariants as adt
 use Rattle.types.specs.declared.ty.ComplexMemoryMap.{ComplexMemoryMap}
-use Rattle.types.specs.declared.ty.Const.{Const, Const-F, out-Const}
+use Rattle.types.specs.declared.ty.Const.{Const}
 use Rattle.types.specs.declared.ty.Const.TheOpen as one
 use Rattle.types.specs.declared.ty.GenericArg.{GenericArg}
 use Rattle.types.specs.declared.ty.GenericArgs.{GenericArgs}
@@ -15,18 +15,15 @@ use Rattle.types.specs.declared.ty.TraitRef.{TraitRef}
 use Rattle.types.specs.declared.ty.Ty.{Ty, Ty-F, out-Ty}
 use Rattle.types.specs.declared.ty.UnevaluatedConst.{UnevaluatedConst}
 use Rattle.types.specs.declared.ty.ValueConst.{ValueConst}
-use Rattle.numbers.specs.Bytes.{value_of}
+use Rattle.numbers.specs.Constants.{number_in}
 use Rattle.world.specs.Checked.{int_bytes, uint_bytes}
 use Rattle.world.specs.Lookups.{layout_of}
 use Rattle.world.specs.declared.database.HirDatabase.{HirDatabase}
 use Rattle.world.specs.declared.layout.Layout.{Layout}
 
--- the variant of a type, and that of a constant
+-- the variant of a type
 abbrev pub TyLayer : Type 0
 TyLayer = Ty-F Const GenericArg MemoryMap Ty ComplexMemoryMap GenericArgs TraitRef UnevaluatedConst ValueConst
-
-abbrev pub ConstLayer : Type 0
-ConstLayer = Const-F Const GenericArg MemoryMap Ty ComplexMemoryMap GenericArgs TraitRef UnevaluatedConst ValueConst
 
 -- the powers of two up to 8192
 abbrev pub alignments : List ℕ
@@ -83,18 +80,6 @@ is_fixed_size (Some fixed) size = size == fixed
 abbrev pub layout_above : HirDatabase → ℕ → Ty → Option Layout
 layout_above world i ty = option_map (λ row. row.1) (row_at {R = Ty × Layout} (λ row. row.0) (ty_cmp ty) (take i world.layouts))
 
--- the number of bytes in little-endian order, if there are at most 16
-abbrev pub number_of_bytes : List ℕ → Option ℕ
-number_of_bytes bytes = if nat_le (length bytes) 16 then Some (value_of bytes) else None
-
--- the number of an evaluated constant, if it has at most 16 bytes
-abbrev pub number_of : Const → Option ℕ
-number_of konst = number (out-Const konst)
-  where
-    number : ConstLayer → Option ℕ
-    number (one.Value value) = number_of_bytes value.memory
-    number _ = None
-
 -- the size of `len` elements of an optional layout: false if there is no layout, else true if the length is unknown
 abbrev pub is_product : Option ℕ → Option Layout → ℕ → Bool
 is_product (Some len) (Some element) size = size == len * element.size
@@ -107,5 +92,5 @@ abbrev pub is_array_size : HirDatabase → ℕ → Ty → ℕ → Bool
 is_array_size world i ty size = array (out-Ty ty)
   where
     array : TyLayer → Bool
-    array (one.Array element len) = is_product (number_of len) (layout_above world i element) size
+    array (one.Array element len) = is_product (number_in len) (layout_above world i element) size
     array _ = true

@@ -10,7 +10,7 @@ use Rattle.mir.specs.declared.ids.LocalId.{LocalId}
 use Rattle.mir.specs.declared.operand.OperandKind.{OperandKind}
 use Rattle.mir.specs.declared.operand.OperandKind.TheVariants.{Copy, Constant}
 use Rattle.mir.specs.declared.operand.Rvalue.{Rvalue}
-use Rattle.mir.specs.declared.operand.Rvalue.TheVariants.{Use, Cast, CheckedBinaryOp, UnaryOp}
+use Rattle.mir.specs.declared.operand.Rvalue.TheVariants.{Use, Repeat, Cast, CheckedBinaryOp, UnaryOp, Aggregate}
 use Rattle.mir.specs.declared.statement.StatementKind.{StatementKind}
 use Rattle.mir.specs.declared.statement.StatementKind.TheVariants.{Assign, FakeRead, StorageLive, StorageDead}
 use Rattle.mir.specs.Switches.{all_targets_of}
@@ -31,9 +31,11 @@ IsClosedOperand body (Constant konst ty) = Unit {0}
 -- each operand of a value that is computed is closed
 abbrev pub IsClosedRvalue : MirBody → Rvalue → Type 0
 IsClosedRvalue body (Use operand) = IsClosedOperand body operand.kind
+IsClosedRvalue body (Repeat operand len) = IsClosedOperand body operand.kind
 IsClosedRvalue body (Cast kind operand ty) = IsClosedOperand body operand.kind
 IsClosedRvalue body (CheckedBinaryOp op left right) = IsClosedOperand body left.kind × IsClosedOperand body right.kind
 IsClosedRvalue body (UnaryOp op operand) = IsClosedOperand body operand.kind
+IsClosedRvalue body (Aggregate kind operands) = All (λ operand. IsClosedOperand body operand.kind) operands
 
 -- each local that a statement names is the body's
 abbrev pub IsClosedStatement : MirBody → StatementKind → Type 0

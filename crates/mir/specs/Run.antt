@@ -1,6 +1,7 @@
 -- What a run of a body means: blocks entered one after another, over one memory and a stack of frames, under a budget of blocks. A
 -- call enters the body of its callee where the run was told that body; where it wasn't, the run asks for it.
-use Rattle.std.specs.Prelude.{ℕ, zero, suc, List, [], ◌∷◌, length, drop, filter, map, not, Option, Some, None, is_some, Result, Ok, Err, slice_get, option_map, option_and_then, codes, if◌then◌else◌, nat_le}
+use Rattle.std.specs.Prelude.{ℕ, zero, suc, List, [], ◌∷◌, ◌++◌, length, drop, filter, map, not, replicate, Option, Some, None, is_some, Result, Ok, Err, slice_get, option_map, option_and_then, codes, decimal, if◌then◌else◌, nat_le}
+use Rattle.std.specs.List.{concat}
 use Rattle.either.specs.declared.Either.TheVariants.{Left}
 use Rattle.types.specs.declared.ids.CallableDefId.TheVariants.{FunctionId as CalledFunction}
 use Rattle.types.specs.declared.ids.DefWithBodyId.TheVariants.{FunctionId as FunctionBody}
@@ -17,7 +18,11 @@ use Rattle.types.specs.declared.ty.UnevaluatedConst.{UnevaluatedConst}
 use Rattle.types.specs.declared.ty.ValueConst.{ValueConst}
 use Rattle.types.specs.declared.ty.Ty.{Ty, Ty-F, out-Ty}
 use Rattle.world.specs.Checked.{fixed_size}
+use Rattle.world.specs.Lookups.{layout_of}
+use Rattle.world.specs.declared.layout.Layout.{Layout}
+use Rattle.numbers.specs.Aggregates.{repeated, with_part}
 use Rattle.numbers.specs.Bytes.{value_of}
+use Rattle.numbers.specs.Constants.{number_in}
 use Rattle.numbers.specs.declared.operator.Operator.{Operator}
 use Rattle.numbers.specs.declared.operator.Kind.{Kind}
 use Rattle.numbers.specs.Operators.{Answer, Computes, Panics, Undefined, computed, converted, negated, inverted, kind_of}
@@ -48,7 +53,9 @@ use Rattle.mir.specs.declared.operand.UnOp.TheVariants as one
 use Rattle.mir.specs.declared.operand.OperandKind.{OperandKind}
 use Rattle.mir.specs.declared.operand.OperandKind.TheVariants.{Copy, Constant}
 use Rattle.mir.specs.declared.operand.Rvalue.{Rvalue}
-use Rattle.mir.specs.declared.operand.Rvalue.TheVariants.{Use, Cast, CheckedBinaryOp, UnaryOp}
+use Rattle.mir.specs.declared.operand.AggregateKind.{AggregateKind}
+use Rattle.mir.specs.declared.operand.AggregateKind.TheVariants.{Array, Tuple}
+use Rattle.mir.specs.declared.operand.Rvalue.TheVariants.{Use, Repeat, Cast, CheckedBinaryOp, UnaryOp, Aggregate}
 use Rattle.mir.specs.declared.statement.Statement.{Statement}
 use Rattle.mir.specs.declared.statement.StatementKind.{StatementKind}
 use Rattle.mir.specs.declared.statement.StatementKind.TheVariants.{Assign, FakeRead, StorageLive, StorageDead}
@@ -155,6 +162,48 @@ cast_to to from (Some bytes) =
     ]
 cast_to to from None = Err bad_read
 
+-- a value as often as a constant says, one behind another
+unfoldable pub repeats : Option ℕ → Option (List ℕ) → Result (List ℕ) MirEvalError
+repeats (Some count) (Some bytes) = Ok (repeated count bytes)
+repeats (Some count) None = Err bad_read
+repeats None bytes = Err (error.NotSupported (codes "non evaluatable array len in repeat Rvalue"))
+
+-- bytes before others
+abbrev pub before : Option (List ℕ) → Option (List (List ℕ)) → Option (List (List ℕ))
+before (Some bytes) (Some rest) = Some (bytes ∷ rest)
+before _ _ = None
+
+-- the bytes of operands, where all can be read
+unfoldable pub operands_bytes : Frame → Memory → List Operand → Option (List (List ℕ))
+operands_bytes frame memory [] = Some []
+operands_bytes frame memory (operand ∷ rest) = before (operand_bytes frame memory operand.kind) (operands_bytes frame memory rest)
+
+-- a part that doesn't end inside the value that it is to be a part of
+abbrev pub part_outside : (size offset : ℕ) → MirEvalError
+part_outside size offset =
+    error.InternalError (codes "field offset (" ++ (decimal offset ++ (codes ") is out of bounds 0.." ++ decimal size)))
+
+-- bytes in which each part stands at its offset, put there in order; `size`: how many bytes there are
+unfoldable pub placed_parts : (size : ℕ) → (offsets : List ℕ) → (parts : List (List ℕ)) → List ℕ → Result (List ℕ) MirEvalError
+placed_parts size offsets [] bytes = Ok bytes
+placed_parts size (offset ∷ offsets) (part ∷ parts) bytes =
+    elim (with_part offset part bytes) [
+      | Some next ↦ placed_parts size offsets parts next
+      | None ↦ Err (part_outside size offset)
+    ]
+placed_parts size [] (part ∷ parts) bytes = Err (error.InternalError (codes "field without offset"))
+
+-- a value of a type with this layout, which has these parts; it is zero where no part stands
+unfoldable pub laid_out : Option Layout → (parts : List (List ℕ)) → Result (List ℕ) MirEvalError
+laid_out (Some layout) parts = placed_parts layout.size layout.offsets parts (replicate layout.size 0)
+laid_out None parts = Err (error.InternalError (codes "mismatched layout"))
+
+-- the bytes of an aggregate, by those of its parts
+unfoldable pub aggregated : HirDatabase → AggregateKind → Option (List (List ℕ)) → Result (List ℕ) MirEvalError
+aggregated world (Array ty) (Some parts) = Ok (concat parts)
+aggregated world (Tuple ty) (Some parts) = laid_out (layout_of world ty) parts
+aggregated world kind None = Err bad_read
+
 abbrev pub read : Option (List ℕ) → Result (List ℕ) MirEvalError
 read (Some bytes) = Ok bytes
 read None = Err bad_read
@@ -162,11 +211,13 @@ read None = Err bad_read
 -- the bytes that an assignment computes
 unfoldable pub rvalue_bytes : Frame → Memory → Rvalue → Result (List ℕ) MirEvalError
 rvalue_bytes frame memory (Use operand) = read (operand_bytes frame memory operand.kind)
+rvalue_bytes frame memory (Repeat operand len) = repeats (number_in len) (operand_bytes frame memory operand.kind)
 rvalue_bytes frame memory (Cast kind operand ty) = cast_to ty (operand_type frame.body operand.kind) (operand_bytes frame memory operand.kind)
 rvalue_bytes frame memory (CheckedBinaryOp op left right) =
     operated op (operand_type frame.body left.kind) (operand_type frame.body right.kind)
     (operand_bytes frame memory left.kind) (operand_bytes frame memory right.kind)
 rvalue_bytes frame memory (UnaryOp op operand) = operated_on op (operand_type frame.body operand.kind) (operand_bytes frame memory operand.kind)
+rvalue_bytes frame memory (Aggregate kind operands) = aggregated frame.program.world kind (operands_bytes frame memory operands)
 
 -- the memory after bytes were copied to a cell
 unfoldable pub copied : Memory → Option Interval → Result (List ℕ) MirEvalError → Result Memory MirEvalError

@@ -99,11 +99,13 @@ impl MirBody {
     {
         match rvalue {
             Rvalue::Use(operand) => self.is_operand_closed(operand),
+            Rvalue::Repeat(operand, _) => self.is_operand_closed(operand),
             Rvalue::Cast(_, operand, _) => self.is_operand_closed(operand),
             Rvalue::CheckedBinaryOp(_, left, right) => {
                 self.is_operand_closed(left) && self.is_operand_closed(right)
             }
             Rvalue::UnaryOp(_, operand) => self.is_operand_closed(operand),
+            Rvalue::Aggregate(_, operands) => self.are_operands_closed(operands.as_slice()),
         }
     }
 

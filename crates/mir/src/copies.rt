@@ -2,7 +2,7 @@
 ghost use Rattle.std.specs.Prelude.{◌≡◌, IfOk};
 
 use crate::{
-    BasicBlock, ConstEvalError, LayoutError, Local, LocalId, MirBody, MirEvalError, MirLowerError,
+    AggregateKind, BasicBlock, ConstEvalError, LayoutError, Local, LocalId, MirBody, MirEvalError, MirLowerError,
     Operand, OperandKind, Rvalue, Statement, StatementKind, Terminator, TerminatorKind, TrailEntry,
 };
 use std::alloc::Global;
@@ -124,10 +124,23 @@ impl TryClone for Operand {
     }
 }
 
+impl TryClone for AggregateKind {
+    fn try_clone(&self, alloc: Global) -> Result<AggregateKind, NoMemory> {
+        match self {
+            AggregateKind::Array(ty) => Ok(AggregateKind::Array(ty.try_clone(alloc)?)),
+            AggregateKind::Tuple(ty) => Ok(AggregateKind::Tuple(ty.try_clone(alloc)?)),
+        }
+    }
+}
+
 impl TryClone for Rvalue {
     fn try_clone(&self, alloc: Global) -> Result<Rvalue, NoMemory> {
         match self {
             Rvalue::Use(operand) => Ok(Rvalue::Use(operand.try_clone(alloc)?)),
+            Rvalue::Repeat(operand, len) => {
+                let operand = operand.try_clone(alloc)?;
+                Ok(Rvalue::Repeat(operand, len.try_clone(alloc)?))
+            }
             Rvalue::Cast(kind, operand, ty) => {
                 let operand = operand.try_clone(alloc)?;
                 Ok(Rvalue::Cast(*kind, operand, ty.try_clone(alloc)?))
@@ -138,6 +151,10 @@ impl TryClone for Rvalue {
                 Ok(Rvalue::CheckedBinaryOp(*op, left, right))
             }
             Rvalue::UnaryOp(op, operand) => Ok(Rvalue::UnaryOp(*op, operand.try_clone(alloc)?)),
+            Rvalue::Aggregate(kind, operands) => {
+                let kind = kind.try_clone(alloc)?;
+                Ok(Rvalue::Aggregate(kind, operands.try_clone(alloc)?))
+            }
         }
     }
 }

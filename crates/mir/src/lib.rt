@@ -27,7 +27,7 @@ pub use errors::{
 pub use ids::{BasicBlockId, LocalId};
 pub use mem_fault::MemFault;
 pub use numbers::Operator as BinOp;
-pub use operand::{CastKind, Operand, OperandKind, Place, Rvalue, UnOp};
+pub use operand::{AggregateKind, CastKind, Operand, OperandKind, Place, Rvalue, UnOp};
 pub use sizes::fixed_size;
 pub use span::MirSpan;
 pub use statement::{Statement, StatementKind};

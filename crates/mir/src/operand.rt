@@ -1,7 +1,7 @@
 //! What statements read and compute.
 
 use crate::{BinOp, LocalId, MirSpan};
-use world::{Const, Ty};
+use world::{Const, List, Ty};
 
 /// Where a value lies: a local.
 #[derive(Clone, Copy, PartialEq, Eq, Hash)]
@@ -47,13 +47,26 @@ pub enum CastKind {
     IntToInt,
 }
 
+/// What an aggregate is.
+#[derive(PartialEq, Eq, Drop)]
+pub enum AggregateKind {
+    /// An array, by the type of its elements. They lie one behind another.
+    Array(Ty),
+    /// A tuple, by its own type, whose layout says where the parts lie.
+    Tuple(Ty),
+}
+
 /// What an assignment computes.
 #[derive(PartialEq, Eq, Drop)]
 pub enum Rvalue {
     Use(Operand),
+    /// A value as often as a constant says, one behind another.
+    Repeat(Operand, Const),
     Cast(CastKind, Operand, Ty),
     CheckedBinaryOp(BinOp, Operand, Operand),
     UnaryOp(UnOp, Operand),
+    /// A value that consists of others.
+    Aggregate(AggregateKind, List<Operand>),
 }
 
 impl From<Operand> for Rvalue {

@@ -3,7 +3,7 @@ use Rattle.std.proofs.Common.{◌≡◌, List, [], ◌∷◌, refl, ap}
 use Rattle.std.specs.Prelude.{slice_get, Result, Ok, Err}
 use Rattle.mir.specs.declared.address.Interval.{Interval}
 use Rattle.mir.specs.Memory.{Memory}
-use Rattle.mir.specs.Run.{Frame, read, operand_bytes, rvalue_bytes, copied, after_statement, after_statements, filled}
+use Rattle.mir.specs.Run.{Frame, read, repeats, aggregated, operand_bytes, operands_bytes, rvalue_bytes, copied, after_statement, after_statements, filled}
 use Rattle.mir.specs.declared.answers.Answer.{Answer}
 use Rattle.mir.specs.declared.answers.Query.{Query}
 use Rattle.mir.specs.declared.errors.MirEvalError.{MirEvalError}
@@ -12,7 +12,7 @@ use Rattle.mir.specs.declared.operand.Operand.{Operand}
 use Rattle.mir.specs.declared.operand.OperandKind.{OperandKind}
 use Rattle.mir.specs.declared.operand.OperandKind.TheVariants.{Copy, Constant}
 use Rattle.mir.specs.declared.operand.Rvalue.{Rvalue}
-use Rattle.mir.specs.declared.operand.Rvalue.TheVariants.{Use, Cast, CheckedBinaryOp, UnaryOp}
+use Rattle.mir.specs.declared.operand.Rvalue.TheVariants.{Use, Repeat, Cast, CheckedBinaryOp, UnaryOp, Aggregate}
 use Rattle.mir.specs.declared.statement.Statement.{Statement}
 use Rattle.mir.specs.declared.statement.StatementKind.{StatementKind}
 use Rattle.mir.specs.declared.statement.StatementKind.TheVariants.{Assign, FakeRead, StorageLive, StorageDead}
@@ -30,12 +30,19 @@ module _ (later : List (Query × Answer)) (frame : Frame) where
   same_operand memory (Copy place) = refl
   same_operand memory (Constant konst ty) = refl
 
+  same_operands : (memory : Memory) (operands : List Operand) → operands_bytes (telling later frame) memory operands ≡ operands_bytes frame memory operands
+  unfolding operands_bytes
+  same_operands memory [] = refl
+  same_operands memory (operand ∷ rest) = rw (same_operand memory operand.kind, same_operands memory rest)
+
   same_rvalue : (memory : Memory) (rvalue : Rvalue) → rvalue_bytes (telling later frame) memory rvalue ≡ rvalue_bytes frame memory rvalue
   unfolding rvalue_bytes
   same_rvalue memory (Use operand) = ap read (same_operand memory operand.kind)
+  same_rvalue memory (Repeat operand len) = ap (repeats (number_in len)) (same_operand memory operand.kind)
   same_rvalue memory (Cast kind operand ty) = rw (same_operand memory operand.kind)
   same_rvalue memory (CheckedBinaryOp op left right) = rw (same_operand memory left.kind, same_operand memory right.kind)
   same_rvalue memory (UnaryOp op operand) = rw (same_operand memory operand.kind)
+  same_rvalue memory (Aggregate kind operands) = ap (aggregated frame.program.world kind) (same_operands memory operands)
 
   same_statement : (memory : Memory) (kind : StatementKind) → after_statement (telling later frame) memory kind ≡ after_statement frame memory kind
   unfolding after_statement

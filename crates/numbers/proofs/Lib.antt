@@ -4,3 +4,4 @@ pub mod Reading
 pub mod Keeping
 pub mod Dispatch
 pub mod Negation
+pub mod Padded

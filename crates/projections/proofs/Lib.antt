@@ -1,2 +1,1 @@
 pub mod Interning
-mod Lengths

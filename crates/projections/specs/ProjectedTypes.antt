@@ -2,7 +2,8 @@
 use Rattle.std.specs.Prelude.{◌≡◌, ℕ, ◌+◌, ◌-◌, Bool, false, if◌then◌else◌, nat_le, length, Option, Some, None, slice_get, option_map, option_and_then}
 use Rattle.either.specs.declared.Either.TheVariants.{Left, Right}
 use Rattle.check_instances.specs.Instances.{ty_instance, type_argument}
-use Rattle.numbers.specs.Bytes.{low_digits, value_of}
+use Rattle.numbers.specs.Bytes.{low_digits}
+use Rattle.numbers.specs.Constants.{number_in}
 use Rattle.types.specs.declared.ids.AdtId.TheVariants.{StructId as StructAdt}
 use Rattle.types.specs.declared.ids.FieldId.{FieldId}
 use Rattle.types.specs.declared.ids.InternedClosureId.{InternedClosureId}
@@ -10,7 +11,7 @@ use Rattle.types.specs.declared.ids.StructId.{StructId}
 use Rattle.types.specs.declared.ids.TupleFieldId.{TupleFieldId}
 use Rattle.types.specs.declared.scalars.UintTy.TheVariants.{Usize}
 use Rattle.types.specs.declared.ty.ComplexMemoryMap.{ComplexMemoryMap}
-use Rattle.types.specs.declared.ty.Const.{Const, Const-F, out-Const}
+use Rattle.types.specs.declared.ty.Const.{Const}
 use Rattle.types.specs.declared.ty.Const.TheOpen as layer
 use Rattle.types.specs.declared.ty.Const.TheVariants as constant
 use Rattle.types.specs.declared.ty.GenericArg.{GenericArg}
@@ -30,9 +31,6 @@ use Rattle.projections.specs.declared.projection.ProjectionElem.TheVariants.{Der
 -- a type's variant
 abbrev TyLayer : Type 0
 TyLayer = Ty-F Const GenericArg MemoryMap Ty ComplexMemoryMap GenericArgs TraitRef UnevaluatedConst ValueConst
-
-abbrev ConstLayer : Type 0
-ConstLayer = Const-F Const GenericArg MemoryMap Ty ComplexMemoryMap GenericArgs TraitRef UnevaluatedConst ValueConst
 
 -- the type, where there is one
 abbrev pub or_error : Option Ty → Ty
@@ -86,14 +84,6 @@ element_at _ = None
 
 abbrev pub element_type : Ty → Option Ty
 element_type ty = element_at (out-Ty ty)
-
--- the number that a constant is, where its value has at most sixteen bytes
-abbrev number_at : ConstLayer → Option ℕ
-number_at (layer.Value value) = if nat_le (length value.memory) 16 then Some (value_of value.memory) else None
-number_at _ = None
-
-abbrev pub number_in : Const → Option ℕ
-number_in konst = number_at (out-Const konst)
 
 -- a number as a constant of the type `usize`
 abbrev pub usize_const : ℕ → Const

@@ -1,17 +1,17 @@
 //! The type of what an element of a projection leads to.
 
-ghost use Rattle.std.specs.Prelude.{◌≡◌, ◌+◌, ◌≤◌, IfOk, Ok, length, slice_get};
+ghost use Rattle.std.specs.Prelude.{◌≡◌, ◌+◌, IfOk, Ok, slice_get};
 ghost use Rattle.std.specs.Borrow.{Bor};
 ghost use Rattle.std.specs.Option.{option_copied};
 ghost use Rattle.types.specs.declared.ty.GenericArgs.{GenericArgs as Args};
 ghost use Rattle.check_instances.specs.Instances.{type_argument};
-ghost use Rattle.numbers.specs.Bytes.{value_of};
-ghost use Rattle.projections.specs.ProjectedTypes.{IsProjected, element_type, field_type, length_without, number_in, or_error, part_type, pointee, seen, subslice_type, usize_const};
+ghost use Rattle.numbers.specs.Constants.{number_in};
+ghost use Rattle.projections.specs.ProjectedTypes.{IsProjected, element_type, field_type, length_without, or_error, part_type, pointee, seen, subslice_type, usize_const};
 
 use crate::ProjectionElem;
 use check_instances::{NoInstance, ty_instance};
 use either::Either;
-use numbers::word16;
+use numbers::number_in;
 use std::alloc::Global;
 use world::{
     AdtId, Box, Bytes, Const, Crate, FieldId, GenericArg, GenericArgs, HirDatabase,
@@ -153,32 +153,6 @@ fn subslice(alloc: Global, ty: &Ty, from: u64, to: u64) -> Result<Ty, NoMemory>
         Ty::Slice(_) => ty.try_clone(alloc),
         _ => Ok(Ty::Error),
     }
-}
-
-/// The number of a constant's value, if it has at most sixteen bytes.
-fn number_in(konst: &Const) -> Option<u128>
-    ensures { result ≡ number_in konst.now }
-{
-    match konst {
-        Const::Value(value) => {
-            if value.memory.len() <= 16 {
-                Some(number_of(value.memory.as_slice()))
-            } else {
-                None
-            }
-        }
-        _ => None,
-    }
-}
-
-/// The unsigned number that at most sixteen bytes are.
-fn number_of(bytes: &[u8]) -> u128
-    requires { length bytes.now ≤ 16 }
-    ensures { result ≡ value_of bytes.now }
-{
-    let mut padded = [0; 16];
-    padded[..bytes.len()].copy_from_slice(bytes);
-    word16(&padded)
 }
 
 /// The length of an array without `cut` of its elements, if that many are known to be there.

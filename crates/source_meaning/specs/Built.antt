@@ -1,13 +1,15 @@
 -- Which expressions have a form that is built: each has a meaning, its paths name bindings of the body, and its statements
 -- bind names of the body.
 use Rattle.std.specs.Prelude.{◌≡◌, ℕ, Bool, true, false, not, ◌&&◌, All, List, [], ◌∷◌, Option, Some, None, is_some}
-use Rattle.source_meaning.specs.Core.{CoreExpr}
+use Rattle.source_meaning.specs.Core.{CoreExpr, Operation, MakeArray, Repeat}
 use Rattle.source_meaning.specs.Core as expr
-use Rattle.source_meaning.specs.Source.{Source, binding_type, named_by, pattern, target, compound_target}
+use Rattle.source_meaning.specs.Source.{Source, own_type, binding_type, named_by, pattern, target, compound_target}
 use Rattle.types.specs.declared.ids.BindingId.{BindingId}
 use Rattle.types.specs.declared.ids.FunctionId.{FunctionId}
 use Rattle.types.specs.declared.ids.GenericParamId.{GenericParamId}
+use Rattle.types.specs.declared.ty.Const.{Const}
 use Rattle.types.specs.declared.ty.Ty.{Ty}
+use Rattle.types.specs.declared.ty.Ty.TheVariants.{Array as ArrayTy}
 use Rattle.world.specs.declared.body.Statement.{Statement}
 use Rattle.world.specs.declared.body.Statement.TheVariants as statement
 use Rattle.world.specs.declared.infer.ValueNs.TheVariants.{LocalBinding}
@@ -67,11 +69,23 @@ pub record CallsFunction (source : Source) (e : ℕ) (callee : Option ℕ) : Typ
   pub names : function_called source e callee ≡ Some id
   pub direct : is_direct (function_row source.world id) ≡ true
 
+-- an expression's own type is that of an array
+pub record HasArrayType (source : Source) (e : ℕ) : Type 0 where
+  pub element : Ty
+  pub len : Const
+  pub typed : own_type source e ≡ Some (ArrayTy element len)
+
+-- a strict form that is built: one that makes an array has the type of one
+abbrev pub IsBuiltStrict : Source → ℕ → Operation → Type 0
+IsBuiltStrict source e MakeArray = HasArrayType source e
+IsBuiltStrict source e Repeat = HasArrayType source e
+IsBuiltStrict source e _ = Unit {0}
+
 -- An expression of a form that is built, whatever its parts are.
 abbrev pub IsBuiltForm : Source → ℕ → Option CoreExpr → Type 0
 IsBuiltForm source e (Some (expr.Literal l)) = Unit {0}
 IsBuiltForm source e (Some (expr.Path name)) = NamesBinding source e
-IsBuiltForm source e (Some (expr.Strict operation operands)) = Unit {0}
+IsBuiltForm source e (Some (expr.Strict operation operands)) = IsBuiltStrict source e operation
 IsBuiltForm source e (Some (expr.Logic op left right)) = Unit {0}
 IsBuiltForm source e (Some (expr.If condition then_branch else_branch)) = Unit {0}
 IsBuiltForm source e (Some (expr.Assign assigned value)) = AssignsBinding source assigned

@@ -44,12 +44,16 @@ pub data CoreLiteral : Type 0 where
 
 -- What is computed from operands that are all evaluated: unary minus, `!`, an operator on two operands, or a cast, which either is a
 -- coercion and keeps the bytes as they are, or converts a number, a truth value or a character to a type of another size or sign.
+-- Besides, values that have parts: a tuple and an array of the operands, and an array of one operand as often as its type says.
 pub data Operation : Type 0 where
   Negate : Operation
   Invert : Operation
   Keep : Operation
   Convert : Operation
   Combine : Operator → Operation
+  MakeTuple : Operation
+  MakeArray : Operation
+  Repeat : Operation
 
 -- An expression of a form that has a meaning. A strict form evaluates all its operands from left to right, and then
 -- computes one operation. `&&` and `||` evaluate their right operand only where the left one doesn't decide, and `if` one of
@@ -125,6 +129,9 @@ core_of names_item casts (expr.Continue label) = Some (Continue label)
 core_of names_item casts (expr.Return value) = Some (Return value)
 core_of names_item casts (expr.Call callee args) = Some (Call (Some callee.0) (expr_numbers args))
 core_of names_item casts (expr.MethodCall receiver args name) = Some (Call None (receiver.0 ∷ expr_numbers args))
+core_of names_item casts (expr.Tuple parts) = Some (Strict MakeTuple (expr_numbers parts))
+core_of names_item casts (expr.Array elements) = Some (Strict MakeArray (expr_numbers elements))
+core_of names_item casts (expr.Repeat initializer) = Some (Strict Repeat (initializer.0 ∷ []))
 core_of names_item casts _ = None
 
 -- the type that a step leads to, where it is `NeverToAny`, the one from `!` to any type

@@ -1,6 +1,7 @@
 -- The laws of the meaning.
 use Rattle.std.specs.Prelude.{◌≡◌, ◌≢◌, ◌↔◌, true, ℕ, ◌≤◌, List, ◌++◌, ◌∷◌}
 use Rattle.world.specs.Checked.{IsChecked, IsCheckedBody}
+use Rattle.source_meaning.specs.Aggregates.{HasAggregates}
 use Rattle.source_meaning.specs.Built.{IsBuiltForm}
 use Rattle.source_meaning.specs.Ends.{Cost, plus, no_cost, Stuck, IsOver, GoesOn, JumpsNowhere}
 use Rattle.source_meaning.specs.Entering.{is_cost_defined}
@@ -18,13 +19,13 @@ MoreFuelChangesNothing = (source : Source) (store : Store) (fuel more : ℕ) →
 -- it reaches, is never stuck, where it begins with as many bytes in each cell as the cell's type has.
 abbrev pub PlainIsNeverStuck : Type 0
 PlainIsNeverStuck =
-    (source : Source) (store : Store) (fuel : ℕ) → IsChecked source.world → IsCheckedBody source.body source.infer → IsPlainThroughout source → AreLaidOutThroughout source →
+    (source : Source) (store : Store) (fuel : ℕ) → IsChecked source.world → HasAggregates source.world → IsCheckedBody source.body source.infer → IsPlainThroughout source → AreLaidOutThroughout source →
     IsSized source store → meaning_from source store fuel ≢ Stuck
 
 -- and never ends in a jump
 abbrev pub PlainJumpsNowhere : Type 0
 PlainJumpsNowhere =
-    (source : Source) (store : Store) (fuel : ℕ) → IsChecked source.world → IsCheckedBody source.body source.infer → IsPlainThroughout source → AreLaidOutThroughout source →
+    (source : Source) (store : Store) (fuel : ℕ) → IsChecked source.world → HasAggregates source.world → IsCheckedBody source.body source.infer → IsPlainThroughout source → AreLaidOutThroughout source →
     IsSized source store → JumpsNowhere (meaning_from source store fuel)
 
 -- From whatever store a checked body of a checked world begins, and for each number `many`, some amount of fuel gives an end, or has counted

@@ -4,10 +4,12 @@ use Rattle.std.specs.Prelude.{◌≡◌, ℕ, zero, suc, pos, Bool, true, false,
 use Rattle.types.specs.declared.ids.BindingId.{BindingId}
 use Rattle.types.specs.declared.ids.ExprId.{ExprId}
 use Rattle.types.specs.declared.ids.LabelId.{LabelId}
+use Rattle.types.specs.declared.ty.Ty.{Ty}
 use Rattle.types.specs.declared.operators.LogicOp.{LogicOp}
 use Rattle.types.specs.declared.operators.LogicOp.TheVariants as logic
 use Rattle.world.specs.declared.body.Statement.{Statement}
 use Rattle.world.specs.declared.body.Statement.TheVariants as statement
+use Rattle.world.specs.declared.database.HirDatabase.{HirDatabase}
 use Rattle.world.specs.declared.infer.ValueNs.{ValueNs}
 use Rattle.world.specs.declared.infer.ValueNs.TheVariants.{LocalBinding}
 use Rattle.world.specs.Checked.{fixed_size}
@@ -16,9 +18,10 @@ use Rattle.numbers.specs.Bytes.{low_bytes}
 use Rattle.numbers.specs.declared.operator.Kind.{Kind}
 use Rattle.numbers.specs.declared.operator.Operator.{Operator}
 use Rattle.numbers.specs.Operators.{Answer, Computes, Panics, Undefined, computed, converted, negated, inverted, kind_of}
+use Rattle.source_meaning.specs.Aggregates.{array_length, laid_out, repeated_for}
 use Rattle.source_meaning.specs.Calls.{source_called, must_not_return, parameter_cells, started}
 use Rattle.source_meaning.specs.Core as expr
-use Rattle.source_meaning.specs.Core.{CoreExpr, CoreLiteral, Truth, Number, Character, Operation, Negate, Invert, Keep, Convert, Combine}
+use Rattle.source_meaning.specs.Core.{CoreExpr, CoreLiteral, Truth, Number, Character, Operation, Negate, Invert, Keep, Convert, Combine, MakeTuple, MakeArray, Repeat}
 use Rattle.source_meaning.specs.Ends.{Cost, no_cost, turns_alone, bytes_alone, plus, one_level_more, End, Go, Jumps, Break, Continue, Return, Faults, Panic, Undefined as UndefinedBehavior, Stuck, More, after, then_do, IsOver}
 use Rattle.source_meaning.specs.Entering.{room_of, entering, run_cost}
 use Rattle.source_meaning.specs.Around.{Around, Target, at_root, marking, inside, target_of}
@@ -66,23 +69,23 @@ pub record Value : Type 0 where
 abbrev pub value_of : Source → Store → Operand → Value
 value_of source store operand = record { kind = operand_kind source operand; bytes = operand_bytes store operand }
 
--- how many bytes the type of an expression itself has, where it is an integer type, `bool` or `char`
-abbrev pub own_size : Source → ℕ → Option ℕ
-own_size source e = option_and_then fixed_size (own_type source e)
-
 -- a value converted to a type of a size
 abbrev pub converted_to : Option ℕ → Value → Answer
 converted_to (Some size) one = converted one.kind size one.bytes
 converted_to None one = Undefined
 
--- what an operation makes of its operands' values; `size`: that of the type of the expression that it is
-unfoldable pub answered : (size : Option ℕ) → Operation → List Value → Answer
-answered size Negate (one ∷ []) = negated one.kind one.bytes
-answered size Invert (one ∷ []) = inverted one.kind one.bytes
-answered size Keep (one ∷ []) = Computes one.bytes
-answered size Convert (one ∷ []) = converted_to size one
-answered size (Combine op) (left ∷ right ∷ []) = computed op left.kind right.kind left.bytes right.bytes
-answered size _ _ = Undefined
+-- What an operation makes of its operands' values; `ty`: the type of the expression that it is. The elements of an array lie one behind
+-- another.
+unfoldable pub answered : HirDatabase → (ty : Option Ty) → Operation → List Value → Answer
+answered world ty Negate (one ∷ []) = negated one.kind one.bytes
+answered world ty Invert (one ∷ []) = inverted one.kind one.bytes
+answered world ty Keep (one ∷ []) = Computes one.bytes
+answered world ty Convert (one ∷ []) = converted_to (option_and_then fixed_size ty) one
+answered world ty (Combine op) (left ∷ right ∷ []) = computed op left.kind right.kind left.bytes right.bytes
+answered world ty MakeTuple parts = laid_out (option_and_then (layout_of world) ty) (map (λ part. part.bytes) parts)
+answered world ty MakeArray parts = Computes (flat_map (λ part. part.bytes) parts)
+answered world ty Repeat (one ∷ []) = repeated_for (option_and_then array_length ty) one.bytes
+answered world ty _ _ = Undefined
 
 -- What each expression means at one amount of fuel: as a place, as an operand, evaluated into a path, and, before its value is
 -- adjusted, itself evaluated into a path.
@@ -144,7 +147,7 @@ operands_of source below around (e ∷ rest) store =
 -- the operands from left to right, and then the operation, which reads them all, computes, and writes
 abbrev pub strict_into : Source → Levels → Around → ℕ → Operation → List ℕ → Path → Store → End (Unit {0})
 strict_into source below around e operation operands path store =
-    then_do (operands_of source below around operands store) (λ given later. put_answer later path (answered (own_size source e) operation (map (value_of source later) given)))
+    then_do (operands_of source below around operands store) (λ given later. put_answer later path (answered source.world (own_type source e) operation (map (value_of source later) given)))
 
 -- Whether bytes are one byte, and this is the given number. Other bytes than one have no answer.
 abbrev pub is_byte : ℕ → List ℕ → Option Bool
@@ -222,7 +225,7 @@ assign_into source below assigned value store = then_do (below.place value store
 -- A local is assigned what an operator makes of its own value and another: both are read when the operation runs.
 abbrev pub combine_into : Source → Operator → Option BindingId → Operand → Store → End (Unit {0})
 combine_into source op (Some id) given store =
-    put_answer store (record { cell = Binding id.0 }) (answered None (Combine op) (value_of source store (At (record { cell = Binding id.0 })) ∷ value_of source store given ∷ []))
+    put_answer store (record { cell = Binding id.0 }) (answered source.world None (Combine op) (value_of source store (At (record { cell = Binding id.0 })) ∷ value_of source store given ∷ []))
 combine_into source op None given store = Stuck
 
 -- the value's operand, and then the local that is the target is assigned; nothing is written where the assignment itself would be

@@ -1,5 +1,5 @@
 -- Which sources the theorem speaks of.
-use Rattle.std.specs.Prelude.{◌≡◌, ℕ, true, cond, List, [], ◌∷◌, flat_map, Contains, All, Option, Some, None, option_and_then}
+use Rattle.std.specs.Prelude.{◌≡◌, ℕ, true, cond, List, [], ◌∷◌, length, flat_map, Contains, All, Option, Some, None, option_and_then}
 use Rattle.world.specs.declared.body.Statement.{Statement}
 use Rattle.world.specs.declared.body.Statement.TheVariants as statement
 use Rattle.types.specs.declared.ids.BindingId.{BindingId}
@@ -9,15 +9,18 @@ use Rattle.types.specs.declared.ids.LabelId.{LabelId}
 use Rattle.world.specs.declared.infer.ValueNs.TheVariants.{LocalBinding}
 use Rattle.world.specs.declared.items.FunctionRow.{FunctionRow}
 use Rattle.world.specs.declared.layout.Layout.{Layout}
+use Rattle.types.specs.declared.ty.Const.{Const}
+use Rattle.types.specs.declared.ty.Ty.TheVariants.{Array as ArrayTy, Tuple as TupleTy}
 use Rattle.types.specs.declared.ty.Ty.{Ty, Bool as BoolTy, Int as IntTy, Uint as UintTy, Char as CharTy, Never as NeverTy}
 use Rattle.world.specs.declared.expr.Expr.TheVariants as whole
 use Rattle.world.specs.Lookups.{expr_of, layout_of, function_row}
+use Rattle.numbers.specs.Constants.{number_in}
 use Rattle.numbers.specs.declared.operator.Operator.{Operator}
 use Rattle.numbers.specs.declared.operator.Operator.TheVariants.{Add, Sub, Mul, Div, Rem, BitXor, BitAnd, BitOr, Shl, Shr, Eq, Ne, Lt, Le, Gt, Ge}
 use Rattle.source_meaning.specs.Around.{Opened, meant}
 use Rattle.source_meaning.specs.Calls.{function_called, source_of, source_called, parameters}
 use Rattle.source_meaning.specs.Core as expr
-use Rattle.source_meaning.specs.Core.{CoreExpr, CoreLiteral, Truth, Number, Character, Operation, Negate, Invert, Keep, Convert, Combine, is_truth, IsNoCall}
+use Rattle.source_meaning.specs.Core.{CoreExpr, CoreLiteral, Truth, Number, Character, Operation, Negate, Invert, Keep, Convert, Combine, MakeTuple, MakeArray, Repeat, is_truth, IsNoCall}
 use Rattle.source_meaning.specs.Source.{Source, node, unadjusted, diverges, own_type, node_type, binding_type, pattern, pattern_type, target, compound_target, named_by, root}
 use Rattle.source_meaning.specs.Steps.{Step, steps_of, step_part, parts_of}
 use Rattle.source_meaning.specs.Steps as step
@@ -96,15 +99,33 @@ IsCombined Le left right ty = AreCompared left right ty
 IsCombined Gt left right ty = AreCompared left right ty
 IsCombined Ge left right ty = AreCompared left right ty
 
+-- an array of as many elements as these types, which are all the element's
+pub record IsArrayOf (types : List Ty) (ty : Ty) : Type 0 where
+  pub element : Ty
+  pub len : Const
+  pub is : ty ≡ ArrayTy element len
+  pub each : All (λ one. one ≡ element) types
+  pub count : number_in len ≡ Some (length types)
+
+-- an array of elements of this type, of a length that is known
+pub record IsArrayOfOne (one ty : Ty) : Type 0 where
+  pub len : Const
+  pub count : ℕ
+  pub is : ty ≡ ArrayTy one len
+  pub known : number_in len ≡ Some count
+
 -- The types of an operation's operands and of its result fit one another: `-` is on an integer, `!` on an integer or
 -- `bool`, and gives a value of the same type. A cast that is a coercion keeps its type, and any other one is between integers, `bool` and
--- `char`.
+-- `char`. A tuple has the types of its parts, and an array that of its elements, and as many as its type says.
 abbrev pub IsTyped : Operation → List Ty → Ty → Type 0
 IsTyped Negate (one ∷ []) ty = IsInteger ty × (one ≡ ty)
 IsTyped Invert (one ∷ []) ty = IsScalar ty × (one ≡ ty)
 IsTyped Keep (one ∷ []) ty = one ≡ ty
 IsTyped Convert (one ∷ []) ty = IsNumber one × IsNumber ty
 IsTyped (Combine op) (left ∷ right ∷ []) ty = IsCombined op left right ty
+IsTyped MakeTuple types ty = ty ≡ TupleTy types
+IsTyped MakeArray types ty = IsArrayOf types ty
+IsTyped Repeat (one ∷ []) ty = IsArrayOfOne one ty
 IsTyped _ _ ty = ⊥
 
 -- operands have these types, one each

@@ -33,7 +33,8 @@ use Rattle.world.specs.declared.layout.Variants.{Variants}
 use Rattle.world.specs.declared.layout.Variants.TheVariants.{Empty, Single, Multiple}
 use Rattle.check_layouts.specs.Fields.{Placed, are_inside, captures_at, field_layout, fields_of_variant, has_offset_each, is_inside, is_placed_inside, placed_captures, placed_fields, placed_of, placed_of_each, placed_of_enum, types_at, unplaced_fields, unplaced_of_each, variants_of}
 use Rattle.check_layouts.specs.Layouts.{are_parts_right, is_layout_right, is_size_right, is_tag_inside, is_tag_size}
-use Rattle.check_layouts.specs.Sizes.{is_array_size, is_product, layout_above, number_of}
+use Rattle.check_layouts.specs.Sizes.{is_array_size, is_product, layout_above}
+use Rattle.numbers.specs.Constants.{number_in}
 use Rattle.check_layouts.specs.Tags.{is_enum_tag_right, is_niche_right, is_tag_right, tag_values}
 use Rattle.check_names.specs.Known.{is_ty_closed}
 use Rattle.world_check.specs.Laid.{AreCaptured, AreElements, AreInside, AreLaidOut, HasLayout, IsLaidOut, IsNiche, IsTag, LiesInside, capture_type, field_type, offsets_among, variant_fields, variant_offsets}
@@ -205,22 +206,22 @@ tuple_placed world types layout = search (the_lemmas, rules)
 closure_placed : (world : HirDatabase) (id : InternedClosureId) (args : GenericArgs) (layout : Layout) → placed_captures world (type.Closure id args) layout ≡ record { offsets = layout.offsets; types = captures_at world args (slice_get world.closures id.0) } ∷ []
 closure_placed world id args layout = search (the_lemmas, rules)
 
-array_sized : (world : HirDatabase) (i : ℕ) (element : Ty) (len : Const) (size : ℕ) → is_array_size world i (type.Array element len) size ≡ is_product (number_of len) (layout_above world i element) size
+array_sized : (world : HirDatabase) (i : ℕ) (element : Ty) (len : Const) (size : ℕ) → is_array_size world i (type.Array element len) size ≡ is_product (number_in len) (layout_above world i element) size
 array_sized world i element len size = search (the_lemmas, rules)
 
 enum_tagged : (world : HirDatabase) (id : EnumName) (args : GenericArgs) (layout : Layout) → is_tag_right world (type.Adt (EnumId id) args, layout) ≡ is_enum_tag_right (length (variants_of world id.0)) layout.variants
 enum_tagged world id args layout = search (the_lemmas, rules)
 
-product : (world : HirDatabase) (i : ℕ) (element : Ty) (len : Const) (size : ℕ) → is_product (number_of len) (layout_above world i element) size ≡ true → AreElements world size element len
+product : (world : HirDatabase) (i : ℕ) (element : Ty) (len : Const) (size : ℕ) → is_product (number_in len) (layout_above world i element) size ≡ true → AreElements world size element len
 product world i element len size e = by (layout_above world i element) refl e
   where
     times : (n : Option ℕ) (layout : Layout) → is_product n (Some layout) size ≡ true → IfSome n (λ count. size ≡ count * layout.size)
     times None layout e = tt
     times (Some count) layout e = is_same size (count * layout.size) e
 
-    by : (o : Option Layout) → layout_above world i element ≡ o → is_product (number_of len) o size ≡ true → AreElements world size element len
+    by : (o : Option Layout) → layout_above world i element ≡ o → is_product (number_in len) o size ≡ true → AreElements world size element len
     by None at e = cc
-    by (Some layout) at e = record { layout = layout; has = seen_above world i element layout at; product = times (number_of len) layout e }
+    by (Some layout) at e = record { layout = layout; has = seen_above world i element layout at; product = times (number_in len) layout e }
 
 niche : (variants size : ℕ) (encoding : TagEncoding) → is_niche_right variants size encoding ≡ true → IsNiche variants size encoding
 niche variants size Direct e = tt

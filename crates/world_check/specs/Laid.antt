@@ -24,7 +24,7 @@ use Rattle.world.specs.declared.layout.Variants.{Variants}
 use Rattle.world.specs.declared.layout.Variants.TheVariants.{Empty, Single, Multiple}
 use Rattle.check_instances.specs.Instances.{ty_instance}
 use Rattle.check_layouts.specs.Fields.{variants_of}
-use Rattle.check_layouts.specs.Sizes.{number_of}
+use Rattle.numbers.specs.Constants.{number_in}
 
 -- The fields of variant `v` of a type. A struct or a union is its own only variant, whatever the number.
 abbrev pub variant_fields : HirDatabase → AdtId → ℕ → Option (List FieldRow)
@@ -80,7 +80,7 @@ pub record AreCaptured (world : HirDatabase) (size : ℕ) (offsets : List ℕ) (
 pub record AreElements (world : HirDatabase) (size : ℕ) (element : Ty) (len : Const) : Type 0 where
   pub layout : Layout
   pub has : layout_of world element ≡ Some layout
-  pub product : IfSome (number_of len) (λ count. size ≡ count * layout.size)
+  pub product : IfSome (number_in len) (λ count. size ≡ count * layout.size)
 
 -- a niche leaves one of the enum's variants without a tag, and has a value for each other, from the first one on
 abbrev pub IsNiche : ℕ → ℕ → TagEncoding → Type 0
