@@ -1,6 +1,6 @@
 -- The form of an expression, as far as forms have a meaning.
 use Rattle.std.specs.Prelude.{◌≡◌, ℕ, Bool, [], ◌∷◌, Option, Some, None, pos}
-use Rattle.source_meaning.specs.Core.{CoreExpr, CoreLiteral, Truth, Number, Character, Operation, Negate, Invert, Keep, Convert, Combine, core_of}
+use Rattle.source_meaning.specs.Core.{CoreExpr, CoreLiteral, Truth, Number, Character, Operation, Negate, Invert, Keep, Convert, Combine, MakeTuple, MakeArray, Repeat, core_of}
 use Rattle.source_meaning.specs.Core as expr
 use Rattle.source_meaning.specs.Source.{Source, node}
 use Rattle.types.specs.declared.ids.ExprId.{ExprId}
@@ -37,6 +37,9 @@ core_form (form.Path name) = Some (expr.Path name.now)
 core_form (form.Unary op e) = Some (expr.Strict (operation_of op) (e.0 ∷ []))
 core_form (form.Coercion e) = Some (expr.Strict Keep (e.0 ∷ []))
 core_form (form.Cast e) = Some (expr.Strict Convert (e.0 ∷ []))
+core_form (form.Tuple parts) = Some (expr.Strict MakeTuple (expr_numbers parts.now))
+core_form (form.Array elements) = Some (expr.Strict MakeArray (expr_numbers elements.now))
+core_form (form.Repeat e) = Some (expr.Strict Repeat (e.0 ∷ []))
 core_form (form.Binary op lhs rhs) = Some (expr.Strict (Combine op) (lhs.0 ∷ rhs.0 ∷ []))
 core_form (form.Logic op lhs rhs) = Some (expr.Logic op lhs.0 rhs.0)
 core_form (form.If condition then_branch else_branch) = Some (expr.If condition.0 then_branch.0 else_branch)

@@ -3,9 +3,9 @@ use Rattle.std.specs.Prelude.{◌≡◌, ℕ, ◌<◌, true, false, List, [], �
 use Rattle.types.specs.declared.ty.Ty.{Ty}
 use Rattle.world.specs.Lookups.{expr_of, function_row}
 use Rattle.types.specs.declared.ids.FunctionId.{FunctionId}
-use Rattle.source_meaning.specs.Built.{is_direct}
+use Rattle.source_meaning.specs.Built.{HasArrayType, is_direct}
 use Rattle.source_meaning.specs.Calls.{function_called}
-use Rattle.source_meaning.specs.Core.{CoreExpr, Number, Character, cast_operation, core_of, is_adjusted_otherwise, names_item}
+use Rattle.source_meaning.specs.Core.{CoreExpr, Number, Character, MakeArray, Repeat, cast_operation, core_of, is_adjusted_otherwise, names_item}
 use Rattle.source_meaning.specs.Core as expr
 use Rattle.source_meaning.specs.Core.{local_named}
 use Rattle.world.specs.declared.expr.Expr.{Expr}
@@ -152,6 +152,20 @@ JumpsTo label (Some (expr.Break given value)) = given ≡ Some label
 JumpsTo label (Some (expr.Continue given)) = given ≡ Some label
 JumpsTo label _ = ⊥
 
+-- a literal of a number or of a character, of a type whose layout has more than 16 bytes
+abbrev pub IsWideNumber : Source → ℕ → List ℕ → Type 0
+IsWideNumber source e text =
+    (text ≡ codes "number literal of more than 16 bytes") × IsNumber (node source e)
+    × (layout : Layout) × (own_layout source e ≡ Some layout) × (16 < layout.size)
+
+-- an expression that makes an array, whose own type is none
+abbrev pub IsNoArray : Source → ℕ → Option CoreExpr → List ℕ → Type 0
+IsNoArray source e (Some (expr.Strict MakeArray elements)) text =
+    (text ≡ codes "Array expression with non array type") × (HasArrayType source e → ⊥)
+IsNoArray source e (Some (expr.Strict Repeat operands)) text =
+    (text ≡ codes "Array repeat expression with non array type") × (HasArrayType source e → ⊥)
+IsNoArray source e _ text = ⊥
+
 -- the refusal of an expression has its cause there; want of memory needs none
 abbrev pub RefusesNode : Source → ℕ → MirLowerError → Type 0
 RefusesNode source e (refusal.LayoutError layout_error) =
@@ -159,9 +173,7 @@ RefusesNode source e (refusal.LayoutError layout_error) =
 RefusesNode source e refusal.IncompleteExpr = LacksPart source e
 RefusesNode source e (refusal.UnresolvedName name) = IsUnresolved source e (node source e) name
 RefusesNode source e refusal.HasErrors = ⊥
-RefusesNode source e (refusal.TypeError text) =
-    (text ≡ codes "number literal of more than 16 bytes") × IsNumber (node source e)
-    × (layout : Layout) × (own_layout source e ≡ Some layout) × (16 < layout.size)
+RefusesNode source e (refusal.TypeError text) = IsWideNumber source e text ⊎ IsNoArray source e (node source e) text
 RefusesNode source e (refusal.NotSupported text) = (text ≡ codes "form not built") × IsUnbuilt source e (node source e)
 RefusesNode source e refusal.ContinueWithoutLoop = (node source e ≡ Some (expr.Continue None)) × StandsFree source e
 RefusesNode source e refusal.BreakWithoutLoop = (value : Option ExprId) × (node source e ≡ Some (expr.Break None value)) × StandsFree source e

@@ -29,6 +29,10 @@ pub enum Form<'a> {
     Coercion(ExprId),
     /// A cast between integers, `bool` and `char`.
     Cast(ExprId),
+    Tuple(&'a List<ExprId>),
+    Array(&'a List<ExprId>),
+    /// An array of one value as often as its type says.
+    Repeat(ExprId),
     Binary(BinOp, ExprId, ExprId),
     Logic(LogicOp, ExprId, ExprId),
     If(ExprId, ExprId, Option<ExprId>),
@@ -148,6 +152,9 @@ fn form_of<'a>(context: &Context<'a>, e: ExprId, expr: &'a Expr) -> Form<'a>
         Expr::Return { expr } => Form::Return(*expr),
         Expr::Call { callee, args } => Form::Call(*callee, args),
         Expr::MethodCall { receiver, args, .. } => Form::MethodCall(*receiver, args),
+        Expr::Tuple { exprs } => Form::Tuple(exprs),
+        Expr::Array { elements } => Form::Array(elements),
+        Expr::Repeat { initializer } => Form::Repeat(*initializer),
         Expr::Missing => Form::Incomplete,
         _ => Form::Unbuilt,
     }
