@@ -1,6 +1,6 @@
 //! What the operations of strict forms are in the graph.
 
-ghost use Rattle.std.specs.Prelude.{◌≡◌, ◌<◌, ◌∷◌, [], length, IfOk, IfErr, OnOk};
+ghost use Rattle.std.specs.Prelude.{◌≡◌, ◌<◌, ◌∷◌, ℕ, List, [], length, IfOk, IfErr, OnOk, Some};
 ghost use Rattle.source_meaning.specs.Built.{IsBuiltStrict};
 ghost use Rattle.source_meaning.specs.Core as expr;
 ghost use Rattle.source_meaning.specs.Source.{node};
@@ -48,7 +48,7 @@ fn converted(context: &Context<'_>, e: ExprId, value: Operand) -> Result<Rvalue,
 fn repeated(context: &Context<'_>, e: ExprId, value: Operand) -> Result<Rvalue, MirLowerError>
     requires checked { IsCheckedBody context.now.body.now context.now.infer.now }
     requires within { e.0 < length context.now.body.now.exprs }
-    requires form { (operands : _) × (node (source_of context.now) e.0 ≡ Some (expr.Strict expr.Repeat operands)) }
+    requires form { (operands : List ℕ) × (node (source_of context.now) e.0 ≡ Some (expr.Strict expr.Repeat operands)) }
     ensures made { IfOk result (IsRvalueOf (source_of context.now) e.0 expr.Repeat (value ∷ [])) }
     ensures built { OnOk result (IsBuiltStrict (source_of context.now) e.0 expr.Repeat) }
     ensures refused { IfErr result (RefusesNode (source_of context.now) e.0) }
@@ -72,7 +72,7 @@ pub(crate) fn made_of(
 ) -> Result<Rvalue, MirLowerError>
     requires checked { IsCheckedBody context.now.body.now context.now.infer.now }
     requires within { e.0 < length context.now.body.now.exprs }
-    requires form { (operands : _) × (node (source_of context.now) e.0 ≡ Some (expr.Strict (single_operation single) operands)) }
+    requires form { (operands : List ℕ) × (node (source_of context.now) e.0 ≡ Some (expr.Strict (single_operation single) operands)) }
     ensures made { IfOk result (IsRvalueOf (source_of context.now) e.0 (single_operation single) (value ∷ [])) }
     ensures built { OnOk result (IsBuiltStrict (source_of context.now) e.0 (single_operation single)) }
     ensures refused { IfErr result (RefusesNode (source_of context.now) e.0) }
@@ -93,7 +93,7 @@ pub(crate) fn kind_of(
 ) -> Result<AggregateKind, MirLowerError>
     requires checked { IsCheckedBody context.now.body.now context.now.infer.now }
     requires within { e.0 < length context.now.body.now.exprs }
-    requires form { (operands : _) × (node (source_of context.now) e.0 ≡ Some (expr.Strict (several_operation several) operands)) }
+    requires form { (operands : List ℕ) × (node (source_of context.now) e.0 ≡ Some (expr.Strict (several_operation several) operands)) }
     ensures made { IfOk result (IsKindOf (source_of context.now) e.0 several) }
     ensures built { OnOk result (IsBuiltStrict (source_of context.now) e.0 (several_operation several)) }
     ensures refused { IfErr result (RefusesNode (source_of context.now) e.0) }
