@@ -18,7 +18,8 @@ use numbers::Kind;
 use std::alloc::Global;
 use std::collections::BTreeSet;
 use world::{
-    Adjust, Adjustment, Body, Const, ExprId, HirDatabase, InferenceResult, List, NoMemory, TryClone, Ty,
+    Adjust, Adjustment, Body, Const, ExprId, HirDatabase, InferenceResult, List, NoMemory,
+    TryClone, Ty,
 };
 
 /// The type that a step leads to, where it is `NeverToAny`.

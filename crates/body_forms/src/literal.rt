@@ -83,10 +83,7 @@ fn lower_number(context: &Context<'_>, e: ExprId, bytes: [u8; 16]) -> Result<Ope
         return Err(MirLowerError::LayoutError(layout_error_of(ty)));
     };
     if layout.size > 16 {
-        return Err(type_error(
-            context.alloc,
-            "number literal of more than 16 bytes",
-        ));
+        return Err(type_error(context.alloc, "number literal of more than 16 bytes"));
     }
     let memory = Bytes::from_slice(context.alloc, &bytes[..layout.size as usize])?;
     constant(context, e, ty, memory)

@@ -231,7 +231,7 @@ repeat-computes source e element len x typed whole frame [] store memory same ho
 repeat-computes source e element len x typed whole frame (value ∷ []) store memory same holds fits =
     let given = value_of source store value in
     let answers : answered source.world (own_type source e) Repeat (given ∷ []) ≡ repeated_for (number_in len) given.bytes =
-        ap (λ t. answered source.world t Repeat (given ∷ [])) typed ∙ repeat-answer source.world (type.Array element len) given ∙ ap (λ count. repeated_for count given.bytes) (length-of element len) in
+    ap (λ t. answered source.world t Repeat (given ∷ [])) typed ∙ repeat-answer source.world (type.Array element len) given ∙ ap (λ count. repeated_for count given.bytes) (length-of element len) in
     let runs = repeat-bytes frame memory len x given.bytes (fits.0.bytes store memory holds) in
     subst (λ answer. Agrees answer (rvalue_bytes frame memory (Repeated x len))) (sym answers)
     (subst (Agrees (repeated_for (number_in len) given.bytes)) (sym runs) (repeat-agrees (number_in len) given.bytes))

@@ -203,7 +203,14 @@ fn lower_own(
             lower_aggregate(context, graph, e, Several::Tuple, parts.as_slice(), place)
         }
         Form::Array(elements) => {
-            lower_aggregate(context, graph, e, Several::Array, elements.as_slice(), place)
+            lower_aggregate(
+                context,
+                graph,
+                e,
+                Several::Array,
+                elements.as_slice(),
+                place,
+            )
         }
         Form::Binary(op, lhs, rhs) => lower_binary(context, graph, e, op, lhs, rhs, place),
         Form::Logic(op, lhs, rhs) => lower_logic(context, graph, e, op, lhs, rhs, place),

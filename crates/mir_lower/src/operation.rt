@@ -54,10 +54,7 @@ fn repeated(context: &Context<'_>, e: ExprId, value: Operand) -> Result<Rvalue, 
     ensures refused { IfErr result (RefusesNode (source_of context.now) e.0) }
 {
     let Some(array) = array_of(context, e) else {
-        return Err(type_error(
-            context.alloc,
-            "Array repeat expression with non array type",
-        ));
+        return Err(type_error(context.alloc, "Array repeat expression with non array type"));
     };
     let len = array.1.try_clone(context.alloc)?;
     Ok(Rvalue::Repeat(value, len))
@@ -105,10 +102,7 @@ pub(crate) fn kind_of(
         }
         Several::Array => {
             let Some(array) = array_of(context, e) else {
-                return Err(type_error(
-                    context.alloc,
-                    "Array expression with non array type",
-                ));
+                return Err(type_error(context.alloc, "Array expression with non array type"));
             };
             let element = array.0.try_clone(context.alloc)?;
             Ok(AggregateKind::Array(element))
