@@ -232,6 +232,7 @@ module _ (source : Source) (checked : IsChecked source.world) where
   no_fuel_is_sound : (outer : List Opened) (around : Around) → IsSoundLevel outer around.targets (no_fuel around)
   no_fuel_is_sound outer around = record { place = λ e store fine sized. tt; operand = λ e store fine sized. tt; into = λ e path store fine sized fits. tt; own = λ e path store fine sized fits. tt }
 
+  -- the values of a number's type with a layout have a length that it may have
   scalar_size : (ty : Ty) → IsLaidOut source (Some ty) → IsNumber ty → IsLengthOf ty (size_at source (Some ty))
   scalar_size ty laid scalar = number_is_long source checked ty laid scalar
 

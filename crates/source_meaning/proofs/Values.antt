@@ -13,7 +13,7 @@ use Rattle.source_meaning.specs.Aggregates.{array_length, made, laid_out, repeat
 use Rattle.source_meaning.specs.Core.{Operation, Negate, Invert, Keep, Convert, Combine, MakeTuple, MakeArray, Repeat}
 use Rattle.source_meaning.specs.Meaning.{Value, converted_to, answered}
 use Rattle.source_meaning.specs.Source.{Source}
-use Rattle.source_meaning.specs.Valid.{IsScalar, IsNumber, IsBool, AreIntegers, AreScalars, AreShifted, AreCompared, IsCombined, IsTyped, IsLaidOut}
+use Rattle.source_meaning.specs.Valid.{IsNumber, IsBool, AreIntegers, AreScalars, AreShifted, AreCompared, IsCombined, IsTyped, IsLaidOut}
 use Rattle.source_meaning.proofs.Aggregates.{AreInside, constructed-there, length-repeated, length_of_array}
 use Rattle.source_meaning.proofs.Layouts.{number_has_length, number_has_size, integer_is_number, bool_is_number, scalar_is_number, bool_length_is_one}
 use Rattle.source_meaning.proofs.Operators.{Fits, IsLengthOf, IsAllowed, allowed_on_integer, allowed_on_scalar, allowed_on_number, length_is_width, converted_fits, unshifted_fits, compared_fits, shift_fits, negated_fits, inverted_fits}
@@ -119,7 +119,6 @@ module _ (source : Source) where
   kept_fits ty value long is =
       ⊎_elim (λ size. size) (λ is_bool. (let number = bool_is_number ty is_bool in value_size ty value number (long number) is)) is.size
 
-  -- what an operation makes of values of types that fit it has the size of its own type
   module _ (checked : IsChecked source.world) where
     -- the values of a number's type with a layout have a length that it may have
     pub number_is_long : (ty : Ty) → IsLaidOut source (Some ty) → IsNumber ty → IsLengthOf ty (size_at source (Some ty))
@@ -143,6 +142,7 @@ module _ (source : Source) where
         let first = inside 0 offset ty refl refl in
         (omega (arith, first.ends, value_is_long ty first.layout value first.has are.0), parts_are_inside size offsets types values (omega (arith, count)) (λ k. inside (suc k)) are.1)
 
+    -- so a tuple of them is there, and has its size
     tuple_fits : (types : List Ty) (values : List Value) (layout : Layout) → HasParts source.world types layout → AreValues source types values → Fits layout.size (laid_out (Some layout) (map (λ value. value.bytes) values))
     tuple_fits types values layout has are =
         let there = constructed-there layout.size layout.offsets (map (λ value. value.bytes) values) (parts_are_inside layout.size layout.offsets types values has.count has.inside are) in
@@ -158,6 +158,7 @@ module _ (source : Source) where
         let is = subst (λ t. IsValueOf source t value) (All-head (λ one. one ≡ element) ty types each) are.0 in
         omega (arith, length-append value.bytes (flat_map (λ one. one.bytes) values), value_is_long element inner value found is, length-elements element inner types values found (All-tail (λ one. one ≡ element) ty types each) are.1)
 
+    -- what an operation makes of values of types that fit it has the size of its own type
     pub typed_fits : HasAggregates source.world → (operation : Operation) (types : List Ty) (values : List Value) (ty : Ty) → IsLaidOut source (Some ty) → IsTyped operation types ty → AreValues source types values →
         Fits (size_at source (Some ty)) (answered source.world (Some ty) operation values)
     unfolding answered
