@@ -1,6 +1,7 @@
 -- What a frame does that doesn't look at the answers of its run: with other answers it reads, writes and fills the same.
 use Rattle.std.proofs.Common.{◌≡◌, List, [], ◌∷◌, refl, ap}
 use Rattle.std.specs.Prelude.{slice_get, Result, Ok, Err}
+use Rattle.numbers.specs.Constants.{number_in}
 use Rattle.mir.specs.declared.address.Interval.{Interval}
 use Rattle.mir.specs.Memory.{Memory}
 use Rattle.mir.specs.Run.{Frame, read, repeats, aggregated, operand_bytes, operands_bytes, rvalue_bytes, copied, after_statement, after_statements, filled}
