@@ -2,8 +2,9 @@
 
 import json
 
+from part_layouts import rows_with_parts
 from running import ROOT
-from rust_text import read, read_function
+from rust_text import read, read_function, read_type
 from typed_bodies import ALL, LAYOUTS, SCALARS, body_row, world_of_bodies
 from worlds import (
     BOOL,
@@ -11,6 +12,8 @@ from worlds import (
     U8,
     USIZE,
     WILD,
+    array_expr,
+    array_of,
     block,
     body,
     break_to,
@@ -27,6 +30,8 @@ from worlds import (
     loop,
     static,
     struct_row,
+    tuple_expr,
+    tuple_of,
     variant_row,
     world,
 )
@@ -123,8 +128,9 @@ def source_world(row):
     limits."""
     copy_types = COPIES[row.get("copies", True)]
     functions = [read_function(text) for text in row.get("functions", [])]
-    body_of_goal = body_row(read(row["source"]), row["type"], copy_types, functions)
-    made = world_of_bodies([(body_of_goal, row["type"])], functions, copy_types)
+    ty = read_type(row["type"])
+    body_of_goal = body_row(read(row["source"]), ty, copy_types, functions)
+    made = world_of_bodies([(body_of_goal, ty)], functions, copy_types)
     if "goal" in row:
         names = [one.name for one in functions]
         made["goals"] = [goal({"FunctionId": names.index(row["goal"])})]
@@ -155,7 +161,23 @@ def nested_blocks(depth):
     return [literal(7), *(block(tail=place, label=place) for place in range(depth))], [U8] * (depth + 1)
 
 
-FORMS = {"if": nested_ifs, "loop": nested_loops, "block": nested_blocks}
+def nested_tuples(depth):
+    """So many tuples of one part, each the part of the next one, around the number 7."""
+    types = [U8]
+    for _ in range(depth):
+        types.append(tuple_of(types[-1]))
+    return [literal(7), *map(tuple_expr, range(depth))], types
+
+
+def nested_arrays(depth):
+    """So many arrays of one element, each the element of the next one, around the number 7."""
+    types = [U8]
+    for _ in range(depth):
+        types.append(array_of(types[-1], 1))
+    return [literal(7), *(array_expr(place) for place in range(depth))], types
+
+
+FORMS = {"if": nested_ifs, "loop": nested_loops, "block": nested_blocks, "tuple": nested_tuples, "array": nested_arrays}
 
 
 def deep(parts):
@@ -163,7 +185,8 @@ def deep(parts):
     form, depth = parts
     exprs, types = FORMS[form](depth)
     row = body(exprs, found={"expr_types": types, "copy_types": ALL}, labels=["'a"] * depth)
-    return json_of(world([goal({"ConstId": 0})], consts=[const(U8, body=0)], bodies=[row], layouts=LAYOUTS))
+    layouts = [*LAYOUTS, *rows_with_parts(types, LAYOUTS)]
+    return json_of(world([goal({"ConstId": 0})], consts=[const(types[-1], body=0)], bodies=[row], layouts=layouts))
 
 
 # The keys of a row that tell its input, with what makes the text of the input.

@@ -25,20 +25,36 @@ from running import ROOT
 PROGRAMS = Path(__file__).resolve().parent / "rust_programs"
 TYPES = PROGRAMS / "types.rs"
 OPTIONS = ["--edition", "2024", "-C", "overflow-checks=on"]
-METHOD = re.compile(r"fn (\w+)\((mut )?self: (\w+|\(\))")
+METHOD = re.compile(r"fn (\w+)\((mut )?self: (\w+|\([^)]*\)|\[[^\]]*\])")
 
 # What stands around the sources of cases. A case's line is its number and the bytes of its value, or `panic`.
 FRONT = """#![allow(arithmetic_overflow, non_camel_case_types, path_statements, unconditional_panic, unused)]
-trait Bytes { fn text(self) -> String; }
+trait Bytes { fn bytes(self) -> Vec<u8>; }
 macro_rules! integers { ($($ty:ident)*) => { $(impl Bytes for $ty {
-    fn text(self) -> String { self.to_le_bytes().iter().map(|byte| format!("{byte:02x}")).collect() }
+    fn bytes(self) -> Vec<u8> { self.to_le_bytes().to_vec() }
 })* }; }
 integers!(i8 i16 i32 i64 i128 isize u8 u16 u32 u64 u128 usize);
-impl Bytes for bool { fn text(self) -> String { (self as u8).text() } }
-impl Bytes for char { fn text(self) -> String { (self as u32).text() } }
-impl Bytes for () { fn text(self) -> String { "-".to_string() } }
+impl Bytes for bool { fn bytes(self) -> Vec<u8> { vec![self as u8] } }
+impl Bytes for char { fn bytes(self) -> Vec<u8> { (self as u32).bytes() } }
+impl Bytes for () { fn bytes(self) -> Vec<u8> { vec![] } }
+impl<T: Bytes, const N: usize> Bytes for [T; N] {
+    fn bytes(self) -> Vec<u8> { self.into_iter().flat_map(Bytes::bytes).collect() }
+}
+// the bytes between the parts are zero
+macro_rules! tuples { ($(($($ty:ident $part:tt)*))*) => { $(impl<$($ty: Bytes),*> Bytes for ($($ty,)*) {
+    fn bytes(self) -> Vec<u8> {
+        let mut whole = vec![0; size_of::<Self>()];
+        $(let (part, start) = (self.$part.bytes(), std::mem::offset_of!(Self, $part));
+        whole[start..start + part.len()].copy_from_slice(&part);)*
+        whole
+    }
+})* }; }
+tuples!((A 0) (A 0 B 1) (A 0 B 1 C 2) (A 0 B 1 C 2 D 3) (A 0 B 1 C 2 D 3 E 4) (A 0 B 1 C 2 D 3 E 4 F 5));
+fn shown(bytes: Vec<u8>) -> String {
+    if bytes.is_empty() { "-".to_string() } else { bytes.iter().map(|byte| format!("{byte:02x}")).collect() }
+}
 fn show<T: Bytes>(number: usize, run: fn() -> T) {
-    println!("{number} {}", std::panic::catch_unwind(run).map_or("panic".to_string(), Bytes::text));
+    println!("{number} {}", std::panic::catch_unwind(run).map_or("panic".to_string(), |value| shown(value.bytes())));
 }
 fn main() {
 std::panic::set_hook(Box::new(|_| {}));
@@ -92,7 +108,7 @@ def program_of(rows):
 
 def wanted(row):
     """What Rust has to give where the answer of a row is right: the bytes of its value, or `panic`."""
-    found = re.fullmatch(r"value \S+ (\S+)", row["answer"])
+    found = re.fullmatch(r"value .+ (\S+)", row["answer"])
     return found.group(1) if found else "panic"
 
 
