@@ -29,15 +29,16 @@ def twos(number):
 
 def in_order(parts):
     """The numbers of a tuple's parts, in the order in which they lie."""
-    most = max(twos(part.layout["align"]) for part in parts)
-    some_free = any(part.free for part in parts)
+    moved = parts[:-1]
+    most = max((twos(part.layout["align"]) for part in moved), default=0)
+    some_free = any(part.free for part in moved)
 
     def rank(number):
-        part = parts[number]
+        part = moved[number]
         group = twos(max(part.layout["align"], part.layout["size"]))
         return -(min(most, group) if some_free else group), -part.free, part.free_at
 
-    return [*sorted(range(len(parts) - 1), key=rank), len(parts) - 1]
+    return [*sorted(range(len(moved)), key=rank), len(moved)]
 
 
 def rounded(number, align):
@@ -60,8 +61,8 @@ def of_tuple(parts):
 
 def of_array(element, count):
     """The layout of an array of so many elements."""
-    size, align = element.layout["size"], element.layout["align"]
-    return Placed(layout(count * size, align), element.free if count else 0, element.free_at)
+    found = layout(count * element.layout["size"], element.layout["align"])
+    return Placed(found, element.free, element.free_at) if count else Placed(found)
 
 
 class Layouts:
