@@ -3,7 +3,7 @@ use Rattle.std.proofs.Common.{◌≡◌, ℕ, Bool, true, false, List, Option, S
 use Rattle.std.proofs.lemmas.Bool.{false≢true}
 use Rattle.std.proofs.lemmas.List.Elements.{All-contains}
 use Rattle.source_meaning.specs.Built.{AssignsBinding, CombinesBinding, CallsFunction, is_direct, IsBuiltStatement, IsBuiltForm}
-use Rattle.source_meaning.specs.Core.{CoreExpr, Operation, core_of, local_named}
+use Rattle.source_meaning.specs.Core.{CoreExpr, Operation, Negate, Invert, Keep, Convert, Combine, MakeTuple, MakeArray, Repeat, core_of, local_named}
 use Rattle.source_meaning.specs.Core as expr
 use Rattle.source_meaning.specs.Source.{Source, node, target_path, pattern_named_by, compound_path, named_by, binding_type}
 use Rattle.types.specs.declared.ids.BindingId.{BindingId}
@@ -16,7 +16,7 @@ use Rattle.world.specs.declared.expr.Expr.TheVariants as whole
 use Rattle.world.specs.declared.infer.ValueNs.{ValueNs}
 use Rattle.world.specs.declared.infer.ValueNs.TheVariants.{LocalBinding}
 use Rattle.world.specs.Lookups.{function_row}
-use Rattle.body_forms.specs.Refusals.{IsIncomplete, LacksPart, IsUnbuiltForm, IsUnbuiltStatement, IsUnbuiltTarget, IsUnbuiltOperand, IsUnbuiltCall, IsUnbuilt, LetBindsNone, LacksLocal, IsUnresolved}
+use Rattle.body_forms.specs.Refusals.{IsIncomplete, LacksPart, IsUnbuiltForm, IsUnbuiltStatement, IsUnbuiltTarget, IsUnbuiltOperand, IsUnbuiltCall, IsUnbuilt, LetBindsNone, LacksLocal, IsNoArray, IsUnresolved}
 use Rattle.body_forms.proofs.Forms.{node-plain}
 
 incomplete-core : (item : Bool) (casts : ExprId → Option Operation) (e : Expr) → IsIncomplete e → core_of item casts e ≡ None
@@ -155,3 +155,28 @@ built-is-resolved source e (Some (expr.Continue label)) name built unresolved = 
 built-is-resolved source e (Some (expr.Return value)) name built unresolved = unresolved
 built-is-resolved source e (Some (expr.Call callee args)) name built unresolved = unresolved
 built-is-resolved source e None name built unresolved = unresolved
+
+-- one that makes an array has the type of one
+pub built-has-array : (source : Source) (e : ℕ) (form : Option CoreExpr) (text : List ℕ) → IsBuiltForm source e form → IsNoArray source e form text → ⊥
+built-has-array source e (Some (expr.Strict MakeArray operands)) text built none = none.1 built
+built-has-array source e (Some (expr.Strict Repeat operands)) text built none = none.1 built
+built-has-array source e (Some (expr.Strict Negate operands)) text built none = none
+built-has-array source e (Some (expr.Strict Invert operands)) text built none = none
+built-has-array source e (Some (expr.Strict Keep operands)) text built none = none
+built-has-array source e (Some (expr.Strict Convert operands)) text built none = none
+built-has-array source e (Some (expr.Strict (Combine op) operands)) text built none = none
+built-has-array source e (Some (expr.Strict MakeTuple operands)) text built none = none
+built-has-array source e (Some (expr.Literal l)) text built none = none
+built-has-array source e (Some (expr.Path name)) text built none = none
+built-has-array source e (Some (expr.Logic op left right)) text built none = none
+built-has-array source e (Some (expr.If condition then_branch else_branch)) text built none = none
+built-has-array source e (Some (expr.Assign assigned value)) text built none = none
+built-has-array source e (Some (expr.Compound op assigned value)) text built none = none
+built-has-array source e (Some (expr.Block statements tail)) text built none = none
+built-has-array source e (Some (expr.Labelled label statements tail)) text built none = none
+built-has-array source e (Some (expr.Loop label body)) text built none = none
+built-has-array source e (Some (expr.Break label value)) text built none = none
+built-has-array source e (Some (expr.Continue label)) text built none = none
+built-has-array source e (Some (expr.Return value)) text built none = none
+built-has-array source e (Some (expr.Call callee args)) text built none = none
+built-has-array source e None text built none = none

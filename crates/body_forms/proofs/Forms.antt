@@ -12,23 +12,26 @@ use Rattle.body_forms.specs.declared.form.Form.TheVariants as form
 use Rattle.body_forms.specs.Form.{IsFormOf, IsCauseAt, HasForm, core_form}
 
 -- an expression of none of the forms that have a meaning
-pub otherwise : (item : Bool) (casts : ExprId → Option Operation) (e : Expr) → ((l : _) → e ≡ whole.Literal l → ⊥) → ((name : _) → e ≡ whole.Path name → ⊥) → ((operand : _) (op : _) → e ≡ whole.UnaryOp operand op → ⊥) → ((operand : _) → e ≡ whole.Cast operand → ⊥) → ((lhs : _) (rhs : _) (op : _) → e ≡ whole.BinaryOp lhs rhs op → ⊥) → ((condition : _) (then_branch : _) (else_branch : _) → e ≡ whole.If condition then_branch else_branch → ⊥) → ((target : _) (value : _) → e ≡ whole.Assignment target value → ⊥) → ((statements : _) (tail : _) (label : _) → e ≡ whole.Block statements tail label → ⊥) → ((body : _) (label : _) → e ≡ whole.Loop body label → ⊥) → ((value : _) (label : _) → e ≡ whole.Break value label → ⊥) → ((label : _) → e ≡ whole.Continue label → ⊥) → ((value : _) → e ≡ whole.Return value → ⊥) → ((callee : _) (args : _) → e ≡ whole.Call callee args → ⊥) → ((receiver : _) (args : _) (name : _) → e ≡ whole.MethodCall receiver args name → ⊥) → (e ≡ whole.Missing → ⊥) → IsFormOf item casts e form.Unbuilt
-otherwise item casts (whole.Literal l) literal path unary cast binary either assigned block loop break continue return call method missing = absurd (literal l refl)
-otherwise item casts (whole.Path name) literal path unary cast binary either assigned block loop break continue return call method missing = absurd (path name refl)
-otherwise item casts (whole.UnaryOp operand op) literal path unary cast binary either assigned block loop break continue return call method missing = absurd (unary operand op refl)
-otherwise item casts (whole.Cast operand) literal path unary cast binary either assigned block loop break continue return call method missing = absurd (cast operand refl)
-otherwise item casts (whole.BinaryOp lhs rhs op) literal path unary cast binary either assigned block loop break continue return call method missing = absurd (binary lhs rhs op refl)
-otherwise item casts (whole.If condition then_branch else_branch) literal path unary cast binary either assigned block loop break continue return call method missing = absurd (either condition then_branch else_branch refl)
-otherwise item casts (whole.Assignment target value) literal path unary cast binary either assigned block loop break continue return call method missing = absurd (assigned target value refl)
-otherwise item casts (whole.Block statements tail label) literal path unary cast binary either assigned block loop break continue return call method missing = absurd (block statements tail label refl)
-otherwise item casts (whole.Loop body label) literal path unary cast binary either assigned block loop break continue return call method missing = absurd (loop body label refl)
-otherwise item casts (whole.Break value label) literal path unary cast binary either assigned block loop break continue return call method missing = absurd (break value label refl)
-otherwise item casts (whole.Continue label) literal path unary cast binary either assigned block loop break continue return call method missing = absurd (continue label refl)
-otherwise item casts (whole.Return value) literal path unary cast binary either assigned block loop break continue return call method missing = absurd (return value refl)
-otherwise item casts (whole.Call callee args) literal path unary cast binary either assigned block loop break continue return call method missing = absurd (call callee args refl)
-otherwise item casts (whole.MethodCall receiver args name) literal path unary cast binary either assigned block loop break continue return call method missing = absurd (method receiver args name refl)
-otherwise item casts whole.Missing literal path unary cast binary either assigned block loop break continue return call method missing = absurd (missing refl)
-otherwise item casts _ literal path unary cast binary either assigned block loop break continue return call method missing = record { core = refl; cause = λ lacks. lacks }
+pub otherwise : (item : Bool) (casts : ExprId → Option Operation) (e : Expr) → ((l : _) → e ≡ whole.Literal l → ⊥) → ((name : _) → e ≡ whole.Path name → ⊥) → ((operand : _) (op : _) → e ≡ whole.UnaryOp operand op → ⊥) → ((operand : _) → e ≡ whole.Cast operand → ⊥) → ((lhs : _) (rhs : _) (op : _) → e ≡ whole.BinaryOp lhs rhs op → ⊥) → ((condition : _) (then_branch : _) (else_branch : _) → e ≡ whole.If condition then_branch else_branch → ⊥) → ((target : _) (value : _) → e ≡ whole.Assignment target value → ⊥) → ((statements : _) (tail : _) (label : _) → e ≡ whole.Block statements tail label → ⊥) → ((body : _) (label : _) → e ≡ whole.Loop body label → ⊥) → ((value : _) (label : _) → e ≡ whole.Break value label → ⊥) → ((label : _) → e ≡ whole.Continue label → ⊥) → ((value : _) → e ≡ whole.Return value → ⊥) → ((callee : _) (args : _) → e ≡ whole.Call callee args → ⊥) → ((receiver : _) (args : _) (name : _) → e ≡ whole.MethodCall receiver args name → ⊥) → ((parts : _) → e ≡ whole.Tuple parts → ⊥) → ((elements : _) → e ≡ whole.Array elements → ⊥) → ((initializer : _) → e ≡ whole.Repeat initializer → ⊥) → (e ≡ whole.Missing → ⊥) → IsFormOf item casts e form.Unbuilt
+otherwise item casts (whole.Literal l) literal path unary cast binary either assigned block loop break continue return call method tuple array repeat missing = absurd (literal l refl)
+otherwise item casts (whole.Path name) literal path unary cast binary either assigned block loop break continue return call method tuple array repeat missing = absurd (path name refl)
+otherwise item casts (whole.UnaryOp operand op) literal path unary cast binary either assigned block loop break continue return call method tuple array repeat missing = absurd (unary operand op refl)
+otherwise item casts (whole.Cast operand) literal path unary cast binary either assigned block loop break continue return call method tuple array repeat missing = absurd (cast operand refl)
+otherwise item casts (whole.BinaryOp lhs rhs op) literal path unary cast binary either assigned block loop break continue return call method tuple array repeat missing = absurd (binary lhs rhs op refl)
+otherwise item casts (whole.If condition then_branch else_branch) literal path unary cast binary either assigned block loop break continue return call method tuple array repeat missing = absurd (either condition then_branch else_branch refl)
+otherwise item casts (whole.Assignment target value) literal path unary cast binary either assigned block loop break continue return call method tuple array repeat missing = absurd (assigned target value refl)
+otherwise item casts (whole.Block statements tail label) literal path unary cast binary either assigned block loop break continue return call method tuple array repeat missing = absurd (block statements tail label refl)
+otherwise item casts (whole.Loop body label) literal path unary cast binary either assigned block loop break continue return call method tuple array repeat missing = absurd (loop body label refl)
+otherwise item casts (whole.Break value label) literal path unary cast binary either assigned block loop break continue return call method tuple array repeat missing = absurd (break value label refl)
+otherwise item casts (whole.Continue label) literal path unary cast binary either assigned block loop break continue return call method tuple array repeat missing = absurd (continue label refl)
+otherwise item casts (whole.Return value) literal path unary cast binary either assigned block loop break continue return call method tuple array repeat missing = absurd (return value refl)
+otherwise item casts (whole.Call callee args) literal path unary cast binary either assigned block loop break continue return call method tuple array repeat missing = absurd (call callee args refl)
+otherwise item casts (whole.MethodCall receiver args name) literal path unary cast binary either assigned block loop break continue return call method tuple array repeat missing = absurd (method receiver args name refl)
+otherwise item casts (whole.Tuple parts) literal path unary cast binary either assigned block loop break continue return call method tuple array repeat missing = absurd (tuple parts refl)
+otherwise item casts (whole.Array elements) literal path unary cast binary either assigned block loop break continue return call method tuple array repeat missing = absurd (array elements refl)
+otherwise item casts (whole.Repeat initializer) literal path unary cast binary either assigned block loop break continue return call method tuple array repeat missing = absurd (repeat initializer refl)
+otherwise item casts whole.Missing literal path unary cast binary either assigned block loop break continue return call method tuple array repeat missing = absurd (missing refl)
+otherwise item casts _ literal path unary cast binary either assigned block loop break continue return call method tuple array repeat missing = record { core = refl; cause = λ lacks. lacks }
 
 node-adjusted : (source : Source) (e : ℕ) → is_adjusted_otherwise source.infer (record { 0 = e }) ≡ true → node source e ≡ None
 unfolding node

@@ -1,10 +1,12 @@
 //! What inference found of a body: the types of its expressions and bindings, which types are `Copy`, which calls diverge, and which
 //! casts are coercions.
 
-ghost use Rattle.std.specs.Prelude.{◌≡◌, ◌<◌, ◌&&◌, ℕ, length, Some, IfOk};
+ghost use Rattle.std.specs.Prelude.{◌≡◌, ◌<◌, ◌&&◌, ℕ, length, Some, IfNone, IfOk, IfSome};
 ghost use Rattle.std.specs.Option.{option_copied};
+ghost use Rattle.source_meaning.specs.Built.{HasArrayType};
 ghost use Rattle.source_meaning.specs.Core.{is_coercion, is_number_type, never_step, never_steps, never_target, value_type as type_of_value};
 ghost use Rattle.source_meaning.specs.Source.{binding_type, cell_type, diverges, node_type, own_type, Never};
+ghost use Rattle.types.specs.declared.ty.Ty.TheVariants.{Array};
 ghost use Rattle.world.specs.Checked.{IsCheckedBody};
 ghost use Rattle.world.specs.Lookups.{is_copy as is_copy_type, type_of};
 ghost use Rattle.body_forms.specs.Contexts.{source_of};
@@ -16,7 +18,8 @@ use numbers::Kind;
 use std::alloc::Global;
 use std::collections::BTreeSet;
 use world::{
-    Adjust, Adjustment, Body, ExprId, HirDatabase, InferenceResult, List, NoMemory, TryClone, Ty,
+    Adjust, Adjustment, Body, Const, ExprId, HirDatabase, InferenceResult, List, NoMemory,
+    TryClone, Ty,
 };
 
 /// The type that a step leads to, where it is `NeverToAny`.
@@ -65,6 +68,19 @@ pub fn own_ty<'a>(context: &Context<'a>, e: ExprId) -> &'a Ty
     ensures { own_type (source_of context.now) e.0 ≡ Some result.now }
 {
     &context.infer.expr_types.as_slice()[e.0 as usize]
+}
+
+/// The type of the elements and the length of the array that an expression itself is, where it is one by its type.
+pub fn array_of<'a>(context: &Context<'a>, e: ExprId) -> Option<(&'a Ty, &'a Const)>
+    requires checked { IsCheckedBody context.now.body.now context.now.infer.now }
+    requires within { e.0 < length context.now.body.now.exprs }
+    ensures some { IfSome result (λ array. own_type (source_of context.now) e.0 ≡ Some (Array array.0.now array.1.now)) }
+    ensures none { IfNone result (HasArrayType (source_of context.now) e.0 → ⊥) }
+{
+    match own_ty(context, e) {
+        Ty::Array(element, len) => Some((element.as_ref(), len.as_ref())),
+        _ => None,
+    }
 }
 
 /// The type of the value of an expression of a checked body.

@@ -15,13 +15,13 @@ ghost use Rattle.body_forms.specs.Form.{core_value};
 ghost use Rattle.body_forms.specs.Literals.{IsConstantOf, IsNumberOf, IsLiteral};
 ghost use Rattle.body_forms.specs.Literals.{HasNumberLayout, IsBuiltLiteral};
 ghost use Rattle.body_forms.specs.Refusals.{IsNumber, RefusesNode};
-ghost use Rattle.std.specs.Prelude.{codes, ◌⊎◌};
 
 use crate::context::Context;
 use crate::inferred::own_ty;
+use crate::unbuilt::type_error;
 use mir::{MirLowerError, MirSpan, Operand, OperandKind, layout_error_of};
 use std::alloc::Global;
-use world::{Bytes, Const, ExprId, MemoryMap, Text, TryClone, Ty, ValueConst};
+use world::{Bytes, Const, ExprId, MemoryMap, TryClone, Ty, ValueConst};
 
 /// A literal of a kind that is built: a truth value, a whole number, or a character, by its code point.
 #[derive(Clone, Copy)]
@@ -30,15 +30,6 @@ pub enum LiteralValue {
     Signed(i128),
     Unsigned(u128),
     Character(u32),
-}
-
-fn too_many_bytes(alloc: Global) -> MirLowerError
-    ensures { (result ≡ refusal.TypeError (codes "number literal of more than 16 bytes")) ⊎ (result ≡ refusal.NoMemory) }
-{
-    match Text::from_str(alloc, "number literal of more than 16 bytes") {
-        Ok(text) => MirLowerError::TypeError(text),
-        Err(error) => MirLowerError::from(error),
-    }
 }
 
 /// The lowest bytes of a number.
@@ -92,7 +83,7 @@ fn lower_number(context: &Context<'_>, e: ExprId, bytes: [u8; 16]) -> Result<Ope
         return Err(MirLowerError::LayoutError(layout_error_of(ty)));
     };
     if layout.size > 16 {
-        return Err(too_many_bytes(context.alloc));
+        return Err(type_error(context.alloc, "number literal of more than 16 bytes"));
     }
     let memory = Bytes::from_slice(context.alloc, &bytes[..layout.size as usize])?;
     constant(context, e, ty, memory)

@@ -26,6 +26,7 @@ use Rattle.mir_lower.specs.Runs.{error_of}
 use Rattle.mir_lower.specs.Simulates.{Simulates}
 use Rattle.mir_lower.specs.Stops.{MakesCall, WasRefused}
 use Rattle.source_meaning.proofs.Runs.{run_goes_on, run_is_never_stuck, run_jumps_nowhere}
+use Rattle.source_meaning.specs.Aggregates.{HasAggregates}
 use Rattle.source_meaning.specs.Core.{IsNoCall}
 use Rattle.source_meaning.specs.Ends.{cost_of, End, Go, Faults, Fault, Panic, Undefined, Stuck}
 use Rattle.source_meaning.specs.Meaning.{Gives, meaning_from, meaning_of}
@@ -62,7 +63,7 @@ reached-laid-out (through {source = source} {called = called} {reached = reached
 no-call : (source : Source) (id : FunctionId) → MakesCall source id → HasNoCalls source → ⊥
 no-call source id makes none = subst IsNoCall makes.is_call (none makes.e makes.evaluated)
 
-module _ (world : HirDatabase) (checked : IsChecked world) (def : DefWithBodyId) (args : GenericArgs) (row : BodyRow) (valid : IsValid world def args row) where
+module _ (world : HirDatabase) (checked : IsChecked world) (parts : HasAggregates world) (def : DefWithBodyId) (args : GenericArgs) (row : BodyRow) (valid : IsValid world def args row) where
   abbrev Of : Source
   Of = source_of world row
 
@@ -81,7 +82,7 @@ module _ (world : HirDatabase) (checked : IsChecked world) (def : DefWithBodyId)
   ends-well laid fuel =
       let body = checked-body world def row checked valid.body in
       let laid_out : AreLaidOutThroughout Of = record { each = λ reached on. reached-laid-out on laid (λ callee later calls on. let fit = valid.called callee later calls on in fit.laid_out) } in
-      (run_is_never_stuck Of fuel checked body valid.plain laid_out, run_jumps_nowhere Of fuel checked body valid.plain laid_out)
+      (run_is_never_stuck Of fuel checked parts body valid.plain laid_out, run_jumps_nowhere Of fuel checked parts body valid.plain laid_out)
 
   module _ (kept : Kept) (same : kept.world ≡ world) (sound : IsSound kept) (limits : Limits) (turns : ℕ) (answer : Result Const ConstEvalError) where
     -- what is kept serves what a run goes by that is told right answers

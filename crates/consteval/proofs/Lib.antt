@@ -1,3 +1,4 @@
+pub mod Aggregates
 pub mod Begins
 pub mod Built
 pub mod Bytes

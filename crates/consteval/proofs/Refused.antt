@@ -28,7 +28,7 @@ use Rattle.mir.specs.declared.ids.LocalId.{LocalId}
 use Rattle.mir_lower.specs.Callees.{AreLocalsOf}
 use Rattle.mir_lower.specs.Refusals.{HasDrops, RefusesInferred, RefusesParameters}
 use Rattle.body_forms.specs.Refusals.{IsNumber, RefusesNode, JumpsTo}
-use Rattle.body_forms.proofs.Causes.{built-is-complete, built-is-no-unbuilt, built-has-local, built-is-resolved}
+use Rattle.body_forms.proofs.Causes.{built-is-complete, built-is-no-unbuilt, built-has-array, built-has-local, built-is-resolved}
 use Rattle.mir_lower.specs.Simulates.{Simulates}
 use Rattle.source_meaning.proofs.Built.{plain_is_built}
 use Rattle.source_meaning.specs.Entering.{entering}
@@ -174,8 +174,12 @@ refuses-node source e refusal.ContinueWithoutLoop checked fits plain at refuses 
 refuses-node source e refusal.BreakWithoutLoop checked fits plain at refuses = absurd (plain-target source refuses.0 (node source e) refuses.1 (fits [] e refuses.2))
 refuses-node source e refusal.UnresolvedLabel checked fits plain at refuses = absurd (named-target source refuses.2.0 refuses.0 (node source e) refuses.1 (fits refuses.2.0 e refuses.2.1) refuses.2.2)
 refuses-node source e (refusal.TypeError text) checked fits plain at refuses =
-    let layout : layout_of source.world plain.ty ≡ Some refuses.2 = ap (option_and_then (layout_of source.world)) (sym plain.has_type) ∙ refuses.3 in
-    absurd (wide-is-no-width refuses.2.size (literal-is-width source e (node source e) plain.ty refuses.2 checked plain.form refuses.1 layout) refuses.4)
+    ⊎_elim
+    (λ wide.
+    let layout : layout_of source.world plain.ty ≡ Some wide.2 = ap (option_and_then (layout_of source.world)) (sym plain.has_type) ∙ wide.3 in
+    absurd (wide-is-no-width wide.2.size (literal-is-width source e (node source e) plain.ty wide.2 checked plain.form wide.1 layout) wide.4))
+    (λ none. absurd (built-has-array source e (node source e) text (plain_is_built source e plain) none))
+    refuses
 refuses-node source e (refusal.NotSupported text) checked fits plain at refuses = absurd (built-is-no-unbuilt source e (node source e) (plain_is_built source e plain) refuses.1)
 refuses-node source e refusal.NoMemory checked fits plain at refuses = inl refl
 

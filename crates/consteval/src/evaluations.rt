@@ -69,6 +69,7 @@ impl<'w> Evaluations<'w> {
     ghost use Rattle.world.specs.Limits.{IsWithin};
     ghost use Rattle.source_meaning.specs.Valid.{HasDefinedCost};
     ghost use Rattle.world.specs.Checked.{IsChecked};
+    ghost use Rattle.source_meaning.specs.Aggregates.{HasAggregates};
     ghost use Rattle.consteval.specs.declared.kept.Key.TheVariants as key;
     ghost use Rattle.consteval.specs.Kept.{Lowered, Value, IsKept, IsLowered, IsSound, IsValueOf, RestsOn, Stays, entry_of, key_of, with_entry};
     ghost use Rattle.consteval.specs.Built.{no_args};
@@ -226,8 +227,9 @@ impl<'w> Evaluations<'w> {
         ensures stays { Stays self.old self.new }
         ensures sound { IsSound self.new }
         ensures checked { IsChecked self.new.world }
+        ensures parts { HasAggregates self.new.world }
     {
-        // The clause `checked` needs that the world is checked, and `db` ensures it.
+        // The clauses `checked` and `parts` need that the world is checked, and `db` ensures it.
         let world = self.world;
         let db = world.db();
         let _ = db;

@@ -2,8 +2,9 @@
 ghost use Rattle.std.specs.Prelude.{◌≡◌, IfOk};
 
 use crate::{
-    AggregateKind, BasicBlock, ConstEvalError, LayoutError, Local, LocalId, MirBody, MirEvalError, MirLowerError,
-    Operand, OperandKind, Rvalue, Statement, StatementKind, Terminator, TerminatorKind, TrailEntry,
+    AggregateKind, BasicBlock, ConstEvalError, LayoutError, Local, LocalId, MirBody, MirEvalError,
+    MirLowerError, Operand, OperandKind, Rvalue, Statement, StatementKind, Terminator,
+    TerminatorKind, TrailEntry,
 };
 use std::alloc::Global;
 use world::{Box, NoMemory, TryClone};

@@ -4,7 +4,7 @@ use Rattle.std.specs.Prelude.{All, flat_map, if◌then◌else◌, option_map}
 use Rattle.std.proofs.lemmas.List.Elements.{All-nil, All-cons, All-append, All-contains, All-weaker, All-head, All-tail}
 use Rattle.mir.specs.declared.ids.LocalId.{LocalId}
 use Rattle.source_meaning.specs.Around.{is_meant, meant}
-use Rattle.source_meaning.specs.Built.{IsBinding, NamesBinding, AssignsBinding, CombinesBinding, CallsFunction, IsBuiltStatement}
+use Rattle.source_meaning.specs.Built.{IsBinding, NamesBinding, AssignsBinding, CombinesBinding, CallsFunction, IsBuiltStatement, IsBuiltStrict}
 use Rattle.numbers.specs.declared.operator.Operator.{Operator}
 use Rattle.source_meaning.specs.Core.{CoreExpr, CoreLiteral, Operation}
 use Rattle.source_meaning.specs.Core as expr
@@ -52,9 +52,9 @@ built-path source e name is named = built-node source e (Some (expr.Path name)) 
 pub one-built : (source : Source) (e : ℕ) → IsBuilt source e → All (IsBuilt source) (e ∷ [])
 one-built source e built = All-cons (IsBuilt source) e [] built (All-nil (IsBuilt source))
 
-pub built-strict : (source : Source) (e : ℕ) (operation : Operation) (operands : List ℕ) → node source e ≡ Some (expr.Strict operation operands) → All (IsBuilt source) operands → IsBuilt source e
-built-strict source e operation operands is built =
-    built-node source e (Some (expr.Strict operation operands)) is tt (subst (All (IsBuilt source)) (sym (strict_parts operation operands)) built)
+pub built-strict : (source : Source) (e : ℕ) (operation : Operation) (operands : List ℕ) → node source e ≡ Some (expr.Strict operation operands) → IsBuiltStrict source e operation → All (IsBuilt source) operands → IsBuilt source e
+built-strict source e operation operands is own built =
+    built-node source e (Some (expr.Strict operation operands)) is own (subst (All (IsBuilt source)) (sym (strict_parts operation operands)) built)
 
 pub built-call : (source : Source) (e : ℕ) (callee : Option ℕ) (args : List ℕ) → node source e ≡ Some (expr.Call callee args) → CallsFunction source e callee → All (IsBuilt source) args → IsBuilt source e
 built-call source e callee args is calls built =

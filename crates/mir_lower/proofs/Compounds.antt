@@ -40,7 +40,7 @@ use Rattle.mir_lower.proofs.Refused.{refuses-here, refuses-no-memory}
 use Rattle.mir_lower.proofs.Sound.{with_statement-sound, with_statement-open, with_statement-scope}
 use Rattle.mir_lower.proofs.Sparing.{spares-trans, with_statement-spares}
 use Rattle.mir_lower.proofs.Steps.{local_of-grows, assigned-answer, does-form}
-use Rattle.mir_lower.proofs.Strict.{binary-bytes, two-answer}
+use Rattle.mir_lower.proofs.Rvalues.{binary-bytes, two-answer}
 
 -- the value is a part
 pub combined-part : (source : Source) (e : ℕ) (op : Operator) (assigned value : ℕ) → node source e ≡ Some (expr.Compound op assigned value) → Contains (parts_of (node source e)) value
@@ -98,7 +98,7 @@ lowers-compound source s0 s1 new e op assigned value left right place span c rea
           (assigned-answer source s1 whole frame place (CheckedBinaryOp op left right) span opened sound frame-is lands grows b found store1 memory1 claims.0 _
           (let own = At (record { cell = b }) in
           let fits = subst (λ kind. Fits source kind whole frame own) (sym copies) (place-fits source whole frame b place sound frame-is found) in
-          binary-bytes source whole frame op own v left right store1 memory1 claims.0 fits claims.1 ∙ ap answer (two-answer None op (value_of source store1 own) (value_of source store1 v)))))
+          binary-bytes source whole frame op own v left right store1 memory1 claims.0 fits claims.1 ∙ ap answer (two-answer source.world None op (value_of source store1 own) (value_of source store1 v)))))
 
 -- the refusal of the target of a compound assignment
 pub refuses-combined : (source : Source) (e : ℕ) (error : MirLowerError) (op : Operator) (assigned value : ℕ) → node source e ≡ Some (expr.Compound op assigned value) → RefusesCombined source assigned error → RefusesAt source e error

@@ -37,6 +37,7 @@ pub mod Reserving
 pub mod Returning
 pub mod Room
 pub mod Running
+pub mod Rvalues
 pub mod Serving
 pub mod Sound
 pub mod Sparing

@@ -23,6 +23,7 @@ use Rattle.mir_lower.specs.Growth.{Grows, IsSound, IsOpen, IsPlaced}
 use Rattle.mir_lower.specs.Runs.{Point, run_from, Comes}
 use Rattle.mir_lower.proofs.Holding.{assigns, interval-of}
 use Rattle.mir_lower.proofs.Reaching.{none-entered, reaches-after}
+use Rattle.mir_lower.proofs.Rvalues.{Agrees}
 use Rattle.mir_lower.proofs.Running.{comes-statement, ends-statement}
 use Rattle.mir_lower.proofs.Sound.{binding_local-grows}
 use Rattle.mir_lower.specs.Callees.{Serves}
@@ -72,6 +73,11 @@ module _ (source : Source) (s whole : Shape) (frame : Frame) (place : Place) (rv
   assigned-answer (Computes bytes) computes = assigned-bytes bytes computes
   assigned-answer (Panics word) computes = inr (ends-statement added s whole frame memory opened grows is (error.Panic word) (faults (error.Panic word) computes))
   assigned-answer Undefined computes = inr tt
+
+  pub assigned-agreeing : (answer : Answer) → Agrees answer (rvalue_bytes frame memory rvalue) → Reaches source whole lands frame (here s) (here (with_statement added s)) memory (Nothing whole frame) (put_answer store (record { cell = c }) answer)
+  assigned-agreeing (Computes bytes) computes = assigned-bytes bytes computes
+  assigned-agreeing (Panics word) computes = inr (ends-statement added s whole frame memory opened grows is (error.Panic word) (faults (error.Panic word) computes))
+  assigned-agreeing Undefined computes = inr tt
 
 -- what an end does from a point on, it does from one that leads there over no block
 pub reaches-from : {A : Type 0} (source : Source) (whole : Shape) (lands : Landings) (frame : Frame) (p q to : Point) (memory : Memory) (claim : A → Type 0) → Comes frame 0 0 p memory q memory → (end : End A) → Reaches source whole lands frame q to memory claim end → Reaches source whole lands frame p to memory claim end

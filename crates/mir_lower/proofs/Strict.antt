@@ -1,47 +1,39 @@
 -- Strict forms: operands from left to right, and then one assignment of what the operation makes of them.
-use Rattle.std.proofs.Common.{arith, ◌≡◌, ℕ, false, List, [], ◌∷◌, ◌++◌, map, flat_map, Contains, Option, Some, None, option_and_then, Result, refl, sym, ap, ◌∙◌, subst, append_assoc, append-nil, ⊎_elim, inr}
+use Rattle.std.proofs.Common.{arith, ◌≡◌, ℕ, false, List, [], ◌∷◌, ◌++◌, flat_map, Contains, Some, refl, sym, ap, ◌∙◌, subst, append_assoc, append-nil, ⊎_elim, inr}
 use Rattle.std.proofs.lemmas.List.Elements.{Contains-append_cases}
-use Rattle.source_meaning.specs.Core.{Operation, Strict, Combine, Convert, Keep, is_truth}
-use Rattle.numbers.specs.declared.operator.Operator.{Operator}
 use Rattle.mir.specs.declared.operand.Operand.{Operand as MirOperand}
 use Rattle.mir.specs.declared.operand.OperandKind.{OperandKind}
 use Rattle.mir.specs.declared.operand.Place.{Place}
 use Rattle.mir.specs.declared.operand.Rvalue.{Rvalue}
-use Rattle.mir.specs.declared.operand.Rvalue.TheVariants.{Cast, CheckedBinaryOp, UnaryOp as Unary, Use}
-use Rattle.mir.specs.declared.operand.CastKind.TheVariants.{IntToInt}
-use Rattle.mir.specs.declared.operand.UnOp.{UnOp}
-use Rattle.mir.specs.declared.operand.UnOp.TheVariants as one
 use Rattle.mir.specs.declared.span.MirSpan.{MirSpan}
 use Rattle.mir.specs.Memory.{Memory}
-use Rattle.mir.specs.Run.{Frame, cast_to, read, rvalue_bytes, operated, operated_on, computed_of, answered as answer, operand_bytes as mir_bytes, operand_type as mir_type}
-use Rattle.mir.specs.declared.errors.MirEvalError.{MirEvalError}
-use Rattle.numbers.specs.Operators.{Computes as Computed, Undefined, computed, converted}
-use Rattle.types.specs.declared.ty.Ty.{Ty}
-use Rattle.world.specs.Checked.{fixed_size}
+use Rattle.mir.specs.Run.{Frame}
 use Rattle.source_meaning.specs.Around.{Around, marking}
+use Rattle.source_meaning.specs.Core.{Operation, Strict, is_truth}
 use Rattle.source_meaning.specs.Ends.{Go, then_do, no_cost}
 use Rattle.source_meaning.specs.Events.{marked_as_operand}
-use Rattle.source_meaning.specs.Meaning.{Levels, Value, level_at, callees_at, own_size, value_of, answered, operands_of, into_of}
-use Rattle.source_meaning.specs.Source.{Source, node, unadjusted, own_type, Cell, Store, Operand, operand_bytes, operand_type}
+use Rattle.source_meaning.specs.Meaning.{Levels, level_at, callees_at, operands_of, into_of}
+use Rattle.source_meaning.specs.Source.{Source, node, unadjusted, Cell, Store}
 use Rattle.source_meaning.specs.Steps.{parts_of}
 use Rattle.source_meaning.specs.Valid.{own, inside, sized_parts, IsLaidOutNode}
 use Rattle.source_meaning.proofs.Depth.{operand_is_part}
 use Rattle.source_meaning.proofs.Marks.{strict_marks}
 use Rattle.source_meaning.proofs.Parts.{sized_operand}
+use Rattle.mir_lower.specs.Callees.{Serves}
 use Rattle.mir_lower.specs.Does.{Stands, here, IsFrameOf, Holds, Landings, Reaches, Nothing, Fits, FitAll}
-use Rattle.body_forms.specs.Form.{operation_of}
 use Rattle.mir_lower.specs.Graph.{Shape, with_statement, local_of}
 use Rattle.mir_lower.specs.Growth.{Grows, IsSound, IsOpen, IsReady}
 use Rattle.mir_lower.specs.Lowered.{LaysOut, LowersOwn, LowersOperand, LowersOperands}
+use Rattle.mir_lower.specs.Operations.{IsRvalueOf}
 use Rattle.mir_lower.proofs.Growing.{grows-refl, grows-trans, with_statement-grows}
 use Rattle.mir_lower.proofs.Laid.{layouts-before, plain-part, one-of}
 use Rattle.mir_lower.proofs.Operations.{assignment}
 use Rattle.mir_lower.proofs.Reaching.{comes-refl, reaches-then}
+use Rattle.mir_lower.proofs.Rvalues.{kinds, rvalue-computes}
 use Rattle.mir_lower.proofs.Sound.{with_statement-sound, with_statement-open, with_statement-scope}
 use Rattle.mir_lower.proofs.Sparing.{spares-refl, spares-trans, with_statement-spares}
 use Rattle.mir_lower.proofs.Standing.{marking-fits}
-use Rattle.mir_lower.proofs.Steps.{local_of-grows, assigned-answer, does-form}
-use Rattle.mir_lower.specs.Callees.{Serves}
+use Rattle.mir_lower.proofs.Steps.{local_of-grows, assigned-agreeing, does-form}
 
 no-operands : (source : Source) (below : Levels) (around : Around) (store : Store) → operands_of source below around [] store ≡ Go [] store no_cost
 unfolding operands_of
@@ -95,12 +87,6 @@ lowers-more-operands source s0 s1 s2 e rest operand operands first others =
           (Contains-append_cases (e ∷ []) rest child within);
     }
 
--- an rvalue of the graph is what the operation makes of its operands' values; `size`: that of the type of the expression that it is
-abbrev pub Computes : Source → (size : Option ℕ) → Operation → List OperandKind → Rvalue → Type 0
-Computes source size operation operands rvalue =
-    (whole : Shape) (frame : Frame) (values : List Operand) (store : Store) (memory : Memory) → Holds whole frame store memory → FitAll source operands whole frame values →
-    rvalue_bytes frame memory rvalue ≡ answer (answered size operation (map (value_of source store) values))
-
 lays-strict : (source : Source) (s1 new : Shape) (e : ℕ) (operation : Operation) (es : List ℕ) → node source e ≡ Some (Strict operation es) → ((child : ℕ) → Contains es child → is_truth (unadjusted source child) ≡ false → LaysOut source s1 child) → Grows s1 new → IsLaidOutNode source e → LaysOut source new e
 lays-strict source s1 new e operation es form below grows laid plain layouts f own = laid
 lays-strict source s1 new e operation es form below grows laid plain layouts f (inside {child = child} within rest) =
@@ -108,8 +94,8 @@ lays-strict source s1 new e operation es form below grows laid plain layouts f (
     below child operand.0 operand.1 (plain-part source e child (operand_is_part source e operation es child form operand.0) laid plain) (layouts-before source s1 new grows layouts) f rest
 
 -- a strict form was lowered: its operands, and then one assignment
-pub lowers-strict : (source : Source) (s0 s1 new : Shape) (e : ℕ) (operation : Operation) (es : List ℕ) (operands : List OperandKind) (rvalue : Rvalue) (place : Place) (span : MirSpan) → IsReady source s0 e → node source e ≡ Some (Strict operation es) → LowersOperands source s0 s1 es operands → Computes source (own_size source e) operation operands rvalue → new ≡ with_statement (assignment place rvalue span) s1 → (c : Cell) → local_of s0 c ≡ Some place.local.0 → LowersOwn source s0 new e c
-lowers-strict source s0 s1 new e operation es operands rvalue place span ready form given computes same c local =
+pub lowers-strict : (source : Source) (s0 s1 new : Shape) (e : ℕ) (operation : Operation) (es : List ℕ) (operands : List MirOperand) (rvalue : Rvalue) (place : Place) (span : MirSpan) → IsReady source s0 e → node source e ≡ Some (Strict operation es) → LowersOperands source s0 s1 es (kinds operands) → IsRvalueOf source e operation operands rvalue → new ≡ with_statement (assignment place rvalue span) s1 → (c : Cell) → local_of s0 c ≡ Some place.local.0 → LowersOwn source s0 new e c
+lowers-strict source s0 s1 new e operation es operands rvalue place span ready form given is same c local =
     let st = assignment place rvalue span in
     let opened = given.keeps.«open» in
     let last : Grows s1 (with_statement st s1) = with_statement-grows st s1 opened in
@@ -131,84 +117,11 @@ lowers-strict source s0 s1 new e operation es operands rvalue place span ready f
           let opened = given.keeps.«open» in
           let grown : Grows s1 whole = grows-trans s1 (with_statement st s1) whole (with_statement-grows st s1 opened) grows in
           let found = local_of-grows s0 whole (grows-trans s0 s1 whole given.keeps.grows grown) c place.local.0 local in
-          reaches-then source whole lands frame (here s0) (here s1) (here (with_statement st s1)) memory (FitAll source operands whole frame) (Nothing whole frame) (operands_of source (level_at source fuel) around es store) _
+          reaches-then source whole lands frame (here s0) (here s1) (here (with_statement st s1)) memory (FitAll source (kinds operands) whole frame) (Nothing whole frame) (operands_of source (level_at source fuel) around es store) _
           (given.does.reaches whole frame grown sound frame-is lands around stands fuel serves store memory holds)
           (λ values store1 memory1 claims.
-          assigned-answer source s1 whole frame place rvalue span opened sound frame-is lands grows c found store1 memory1 claims.0 _
-          (computes whole frame values store1 memory1 claims.0 claims.1))
-
--- An operator on one operand, and one on two.
-
-one-answer : (size : Option ℕ) (op : UnOp) (value : Value) → computed_of op value.kind value.bytes ≡ answered size (operation_of op) (value ∷ [])
-unfolding computed_of answered
-one-answer size one.Not value = refl
-one-answer size one.Neg value = refl
-
-pub two-answer : (size : Option ℕ) (op : Operator) (left right : Value) → computed op left.kind right.kind left.bytes right.bytes ≡ answered size (Combine op) (left ∷ right ∷ [])
-unfolding answered
-two-answer size op left right = refl
-
-unary-bytes : (source : Source) (whole : Shape) (frame : Frame) (op : UnOp) (value : Operand) (x : MirOperand) (store : Store) (memory : Memory) → Holds whole frame store memory → Fits source x.kind whole frame value → rvalue_bytes frame memory (Unary op x) ≡ answer (computed_of op (value_of source store value).kind (value_of source store value).bytes)
-unfolding rvalue_bytes operated_on
-unary-bytes source whole frame op value x store memory holds fits =
-    ap (λ t. operated_on op t (mir_bytes frame memory x.kind)) fits.ty
-    ∙ ap (operated_on op (operand_type source value)) (fits.bytes store memory holds)
-
-pub unary-computes : (source : Source) (size : Option ℕ) (op : UnOp) (x : MirOperand) → Computes source size (operation_of op) (x.kind ∷ []) (Unary op x)
-unary-computes source size op x whole frame [] store memory holds fits = absurd fits
-unary-computes source size op x whole frame (value ∷ []) store memory holds fits =
-    unary-bytes source whole frame op value x store memory holds fits.0 ∙ ap answer (one-answer size op (value_of source store value))
-unary-computes source size op x whole frame (value ∷ more ∷ rest) store memory holds fits = absurd fits.1
-
--- A cast: a coercion keeps the bytes, and any other converts them to the size of its type.
-
-keep-bytes : (source : Source) (whole : Shape) (frame : Frame) (value : Operand) (x : MirOperand) (store : Store) (memory : Memory) → Holds whole frame store memory → Fits source x.kind whole frame value → rvalue_bytes frame memory (Use x) ≡ answer (Computed (operand_bytes store value))
-unfolding rvalue_bytes answer
-keep-bytes source whole frame value x store memory holds fits = ap read (fits.bytes store memory holds)
-
-keep-answer : (size : Option ℕ) (value : Value) → Computed value.bytes ≡ answered size Keep (value ∷ [])
-unfolding answered
-keep-answer size value = refl
-
-pub keep-computes : (source : Source) (size : Option ℕ) (x : MirOperand) → Computes source size Keep (x.kind ∷ []) (Use x)
-keep-computes source size x whole frame [] store memory holds fits = absurd fits
-keep-computes source size x whole frame (value ∷ []) store memory holds fits =
-    keep-bytes source whole frame value x store memory holds fits.0 ∙ ap answer (keep-answer size (value_of source store value))
-keep-computes source size x whole frame (value ∷ more ∷ rest) store memory holds fits = absurd fits.1
-
-cast-by-size : (size : Option ℕ) (value : Value) → ◌≡◌ {A = Result (List ℕ) MirEvalError} (elim size [ Some bytes ↦ answer (converted value.kind bytes value.bytes) | None ↦ answer Undefined ]) (answer (answered size Convert (value ∷ [])))
-unfolding answered
-cast-by-size (Some size) value = refl
-cast-by-size None value = refl
-
-cast-bytes : (source : Source) (whole : Shape) (frame : Frame) (ty : Ty) (value : Operand) (x : MirOperand) (store : Store) (memory : Memory) → Holds whole frame store memory → Fits source x.kind whole frame value → rvalue_bytes frame memory (Cast IntToInt x ty) ≡ answer (answered (fixed_size ty) Convert (value_of source store value ∷ []))
-unfolding rvalue_bytes cast_to
-cast-bytes source whole frame ty value x store memory holds fits =
-    ap (λ t. cast_to ty t (mir_bytes frame memory x.kind)) fits.ty
-    ∙ ap (cast_to ty (operand_type source value)) (fits.bytes store memory holds)
-    ∙ cast-by-size (fixed_size ty) (value_of source store value)
-
-pub cast-computes : (source : Source) (e : ℕ) (ty : Ty) (x : MirOperand) → own_type source e ≡ Some ty → Computes source (own_size source e) Convert (x.kind ∷ []) (Cast IntToInt x ty)
-cast-computes source e ty x typed whole frame [] store memory holds fits = absurd fits
-cast-computes source e ty x typed whole frame (value ∷ []) store memory holds fits =
-    cast-bytes source whole frame ty value x store memory holds fits.0
-    ∙ ap (λ size. answer (answered size Convert (value_of source store value ∷ []))) (sym (ap (option_and_then fixed_size) typed))
-cast-computes source e ty x typed whole frame (value ∷ more ∷ rest) store memory holds fits = absurd fits.1
-
-pub binary-bytes : (source : Source) (whole : Shape) (frame : Frame) (op : Operator) (left right : Operand) (x y : MirOperand) (store : Store) (memory : Memory) → Holds whole frame store memory → Fits source x.kind whole frame left → Fits source y.kind whole frame right → rvalue_bytes frame memory (CheckedBinaryOp op x y) ≡ answer (computed op (value_of source store left).kind (value_of source store right).kind (operand_bytes store left) (operand_bytes store right))
-unfolding rvalue_bytes operated
-binary-bytes source whole frame op left right x y store memory holds fits-left fits-right =
-    ap (λ t. operated op t (mir_type frame.body y.kind) (mir_bytes frame memory x.kind) (mir_bytes frame memory y.kind)) fits-left.ty
-    ∙ ap (λ t. operated op (operand_type source left) t (mir_bytes frame memory x.kind) (mir_bytes frame memory y.kind)) fits-right.ty
-    ∙ ap (λ b. operated op (operand_type source left) (operand_type source right) b (mir_bytes frame memory y.kind)) (fits-left.bytes store memory holds)
-    ∙ ap (λ b. operated op (operand_type source left) (operand_type source right) (Some (operand_bytes store left)) b) (fits-right.bytes store memory holds)
-
-pub binary-computes : (source : Source) (size : Option ℕ) (op : Operator) (x y : MirOperand) → Computes source size (Combine op) (x.kind ∷ y.kind ∷ []) (CheckedBinaryOp op x y)
-binary-computes source size op x y whole frame [] store memory holds fits = absurd fits
-binary-computes source size op x y whole frame (left ∷ []) store memory holds fits = absurd fits.1
-binary-computes source size op x y whole frame (left ∷ right ∷ []) store memory holds fits =
-    binary-bytes source whole frame op left right x y store memory holds fits.0 fits.1.0 ∙ ap answer (two-answer size op (value_of source store left) (value_of source store right))
-binary-computes source size op x y whole frame (left ∷ right ∷ more ∷ rest) store memory holds fits = absurd fits.1.1
+          assigned-agreeing source s1 whole frame place rvalue span opened sound frame-is lands grows c found store1 memory1 claims.0 _
+          (rvalue-computes source e operation operands rvalue is whole frame values store1 memory1 serves.world claims.0 claims.1))
 
 -- the operands of an operator on one operand, and on two
 pub lowers-one : (source : Source) (s0 s1 : Shape) (e : ℕ) (operand : OperandKind) → LowersOperand source s0 s1 e operand → LowersOperands source s0 s1 (e ∷ []) (operand ∷ [])

@@ -14,3 +14,4 @@ pub mod Callees
 pub mod Calling
 pub mod Stops
 pub mod Parameters
+pub mod Operations

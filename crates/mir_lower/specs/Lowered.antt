@@ -108,12 +108,6 @@ pub record IsCombinedIn (source : Source) (s : Shape) (assigned local : ℕ) : T
   pub names : compound_target source assigned ≡ Some binding
   pub found : binding_local s binding.0 ≡ Some local
 
--- an operand is cast to the type of an expression itself
-pub record IsConversion (source : Source) (e : ℕ) (operand : Operand) (rvalue : Rvalue) : Type 0 where
-  pub ty : Ty
-  pub typed : own_type source e ≡ Some ty
-  pub is : rvalue ≡ Cast IntToInt operand ty
-
 -- the value of a cell was assigned to a target: no cell is marked as in use
 pub record Assigns (source : Source) (old new : Shape) (assigned : ℕ) (cell : Cell) : Type 0 where
   pub keeps : Keeps source old new []

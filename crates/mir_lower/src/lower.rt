@@ -5,17 +5,18 @@ ghost use Rattle.mir.specs.declared.errors.MirLowerError.TheVariants as refusal;
 ghost use Rattle.world.specs.Checked.{IsCheckedBody};
 ghost use Rattle.mir.specs.declared.operand.OperandKind.TheVariants.{Copy};
 ghost use Rattle.source_meaning.specs.Source.{Cell, node, unadjusted};
-ghost use Rattle.source_meaning.specs.Core.{Combine, Convert, Keep, is_path};
+ghost use Rattle.source_meaning.specs.Core.{Combine, is_path};
 ghost use Rattle.source_meaning.specs.Core as expr;
 ghost use Rattle.source_meaning.specs.Meaning.{deciding_byte};
 ghost use Rattle.source_meaning.specs.Steps.{parts_of};
 ghost use Rattle.world.specs.declared.body.Statement.TheVariants as statement_kind;
 ghost use Rattle.body_forms.specs.Callees.{callee_number};
 ghost use Rattle.body_forms.specs.Contexts.{source_of};
-ghost use Rattle.body_forms.specs.Form.{core_value, operation_of};
+ghost use Rattle.body_forms.specs.Form.{core_value};
 ghost use Rattle.mir_lower.specs.Graph.{shape, local_of};
 ghost use Rattle.mir_lower.specs.Growth.{IsPlaced, IsReady, ArePartsReady, IsReadyPart};
-ghost use Rattle.mir_lower.specs.Lowered.{HasStatements, IsConversion, LowersInto, LowersPlace, LowersOperand, LowersOperands, LowersStatements, LowersTail, IsStatementOf, LowersOwn};
+ghost use Rattle.mir_lower.specs.Operations.{several_operation, single_operation};
+ghost use Rattle.mir_lower.specs.Lowered.{HasStatements, LowersInto, LowersPlace, LowersOperand, LowersOperands, LowersStatements, LowersTail, IsStatementOf, LowersOwn};
 ghost use Rattle.mir_lower.specs.Built.{IsBuilt, IsBuiltThrough};
 ghost use Rattle.mir_lower.specs.Refusals.{RefusesAt};
 ghost use Rattle.std.specs.Prelude.{All, Contains, IfSome, map};
@@ -29,13 +30,12 @@ use crate::leave::leave_scope;
 use crate::locals::{
     assign, assign_target, bind, combined_place, fake_read, new_never, new_temp, place_named,
 };
+use crate::operation::{Several, Single, kind_of, made_of};
 use body_forms::{
     Context, Form, LiteralValue, diverges, form_at, form_not_built, literal_at, lower_callee,
-    lower_literal, method_args, own_ty, path_at,
+    lower_literal, method_args, path_at,
 };
-use mir::{
-    BinOp, CastKind, LocalId, MirLowerError, MirSpan, Operand, OperandKind, Place, Rvalue, UnOp,
-};
+use mir::{BinOp, LocalId, MirLowerError, MirSpan, Operand, OperandKind, Place, Rvalue};
 use world::{ExprId, LabelId, List, LogicOp, PatId, Statement, Text, TryClone};
 
 /// A place as an operand.
@@ -46,17 +46,6 @@ fn copied(place: Place, e: ExprId) -> Operand
         kind: OperandKind::Copy(place),
         span: Some(MirSpan::ExprId(e)),
     }
-}
-
-/// A number converted to the type of the cast that an expression is.
-fn converted(context: &Context<'_>, e: ExprId, value: Operand) -> Result<Rvalue, MirLowerError>
-    requires checked { IsCheckedBody context.now.body.now context.now.infer.now }
-    requires within { e.0 < length context.now.body.now.exprs }
-    ensures made { IfOk result (λ rvalue. IsConversion (source_of context.now) e.0 value rvalue) }
-    ensures refused { IfErr result (λ error. error ≡ refusal.NoMemory) }
-{
-    let ty = own_ty(context, e).try_clone(context.alloc)?;
-    Ok(Rvalue::Cast(CastKind::IntToInt, value, ty))
 }
 
 /// The byte of a left operand at which the right one isn't evaluated.
@@ -202,9 +191,27 @@ fn lower_own(
     match form_at(context, e) {
         Form::Literal(literal) => literal_into(context, graph, e, literal, place),
         Form::Path(name) => name_into(context, graph, e, name, place),
-        Form::Unary(op, operand) => lower_unary(context, graph, e, op, operand, place),
-        Form::Coercion(operand) => lower_coercion(context, graph, e, operand, place),
-        Form::Cast(operand) => lower_cast(context, graph, e, operand, place),
+        Form::Unary(op, operand) => {
+            lower_single(context, graph, e, Single::Unary(op), operand, place)
+        }
+        Form::Coercion(operand) => {
+            lower_single(context, graph, e, Single::Coercion, operand, place)
+        }
+        Form::Cast(operand) => lower_single(context, graph, e, Single::Cast, operand, place),
+        Form::Repeat(operand) => lower_single(context, graph, e, Single::Repeat, operand, place),
+        Form::Tuple(parts) => {
+            lower_aggregate(context, graph, e, Several::Tuple, parts.as_slice(), place)
+        }
+        Form::Array(elements) => {
+            lower_aggregate(
+                context,
+                graph,
+                e,
+                Several::Array,
+                elements.as_slice(),
+                place,
+            )
+        }
         Form::Binary(op, lhs, rhs) => lower_binary(context, graph, e, op, lhs, rhs, place),
         Form::Logic(op, lhs, rhs) => lower_logic(context, graph, e, op, lhs, rhs, place),
         Form::If(condition, then_branch, else_branch) => {
@@ -241,66 +248,53 @@ fn lower_own(
     }
 }
 
-/// An operator on one operand: the operand, and then the operation.
+/// An operation on one operand: the operand, and then the operation.
 #[cycle(lower)]
-fn lower_unary(
+fn lower_single(
     context: &Context<'_>,
     graph: &mut Graph,
     e: ExprId,
-    op: UnOp,
+    single: Single,
     operand: ExprId,
     place: Place,
 ) -> Result<(), MirLowerError>
     requires ready { IsReady (source_of context.now) (shape graph.old) e.0 }
-    requires form { node (source_of context.now) e.0 ≡ Some (expr.Strict (operation_of op) (operand.0 ∷ [])) }
+    requires form { node (source_of context.now) e.0 ≡ Some (expr.Strict (single_operation single) (operand.0 ∷ [])) }
     ensures lowered { OnOk result ((cell : Cell) → local_of (shape graph.old) cell ≡ Some place.local.0
         → LowersOwn (source_of context.now) (shape graph.old) (shape graph.new) e.0 cell) }
     ensures built { OnOk result (IsBuilt (source_of context.now) e.0) }
     ensures refused { IfErr result (RefusesAt (source_of context.now) e.0) }
 {
     let value = lower_operand(context, graph, operand)?;
-    assign(graph, place, Rvalue::UnaryOp(op, value), MirSpan::ExprId(e))
-}
-
-/// A cast that is a coercion: the operand, whose bytes are kept as they are.
-#[cycle(lower)]
-fn lower_coercion(
-    context: &Context<'_>,
-    graph: &mut Graph,
-    e: ExprId,
-    operand: ExprId,
-    place: Place,
-) -> Result<(), MirLowerError>
-    requires ready { IsReady (source_of context.now) (shape graph.old) e.0 }
-    requires form { node (source_of context.now) e.0 ≡ Some (expr.Strict Keep (operand.0 ∷ [])) }
-    ensures lowered { OnOk result ((cell : Cell) → local_of (shape graph.old) cell ≡ Some place.local.0
-        → LowersOwn (source_of context.now) (shape graph.old) (shape graph.new) e.0 cell) }
-    ensures built { OnOk result (IsBuilt (source_of context.now) e.0) }
-    ensures refused { IfErr result (RefusesAt (source_of context.now) e.0) }
-{
-    let value = lower_operand(context, graph, operand)?;
-    assign(graph, place, Rvalue::Use(value), MirSpan::ExprId(e))
-}
-
-/// A cast between integers, `bool` and `char`: the operand, and then the number that it is, in the size of the cast's own type.
-#[cycle(lower)]
-fn lower_cast(
-    context: &Context<'_>,
-    graph: &mut Graph,
-    e: ExprId,
-    operand: ExprId,
-    place: Place,
-) -> Result<(), MirLowerError>
-    requires ready { IsReady (source_of context.now) (shape graph.old) e.0 }
-    requires form { node (source_of context.now) e.0 ≡ Some (expr.Strict Convert (operand.0 ∷ [])) }
-    ensures lowered { OnOk result ((cell : Cell) → local_of (shape graph.old) cell ≡ Some place.local.0
-        → LowersOwn (source_of context.now) (shape graph.old) (shape graph.new) e.0 cell) }
-    ensures built { OnOk result (IsBuilt (source_of context.now) e.0) }
-    ensures refused { IfErr result (RefusesAt (source_of context.now) e.0) }
-{
-    let value = lower_operand(context, graph, operand)?;
-    let rvalue = converted(context, e, value)?;
+    let rvalue = made_of(context, e, single, value)?;
     assign(graph, place, rvalue, MirSpan::ExprId(e))
+}
+
+/// A tuple or an array: the operands of its parts from left to right, and then the aggregate of all.
+#[cycle(lower)]
+fn lower_aggregate(
+    context: &Context<'_>,
+    graph: &mut Graph,
+    e: ExprId,
+    several: Several,
+    parts: &[ExprId],
+    place: Place,
+) -> Result<(), MirLowerError>
+    requires ready { IsReady (source_of context.now) (shape graph.old) e.0 }
+    requires form { node (source_of context.now) e.0 ≡ Some (expr.Strict (several_operation several) (expr_numbers parts.now)) }
+    ensures lowered { OnOk result ((cell : Cell) → local_of (shape graph.old) cell ≡ Some place.local.0
+        → LowersOwn (source_of context.now) (shape graph.old) (shape graph.new) e.0 cell) }
+    ensures built { OnOk result (IsBuilt (source_of context.now) e.0) }
+    ensures refused { IfErr result (RefusesAt (source_of context.now) e.0) }
+{
+    let kind = kind_of(context, e, several)?;
+    let operands = lower_operands(context, graph, e, parts)?;
+    assign(
+        graph,
+        place,
+        Rvalue::Aggregate(kind, operands),
+        MirSpan::ExprId(e),
+    )
 }
 
 /// An operator on two operands: the operands from left to right, and then the operation.
@@ -618,7 +612,7 @@ fn lower_call(
     Ok(())
 }
 
-/// The operands of a call's arguments, from left to right.
+/// The operands of a call's arguments, or of the parts of a tuple or an array, from left to right.
 #[cycle(lower)]
 fn lower_operands(
     context: &Context<'_>,

@@ -13,10 +13,10 @@ use Rattle.types.specs.declared.ids.ExprId.{ExprId}
 use Rattle.types.specs.declared.operators.BinaryOp.{BinaryOp}
 use Rattle.types.specs.declared.operators.BinaryOp.TheVariants as binary
 use Rattle.numbers.specs.Operators.{of_arith, of_compare}
-use Rattle.source_meaning.specs.Core.{CoreExpr, Operation, Literal, Path, Strict, Logic, If, Assign, Compound, Block, Labelled, Loop, Break, Continue, Return, Call, core_literal, unary_operation, cast_operation, unary_form, eager_form, binary_form, core_of, is_adjusted_otherwise, names_item}
+use Rattle.source_meaning.specs.Core.{CoreExpr, Operation, MakeTuple, MakeArray, Repeat, Literal, Path, Strict, Logic, If, Assign, Compound, Block, Labelled, Loop, Break, Continue, Return, Call, core_literal, unary_operation, cast_operation, unary_form, eager_form, binary_form, core_of, is_adjusted_otherwise, names_item}
 use Rattle.source_meaning.specs.Source.{Source, node}
 use Rattle.source_meaning.specs.Steps.{parts_of, statement_parts}
-use Rattle.source_meaning.proofs.Parts.{nothing_is_contained, rest_is_contained, among_more, if_parts, block_parts, tail_part, call_parts}
+use Rattle.source_meaning.proofs.Parts.{nothing_is_contained, rest_is_contained, among_more, strict_parts, if_parts, block_parts, tail_part, call_parts}
 
 mapped : {A B : Type 0} (f : A → B) (given : Option A) (y : B) → option_map f given ≡ Some y → (x : A) × (given ≡ Some x) × (f x ≡ y)
 mapped f (Some x) y is = (x, refl, (let same : f x ≡ y = cc in same))
@@ -86,6 +86,14 @@ part_is_child item casts (whole.Call callee args) core is child within =
 part_is_child item casts (whole.MethodCall receiver args name) core is child within =
     let same : core ≡ Call None (receiver.0 ∷ expr_numbers args) = cc in
     subst (λ parts. Contains parts child) (ap (λ c. parts_of (Some c)) same ∙ call_parts None (receiver.0 ∷ expr_numbers args)) within
+part_is_child item casts (whole.Tuple parts) core is child within =
+    let same : core ≡ Strict MakeTuple (expr_numbers parts) = cc in
+    subst (λ given. Contains given child) (ap (λ c. parts_of (Some c)) same ∙ strict_parts MakeTuple (expr_numbers parts)) within
+part_is_child item casts (whole.Array elements) core is child within =
+    let same : core ≡ Strict MakeArray (expr_numbers elements) = cc in
+    subst (λ parts. Contains parts child) (ap (λ c. parts_of (Some c)) same ∙ strict_parts MakeArray (expr_numbers elements)) within
+part_is_child item casts (whole.Repeat initializer) core is child within =
+    let same : core ≡ Strict Repeat (initializer.0 ∷ []) = cc in subst (λ c. Contains (parts_of (Some c)) child) same within
 part_is_child item casts _ core is child within = absurd cc
 
 node_from : (adjusted item : Bool) (casts : ExprId → Option Operation) (found : Option Expr) (core : CoreExpr) → if adjusted then None else option_and_then (core_of item casts) found ≡ Some core →

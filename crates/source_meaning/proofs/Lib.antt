@@ -1,3 +1,4 @@
+pub mod Aggregates
 pub mod Built
 pub mod Calls
 pub mod Core

@@ -1,6 +1,7 @@
 -- What holds of a body's meaning holds of that of a body that runs by itself.
 use Rattle.std.proofs.Common.{◌≡◌, ◌≢◌, ℕ, List, refl, arith}
 use Rattle.world.specs.Checked.{IsChecked, IsCheckedBody}
+use Rattle.source_meaning.specs.Aggregates.{HasAggregates}
 use Rattle.source_meaning.specs.Ends.{Cost, plus, End, Go, Jumps, Faults, Stuck, More, after, GoesOn, JumpsNowhere}
 use Rattle.source_meaning.specs.Entering.{run_cost}
 use Rattle.source_meaning.specs.Meaning.{meaning_from, meaning_of}
@@ -41,11 +42,11 @@ module _ (source : Source) where
       let reached = bodies_go_on source (zeroed source) many world checked in
       (reached.0, goes_on_after many run_cost (meaning_from source (zeroed source) reached.0) reached.1)
 
-  module _ (fuel : ℕ) (checked : IsChecked source.world) (body : IsCheckedBody source.body source.infer) (plain : IsPlainThroughout source) (laid_out : AreLaidOutThroughout source) where
+  module _ (fuel : ℕ) (checked : IsChecked source.world) (aggregates : HasAggregates source.world) (body : IsCheckedBody source.body source.infer) (plain : IsPlainThroughout source) (laid_out : AreLaidOutThroughout source) where
     pub run_is_never_stuck : meaning_of source fuel ≢ Stuck
     run_is_never_stuck stuck =
-        plain_is_never_stuck source (zeroed source) fuel checked body plain laid_out (zeroed_is_sized source) (stuck_before run_cost (meaning_from source (zeroed source) fuel) stuck)
+        plain_is_never_stuck source (zeroed source) fuel checked aggregates body plain laid_out (zeroed_is_sized source) (stuck_before run_cost (meaning_from source (zeroed source) fuel) stuck)
 
     pub run_jumps_nowhere : JumpsNowhere (meaning_of source fuel)
     run_jumps_nowhere =
-        jumps_nowhere_after run_cost (meaning_from source (zeroed source) fuel) (plain_jumps_nowhere source (zeroed source) fuel checked body plain laid_out (zeroed_is_sized source))
+        jumps_nowhere_after run_cost (meaning_from source (zeroed source) fuel) (plain_jumps_nowhere source (zeroed source) fuel checked aggregates body plain laid_out (zeroed_is_sized source))

@@ -10,13 +10,14 @@ use Rattle.types.specs.declared.ids.ExprId.{ExprId}
 use Rattle.types.specs.declared.ids.LabelId.{LabelId}
 use Rattle.types.specs.declared.operators.LogicOp.{LogicOp}
 use Rattle.types.specs.declared.ty.Ty.{Ty, Bool as BoolTy, Int as IntType, Uint as UintType}
-use Rattle.world.specs.Checked.{IsChecked, IsCheckedBody, fixed_size}
+use Rattle.world.specs.Checked.{IsChecked, IsCheckedBody}
 use Rattle.world.specs.Lookups.{layout_of}
 use Rattle.world.specs.Nodes.{optional}
 use Rattle.numbers.specs.Bytes.{low_bytes}
 use Rattle.numbers.specs.declared.operator.Operator.{Operator}
 use Rattle.numbers.specs.Operators.{Answer, Computes, Panics, Undefined, kind_of}
 use Rattle.numbers.proofs.Digits.{length-low_bytes}
+use Rattle.source_meaning.specs.Aggregates.{HasAggregates}
 use Rattle.source_meaning.specs.Around.{Opened, Target, Around, at_root, marking, entered, inside as inside_of, is_meant, meant, target_of}
 use Rattle.source_meaning.specs.Calls.{must_not_return, parameter_cells, parameters}
 use Rattle.source_meaning.specs.Core as expr
@@ -24,19 +25,19 @@ use Rattle.source_meaning.specs.Core.{CoreExpr, CoreLiteral, Truth, Number, Char
 use Rattle.source_meaning.specs.Ends.{Cost, no_cost, turns_alone, plus, End, Go, Jumps, Jump, Break, Continue, Return, Faults, Stuck, More, JumpsNowhere, after, then_do}
 use Rattle.source_meaning.specs.Entering.{entering}
 use Rattle.source_meaning.specs.Events.{marked, marked_as_operand, marked_by_statement}
-use Rattle.source_meaning.specs.Meaning.{Level, Levels, Callees, value_of, own_size, answered, truth_byte, literal_bytes, constant_cost, put, put_literal, put_answer, literal_operand, named_place, named_into, bind, operands_of, strict_into, is_byte, deciding_byte, reading_cost, decided_into, branched, logic_into, tail_into, branch_into, if_into, assign_into, combine_into, compound_into, statement_of, statements_of, block_into, caught, again_into, labelled_into, turn_of, loop_into, break_to, break_into, continue_to, continue_into, return_into, call_ended, entered_from, entered_into, call_into, no_fuel, place_of, operand_of, into_of, level_above, level_at, returned, body_meaning, callees_at, meaning_from}
+use Rattle.source_meaning.specs.Meaning.{Level, Levels, Callees, value_of, answered, truth_byte, literal_bytes, constant_cost, put, put_literal, put_answer, literal_operand, named_place, named_into, bind, operands_of, strict_into, is_byte, deciding_byte, reading_cost, decided_into, branched, logic_into, tail_into, branch_into, if_into, assign_into, combine_into, compound_into, statement_of, statements_of, block_into, caught, again_into, labelled_into, turn_of, loop_into, break_to, break_into, continue_to, continue_into, return_into, call_ended, entered_from, entered_into, call_into, no_fuel, place_of, operand_of, into_of, level_above, level_at, returned, body_meaning, callees_at, meaning_from}
 use Rattle.source_meaning.specs.Source.{Source, Store, IsSized, Path, Cell, Result, Node, Binding, Operand, Literally, At, operand_bytes, zeroed, node, unadjusted, never_marks, own_path, own_type, node_type, own_layout, pattern, target, compound_target, root, cell_type, binding_type, cell_size}
 use Rattle.source_meaning.specs.Steps.{parts_of, statement_parts, tail_steps}
 use Rattle.source_meaning.specs.Steps as step
 use Rattle.source_meaning.specs.Valid.{Evaluates, itself, part, IsNumber, IsBool, IsPlainLiteral, HaveTypes, IsPlainLet, IsPlainStatement, IsPlainTail, IsPlainAssign, IsPlainCompound, HasPlainForm, IsPlainNode, EvaluatesIn, itself_in, part_in, opened_in, HasPlainTarget, HasOpenTarget, FitsAround, JumpsFit, IsPlain, AreBound, IsLaidOut, IsLaidOutNode, sized_parts, NeedsLayout, own, inside, AreLaidOut, Calls, through, at_once, IsPlainThroughout, AreLaidOutThroughout}
 use Rattle.source_meaning.proofs.Calls.{called_world, called_by_name, AreFor, started_is_sized}
 use Rattle.source_meaning.proofs.Depth.{evaluates_then, operand_is_part, argument_is_part, logic_operand_is_part, if_part_is_part}
-use Rattle.source_meaning.proofs.Layouts.{number_has_length, number_has_size, bool_is_number, bool_length_is_one}
+use Rattle.source_meaning.proofs.Layouts.{bool_is_number, bool_length_is_one}
 use Rattle.source_meaning.proofs.Never.{undiverted-type, own_path-fits, unadjusted-plain}
 use Rattle.source_meaning.proofs.Operators.{Fits, IsLengthOf}
 use Rattle.source_meaning.proofs.Parts.{first_is_contained, rest_is_contained, operand_is_sized, first_is_sized, right_is_sized, branch_is_sized, sized_part_is_part, sized_block_parts, sized_tail}
 use Rattle.source_meaning.proofs.Stores.{with_bytes_is_sized}
-use Rattle.source_meaning.proofs.Values.{size_at, IsValueOf, AreValues, combined_fits, typed_fits}
+use Rattle.source_meaning.proofs.Values.{size_at, IsValueOf, AreValues, combined_fits, number_is_long, typed_fits}
 
 -- how many bytes the values of an expression itself have
 abbrev pub size_of : Source → ℕ → ℕ
@@ -233,15 +234,7 @@ module _ (source : Source) (checked : IsChecked source.world) where
 
   -- the values of a number's type with a layout have a length that it may have
   scalar_size : (ty : Ty) → IsLaidOut source (Some ty) → IsNumber ty → IsLengthOf ty (size_at source (Some ty))
-  scalar_size ty laid scalar =
-      let size : size_at source (Some ty) ≡ laid.layout.size = ap (λ given. unwrap_or (option_map (λ layout. layout.size) given) 0) laid.found in
-      subst (IsLengthOf ty) (sym size) (number_has_length source.world ty laid.layout checked scalar laid.found)
-
-  -- the size of a number's type is that of its layout
-  own_size_is : (e : ℕ) (ty : Ty) → own_type source e ≡ Some ty → IsLaidOut source (Some ty) → IsNumber ty → own_size source e ≡ Some (size_at source (Some ty))
-  own_size_is e ty is laid number =
-      let size : size_at source (Some ty) ≡ laid.layout.size = ap (λ given. unwrap_or (option_map (λ layout. layout.size) given) 0) laid.found in
-      ap (option_and_then fixed_size) is ∙ number_has_size source.world ty laid.layout checked number laid.found ∙ ap Some (sym size)
+  scalar_size ty laid scalar = number_is_long source checked ty laid scalar
 
   laid_at : (outer : List Opened) (e : ℕ) (ty : Ty) → IsFine source outer e → own_type source e ≡ Some ty → IsLaidOut source (Some ty)
   laid_at outer e ty fine is = let laid = fine.laid_out e own in subst (IsLaidOut source) is laid.of_itself
@@ -403,7 +396,7 @@ module _ (source : Source) (checked : IsChecked source.world) where
   block_part_is_fine outer e statements tail is fine child within =
       part_is_fine outer e child (Some (expr.Block statements tail)) is (sized_block_parts source statements tail child within) fine
 
-  module _ (below : Levels) (sound : (outer : List Opened) (around : Around) → Stands outer around → IsSoundLevel outer around.targets (below around)) where
+  module _ (aggregates : HasAggregates source.world) (below : Levels) (sound : (outer : List Opened) (around : Around) → Stands outer around → IsSoundLevel outer around.targets (below around)) where
     place_is_sound : (outer : List Opened) (around : Around) (stands : Stands outer around) (e : ℕ) (form : Option CoreExpr) (store : Store) → unadjusted source e ≡ form → IsFine source outer e → IsSized source store → IsSound source around.targets (PathFits e) (place_of source below around e form store)
     place_is_sound outer around stands e (Some (expr.Path name)) store is fine sized =
         let plain = fine.plain e itself in
@@ -466,10 +459,9 @@ module _ (source : Source) (checked : IsChecked source.world) where
         then_do_is_sound source around.targets (OperandsFit operands) Nothing (operands_of source below around operands store) _ (operands_are_sound outer around stands operands store (λ child within.
         operand_is_fine outer e child (Some (expr.Strict operation operands)) is (operand_is_part source e operation operands child is within) (operand_is_sized source operands child within) fine) sized) (λ given later sized' fit.
         put_answer_is_sound source around.targets later path _ sized'
-        (subst (λ size. Fits size (answered (own_size source e) operation (map (value_of source later) given))) (sym (ap (size_at source) (fits ∙ plain.has_type)))
-        (typed_fits source operation form.types (map (value_of source later) given) plain.ty (own_size source e) form.typed (operands_are_values operands form.types given later sized' form.operands_have fit)
-        (λ number. scalar_size plain.ty (laid_at outer e plain.ty fine plain.has_type) number)
-        (λ number. own_size_is e plain.ty plain.has_type (laid_at outer e plain.ty fine plain.has_type) number))))
+        (subst (λ size. Fits size (answered source.world (own_type source e) operation (map (value_of source later) given))) (sym (ap (size_at source) (fits ∙ plain.has_type)))
+        (subst (λ ty. Fits (size_at source (Some plain.ty)) (answered source.world ty operation (map (value_of source later) given))) (sym plain.has_type)
+        (typed_fits source checked aggregates operation form.types (map (value_of source later) given) plain.ty (laid_at outer e plain.ty fine plain.has_type) form.typed (operands_are_values operands form.types given later sized' form.operands_have fit)))))
 
     statement_is_sound : (outer : List Opened) (around : Around) (stands : Stands outer around) (given : Statement) (store : Store) → IsPlainStatement source given → ((child : ℕ) → Contains (statement_parts given) child → IsFine source outer child) → IsSized source store → IsSound source around.targets Nothing (statement_of source (below around) given store)
     statement_is_sound outer around stands (statement.Let pat (Some e) None) store plain parts sized =
@@ -551,7 +543,7 @@ module _ (source : Source) (checked : IsChecked source.world) where
         let cell : Path = record { cell = Binding plain.binding.0 } in
         subst (λ target. IsSound source targets Nothing (combine_into source op target given store)) (sym plain.names)
         (put_answer_is_sound source targets store cell _ sized
-        (subst (λ size. Fits size (answered None (Combine op) (value_of source store (At cell) ∷ value_of source store given ∷ []))) (sym (ap (size_at source) plain.binding_has))
+        (subst (λ size. Fits size (answered source.world None (Combine op) (value_of source store (At cell) ∷ value_of source store given ∷ []))) (sym (ap (size_at source) plain.binding_has))
         (combined_fits source op plain.ty plain.other plain.ty (value_of source store (At cell)) (value_of source store given) plain.typed (λ number. scalar_size plain.ty own number)
         (binding_is_value plain.binding.0 plain.ty store sized plain.binding_has own) (operand_is_value value plain.other given store sized plain.value_has fits))))
 
@@ -758,28 +750,32 @@ laid_out_called source called calls laid_out = record { each = λ reached on. la
 checked_called : (source called : Source) → Calls source called → IsChecked source.world → IsChecked called.world
 checked_called source called calls checked = subst IsChecked (sym (called_world source calls.e calls.callee called calls.enters)) checked
 
-level_is_sound : (fuel : ℕ) (source : Source) (checked : IsChecked source.world) → IsPlainThroughout source → AreLaidOutThroughout source → (outer : List Opened) (around : Around) → Stands source checked outer around → IsSoundLevel source checked outer around.targets (level_at source fuel around)
+aggregates_called : (source called : Source) → Calls source called → HasAggregates source.world → HasAggregates called.world
+aggregates_called source called calls aggregates = subst HasAggregates (sym (called_world source calls.e calls.callee called calls.enters)) aggregates
+
+level_is_sound : (fuel : ℕ) (source : Source) (checked : IsChecked source.world) → HasAggregates source.world → IsPlainThroughout source → AreLaidOutThroughout source → (outer : List Opened) (around : Around) → Stands source checked outer around → IsSoundLevel source checked outer around.targets (level_at source fuel around)
 unfolding level_at
-level_is_sound zero source checked plain laid_out outer around stands = no_fuel_is_sound source checked outer around
-level_is_sound (suc fuel) source checked plain laid_out outer around stands =
-    above_is_sound source checked (level_at source fuel) (level_is_sound fuel source checked plain laid_out) (callees_at fuel)
+level_is_sound zero source checked aggregates plain laid_out outer around stands = no_fuel_is_sound source checked outer around
+level_is_sound (suc fuel) source checked aggregates plain laid_out outer around stands =
+    above_is_sound source checked aggregates (level_at source fuel) (level_is_sound fuel source checked aggregates plain laid_out) (callees_at fuel)
     (record {
       settle = λ called calls start sized.
           let checked' = checked_called source called calls checked in
+          let aggregates' = aggregates_called source called calls aggregates in
           let plain' = plain_called source called calls plain in
           let laid_out' = laid_out_called source called calls laid_out in
-          body_is_settled called checked' (level_at called fuel) (plain'.each called at_once) (laid_out'.each called at_once) (level_is_sound fuel called checked' plain' laid_out') start sized;
+          body_is_settled called checked' (level_at called fuel) (plain'.each called at_once) (laid_out'.each called at_once) (level_is_sound fuel called checked' aggregates' plain' laid_out') start sized;
       laid_out = λ called calls. laid_out.each called (through calls at_once);
     })
     outer around stands
 
-meaning_is_settled : (source : Source) (store : Store) (fuel : ℕ) → IsChecked source.world → IsPlainThroughout source → AreLaidOutThroughout source → IsSized source store → IsSettled source (meaning_from source store fuel)
+meaning_is_settled : (source : Source) (store : Store) (fuel : ℕ) → IsChecked source.world → HasAggregates source.world → IsPlainThroughout source → AreLaidOutThroughout source → IsSized source store → IsSettled source (meaning_from source store fuel)
 unfolding meaning_from
-meaning_is_settled source store fuel checked plain laid_out sized =
-    body_is_settled source checked (level_at source fuel) (plain.each source at_once) (laid_out.each source at_once) (level_is_sound fuel source checked plain laid_out) store sized
+meaning_is_settled source store fuel checked aggregates plain laid_out sized =
+    body_is_settled source checked (level_at source fuel) (plain.each source at_once) (laid_out.each source at_once) (level_is_sound fuel source checked aggregates plain laid_out) store sized
 
-pub plain_is_never_stuck : (source : Source) (store : Store) (fuel : ℕ) → IsChecked source.world → IsCheckedBody source.body source.infer → IsPlainThroughout source → AreLaidOutThroughout source → IsSized source store → meaning_from source store fuel ≢ Stuck
-plain_is_never_stuck source store fuel checked body plain laid_out sized stuck = subst (IsSettled source) stuck (meaning_is_settled source store fuel checked plain laid_out sized)
+pub plain_is_never_stuck : (source : Source) (store : Store) (fuel : ℕ) → IsChecked source.world → HasAggregates source.world → IsCheckedBody source.body source.infer → IsPlainThroughout source → AreLaidOutThroughout source → IsSized source store → meaning_from source store fuel ≢ Stuck
+plain_is_never_stuck source store fuel checked aggregates body plain laid_out sized stuck = subst (IsSettled source) stuck (meaning_is_settled source store fuel checked aggregates plain laid_out sized)
 
 settled_jumps_nowhere : (source : Source) (end : End (List ℕ)) → IsSettled source end → JumpsNowhere end
 settled_jumps_nowhere source (Go value store cost) settled = tt
@@ -788,5 +784,5 @@ settled_jumps_nowhere source (Faults fault cost) settled = tt
 settled_jumps_nowhere source Stuck settled = tt
 settled_jumps_nowhere source (More cost) settled = tt
 
-pub plain_jumps_nowhere : (source : Source) (store : Store) (fuel : ℕ) → IsChecked source.world → IsCheckedBody source.body source.infer → IsPlainThroughout source → AreLaidOutThroughout source → IsSized source store → JumpsNowhere (meaning_from source store fuel)
-plain_jumps_nowhere source store fuel checked body plain laid_out sized = settled_jumps_nowhere source (meaning_from source store fuel) (meaning_is_settled source store fuel checked plain laid_out sized)
+pub plain_jumps_nowhere : (source : Source) (store : Store) (fuel : ℕ) → IsChecked source.world → HasAggregates source.world → IsCheckedBody source.body source.infer → IsPlainThroughout source → AreLaidOutThroughout source → IsSized source store → JumpsNowhere (meaning_from source store fuel)
+plain_jumps_nowhere source store fuel checked aggregates body plain laid_out sized = settled_jumps_nowhere source (meaning_from source store fuel) (meaning_is_settled source store fuel checked aggregates plain laid_out sized)

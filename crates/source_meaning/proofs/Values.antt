@@ -1,15 +1,21 @@
 -- What operations make of values of the types that they are on: a value of the result's size, or a panic.
-use Rattle.std.proofs.Common.{⊎_elim, ◌⊎◌, ◌≡◌, ℕ, false, true, List, [], ◌∷◌, length, Option, Some, unwrap_or, option_map, option_and_then, refl, sym, ◌∙◌, subst}
+use Rattle.std.proofs.Common.{⊎_elim, ◌⊎◌, ◌≡◌, ℕ, suc, ◌*◌, false, true, List, [], ◌∷◌, length, map, flat_map, slice_get, All, IfSome, Option, Some, unwrap_or, option_map, option_and_then, refl, sym, ap, ◌∙◌, subst, arith, length-append}
+use Rattle.std.proofs.lemmas.List.Elements.{All-head, All-tail}
 use Rattle.types.specs.declared.ty.Ty.{Ty, Bool as BoolTy, Int as IntType, Uint as UintType, Char as CharType}
+use Rattle.types.specs.declared.ty.Ty.TheVariants.{Array, Tuple}
+use Rattle.world.specs.declared.layout.Layout.{Layout}
+use Rattle.world.specs.Checked.{IsChecked, fixed_size}
 use Rattle.world.specs.Lookups.{layout_of}
 use Rattle.numbers.specs.declared.operator.Operator.{Operator}
 use Rattle.numbers.specs.declared.operator.Operator.TheVariants.{Add, Sub, Mul, Div, Rem, BitXor, BitAnd, BitOr, Shl, Shr, Eq, Ne, Lt, Le, Gt, Ge}
 use Rattle.numbers.specs.Operators.{computed, negated, inverted, is_shift, is_comparison, is_on_booleans, kind_of}
-use Rattle.source_meaning.specs.Core.{Operation, Negate, Invert, Keep, Convert, Combine}
-use Rattle.source_meaning.specs.Meaning.{Value, answered}
+use Rattle.source_meaning.specs.Aggregates.{array_length, made, laid_out, repeated_for, IsPartInside, HasParts, HasAggregates}
+use Rattle.source_meaning.specs.Core.{Operation, Negate, Invert, Keep, Convert, Combine, MakeTuple, MakeArray, Repeat}
+use Rattle.source_meaning.specs.Meaning.{Value, converted_to, answered}
 use Rattle.source_meaning.specs.Source.{Source}
-use Rattle.source_meaning.specs.Valid.{IsScalar, IsNumber, IsBool, AreIntegers, AreScalars, AreShifted, AreCompared, IsCombined, IsTyped}
-use Rattle.source_meaning.proofs.Layouts.{integer_is_number, bool_is_number, scalar_is_number, bool_length_is_one}
+use Rattle.source_meaning.specs.Valid.{IsNumber, IsBool, AreIntegers, AreScalars, AreShifted, AreCompared, IsCombined, IsTyped, IsLaidOut}
+use Rattle.source_meaning.proofs.Aggregates.{AreInside, constructed-there, length-repeated, length_of_array}
+use Rattle.source_meaning.proofs.Layouts.{number_has_length, number_has_size, integer_is_number, bool_is_number, scalar_is_number, bool_length_is_one}
 use Rattle.source_meaning.proofs.Operators.{Fits, IsLengthOf, IsAllowed, allowed_on_integer, allowed_on_scalar, allowed_on_number, length_is_width, converted_fits, unshifted_fits, compared_fits, shift_fits, negated_fits, inverted_fits}
 
 -- how many bytes the values of a type have
@@ -104,42 +110,105 @@ module _ (source : Source) where
   combined_fits Gt a b ty left right are = compared Gt ty left right a b refl refl refl are
   combined_fits Ge a b ty left right are = compared Ge ty left right a b refl refl refl are
 
+  -- the size of a type with a layout
+  laid_size : (ty : Ty) (laid : IsLaidOut source (Some ty)) → size_at source (Some ty) ≡ laid.layout.size
+  laid_size ty laid = ap (λ given. unwrap_or (option_map (λ layout. layout.size) given) 0) laid.found
+
   -- a value keeps the size of its type
   kept_fits : (ty : Ty) (value : Value) → (IsNumber ty → IsLengthOf ty (size_at source (Some ty))) → IsValueOf source ty value → length value.bytes ≡ size_at source (Some ty)
   kept_fits ty value long is =
       ⊎_elim (λ size. size) (λ is_bool. (let number = bool_is_number ty is_bool in value_size ty value number (long number) is)) is.size
 
-  -- What an operation makes of values of types that fit it has the size of its own type. `size`: that of its own type, where it is a
-  -- number's.
-  pub typed_fits : (operation : Operation) (types : List Ty) (values : List Value) (ty : Ty) (size : Option ℕ) → IsTyped operation types ty → AreValues source types values → (IsNumber ty → IsLengthOf ty (size_at source (Some ty))) → (IsNumber ty → size ≡ Some (size_at source (Some ty))) →
-      Fits (size_at source (Some ty)) (answered size operation values)
-  unfolding answered
-  typed_fits Negate (a ∷ []) values ty own typed are long fixed =
-      let value = single a values are in
-      let one = subst (λ t. IsValueOf source t value.0) typed.1 value.2 in
-      let number = integer_is_number ty typed.0 in
-      subst (λ given. Fits (size_at source (Some ty)) (answered own Negate given)) (sym value.1)
-      (subst (λ size. Fits size (negated value.0.kind value.0.bytes)) (value_size ty value.0 number (long number) one) (negated_fits ty value.0.kind value.0.bytes typed.0 one.kind (one.long number)))
-  typed_fits Invert (a ∷ []) values ty own typed are long fixed =
-      let value = single a values are in
-      let one = subst (λ t. IsValueOf source t value.0) typed.1 value.2 in
-      let number = scalar_is_number ty typed.0 in
-      subst (λ given. Fits (size_at source (Some ty)) (answered own Invert given)) (sym value.1)
-      (subst (λ size. Fits size (inverted value.0.kind value.0.bytes)) (value_size ty value.0 number (long number) one) (inverted_fits ty value.0.kind value.0.bytes typed.0 one.kind (one.long number)))
-  typed_fits Keep (a ∷ []) values ty own typed are long fixed =
-      let value = single a values are in
-      let one = subst (λ t. IsValueOf source t value.0) typed value.2 in
-      subst (λ given. Fits (size_at source (Some ty)) (answered own Keep given)) (sym value.1) (kept_fits ty value.0 long one)
-  typed_fits Convert (a ∷ []) values ty own typed are long fixed =
-      let value = single a values are in
-      subst (λ given. Fits (size_at source (Some ty)) (answered own Convert given)) (sym value.1)
-      (subst (λ size. Fits (size_at source (Some ty)) (answered size Convert (value.0 ∷ []))) (sym (fixed typed.1))
-      (converted_fits a value.0.kind (size_at source (Some ty)) value.0.bytes typed.0 value.2.kind (value.2.long typed.0) (length_is_width ty (size_at source (Some ty)) typed.1 (long typed.1))))
-  typed_fits (Combine op) (a ∷ b ∷ []) values ty own typed are long fixed =
-      let given = pair a b values are in
-      subst (λ all. Fits (size_at source (Some ty)) (answered own (Combine op) all)) (sym given.2) (combined_fits op a b ty given.0 given.1 typed long given.3 given.4)
-  typed_fits Negate _ values ty own typed are long fixed = absurd typed
-  typed_fits Invert _ values ty own typed are long fixed = absurd typed
-  typed_fits Keep _ values ty own typed are long fixed = absurd typed
-  typed_fits Convert _ values ty own typed are long fixed = absurd typed
-  typed_fits (Combine op) _ values ty own typed are long fixed = absurd typed
+  module _ (checked : IsChecked source.world) where
+    -- the values of a number's type with a layout have a length that it may have
+    pub number_is_long : (ty : Ty) → IsLaidOut source (Some ty) → IsNumber ty → IsLengthOf ty (size_at source (Some ty))
+    number_is_long ty laid number = subst (IsLengthOf ty) (sym (laid_size ty laid)) (number_has_length source.world ty laid.layout checked number laid.found)
+
+    -- a value is as long as its type's layout says, a truth value too
+    pub value_is_long : (ty : Ty) (layout : Layout) (value : Value) → layout_of source.world ty ≡ Some layout → IsValueOf source ty value → length value.bytes ≡ layout.size
+    value_is_long ty layout value found is =
+        let laid : IsLaidOut source (Some ty) = record { layout = layout; found = found } in
+        kept_fits ty value (number_is_long ty laid) is ∙ laid_size ty laid
+
+    -- the parts of a tuple lie where its layout says
+    parts_are_inside : (size : ℕ) (offsets : List ℕ) (types : List Ty) (values : List Value) → length offsets ≡ length types →
+        ((k offset : ℕ) (ty : Ty) → slice_get types k ≡ Some ty → slice_get offsets k ≡ Some offset → IsPartInside source.world size offset ty) → AreValues source types values →
+        AreInside size offsets (map (λ value. value.bytes) values)
+    parts_are_inside size offsets [] [] count inside are = tt
+    parts_are_inside size offsets [] (value ∷ values) count inside are = absurd are
+    parts_are_inside size offsets (ty ∷ types) [] count inside are = absurd are
+    parts_are_inside size [] (ty ∷ types) (value ∷ values) count inside are = absurd (omega (arith, count))
+    parts_are_inside size (offset ∷ offsets) (ty ∷ types) (value ∷ values) count inside are =
+        let first = inside 0 offset ty refl refl in
+        (omega (arith, first.ends, value_is_long ty first.layout value first.has are.0), parts_are_inside size offsets types values (omega (arith, count)) (λ k. inside (suc k)) are.1)
+
+    -- so a tuple of them is there, and has its size
+    tuple_fits : (types : List Ty) (values : List Value) (layout : Layout) → HasParts source.world types layout → AreValues source types values → Fits layout.size (laid_out (Some layout) (map (λ value. value.bytes) values))
+    tuple_fits types values layout has are =
+        let there = constructed-there layout.size layout.offsets (map (λ value. value.bytes) values) (parts_are_inside layout.size layout.offsets types values has.count has.inside are) in
+        subst (λ given. Fits layout.size (made given)) (sym there.is) there.long
+
+    -- the elements of an array have the size of its element each
+    length-elements : (element : Ty) (inner : Layout) (types : List Ty) (values : List Value) → layout_of source.world element ≡ Some inner → All (λ one. one ≡ element) types → AreValues source types values →
+        length (flat_map (λ value. value.bytes) values) ≡ length types * inner.size
+    length-elements element inner [] [] found each are = omega arith
+    length-elements element inner [] (value ∷ values) found each are = absurd are
+    length-elements element inner (ty ∷ types) [] found each are = absurd are
+    length-elements element inner (ty ∷ types) (value ∷ values) found each are =
+        let is = subst (λ t. IsValueOf source t value) (All-head (λ one. one ≡ element) ty types each) are.0 in
+        omega (arith, length-append value.bytes (flat_map (λ one. one.bytes) values), value_is_long element inner value found is, length-elements element inner types values found (All-tail (λ one. one ≡ element) ty types each) are.1)
+
+    -- what an operation makes of values of types that fit it has the size of its own type
+    pub typed_fits : HasAggregates source.world → (operation : Operation) (types : List Ty) (values : List Value) (ty : Ty) → IsLaidOut source (Some ty) → IsTyped operation types ty → AreValues source types values →
+        Fits (size_at source (Some ty)) (answered source.world (Some ty) operation values)
+    unfolding answered
+    typed_fits aggregates Negate (a ∷ []) values ty laid typed are =
+        let value = single a values are in
+        let one = subst (λ t. IsValueOf source t value.0) typed.1 value.2 in
+        let number = integer_is_number ty typed.0 in
+        subst (λ given. Fits (size_at source (Some ty)) (answered source.world (Some ty) Negate given)) (sym value.1)
+        (subst (λ size. Fits size (negated value.0.kind value.0.bytes)) (value_size ty value.0 number (number_is_long ty laid number) one) (negated_fits ty value.0.kind value.0.bytes typed.0 one.kind (one.long number)))
+    typed_fits aggregates Invert (a ∷ []) values ty laid typed are =
+        let value = single a values are in
+        let one = subst (λ t. IsValueOf source t value.0) typed.1 value.2 in
+        let number = scalar_is_number ty typed.0 in
+        subst (λ given. Fits (size_at source (Some ty)) (answered source.world (Some ty) Invert given)) (sym value.1)
+        (subst (λ size. Fits size (inverted value.0.kind value.0.bytes)) (value_size ty value.0 number (number_is_long ty laid number) one) (inverted_fits ty value.0.kind value.0.bytes typed.0 one.kind (one.long number)))
+    typed_fits aggregates Keep (a ∷ []) values ty laid typed are =
+        let value = single a values are in
+        let one = subst (λ t. IsValueOf source t value.0) typed value.2 in
+        subst (λ given. Fits (size_at source (Some ty)) (answered source.world (Some ty) Keep given)) (sym value.1) (kept_fits ty value.0 (number_is_long ty laid) one)
+    typed_fits aggregates Convert (a ∷ []) values ty laid typed are =
+        let value = single a values are in
+        let size : fixed_size ty ≡ Some (size_at source (Some ty)) = number_has_size source.world ty laid.layout checked typed.1 laid.found ∙ ap Some (sym (laid_size ty laid)) in
+        subst (λ given. Fits (size_at source (Some ty)) (answered source.world (Some ty) Convert given)) (sym value.1)
+        (subst (λ size. Fits (size_at source (Some ty)) (converted_to size value.0)) (sym size)
+        (converted_fits a value.0.kind (size_at source (Some ty)) value.0.bytes typed.0 value.2.kind (value.2.long typed.0) (length_is_width ty (size_at source (Some ty)) typed.1 (number_is_long ty laid typed.1))))
+    typed_fits aggregates (Combine op) (a ∷ b ∷ []) values ty laid typed are =
+        let given = pair a b values are in
+        subst (λ all. Fits (size_at source (Some ty)) (answered source.world (Some ty) (Combine op) all)) (sym given.2) (combined_fits op a b ty given.0 given.1 typed (number_is_long ty laid) given.3 given.4)
+    typed_fits aggregates MakeTuple types values ty laid typed are =
+        let found : layout_of source.world (Tuple types) ≡ Some laid.layout = subst (λ t. layout_of source.world t ≡ Some laid.layout) typed laid.found in
+        subst (λ size. Fits size (laid_out (layout_of source.world ty) (map (λ value. value.bytes) values))) (sym (laid_size ty laid))
+        (subst (λ layout. Fits laid.layout.size (laid_out layout (map (λ value. value.bytes) values))) (sym laid.found)
+        (tuple_fits types values laid.layout (aggregates.tuples types laid.layout found) are))
+    typed_fits aggregates MakeArray types values ty laid typed are =
+        let found : layout_of source.world (Array typed.element typed.len) ≡ Some laid.layout = subst (λ t. layout_of source.world t ≡ Some laid.layout) typed.is laid.found in
+        let has = aggregates.arrays typed.element typed.len laid.layout found in
+        let product : laid.layout.size ≡ length types * has.inner.size = subst (λ count. IfSome count (λ n. laid.layout.size ≡ n * has.inner.size)) typed.count has.product in
+        length-elements typed.element has.inner types values has.has typed.each are ∙ sym product ∙ sym (laid_size ty laid)
+    typed_fits aggregates Repeat (a ∷ []) values ty laid typed are =
+        let value = single a values are in
+        let found : layout_of source.world (Array a typed.len) ≡ Some laid.layout = subst (λ t. layout_of source.world t ≡ Some laid.layout) typed.is laid.found in
+        let has = aggregates.arrays a typed.len laid.layout found in
+        let product : laid.layout.size ≡ typed.count * has.inner.size = subst (λ count. IfSome count (λ n. laid.layout.size ≡ n * has.inner.size)) typed.known has.product in
+        let count : array_length ty ≡ Some typed.count = ap array_length typed.is ∙ length_of_array a typed.len ∙ typed.known in
+        subst (λ given. Fits (size_at source (Some ty)) (answered source.world (Some ty) Repeat given)) (sym value.1)
+        (subst (λ count. Fits (size_at source (Some ty)) (repeated_for count value.0.bytes)) (sym count)
+        (length-repeated typed.count value.0.bytes ∙ ap (λ size. typed.count * size) (value_is_long a has.inner value.0 has.has value.2) ∙ sym product ∙ sym (laid_size ty laid)))
+    typed_fits aggregates Negate _ values ty laid typed are = absurd typed
+    typed_fits aggregates Invert _ values ty laid typed are = absurd typed
+    typed_fits aggregates Keep _ values ty laid typed are = absurd typed
+    typed_fits aggregates Convert _ values ty laid typed are = absurd typed
+    typed_fits aggregates (Combine op) _ values ty laid typed are = absurd typed
+    typed_fits aggregates Repeat _ values ty laid typed are = absurd typed

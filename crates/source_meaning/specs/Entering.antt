@@ -66,8 +66,8 @@ is_cost_defined source =
     list_all (is_sized_node source) (evaluated source (root source))
     && list_all (λ b. is_sized_or_none source (binding_type source b)) (below (length source.body.bindings))
 
--- How many levels a value has: one, for its type. The levels of a value's parts aren't counted yet: so far no form makes a value with parts,
--- so a body whose type has parts ends in a jump without a value, or leaves its cell as it was.
+-- How many levels of nesting the value of a run takes: one. Its bytes are handed out as they are, and nothing walks through its parts, so
+-- that these take none.
 abbrev pub levels : ℕ
 levels = 1
 

@@ -9,12 +9,13 @@ pub fn more_fuel_changes_nothing()
     ensures { MoreFuelChangesNothing }
 {}
 
-/// A body of a checked world that is plain and whose types have layouts, as those that it calls, always has a meaning.
+/// A body of a checked world, in which tuples and arrays have room for their parts, always has a meaning, if it is plain and its types
+/// have layouts, as those that it calls.
 pub fn plain_is_never_stuck()
     ensures { PlainIsNeverStuck }
 {}
 
-/// A body of a checked world that is plain and whose types have layouts, as those that it calls, never ends in a jump.
+/// A body as in `plain_is_never_stuck` never ends in a jump.
 pub fn plain_jumps_nowhere()
     ensures { PlainJumpsNowhere }
 {}

@@ -1,5 +1,5 @@
 -- A layout that is missing, and one that was found and is too large.
-use Rattle.std.proofs.Common.{⊎_elim, refl, sym, ap, ◌∙◌, subst, arith}
+use Rattle.std.proofs.Common.{⊎_elim, inl, refl, sym, ap, ◌∙◌, subst, arith}
 use Rattle.std.specs.Prelude.{option_and_then}
 use Rattle.world.specs.Lookups.{layout_of}
 use Rattle.body_forms.specs.Contexts.{source_of}
@@ -19,9 +19,9 @@ returns-then-layout-gt16-clause-refused c =
     let source = source_of c.args.context.now in
     let layout = ap (option_and_then (layout_of source.world)) c.own_ty-ty.ensures ∙ sym c.in-Some.ensures in
     ⊎_elim
-    (λ text. subst (RefusesNode source c.args.e.0) (sym text) (refl, c.requires.number, c.in-Some.layout.now, layout, c.if-layout-gt16.true))
+    (λ text. subst (RefusesNode source c.args.e.0) (sym text) (inl (refl, c.requires.number, c.in-Some.layout.now, layout, c.if-layout-gt16.true)))
     (λ none. subst (RefusesNode source c.args.e.0) (sym none) tt)
-    c.too_many_bytes.ensures
+    c.type_error.ensures
 
 pub returns-clause-built : goal.returns-clause-built
 returns-clause-built c =

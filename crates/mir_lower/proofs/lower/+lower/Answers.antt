@@ -15,9 +15,9 @@ use Rattle.source_meaning.specs.Valid.{opened_in}
 use Rattle.mir_lower.specs.Lowered.{HasStatements, LowersOperand, LowersOperands, LowersStatements, LowersTail}
 use Rattle.mir.specs.declared.operand.Operand.{Operand}
 use Rattle.mir.specs.declared.operand.OperandKind.{OperandKind}
-use Rattle.mir.specs.declared.operand.Rvalue.TheVariants.{CheckedBinaryOp, UnaryOp as Unary, Use}
-use Rattle.source_meaning.specs.Core.{Combine, Convert, Keep}
-use Rattle.body_forms.specs.Form.{core_value, operation_of}
+use Rattle.mir.specs.declared.operand.Rvalue.TheVariants.{Aggregate, CheckedBinaryOp, Use}
+use Rattle.source_meaning.specs.Core.{Combine}
+use Rattle.body_forms.specs.Form.{core_value}
 use Rattle.world.specs.declared.body.Statement.{Statement}
 use Rattle.mir_lower.specs.Refusals.{RefusesAt}
 use Rattle.std.specs.Prelude.{All, Contains, IfSome, ℕ}
@@ -28,13 +28,15 @@ use Rattle.mir_lower.proofs.Building.{built-return, has-target, built-labelled, 
 use Rattle.mir_lower.proofs.Adjusting.{lowers-undiverted, lowers-diverted}
 use Rattle.mir_lower.proofs.Assignments.{value-part, lowers-assign}
 use Rattle.mir_lower.proofs.Calls.{Collects, argument-in, arguments-from, built-arguments, collects-none, collects-more, collects-all, has-called, lowers-call}
-use Rattle.source_meaning.proofs.Parts.{call_parts}
+use Rattle.source_meaning.proofs.Parts.{call_parts, strict_parts}
 use Rattle.world.specs.Nodes.{expr_numbers}
 use Rattle.mir_lower.proofs.Compounds.{combined-part, lowers-compound, refuses-combined}
 use Rattle.mir_lower.proofs.Blocks.{idles-read, lowers-none, lowers-more, lowers-let, lowers-expr-statement, lowers-tail, lowers-no-tail, block-inner, lowers-block}
 use Rattle.mir_lower.proofs.Drops.{opened-within, scope-left}
 use Rattle.mir_lower.proofs.Operands.{lowers-literal-operand, lowers-place-operand, lowers-temp, lowers-name}
-use Rattle.mir_lower.proofs.Strict.{Computes, lowers-strict, unary-computes, keep-computes, cast-computes, binary-computes, lowers-one, lowers-two, first-part, second-part}
+use Rattle.mir_lower.proofs.Rvalues.{is-aggregate}
+use Rattle.mir_lower.proofs.Strict.{lowers-strict, lowers-one, lowers-two, first-part, second-part}
+use Rattle.mir_lower.specs.Operations.{several_operation, single_operation}
 use Rattle.mir_lower.proofs.Refused.{refuses-here, refuses-no-memory, refuses-part, refuses-unbuilt-form, refuses-statement, without-initializer, with-else, item-is-unbuilt, refuses-pattern, refuses-target, refused-exit, part-below, part-of-statement, refuses-break}
 use Rattle.mir_lower.proofs.Growing.{grows-trans}
 use Rattle.mir_lower.proofs.Steps.{local_of-grows, placed-later}
@@ -47,7 +49,7 @@ use Rattle.mir_lower.proofs.Returning.{return-part, lowers-return}
 use Rattle.mir_lower.proofs.Sparing.{spares-trans, scoped-spares}
 use Rattle.mir_lower.proofs.Conditions.{left-part, right-part, condition-part, then-part, else-part, tail-part, lowers-if, keeps-decided, lowers-logic}
 use Rattle.mir_lower.specs.Branches.{IsForked}
-use Rattle.source_meaning.specs.Meaning.{deciding_byte, own_size}
+use Rattle.source_meaning.specs.Meaning.{deciding_byte}
 use Rattle.source_meaning.specs.Steps.{parts_of}
 use Rattle.mir_lower.proofs.lower.+lower.Goals as goal
 
@@ -160,106 +162,94 @@ lower_own-returns-in-Continue-clause-lowered t c = on_ok_weaker c.lower_continue
 pub lower_own-returns-in-Return-clause-lowered : goal.lower_own-returns-in-Return-clause-lowered
 lower_own-returns-in-Return-clause-lowered t c = on_ok_weaker c.lower_return.result (λ lowered cell found. lowered cell) c.lower_return.ensures.lowered
 
--- an operator on one operand
+-- an operation on one operand
 
-pub lower_unary-lower_operand-requires : goal.lower_unary-lower_operand-requires
-lower_unary-lower_operand-requires t c =
+pub lower_single-lower_operand-requires : goal.lower_single-lower_operand-requires
+lower_single-lower_operand-requires t c =
     let source = source_of c.args.context.now in
-    let is = first-part source c.args.e.0 c.args.operand.0 [] (operation_of c.args.op) c.requires.form in
+    let is = first-part source c.args.e.0 c.args.operand.0 [] (single_operation c.args.single) c.requires.form in
     let below = part-below source c.args.e.0 c.args.operand.0 c.requires.ready.checked is in
     (omega (arith, below), part-ready source (shape c.args.graph.now) c.args.e.0 c.args.operand.0 (parts-ready source (shape c.args.graph.now) c.args.e.0 (λ outer. ap (λ n. opened_in c.args.e.0 n outer) c.requires.form) c.requires.ready) is)
 
-pub lower_unary-returns-in_err-value-clause-refused : goal.lower_unary-returns-in_err-value-clause-refused
-lower_unary-returns-in_err-value-clause-refused t c =
+pub lower_single-returns-in_err-value-clause-refused : goal.lower_single-returns-in_err-value-clause-refused
+lower_single-returns-in_err-value-clause-refused t c =
     let source = source_of c.args.context.now in
     refused-exit (RefusesAt source c.args.e.0) _ c.from_residual.result c.from_residual.ensures.1
-    (λ error same. subst (RefusesAt source c.args.e.0) (sym same) (refuses-part source c.args.e.0 c.args.operand.0 _ (first-part source c.args.e.0 c.args.operand.0 [] (operation_of c.args.op) c.requires.form) c.in_err-value.ensures.refused))
+    (λ error same. subst (RefusesAt source c.args.e.0) (sym same) (refuses-part source c.args.e.0 c.args.operand.0 _ (first-part source c.args.e.0 c.args.operand.0 [] (single_operation c.args.single) c.requires.form) c.in_err-value.ensures.refused))
 
-pub lower_unary-returns-clause-lowered : goal.lower_unary-returns-clause-lowered
-lower_unary-returns-clause-lowered t c =
-    let source = source_of c.args.context.now in
-    let value = lowers-one source (shape c.args.graph.now) (shape c.lower_operand.new.graph) c.args.operand.0 c.in_ok-value.value.kind c.in_ok-value.ensures.lowered in
-    on_ok_weaker c.assign.result
-    (λ added cell local. lowers-strict source (shape c.args.graph.now) (shape c.lower_operand.new.graph) (shape c.assign.new.graph) c.args.e.0 (operation_of c.args.op) (c.args.operand.0 ∷ []) (c.in_ok-value.value.kind ∷ []) (Unary c.args.op c.in_ok-value.value) c.args.place (ExprId c.args.e) c.requires.ready c.requires.form value (unary-computes source (own_size source c.args.e.0) c.args.op c.in_ok-value.value) added cell local)
-    c.assign.ensures.added
+pub lower_single-made_of-requires : goal.lower_single-made_of-requires
+lower_single-made_of-requires t c = record { checked = c.requires.ready.checked; within = c.requires.ready.within; form = (c.args.operand.0 ∷ [], c.requires.form) }
 
-pub lower_unary-returns-clause-built : goal.lower_unary-returns-clause-built
-lower_unary-returns-clause-built t c =
-    let source = source_of c.args.context.now in
-    on_ok_weaker c.assign.result (λ added. built-strict source c.args.e.0 (operation_of c.args.op) (c.args.operand.0 ∷ []) c.requires.form (one-built source c.args.operand.0 c.in_ok-value.ensures.built)) c.assign.ensures.added
-
-pub lower_unary-returns-clause-refused : goal.lower_unary-returns-clause-refused
-lower_unary-returns-clause-refused t c =
-    IfErr-weaker c.assign.result _ _ (λ error none. refuses-no-memory (source_of c.args.context.now) c.args.e.0 error none) c.assign.ensures.refused
-
--- a cast that is a coercion
-
-pub lower_coercion-lower_operand-requires : goal.lower_coercion-lower_operand-requires
-lower_coercion-lower_operand-requires t c =
-    let source = source_of c.args.context.now in
-    let is = first-part source c.args.e.0 c.args.operand.0 [] Keep c.requires.form in
-    let below = part-below source c.args.e.0 c.args.operand.0 c.requires.ready.checked is in
-    (omega (arith, below), part-ready source (shape c.args.graph.now) c.args.e.0 c.args.operand.0 (parts-ready source (shape c.args.graph.now) c.args.e.0 (λ outer. ap (λ n. opened_in c.args.e.0 n outer) c.requires.form) c.requires.ready) is)
-
-pub lower_coercion-returns-in_err-value-clause-refused : goal.lower_coercion-returns-in_err-value-clause-refused
-lower_coercion-returns-in_err-value-clause-refused t c =
-    let source = source_of c.args.context.now in
-    refused-exit (RefusesAt source c.args.e.0) _ c.from_residual.result c.from_residual.ensures.1
-    (λ error same. subst (RefusesAt source c.args.e.0) (sym same) (refuses-part source c.args.e.0 c.args.operand.0 _ (first-part source c.args.e.0 c.args.operand.0 [] Keep c.requires.form) c.in_err-value.ensures.refused))
-
-pub lower_coercion-returns-clause-lowered : goal.lower_coercion-returns-clause-lowered
-lower_coercion-returns-clause-lowered t c =
-    let source = source_of c.args.context.now in
-    let value = lowers-one source (shape c.args.graph.now) (shape c.lower_operand.new.graph) c.args.operand.0 c.in_ok-value.value.kind c.in_ok-value.ensures.lowered in
-    on_ok_weaker c.assign.result
-    (λ added cell local. lowers-strict source (shape c.args.graph.now) (shape c.lower_operand.new.graph) (shape c.assign.new.graph) c.args.e.0 Keep (c.args.operand.0 ∷ []) (c.in_ok-value.value.kind ∷ []) (Use c.in_ok-value.value) c.args.place (ExprId c.args.e) c.requires.ready c.requires.form value (keep-computes source (own_size source c.args.e.0) c.in_ok-value.value) added cell local)
-    c.assign.ensures.added
-
-pub lower_coercion-returns-clause-built : goal.lower_coercion-returns-clause-built
-lower_coercion-returns-clause-built t c =
-    let source = source_of c.args.context.now in
-    on_ok_weaker c.assign.result (λ added. built-strict source c.args.e.0 Keep (c.args.operand.0 ∷ []) c.requires.form (one-built source c.args.operand.0 c.in_ok-value.ensures.built)) c.assign.ensures.added
-
-pub lower_coercion-returns-clause-refused : goal.lower_coercion-returns-clause-refused
-lower_coercion-returns-clause-refused t c =
-    IfErr-weaker c.assign.result _ _ (λ error none. refuses-no-memory (source_of c.args.context.now) c.args.e.0 error none) c.assign.ensures.refused
-
--- a cast between numbers
-
-pub lower_cast-lower_operand-requires : goal.lower_cast-lower_operand-requires
-lower_cast-lower_operand-requires t c =
-    let source = source_of c.args.context.now in
-    let is = first-part source c.args.e.0 c.args.operand.0 [] Convert c.requires.form in
-    let below = part-below source c.args.e.0 c.args.operand.0 c.requires.ready.checked is in
-    (omega (arith, below), part-ready source (shape c.args.graph.now) c.args.e.0 c.args.operand.0 (parts-ready source (shape c.args.graph.now) c.args.e.0 (λ outer. ap (λ n. opened_in c.args.e.0 n outer) c.requires.form) c.requires.ready) is)
-
-pub lower_cast-returns-in_err-value-clause-refused : goal.lower_cast-returns-in_err-value-clause-refused
-lower_cast-returns-in_err-value-clause-refused t c =
-    let source = source_of c.args.context.now in
-    refused-exit (RefusesAt source c.args.e.0) _ c.from_residual.result c.from_residual.ensures.1
-    (λ error same. subst (RefusesAt source c.args.e.0) (sym same) (refuses-part source c.args.e.0 c.args.operand.0 _ (first-part source c.args.e.0 c.args.operand.0 [] Convert c.requires.form) c.in_err-value.ensures.refused))
-
-pub lower_cast-returns-in_err-rvalue-clause-refused : goal.lower_cast-returns-in_err-rvalue-clause-refused
-lower_cast-returns-in_err-rvalue-clause-refused t c =
+pub lower_single-returns-in_err-rvalue-clause-refused : goal.lower_single-returns-in_err-rvalue-clause-refused
+lower_single-returns-in_err-rvalue-clause-refused t c =
     let source = source_of c.args.context.now in
     refused-exit (RefusesAt source c.args.e.0) _ c.from_residual-in_err-rvalue.result c.from_residual-in_err-rvalue.ensures.1
-    (λ error same. subst (RefusesAt source c.args.e.0) (sym same) (refuses-no-memory source c.args.e.0 _ c.in_err-rvalue.ensures.refused))
+    (λ error same. subst (RefusesAt source c.args.e.0) (sym same) (refuses-here source c.args.e.0 _ c.in_err-rvalue.ensures.refused))
 
-pub lower_cast-returns-clause-lowered : goal.lower_cast-returns-clause-lowered
-lower_cast-returns-clause-lowered t c =
+pub lower_single-returns-clause-lowered : goal.lower_single-returns-clause-lowered
+lower_single-returns-clause-lowered t c =
     let source = source_of c.args.context.now in
-    let value = lowers-one source (shape c.args.graph.now) (shape c.lower_operand.new.graph) c.args.operand.0 c.in_ok-value.value.kind c.in_ok-value.ensures.lowered in
+    let operand = c.in_ok-value.value in
+    let value = lowers-one source (shape c.args.graph.now) (shape c.lower_operand.new.graph) c.args.operand.0 operand.kind c.in_ok-value.ensures.lowered in
     on_ok_weaker c.assign.result
-    (λ added cell local. lowers-strict source (shape c.args.graph.now) (shape c.lower_operand.new.graph) (shape c.assign.new.graph) c.args.e.0 Convert (c.args.operand.0 ∷ []) (c.in_ok-value.value.kind ∷ []) c.in_ok-rvalue.rvalue c.args.place (ExprId c.args.e) c.requires.ready c.requires.form value (subst (Computes source (own_size source c.args.e.0) Convert (c.in_ok-value.value.kind ∷ [])) (sym c.in_ok-rvalue.ensures.made.is) (cast-computes source c.args.e.0 c.in_ok-rvalue.ensures.made.ty c.in_ok-value.value c.in_ok-rvalue.ensures.made.typed)) added cell local)
+    (λ added cell local. lowers-strict source (shape c.args.graph.now) (shape c.lower_operand.new.graph) (shape c.assign.new.graph) c.args.e.0 (single_operation c.args.single) (c.args.operand.0 ∷ []) (operand ∷ []) c.in_ok-rvalue.rvalue c.args.place (ExprId c.args.e) c.requires.ready c.requires.form value c.in_ok-rvalue.ensures.made added cell local)
     c.assign.ensures.added
 
-pub lower_cast-returns-clause-built : goal.lower_cast-returns-clause-built
-lower_cast-returns-clause-built t c =
+pub lower_single-returns-clause-built : goal.lower_single-returns-clause-built
+lower_single-returns-clause-built t c =
     let source = source_of c.args.context.now in
-    on_ok_weaker c.assign.result (λ added. built-strict source c.args.e.0 Convert (c.args.operand.0 ∷ []) c.requires.form (one-built source c.args.operand.0 c.in_ok-value.ensures.built)) c.assign.ensures.added
+    on_ok_weaker c.assign.result (λ added. built-strict source c.args.e.0 (single_operation c.args.single) (c.args.operand.0 ∷ []) c.requires.form c.in_ok-rvalue.ensures.built (one-built source c.args.operand.0 c.in_ok-value.ensures.built)) c.assign.ensures.added
 
-pub lower_cast-returns-clause-refused : goal.lower_cast-returns-clause-refused
-lower_cast-returns-clause-refused t c =
+pub lower_single-returns-clause-refused : goal.lower_single-returns-clause-refused
+lower_single-returns-clause-refused t c =
+    IfErr-weaker c.assign.result _ _ (λ error none. refuses-no-memory (source_of c.args.context.now) c.args.e.0 error none) c.assign.ensures.refused
+
+-- a tuple or an array
+
+pub lower_aggregate-kind_of-requires : goal.lower_aggregate-kind_of-requires
+lower_aggregate-kind_of-requires t c = record { checked = c.requires.ready.checked; within = c.requires.ready.within; form = (expr_numbers c.args.parts.now, c.requires.form) }
+
+pub lower_aggregate-returns-in_err-kind-clause-refused : goal.lower_aggregate-returns-in_err-kind-clause-refused
+lower_aggregate-returns-in_err-kind-clause-refused t c =
+    let source = source_of c.args.context.now in
+    refused-exit (RefusesAt source c.args.e.0) _ c.from_residual.result c.from_residual.ensures.1
+    (λ error same. subst (RefusesAt source c.args.e.0) (sym same) (refuses-here source c.args.e.0 _ c.in_err-kind.ensures.refused))
+
+pub lower_aggregate-lower_operands-requires : goal.lower_aggregate-lower_operands-requires
+lower_aggregate-lower_operands-requires t c =
+    let source = source_of c.args.context.now in (
+      omega arith,
+      (
+        parts-ready source (shape c.args.graph.now) c.args.e.0 (λ outer. ap (λ n. opened_in c.args.e.0 n outer) c.requires.form) c.requires.ready,
+        ap parts_of c.requires.form ∙ strict_parts (several_operation c.args.several) (expr_numbers c.args.parts.now),
+      ),
+    )
+
+pub lower_aggregate-returns-in_err-operands-clause-refused : goal.lower_aggregate-returns-in_err-operands-clause-refused
+lower_aggregate-returns-in_err-operands-clause-refused t c =
+    let source = source_of c.args.context.now in
+    refused-exit (RefusesAt source c.args.e.0) _ c.from_residual-in_err-operands.result c.from_residual-in_err-operands.ensures.1
+    (λ error same. subst (RefusesAt source c.args.e.0) (sym same) c.in_err-operands.ensures.refused)
+
+pub lower_aggregate-returns-clause-lowered : goal.lower_aggregate-returns-clause-lowered
+lower_aggregate-returns-clause-lowered t c =
+    let source = source_of c.args.context.now in
+    let s0 = shape c.args.graph.now in
+    let s1 = shape c.lower_operands.new.graph in
+    let es = expr_numbers c.args.parts.now in
+    let operands = c.in_ok-operands.operands in
+    let given : LowersOperands source s0 s1 es (map (λ (operand : Operand). operand.kind) operands) = c.in_ok-operands.ensures.lowered in
+    on_ok_weaker c.assign.result
+    (λ added cell local. lowers-strict source s0 s1 (shape c.assign.new.graph) c.args.e.0 (several_operation c.args.several) es operands (Aggregate c.in_ok-kind.kind operands) c.args.place (ExprId c.args.e) c.requires.ready c.requires.form given (is-aggregate source c.args.e.0 c.args.several c.in_ok-kind.kind operands c.in_ok-kind.ensures.made) added cell local)
+    c.assign.ensures.added
+
+pub lower_aggregate-returns-clause-built : goal.lower_aggregate-returns-clause-built
+lower_aggregate-returns-clause-built t c =
+    let source = source_of c.args.context.now in
+    on_ok_weaker c.assign.result (λ added. built-strict source c.args.e.0 (several_operation c.args.several) (expr_numbers c.args.parts.now) c.requires.form c.in_ok-kind.ensures.built c.in_ok-operands.ensures.built) c.assign.ensures.added
+
+pub lower_aggregate-returns-clause-refused : goal.lower_aggregate-returns-clause-refused
+lower_aggregate-returns-clause-refused t c =
     IfErr-weaker c.assign.result _ _ (λ error none. refuses-no-memory (source_of c.args.context.now) c.args.e.0 error none) c.assign.ensures.refused
 
 -- an operator on two operands
@@ -297,14 +287,14 @@ lower_binary-returns-clause-lowered t c =
     let y = c.in_ok-right.right in
     let values = lowers-two source (shape c.args.graph.now) (shape c.lower_operand.new.graph) (shape c.lower_operand-2.new.graph) c.args.lhs.0 c.args.rhs.0 x.kind y.kind c.in_ok-left.ensures.lowered c.in_ok-right.ensures.lowered in
     on_ok_weaker c.assign.result
-    (λ added cell local. lowers-strict source (shape c.args.graph.now) (shape c.lower_operand-2.new.graph) (shape c.assign.new.graph) c.args.e.0 (Combine c.args.op) (c.args.lhs.0 ∷ c.args.rhs.0 ∷ []) (x.kind ∷ y.kind ∷ []) (CheckedBinaryOp c.args.op x y) c.args.place (ExprId c.args.e) c.requires.ready c.requires.form values (binary-computes source (own_size source c.args.e.0) c.args.op x y) added cell local)
+    (λ added cell local. lowers-strict source (shape c.args.graph.now) (shape c.lower_operand-2.new.graph) (shape c.assign.new.graph) c.args.e.0 (Combine c.args.op) (c.args.lhs.0 ∷ c.args.rhs.0 ∷ []) (x ∷ y ∷ []) (CheckedBinaryOp c.args.op x y) c.args.place (ExprId c.args.e) c.requires.ready c.requires.form values refl added cell local)
     c.assign.ensures.added
 
 pub lower_binary-returns-clause-built : goal.lower_binary-returns-clause-built
 lower_binary-returns-clause-built t c =
     let source = source_of c.args.context.now in
     on_ok_weaker c.assign.result
-    (λ added. built-strict source c.args.e.0 (Combine c.args.op) (c.args.lhs.0 ∷ c.args.rhs.0 ∷ []) c.requires.form (two-built source c.args.lhs.0 c.args.rhs.0 c.in_ok-left.ensures.built c.in_ok-right.ensures.built))
+    (λ added. built-strict source c.args.e.0 (Combine c.args.op) (c.args.lhs.0 ∷ c.args.rhs.0 ∷ []) c.requires.form tt (two-built source c.args.lhs.0 c.args.rhs.0 c.in_ok-left.ensures.built c.in_ok-right.ensures.built))
     c.assign.ensures.added
 
 pub lower_binary-returns-clause-refused : goal.lower_binary-returns-clause-refused

@@ -27,14 +27,11 @@ decreases-lower_into l = 11 * l.e.0 + 7
 abbrev pub decreases-lower_own : goal.decreases-lower_own
 decreases-lower_own l = 11 * l.e.0 + 6
 
-abbrev pub decreases-lower_unary : goal.decreases-lower_unary
-decreases-lower_unary l = 11 * l.e.0 + 4
+abbrev pub decreases-lower_single : goal.decreases-lower_single
+decreases-lower_single l = 11 * l.e.0 + 4
 
-abbrev pub decreases-lower_coercion : goal.decreases-lower_coercion
-decreases-lower_coercion l = 11 * l.e.0 + 4
-
-abbrev pub decreases-lower_cast : goal.decreases-lower_cast
-decreases-lower_cast l = 11 * l.e.0 + 4
+abbrev pub decreases-lower_aggregate : goal.decreases-lower_aggregate
+decreases-lower_aggregate l = 11 * l.e.0 + 4
 
 abbrev pub decreases-lower_compound : goal.decreases-lower_compound
 decreases-lower_compound l = 11 * l.e.0 + 4

@@ -1,9 +1,11 @@
 -- Each answer has its cause.
-use Rattle.std.proofs.Common.{Err, sym, subst}
+use Rattle.std.proofs.Common.{Err, sym, subst, ◌∙◌}
 use Rattle.mir.specs.declared.errors.ConstEvalError.{ConstEvalError}
+use Rattle.source_meaning.specs.Aggregates.{HasAggregates}
 use Rattle.consteval.specs.Answers.{HasCause}
 use Rattle.consteval.specs.declared.evaluated.Evaluated.{Evaluated}
 use Rattle.consteval.specs.Kept.{Lowered}
+use Rattle.consteval.proofs.Aggregates.{has-aggregates}
 use Rattle.consteval.proofs.Causes.{cause-refused, cause-answered}
 use Rattle.consteval.proofs.Keeping.{contains-stays, stays-then}
 use Rattle.consteval.proofs.evaluations.Evaluations.answer.Goals as goal
@@ -21,3 +23,9 @@ returns-clause-cause c =
 
 pub returns-clause-stays : goal.returns-clause-stays
 returns-clause-stays c = stays-then c.args.self.now c.body_of.new.self c.run_body.new.self c.body_of.ensures.stays c.run_body.ensures.stays
+
+pub returns-in-Err-clause-parts : goal.returns-in-Err-clause-parts
+returns-in-Err-clause-parts c = subst (λ kept. HasAggregates kept) (sym c.body_of.ensures.stays.world) (has-aggregates _ c.db-db.ensures.holds)
+
+pub returns-clause-parts : goal.returns-clause-parts
+returns-clause-parts c = subst (λ kept. HasAggregates kept) (sym (c.run_body.ensures.stays.world ∙ c.body_of.ensures.stays.world)) (has-aggregates _ c.db-db.ensures.holds)

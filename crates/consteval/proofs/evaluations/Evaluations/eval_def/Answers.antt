@@ -1,6 +1,7 @@
 -- What an answer says of its source.
 use Rattle.std.proofs.Common.{subst}
 use Rattle.world.specs.Checked.{IsChecked}
+use Rattle.source_meaning.specs.Aggregates.{HasAggregates}
 use Rattle.consteval.specs.Sources.{source_of}
 use Rattle.consteval.proofs.Causes.{cause-out, cause-stays, cause-value}
 use Rattle.consteval.proofs.Faults.{ends-in-panic, ends-in-undefined}
@@ -17,14 +18,14 @@ pub returns-in-Ok-clause-value : goal.returns-in-Ok-clause-value
 returns-in-Ok-clause-value c row konst valid is =
     let evaluated = c.answer-evaluated.ensures in
     let answer = c.answer-evaluated.result in
-    answer-value c.args.self.now.world (subst IsChecked evaluated.stays.world evaluated.checked) c.args.def c.args.args.now row valid c.answer-evaluated.new.self evaluated.stays.world evaluated.sound c.args.limits.now answer.turns answer.result
+    answer-value c.args.self.now.world (subst IsChecked evaluated.stays.world evaluated.checked) (subst HasAggregates evaluated.stays.world evaluated.parts) c.args.def c.args.args.now row valid c.answer-evaluated.new.self evaluated.stays.world evaluated.sound c.args.limits.now answer.turns answer.result
     evaluated.cause konst is
 
 pub returns-in-Ok-clause-counts : goal.returns-in-Ok-clause-counts
 returns-in-Ok-clause-counts c row konst valid is =
     let evaluated = c.answer-evaluated.ensures in
     let answer = c.answer-evaluated.result in
-    answer-counts c.args.self.now.world (subst IsChecked evaluated.stays.world evaluated.checked) c.args.def c.args.args.now row valid c.answer-evaluated.new.self evaluated.stays.world evaluated.sound c.args.limits.now answer.turns answer.result
+    answer-counts c.args.self.now.world (subst IsChecked evaluated.stays.world evaluated.checked) (subst HasAggregates evaluated.stays.world evaluated.parts) c.args.def c.args.args.now row valid c.answer-evaluated.new.self evaluated.stays.world evaluated.sound c.args.limits.now answer.turns answer.result
     evaluated.cause konst is
 
 pub returns-in-Ok-clause-panic : goal.returns-in-Ok-clause-panic
@@ -32,7 +33,7 @@ returns-in-Ok-clause-panic c row e word valid is says =
     let evaluated = c.answer-evaluated.ensures in
     let answer = c.answer-evaluated.result in
     ends-in-panic (source_of c.args.self.now.world row) c.args.limits.now e word
-    (answer-fault c.args.self.now.world (subst IsChecked evaluated.stays.world evaluated.checked) c.args.def c.args.args.now row valid c.answer-evaluated.new.self evaluated.stays.world evaluated.sound c.args.limits.now answer.turns answer.result
+    (answer-fault c.args.self.now.world (subst IsChecked evaluated.stays.world evaluated.checked) (subst HasAggregates evaluated.stays.world evaluated.parts) c.args.def c.args.args.now row valid c.answer-evaluated.new.self evaluated.stays.world evaluated.sound c.args.limits.now answer.turns answer.result
     evaluated.cause e is)
     says
 
@@ -41,7 +42,7 @@ returns-in-Ok-clause-undefined c row e text valid is says =
     let evaluated = c.answer-evaluated.ensures in
     let answer = c.answer-evaluated.result in
     ends-in-undefined (source_of c.args.self.now.world row) c.args.limits.now e text
-    (answer-fault c.args.self.now.world (subst IsChecked evaluated.stays.world evaluated.checked) c.args.def c.args.args.now row valid c.answer-evaluated.new.self evaluated.stays.world evaluated.sound c.args.limits.now answer.turns answer.result
+    (answer-fault c.args.self.now.world (subst IsChecked evaluated.stays.world evaluated.checked) (subst HasAggregates evaluated.stays.world evaluated.parts) c.args.def c.args.args.now row valid c.answer-evaluated.new.self evaluated.stays.world evaluated.sound c.args.limits.now answer.turns answer.result
     evaluated.cause e is)
     says
 
@@ -49,21 +50,21 @@ pub returns-in-Ok-clause-closed : goal.returns-in-Ok-clause-closed
 returns-in-Ok-clause-closed c row valid =
     let evaluated = c.answer-evaluated.ensures in
     let answer = c.answer-evaluated.result in
-    answer-closed c.args.self.now.world (subst IsChecked evaluated.stays.world evaluated.checked) c.args.def c.args.args.now row valid c.answer-evaluated.new.self evaluated.stays.world evaluated.sound c.args.limits.now answer.turns answer.result
+    answer-closed c.args.self.now.world (subst IsChecked evaluated.stays.world evaluated.checked) (subst HasAggregates evaluated.stays.world evaluated.parts) c.args.def c.args.args.now row valid c.answer-evaluated.new.self evaluated.stays.world evaluated.sound c.args.limits.now answer.turns answer.result
     evaluated.cause
 
 pub returns-in-Ok-clause-complete : goal.returns-in-Ok-clause-complete
 returns-in-Ok-clause-complete c row valid =
     let evaluated = c.answer-evaluated.ensures in
     let answer = c.answer-evaluated.result in
-    answer-completes c.args.self.now.world (subst IsChecked evaluated.stays.world evaluated.checked) c.args.def c.args.args.now row valid c.answer-evaluated.new.self evaluated.stays.world evaluated.sound c.args.limits.now answer.turns answer.result
+    answer-completes c.args.self.now.world (subst IsChecked evaluated.stays.world evaluated.checked) (subst HasAggregates evaluated.stays.world evaluated.parts) c.args.def c.args.args.now row valid c.answer-evaluated.new.self evaluated.stays.world evaluated.sound c.args.limits.now answer.turns answer.result
     evaluated.cause
 
 pub returns-in-Ok-clause-endless : goal.returns-in-Ok-clause-endless
 returns-in-Ok-clause-endless c row valid none =
     let evaluated = c.answer-evaluated.ensures in
     let answer = c.answer-evaluated.result in
-    answer-endless c.args.self.now.world (subst IsChecked evaluated.stays.world evaluated.checked) c.args.def c.args.args.now row valid c.answer-evaluated.new.self evaluated.stays.world evaluated.sound c.args.limits.now answer.turns answer.result
+    answer-endless c.args.self.now.world (subst IsChecked evaluated.stays.world evaluated.checked) (subst HasAggregates evaluated.stays.world evaluated.parts) c.args.def c.args.args.now row valid c.answer-evaluated.new.self evaluated.stays.world evaluated.sound c.args.limits.now answer.turns answer.result
     none evaluated.cause
 
 pub returns-in-Ok-clause-cause : goal.returns-in-Ok-clause-cause

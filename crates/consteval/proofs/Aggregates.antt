@@ -1,0 +1,26 @@
+-- Where the parts of tuples and of arrays lie in a world that passed the check.
+use Rattle.std.proofs.Common.{◌≡◌, ℕ, Some, refl, sym, subst}
+use Rattle.types.specs.declared.ty.Ty.{Ty}
+use Rattle.types.specs.declared.ty.Ty.TheVariants.{Array, Tuple}
+use Rattle.world.specs.Lookups.{layout_of}
+use Rattle.world.specs.declared.database.HirDatabase.{HirDatabase}
+use Rattle.world_check.specs.Laid.{AreElements, AreInside, LiesInside}
+use Rattle.world_check.specs.Rows.{Holds}
+use Rattle.world_check.proofs.Laid.{laid_out}
+use Rattle.source_meaning.specs.Aggregates.{HasAggregates, HasElements, HasParts, IsPartInside}
+
+lies-inside : (world : HirDatabase) (size offset : ℕ) (ty : Ty) → LiesInside world size offset (Some ty) → IsPartInside world size offset ty
+lies-inside world size offset ty lies =
+    let is = lies.is in
+    let same : lies.ty ≡ ty = cc in
+    record { layout = lies.layout; has = subst (λ (t : Ty). layout_of world t ≡ Some lies.layout) same lies.has; ends = lies.ends }
+
+pub has-aggregates : (world : HirDatabase) → Holds world → HasAggregates world
+has-aggregates world holds = record {
+  tuples = λ types layout found.
+      let parts = (laid_out world holds (Tuple types) layout found).parts types refl in
+      record { count = parts.count; inside = λ k offset ty at begins. lies-inside world layout.size offset ty (parts.inside k offset ty at begins) };
+  arrays = λ element len layout found.
+      let elements = (laid_out world holds (Array element len) layout found).elements element len refl in
+      record { inner = elements.layout; has = elements.has; product = elements.product };
+}

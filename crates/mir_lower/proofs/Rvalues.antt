@@ -1,0 +1,269 @@
+-- What the graph's rvalues give: what the operations that they are answer.
+use Rattle.std.proofs.Common.{◌≡◌, ℕ, List, [], ◌∷◌, ◌++◌, map, flat_map, Option, Some, None, option_and_then, Result, Ok, Err, replicate, refl, sym, ap, ◌∙◌, subst}
+use Rattle.std.specs.List.{concat}
+use Rattle.numbers.specs.Aggregates.{with_part, with_parts, constructed}
+use Rattle.numbers.specs.Constants.{number_in}
+use Rattle.numbers.specs.declared.operator.Operator.{Operator}
+use Rattle.numbers.specs.Operators.{Answer, Computes as Computed, Panics, Undefined, computed, converted}
+use Rattle.types.specs.declared.ty.Const.{Const}
+use Rattle.types.specs.declared.ty.Const.TheOpen as layer
+use Rattle.types.specs.declared.ty.Const.TheViews.{out-Ty, out-roll-Ty}
+use Rattle.types.specs.declared.ty.Ty.{Ty}
+use Rattle.types.specs.declared.ty.Ty.TheVariants as type
+use Rattle.world.specs.Checked.{fixed_size}
+use Rattle.world.specs.Lookups.{layout_of}
+use Rattle.world.specs.declared.database.HirDatabase.{HirDatabase}
+use Rattle.world.specs.declared.layout.Layout.{Layout}
+use Rattle.mir.specs.declared.errors.MirEvalError.{MirEvalError}
+use Rattle.mir.specs.declared.errors.MirEvalError as error
+use Rattle.mir.specs.declared.operand.AggregateKind.TheVariants as kind
+use Rattle.mir.specs.declared.operand.CastKind.TheVariants.{IntToInt}
+use Rattle.mir.specs.declared.operand.Operand.{Operand as MirOperand}
+use Rattle.mir.specs.declared.operand.OperandKind.{OperandKind}
+use Rattle.mir.specs.declared.operand.Rvalue.{Rvalue}
+use Rattle.mir.specs.declared.operand.Rvalue.TheVariants.{Aggregate, Cast, CheckedBinaryOp, Repeat as Repeated, UnaryOp as Unary, Use}
+use Rattle.mir.specs.declared.operand.UnOp.{UnOp}
+use Rattle.mir.specs.declared.operand.UnOp.TheVariants as one
+use Rattle.mir.specs.Memory.{Memory}
+use Rattle.mir.specs.Run.{Frame, aggregated, before, cast_to, laid_out as mir_laid_out, part_outside, placed_parts, read, repeats, rvalue_bytes, operated, operated_on, computed_of, answered as answer, operand_bytes as mir_bytes, operand_type as mir_type, operands_bytes}
+use Rattle.source_meaning.specs.Aggregates.{array_length, laid_out, made, repeated_for}
+use Rattle.source_meaning.specs.Core.{Operation, Negate, Invert, Keep, Convert, Combine, MakeTuple, MakeArray, Repeat}
+use Rattle.source_meaning.specs.Meaning.{Value, value_of, answered, converted_to}
+use Rattle.body_forms.specs.Form.{operation_of}
+use Rattle.source_meaning.specs.Source.{Source, own_type, Store, Operand, operand_bytes, operand_type}
+use Rattle.mir_lower.specs.Does.{Holds, Fits, FitAll}
+use Rattle.mir_lower.specs.Graph.{Shape}
+use Rattle.mir_lower.specs.Operations.{IsArray, IsKindOf, IsMade, IsRepeat, IsRvalueOf, IsTuple, several_operation}
+use Rattle.mir_lower.specs.declared.operation.Several.{Several}
+use Rattle.mir_lower.specs.declared.operation.Several.TheVariants as several
+
+-- A run of the graph gives what an operation answers, where that is a value or a panic. Of an answer without meaning nothing is said.
+abbrev pub Agrees : Answer → Result (List ℕ) MirEvalError → Type 0
+Agrees (Computed bytes) result = result ≡ Ok bytes
+Agrees (Panics word) result = result ≡ Err (error.Panic word)
+Agrees Undefined result = Unit {0}
+
+-- what is equal to the answer of the table of operators agrees with it
+agrees : (given : Answer) (result : Result (List ℕ) MirEvalError) → result ≡ answer given → Agrees given result
+unfolding answer
+agrees (Computed bytes) result is = is
+agrees (Panics word) result is = is
+agrees Undefined result is = tt
+
+-- the kinds of operands
+abbrev pub kinds : List MirOperand → List OperandKind
+kinds operands = map (λ (operand : MirOperand). operand.kind) operands
+
+-- an rvalue of the graph is what the operation of an expression makes of its operands' values
+abbrev pub Computes : Source → ℕ → Operation → List MirOperand → Rvalue → Type 0
+Computes source e operation operands rvalue =
+    (whole : Shape) (frame : Frame) (values : List Operand) (store : Store) (memory : Memory) → frame.program.world ≡ source.world → Holds whole frame store memory → FitAll source (kinds operands) whole frame values →
+    Agrees (answered source.world (own_type source e) operation (map (value_of source store) values)) (rvalue_bytes frame memory rvalue)
+
+-- An operator on one operand, and one on two.
+
+one-answer : (world : HirDatabase) (ty : Option Ty) (op : UnOp) (value : Value) → computed_of op value.kind value.bytes ≡ answered world ty (operation_of op) (value ∷ [])
+unfolding computed_of answered
+one-answer world ty one.Not value = refl
+one-answer world ty one.Neg value = refl
+
+pub two-answer : (world : HirDatabase) (ty : Option Ty) (op : Operator) (left right : Value) → computed op left.kind right.kind left.bytes right.bytes ≡ answered world ty (Combine op) (left ∷ right ∷ [])
+unfolding answered
+two-answer world ty op left right = refl
+
+unary-bytes : (source : Source) (whole : Shape) (frame : Frame) (op : UnOp) (value : Operand) (x : MirOperand) (store : Store) (memory : Memory) → Holds whole frame store memory → Fits source x.kind whole frame value → rvalue_bytes frame memory (Unary op x) ≡ answer (computed_of op (value_of source store value).kind (value_of source store value).bytes)
+unfolding rvalue_bytes operated_on
+unary-bytes source whole frame op value x store memory holds fits =
+    ap (λ t. operated_on op t (mir_bytes frame memory x.kind)) fits.ty
+    ∙ ap (operated_on op (operand_type source value)) (fits.bytes store memory holds)
+
+unary-computes : (source : Source) (e : ℕ) (op : UnOp) (x : MirOperand) → Computes source e (operation_of op) (x ∷ []) (Unary op x)
+unary-computes source e op x whole frame [] store memory same holds fits = absurd fits
+unary-computes source e op x whole frame (value ∷ []) store memory same holds fits =
+    agrees (answered source.world (own_type source e) (operation_of op) (value_of source store value ∷ [])) (rvalue_bytes frame memory (Unary op x))
+    (unary-bytes source whole frame op value x store memory holds fits.0 ∙ ap answer (one-answer source.world (own_type source e) op (value_of source store value)))
+unary-computes source e op x whole frame (value ∷ more ∷ rest) store memory same holds fits = absurd fits.1
+
+-- A cast: a coercion keeps the bytes, and any other converts them to the size of its type.
+
+keep-bytes : (source : Source) (whole : Shape) (frame : Frame) (value : Operand) (x : MirOperand) (store : Store) (memory : Memory) → Holds whole frame store memory → Fits source x.kind whole frame value → rvalue_bytes frame memory (Use x) ≡ answer (Computed (operand_bytes store value))
+unfolding rvalue_bytes answer
+keep-bytes source whole frame value x store memory holds fits = ap read (fits.bytes store memory holds)
+
+keep-answer : (world : HirDatabase) (ty : Option Ty) (value : Value) → Computed value.bytes ≡ answered world ty Keep (value ∷ [])
+unfolding answered
+keep-answer world ty value = refl
+
+keep-computes : (source : Source) (e : ℕ) (x : MirOperand) → Computes source e Keep (x ∷ []) (Use x)
+keep-computes source e x whole frame [] store memory same holds fits = absurd fits
+keep-computes source e x whole frame (value ∷ []) store memory same holds fits =
+    agrees (answered source.world (own_type source e) Keep (value_of source store value ∷ [])) (rvalue_bytes frame memory (Use x))
+    (keep-bytes source whole frame value x store memory holds fits.0 ∙ ap answer (keep-answer source.world (own_type source e) (value_of source store value)))
+keep-computes source e x whole frame (value ∷ more ∷ rest) store memory same holds fits = absurd fits.1
+
+cast-by-size : (size : Option ℕ) (value : Value) → ◌≡◌ {A = Result (List ℕ) MirEvalError} (elim size [ Some bytes ↦ answer (converted value.kind bytes value.bytes) | None ↦ answer Undefined ]) (answer (converted_to size value))
+cast-by-size (Some size) value = refl
+cast-by-size None value = refl
+
+cast-answer : (world : HirDatabase) (ty : Ty) (value : Value) → converted_to (fixed_size ty) value ≡ answered world (Some ty) Convert (value ∷ [])
+unfolding answered
+cast-answer world ty value = refl
+
+cast-bytes : (source : Source) (whole : Shape) (frame : Frame) (ty : Ty) (value : Operand) (x : MirOperand) (store : Store) (memory : Memory) → Holds whole frame store memory → Fits source x.kind whole frame value → rvalue_bytes frame memory (Cast IntToInt x ty) ≡ answer (answered source.world (Some ty) Convert (value_of source store value ∷ []))
+unfolding rvalue_bytes cast_to
+cast-bytes source whole frame ty value x store memory holds fits =
+    ap (λ t. cast_to ty t (mir_bytes frame memory x.kind)) fits.ty
+    ∙ ap (cast_to ty (operand_type source value)) (fits.bytes store memory holds)
+    ∙ cast-by-size (fixed_size ty) (value_of source store value)
+    ∙ ap answer (cast-answer source.world ty (value_of source store value))
+
+cast-computes : (source : Source) (e : ℕ) (ty : Ty) (x : MirOperand) → own_type source e ≡ Some ty → Computes source e Convert (x ∷ []) (Cast IntToInt x ty)
+cast-computes source e ty x typed whole frame [] store memory same holds fits = absurd fits
+cast-computes source e ty x typed whole frame (value ∷ []) store memory same holds fits =
+    agrees (answered source.world (own_type source e) Convert (value_of source store value ∷ [])) (rvalue_bytes frame memory (Cast IntToInt x ty))
+    (cast-bytes source whole frame ty value x store memory holds fits.0 ∙ ap (λ t. answer (answered source.world t Convert (value_of source store value ∷ []))) (sym typed))
+cast-computes source e ty x typed whole frame (value ∷ more ∷ rest) store memory same holds fits = absurd fits.1
+
+pub binary-bytes : (source : Source) (whole : Shape) (frame : Frame) (op : Operator) (left right : Operand) (x y : MirOperand) (store : Store) (memory : Memory) → Holds whole frame store memory → Fits source x.kind whole frame left → Fits source y.kind whole frame right → rvalue_bytes frame memory (CheckedBinaryOp op x y) ≡ answer (computed op (value_of source store left).kind (value_of source store right).kind (operand_bytes store left) (operand_bytes store right))
+unfolding rvalue_bytes operated
+binary-bytes source whole frame op left right x y store memory holds fits-left fits-right =
+    ap (λ t. operated op t (mir_type frame.body y.kind) (mir_bytes frame memory x.kind) (mir_bytes frame memory y.kind)) fits-left.ty
+    ∙ ap (λ t. operated op (operand_type source left) t (mir_bytes frame memory x.kind) (mir_bytes frame memory y.kind)) fits-right.ty
+    ∙ ap (λ b. operated op (operand_type source left) (operand_type source right) b (mir_bytes frame memory y.kind)) (fits-left.bytes store memory holds)
+    ∙ ap (λ b. operated op (operand_type source left) (operand_type source right) (Some (operand_bytes store left)) b) (fits-right.bytes store memory holds)
+
+binary-computes : (source : Source) (e : ℕ) (op : Operator) (x y : MirOperand) → Computes source e (Combine op) (x ∷ y ∷ []) (CheckedBinaryOp op x y)
+binary-computes source e op x y whole frame [] store memory same holds fits = absurd fits
+binary-computes source e op x y whole frame (left ∷ []) store memory same holds fits = absurd fits.1
+binary-computes source e op x y whole frame (left ∷ right ∷ []) store memory same holds fits =
+    agrees (answered source.world (own_type source e) (Combine op) (value_of source store left ∷ value_of source store right ∷ [])) (rvalue_bytes frame memory (CheckedBinaryOp op x y))
+    (binary-bytes source whole frame op left right x y store memory holds fits.0 fits.1.0 ∙ ap answer (two-answer source.world (own_type source e) op (value_of source store left) (value_of source store right)))
+binary-computes source e op x y whole frame (left ∷ right ∷ more ∷ rest) store memory same holds fits = absurd fits.1.1
+
+-- Aggregates, of any number of operands.
+
+parts-bytes : (source : Source) (whole : Shape) (frame : Frame) (store : Store) (memory : Memory) → Holds whole frame store memory → (operands : List MirOperand) (values : List Operand) → FitAll source (kinds operands) whole frame values → operands_bytes frame memory operands ≡ Some (map (λ (part : Value). part.bytes) (map (value_of source store) values))
+unfolding operands_bytes
+parts-bytes source whole frame store memory holds [] [] fits = refl
+parts-bytes source whole frame store memory holds [] (value ∷ values) fits = absurd fits
+parts-bytes source whole frame store memory holds (x ∷ operands) [] fits = absurd fits
+parts-bytes source whole frame store memory holds (x ∷ operands) (value ∷ values) fits =
+    ap (λ bytes. before bytes (operands_bytes frame memory operands)) (fits.0.bytes store memory holds)
+    ∙ ap (before (Some (operand_bytes store value))) (parts-bytes source whole frame store memory holds operands values fits.1)
+
+-- a part that stands where the definition puts it, and those behind it
+placed-behind : (size offset : ℕ) (offsets : List ℕ) (parts : List (List ℕ)) (next : Option (List ℕ)) (done : List ℕ) → ((bytes : List ℕ) → with_parts offsets parts bytes ≡ Some done → placed_parts size offsets parts bytes ≡ Ok done) → option_and_then (with_parts offsets parts) next ≡ Some done → ◌≡◌ {A = Result (List ℕ) MirEvalError} (elim next [ Some bytes ↦ placed_parts size offsets parts bytes | None ↦ Err (part_outside size offset) ]) (Ok done)
+placed-behind size offset offsets parts (Some bytes) done rest is = rest bytes is
+placed-behind size offset offsets parts None done rest is = absurd cc
+
+placed : (size : ℕ) (offsets : List ℕ) (parts : List (List ℕ)) (bytes done : List ℕ) → with_parts offsets parts bytes ≡ Some done → placed_parts size offsets parts bytes ≡ Ok done
+unfolding with_parts placed_parts
+placed size [] [] bytes done is = let same : bytes ≡ done = cc in ap Ok same
+placed size (offset ∷ offsets) [] bytes done is = let same : bytes ≡ done = cc in ap Ok same
+placed size [] (part ∷ parts) bytes done is = absurd cc
+placed size (offset ∷ offsets) (part ∷ parts) bytes done is = placed-behind size offset offsets parts (with_part offset part bytes) done (λ next h. placed size offsets parts next done h) is
+
+made-agrees : (size : ℕ) (offsets : List ℕ) (parts : List (List ℕ)) (found : Option (List ℕ)) → with_parts offsets parts (replicate size 0) ≡ found → Agrees (made found) (placed_parts size offsets parts (replicate size 0))
+made-agrees size offsets parts (Some bytes) is = placed size offsets parts (replicate size 0) bytes is
+made-agrees size offsets parts None is = tt
+
+laid-agrees : (layout : Option Layout) (parts : List (List ℕ)) → Agrees (laid_out layout parts) (mir_laid_out layout parts)
+unfolding mir_laid_out constructed
+laid-agrees (Some layout) parts = made-agrees layout.size layout.offsets parts (with_parts layout.offsets parts (replicate layout.size 0)) refl
+laid-agrees None parts = tt
+
+tuple-answer : (world : HirDatabase) (ty : Ty) (values : List Value) → answered world (Some ty) MakeTuple values ≡ laid_out (layout_of world ty) (map (λ (part : Value). part.bytes) values)
+unfolding answered
+tuple-answer world ty values = refl
+
+tuple-bytes : (source : Source) (frame : Frame) (memory : Memory) (ty : Ty) (operands : List MirOperand) (parts : List (List ℕ)) → frame.program.world ≡ source.world → operands_bytes frame memory operands ≡ Some parts → rvalue_bytes frame memory (Aggregate (kind.Tuple ty) operands) ≡ mir_laid_out (layout_of source.world ty) parts
+unfolding rvalue_bytes aggregated
+tuple-bytes source frame memory ty operands parts same is =
+    ap (aggregated frame.program.world (kind.Tuple ty)) is ∙ ap (λ world. mir_laid_out (layout_of world ty) parts) same
+
+tuple-computes : (source : Source) (e : ℕ) (ty : Ty) (operands : List MirOperand) → own_type source e ≡ Some ty → Computes source e MakeTuple operands (Aggregate (kind.Tuple ty) operands)
+tuple-computes source e ty operands typed whole frame values store memory same holds fits =
+    let all = map (value_of source store) values in
+    let parts = map (λ (part : Value). part.bytes) all in
+    let answers : answered source.world (own_type source e) MakeTuple all ≡ laid_out (layout_of source.world ty) parts = ap (λ t. answered source.world t MakeTuple all) typed ∙ tuple-answer source.world ty all in
+    let runs = tuple-bytes source frame memory ty operands parts same (parts-bytes source whole frame store memory holds operands values fits) in
+    subst (λ given. Agrees given (rvalue_bytes frame memory (Aggregate (kind.Tuple ty) operands))) (sym answers)
+    (subst (Agrees (laid_out (layout_of source.world ty) parts)) (sym runs) (laid-agrees (layout_of source.world ty) parts))
+
+array-answer : (world : HirDatabase) (ty : Option Ty) (values : List Value) → answered world ty MakeArray values ≡ Computed (flat_map (λ (part : Value). part.bytes) values)
+unfolding answered
+array-answer world ty values = refl
+
+array-bytes : (frame : Frame) (memory : Memory) (element : Ty) (operands : List MirOperand) (parts : List (List ℕ)) → operands_bytes frame memory operands ≡ Some parts → rvalue_bytes frame memory (Aggregate (kind.Array element) operands) ≡ Ok (concat parts)
+unfolding rvalue_bytes aggregated
+array-bytes frame memory element operands parts is = ap (aggregated frame.program.world (kind.Array element)) is
+
+joined : (values : List Value) → concat (map (λ (part : Value). part.bytes) values) ≡ flat_map (λ (part : Value). part.bytes) values
+joined [] = refl
+joined (value ∷ values) = ap (λ rest. value.bytes ++ rest) (joined values)
+
+array-computes : (source : Source) (e : ℕ) (element : Ty) (operands : List MirOperand) → Computes source e MakeArray operands (Aggregate (kind.Array element) operands)
+array-computes source e element operands whole frame values store memory same holds fits =
+    let all = map (value_of source store) values in
+    subst (λ given. Agrees given (rvalue_bytes frame memory (Aggregate (kind.Array element) operands))) (sym (array-answer source.world (own_type source e) all))
+    (array-bytes frame memory element operands (map (λ (part : Value). part.bytes) all) (parts-bytes source whole frame store memory holds operands values fits) ∙ ap Ok (joined all))
+
+-- how many elements the type of an array says
+length-of : (element : Ty) (len : Const) → array_length (type.Array element len) ≡ number_in len
+unfolding array_length
+length-of element len = rw (sym (ap out-Ty (sym (type.rolls-Array element len)) ∙ out-roll-Ty (layer.Array element len))) refl
+
+repeat-agrees : (count : Option ℕ) (bytes : List ℕ) → Agrees (repeated_for count bytes) (repeats count (Some bytes))
+unfolding repeats
+repeat-agrees (Some count) bytes = refl
+repeat-agrees None bytes = tt
+
+repeat-answer : (world : HirDatabase) (ty : Ty) (value : Value) → answered world (Some ty) Repeat (value ∷ []) ≡ repeated_for (array_length ty) value.bytes
+unfolding answered
+repeat-answer world ty value = refl
+
+repeat-bytes : (frame : Frame) (memory : Memory) (len : Const) (x : MirOperand) (bytes : List ℕ) → mir_bytes frame memory x.kind ≡ Some bytes → rvalue_bytes frame memory (Repeated x len) ≡ repeats (number_in len) (Some bytes)
+unfolding rvalue_bytes
+repeat-bytes frame memory len x bytes is = ap (repeats (number_in len)) is
+
+repeat-computes : (source : Source) (e : ℕ) (element : Ty) (len : Const) (x : MirOperand) → own_type source e ≡ Some (type.Array element len) → Computes source e Repeat (x ∷ []) (Repeated x len)
+repeat-computes source e element len x typed whole frame [] store memory same holds fits = absurd fits
+repeat-computes source e element len x typed whole frame (value ∷ []) store memory same holds fits =
+    let given = value_of source store value in
+    let answers : answered source.world (own_type source e) Repeat (given ∷ []) ≡ repeated_for (number_in len) given.bytes =
+    ap (λ t. answered source.world t Repeat (given ∷ [])) typed ∙ repeat-answer source.world (type.Array element len) given ∙ ap (λ count. repeated_for count given.bytes) (length-of element len) in
+    let runs = repeat-bytes frame memory len x given.bytes (fits.0.bytes store memory holds) in
+    subst (λ answer. Agrees answer (rvalue_bytes frame memory (Repeated x len))) (sym answers)
+    (subst (Agrees (repeated_for (number_in len) given.bytes)) (sym runs) (repeat-agrees (number_in len) given.bytes))
+repeat-computes source e element len x typed whole frame (value ∷ more ∷ rest) store memory same holds fits = absurd fits.1
+
+-- an aggregate of a kind is what the operation makes
+pub is-aggregate : (source : Source) (e : ℕ) (several : Several) (given : _) (operands : List MirOperand) → IsKindOf source e several given → IsRvalueOf source e (several_operation several) operands (Aggregate given operands)
+is-aggregate source e several.Tuple given operands of = record { given = given; of = of; is = refl }
+is-aggregate source e several.Array given operands of = record { given = given; of = of; is = refl }
+
+-- whatever an operation of an expression makes in the graph, computes it
+pub rvalue-computes : (source : Source) (e : ℕ) (operation : Operation) (operands : List MirOperand) (r : Rvalue) → IsRvalueOf source e operation operands r → Computes source e operation operands r
+rvalue-computes source e Negate (x ∷ []) r is = subst (Computes source e Negate (x ∷ [])) (sym is) (unary-computes source e one.Neg x)
+rvalue-computes source e Invert (x ∷ []) r is = subst (Computes source e Invert (x ∷ [])) (sym is) (unary-computes source e one.Not x)
+rvalue-computes source e Keep (x ∷ []) r is = subst (Computes source e Keep (x ∷ [])) (sym is) (keep-computes source e x)
+rvalue-computes source e Convert (x ∷ []) r is = subst (Computes source e Convert (x ∷ [])) (sym is.is) (cast-computes source e is.ty x is.typed)
+rvalue-computes source e (Combine op) (x ∷ y ∷ []) r is = subst (Computes source e (Combine op) (x ∷ y ∷ [])) (sym is) (binary-computes source e op x y)
+rvalue-computes source e MakeTuple operands r is =
+    subst (Computes source e MakeTuple operands) (sym (is.is ∙ ap (λ given. Aggregate given operands) is.of.is)) (tuple-computes source e is.of.ty operands is.of.typed)
+rvalue-computes source e MakeArray operands r is =
+    subst (Computes source e MakeArray operands) (sym (is.is ∙ ap (λ given. Aggregate given operands) is.of.is)) (array-computes source e is.of.element operands)
+rvalue-computes source e Repeat (x ∷ []) r is = subst (Computes source e Repeat (x ∷ [])) (sym is.is) (repeat-computes source e is.element is.len x is.typed)
+rvalue-computes source e Negate [] r is = absurd is
+rvalue-computes source e Negate (x ∷ y ∷ rest) r is = absurd is
+rvalue-computes source e Invert [] r is = absurd is
+rvalue-computes source e Invert (x ∷ y ∷ rest) r is = absurd is
+rvalue-computes source e Keep [] r is = absurd is
+rvalue-computes source e Keep (x ∷ y ∷ rest) r is = absurd is
+rvalue-computes source e Convert [] r is = absurd is
+rvalue-computes source e Convert (x ∷ y ∷ rest) r is = absurd is
+rvalue-computes source e (Combine op) [] r is = absurd is
+rvalue-computes source e (Combine op) (x ∷ []) r is = absurd is
+rvalue-computes source e (Combine op) (x ∷ y ∷ z ∷ rest) r is = absurd is
+rvalue-computes source e Repeat [] r is = absurd is
+rvalue-computes source e Repeat (x ∷ y ∷ rest) r is = absurd is
