@@ -54,22 +54,22 @@ pub record IsRunOf (few many : Cost) : Type 0 where
   pub defined : few.defined ≡ many.defined
 
 -- so it is with a cost
-run-of-cost : (cost : Cost) → IsRunOf cost (plus run_cost cost)
+run-of-cost : (source : Source) (cost : Cost) → IsRunOf cost (plus (run_cost source) cost)
 unfolding plus run_cost
-run-of-cost cost = record { turns = omega arith; bytes = omega arith; nesting = omega arith; defined = refl }
+run-of-cost source cost = record { turns = omega arith; bytes = omega arith; nesting = omega arith; defined = refl }
 
 -- with an end
-run-of-end : (end : End (List ℕ)) → IsRunOf (cost_of end) (cost_of (after run_cost end))
+run-of-end : (source : Source) (end : End (List ℕ)) → IsRunOf (cost_of end) (cost_of (after (run_cost source) end))
 unfolding after
-run-of-end (Go bytes store cost) = run-of-cost cost
-run-of-end (Jumps to store cost) = run-of-cost cost
-run-of-end (Faults fault cost) = run-of-cost cost
-run-of-end Stuck = record { turns = refl; bytes = refl; nesting = omega arith; defined = refl }
-run-of-end (More cost) = run-of-cost cost
+run-of-end source (Go bytes store cost) = run-of-cost source cost
+run-of-end source (Jumps to store cost) = run-of-cost source cost
+run-of-end source (Faults fault cost) = run-of-cost source cost
+run-of-end source Stuck = record { turns = refl; bytes = refl; nesting = omega arith; defined = refl }
+run-of-end source (More cost) = run-of-cost source cost
 
 -- and with the meaning at an amount of fuel
 pub run-of : (source : Source) (fuel : ℕ) → IsRunOf (cost_at source fuel) (cost_of (meaning_of source fuel))
-run-of source fuel = run-of-end (meaning_from source (zeroed source) fuel)
+run-of source fuel = run-of-end source (meaning_from source (zeroed source) fuel)
 
 -- an end that isn't stuck behind a cost isn't stuck
 stuck-after : (cost : Cost) (end : End (List ℕ)) → after cost end ≢ Stuck → end ≢ Stuck
@@ -78,7 +78,7 @@ stuck-after cost end there stuck = there (ap (after cost) stuck)
 
 -- where the meaning of a run isn't stuck, neither is that of its body
 pub body-has-end : (source : Source) (fuel : ℕ) (end : End (List ℕ)) → meaning_of source fuel ≡ end → end ≢ Stuck → meaning_from source (zeroed source) fuel ≢ Stuck
-body-has-end source fuel end reached there = stuck-after run_cost (meaning_from source (zeroed source) fuel) (λ stuck. there (sym reached ∙ stuck))
+body-has-end source fuel end reached there = stuck-after (run_cost source) (meaning_from source (zeroed source) fuel) (λ stuck. there (sym reached ∙ stuck))
 
 -- what enters a block has a meaning
 pub body-with-blocks : (source : Source) (fuel blocks : ℕ) → blocks < (cost_at source fuel).turns → meaning_from source (zeroed source) fuel ≢ Stuck

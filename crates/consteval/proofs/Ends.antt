@@ -14,7 +14,8 @@ use Rattle.mir.specs.declared.errors.MirEvalError as error
 use Rattle.mir.specs.declared.errors.TrailEntry.{TrailEntry}
 use Rattle.mir.specs.Memory.{Memory}
 use Rattle.mir.specs.Run.{Program, Frame, Calling, Ending, Returned, Faulted, Asked, Ended, bad_read, levels_over}
-use Rattle.mir_eval.specs.Machine.{on_a_level, outcome_of, wrapped}
+use Rattle.heights.specs.Heights.{height}
+use Rattle.mir_eval.specs.Machine.{on_levels, outcome_of, wrapped}
 use Rattle.mir_lower.specs.Callees.{Serves}
 use Rattle.mir_lower.specs.Simulates.{EndsOn, Simulates}
 use Rattle.mir_lower.specs.Stops.{IsCut, LacksRoom, MakesSomeCall, StopsWithin, WasRefused}
@@ -27,7 +28,7 @@ use Rattle.consteval.specs.Kept.{Kept, Ran, program_of, run_of}
 use Rattle.consteval.proofs.Costs.{body-within, run-of}
 use Rattle.consteval.proofs.Cuts.{cut-by-room, lacks-at-call, wrapped-lack}
 use Rattle.consteval.proofs.Faults.{at-call, framed, overflowed}
-use Rattle.consteval.proofs.Nesting.{fault-on-level, has-level, value-nests, value-on-level}
+use Rattle.consteval.proofs.Nesting.{fault-on-levels, has-levels, run-is-high, value-nests, value-on-levels}
 
 -- with as many blocks as it enters, a run reaches its end
 runs-with : (turns : ℕ) (ends : Ending → Type 0) (run : ℕ → Ended) → EndsAfter turns ends run → (blocks : ℕ) → turns ≤ blocks → ends (run blocks).ending
@@ -49,10 +50,10 @@ runs-under : (turns : ℕ) (ends : Ending → Type 0) (run : ℕ → Ended) → 
 runs-under turns ends run reaches blocks = ⊎_elim (λ less. inl (less, reaches.with_fewer blocks less)) (λ le. inr (runs-with turns ends run reaches blocks le)) (cases_lt blocks turns)
 
 -- what the bytes of a return slot are handed out as
-returned-outcome : (levels : ℕ) (body : MirBody) (slot : Local) (bytes : List ℕ) → slice_get body.locals 0 ≡ Some slot → outcome_of levels body (Returned bytes) ≡ Some (on_a_level levels (Ok (constant_of slot.ty bytes)))
+returned-outcome : (levels : ℕ) (body : MirBody) (slot : Local) (bytes : List ℕ) → slice_get body.locals 0 ≡ Some slot → outcome_of levels body (Returned bytes) ≡ Some (on_levels (height slot.ty) levels (Ok (constant_of slot.ty bytes)))
 unfolding outcome_of
 returned-outcome levels body slot bytes there =
-    ap (λ (found : Option Local). Some (on_a_level levels (elim found [ Some s ↦ Ok (constant_of s.ty bytes) | None ↦ Err (error.InFunction bad_read []) ]))) there
+    ap (λ (found : Option Local). Some (on_levels (elim found [ Some s ↦ height s.ty | None ↦ 0 ]) levels (elim found [ Some s ↦ Ok (constant_of s.ty bytes) | None ↦ Err (error.InFunction bad_read []) ]))) there
 
 -- a fault is handed out wrapped
 faulted-outcome : (levels : ℕ) (body : MirBody) (e : MirEvalError) (trail : List TrailEntry) → outcome_of levels body (Faulted e trail) ≡ Some (Err (wrapped e trail))
@@ -126,9 +127,13 @@ module _ (source : Source) (kept : Kept) (limits : Limits) (turns : ℕ) (outcom
   faulted fault is =
       (is.0, handed-out (Err (error.InFunction (error_of fault) is.0)) (ap (outcome_of Levels body) is.1 ∙ faulted-outcome Levels body (error_of fault) is.0 ∙ ap (λ e. Some (Err e)) (wrapped-fault fault is.0)))
 
-  -- and one that returns bytes has the value of these, where there is a level for it
-  returned : (bytes : List ℕ) → IsReturned bytes (Run limits.blocks).ending → outcome ≡ on_a_level Levels (Ok (constant_of simulates.slot.0.ty bytes))
-  returned bytes is = handed-out (on_a_level Levels (Ok (constant_of simulates.slot.0.ty bytes))) (ap (outcome_of Levels body) is ∙ returned-outcome Levels body simulates.slot.0 bytes simulates.slot.1)
+  -- how many levels the value takes
+  abbrev Height : ℕ
+  Height = height simulates.slot.0.ty
+
+  -- and one that returns bytes has the value of these, where there are levels for it
+  returned : (bytes : List ℕ) → IsReturned bytes (Run limits.blocks).ending → outcome ≡ on_levels Height Levels (Ok (constant_of simulates.slot.0.ty bytes))
+  returned bytes is = handed-out (on_levels Height Levels (Ok (constant_of simulates.slot.0.ty bytes))) (ap (outcome_of Levels body) is ∙ returned-outcome Levels body simulates.slot.0 bytes simulates.slot.1)
 
   -- what hands out a value hands out no fault
   no-fault : {A : Type 0} (konst : Const) (e : MirEvalError) → outcome ≡ Ok konst → FaultsWith e → A
@@ -195,7 +200,7 @@ module _ (source : Source) (kept : Kept) (limits : Limits) (turns : ℕ) (outcom
         store = store;
         cost = cost;
         gives = record { fuel = comes.fuel; reached = comes.reached; over = tt };
-        same = value-on-level Levels (constant_of simulates.slot.0.ty bytes) konst (sym h ∙ returned bytes is);
+        same = value-on-levels Height Levels (constant_of simulates.slot.0.ty bytes) konst (sym h ∙ returned bytes is);
       })
       (runs-under cost.turns (IsReturned bytes) Run ends limits.blocks)
   value-of-end (Jumps to store cost) comes ends well konst h = absurd well.1
@@ -227,11 +232,12 @@ module _ (source : Source) (kept : Kept) (limits : Limits) (turns : ℕ) (outcom
   passes end e comes less faults h =
       framed-so e error.ExecutionLimitExceeded faults (comes.fuel, subst (λ (reached : End (List ℕ)). limits.blocks < (cost_of reached).turns) (sym comes.reached) less) h
 
-  -- a value for which there is no level of nesting passes the limit
-  too-deep : (value : Const) (e : MirEvalError) → Err e ≡ on_a_level Levels (Ok value) → EndsEvaluation source limits e
+  -- a value for which there are too few levels of nesting passes the limit
+  too-deep : (value : Const) (e : MirEvalError) → Err e ≡ on_levels Height Levels (Ok value) → EndsEvaluation source limits e
   too-deep value e h =
-      let none = fault-on-level Levels value e h in
+      let none = fault-on-levels Height Levels value e h in
       let left = none.0 in
+      let high = run-is-high source simulates.slot.0.ty simulates.slot.2 in
       subst (EndsEvaluation source limits) (sym none.1) (overflowed source limits (omega arith))
 
   -- a fault that the source means, as a frame's error
@@ -302,10 +308,11 @@ module _ (source : Source) (kept : Kept) (limits : Limits) (turns : ℕ) (outcom
   completes-value ty bytes store cost typed gives within =
       let of_type : simulates.slot.0.ty ≡ ty = (let slot = simulates.slot.2 in cc) in
       let deep = value-nests source bytes store cost gives in
+      let high = run-is-high source simulates.slot.0.ty simulates.slot.2 in
       let room = within.room in
       let bound = room.nesting in
       returned bytes (runs-with cost.turns (IsReturned bytes) Run (within-goes-on (Go bytes store cost) gives.fuel gives.reached within) limits.blocks within.turns)
-      ∙ has-level Levels (Ok (constant_of simulates.slot.0.ty bytes)) (omega arith)
+      ∙ has-levels Height Levels (Ok (constant_of simulates.slot.0.ty bytes)) (omega arith)
       ∙ ap (λ t. Ok (constant_of t bytes)) of_type
 
   -- and so is a fault

@@ -15,7 +15,6 @@ use Rattle.mir_lower.specs.Stops.{LacksLayout, LacksSize, MakesSomeCall}
 use Rattle.mir.specs.Errors.{from_eval_error, from_lower_error, layout_error_of}
 use Rattle.source_meaning.specs.Source.{Source}
 use Rattle.consteval.specs.Answers.{NeverRuns, NeverRunsLayer, EndsAtCall, EndsEvaluation, EndsFrame, EndsIn, EndsLayer, EndsLowering, GivesPanic, GivesUndefined, PassesBytesAtOnce, panic_layer, panic_word, undefined_layer, undefined_text}
-use Rattle.consteval.proofs.Nesting.{run-nests}
 
 -- a frame's fault, wrapped in it
 pub framed : (source : Source) (limits : Limits) (inner : MirEvalError) (trail : List TrailEntry) → EndsFrame source limits inner → EndsEvaluation source limits (error.InFunction inner trail)
@@ -39,10 +38,10 @@ pub without-size : (source : Source) (limits : Limits) (ty : Ty) (text : List �
 without-size source limits ty text lacks =
     subst (EndsLayer source limits) (sym (ap out-MirEvalError (sym (rolls-TypeIsUnsized ty text)) ∙ out-roll-MirEvalError (layer.TypeIsUnsized ty text))) lacks
 
--- a limit on nesting that every run passes
-pub overflowed : (source : Source) (limits : Limits) → limits.nesting < 2 → EndsEvaluation source limits error.StackOverflow
+-- a limit on nesting that the run and its value pass
+pub overflowed : (source : Source) (limits : Limits) → limits.nesting < (run_cost source).nesting → EndsEvaluation source limits error.StackOverflow
 overflowed source limits less =
-    subst (EndsLayer source limits) (sym (ap out-MirEvalError (sym rolls-StackOverflow) ∙ out-roll-MirEvalError layer.StackOverflow)) (let levels = run-nests in omega arith)
+    subst (EndsLayer source limits) (sym (ap out-MirEvalError (sym rolls-StackOverflow) ∙ out-roll-MirEvalError layer.StackOverflow)) less
 
 -- a limit on bytes that the source's cells pass
 pub overfull : (source : Source) (limits : Limits) → PassesBytesAtOnce source limits.bytes → EndsEvaluation source limits error.MemoryLimitExceeded

@@ -1,55 +1,67 @@
--- How deep an evaluation nests: a level for the run, and one for its value.
-use Rattle.std.proofs.Common.{◌≡◌, ◌≢◌, ℕ, zero, suc, ◌<◌, ◌≤◌, ◌⊎◌, inl, inr, List, Result, Ok, Err, refl, subst, arith}
+-- How deep an evaluation nests: a level for the run, and those of its value.
+use Rattle.std.proofs.Common.{◌≡◌, ◌≢◌, ℕ, zero, suc, ◌<◌, ◌≤◌, ◌⊎◌, inl, inr, Bool, true, false, if◌then◌else◌, nat_le, le-leb, leb-false, List, Some, Result, Ok, Err, refl, ap, subst, arith}
 use Rattle.types.specs.declared.ty.Const.{Const}
 use Rattle.mir.specs.declared.errors.MirEvalError.{MirEvalError}
 use Rattle.mir.specs.declared.errors.MirEvalError as error
-use Rattle.mir_eval.specs.Machine.{on_a_level}
+use Rattle.mir_eval.specs.Machine.{on_a_level, on_levels}
 use Rattle.source_meaning.specs.Ends.{Cost, cost_of, plus, End, Go, Jumps, Faults, Stuck, More, after}
-use Rattle.source_meaning.specs.Entering.{run_cost}
+use Rattle.source_meaning.specs.Entering.{run_cost, value_height}
 use Rattle.source_meaning.specs.Meaning.{Gives, meaning_from, meaning_of}
-use Rattle.source_meaning.specs.Source.{Source, Store, zeroed}
+use Rattle.source_meaning.specs.Source.{Source, Store, node_type, root, zeroed}
+use Rattle.heights.specs.Heights.{height}
+use Rattle.types.specs.declared.ty.Ty.{Ty}
 
 -- a cost takes at least the nesting of what stands before it
 plus-nests : (first second : Cost) → first.nesting ≤ (plus first second).nesting
 unfolding plus
 plus-nests first second = omega arith
 
-after-nests : (cost : Cost) (end : End (List ℕ)) → 2 ≤ cost.nesting → after cost end ≢ Stuck → 2 ≤ (cost_of (after cost end)).nesting
+after-nests : (cost : Cost) (end : End (List ℕ)) → after cost end ≢ Stuck → cost.nesting ≤ (cost_of (after cost end)).nesting
 unfolding after
-after-nests cost (Go bytes store rest) deep there = let more = plus-nests cost rest in omega arith
-after-nests cost (Jumps to store rest) deep there = let more = plus-nests cost rest in omega arith
-after-nests cost (Faults fault rest) deep there = let more = plus-nests cost rest in omega arith
-after-nests cost Stuck deep there = absurd (there refl)
-after-nests cost (More rest) deep there = let more = plus-nests cost rest in omega arith
+after-nests cost (Go bytes store rest) there = plus-nests cost rest
+after-nests cost (Jumps to store rest) there = plus-nests cost rest
+after-nests cost (Faults fault rest) there = plus-nests cost rest
+after-nests cost Stuck there = absurd (there refl)
+after-nests cost (More rest) there = plus-nests cost rest
 
--- a run and its value take two levels
-pub run-nests : 2 ≤ run_cost.nesting
+-- a run takes at least a level
+pub run-nests : (source : Source) → 0 < (run_cost source).nesting
 unfolding run_cost
-run-nests = omega arith
+run-nests source = omega arith
 
--- whatever fuel there is, a meaning nests by two levels
-meaning-nests : (source : Source) (fuel : ℕ) → meaning_of source fuel ≢ Stuck → 2 ≤ (cost_of (meaning_of source fuel)).nesting
-meaning-nests source fuel there = after-nests run_cost (meaning_from source (zeroed source) fuel) run-nests there
+-- and as many more as its value's type is high
+pub run-is-high : (source : Source) (ty : Ty) → node_type source (root source) ≡ Some ty → (run_cost source).nesting ≡ suc (height ty)
+unfolding run_cost
+run-is-high source ty typed = ap (λ t. suc (value_height t)) typed
 
--- an end that a source has nests by two levels
-pub value-nests : (source : Source) (bytes : List ℕ) (store : Store) (cost : Cost) → Gives source (Go bytes store cost) → 2 ≤ cost.nesting
+-- whatever fuel there is, a meaning nests by at least as many levels
+meaning-nests : (source : Source) (fuel : ℕ) → meaning_of source fuel ≢ Stuck → (run_cost source).nesting ≤ (cost_of (meaning_of source fuel)).nesting
+meaning-nests source fuel there = after-nests (run_cost source) (meaning_from source (zeroed source) fuel) there
+
+-- so does an end that a source has
+pub value-nests : (source : Source) (bytes : List ℕ) (store : Store) (cost : Cost) → Gives source (Go bytes store cost) → (run_cost source).nesting ≤ cost.nesting
 value-nests source bytes store cost gives =
-    subst (λ (end : End (List ℕ)). end ≢ Stuck → 2 ≤ (cost_of end).nesting) gives.reached (meaning-nests source gives.fuel) (λ stuck. cc)
+    subst (λ (end : End (List ℕ)). end ≢ Stuck → (run_cost source).nesting ≤ (cost_of end).nesting) gives.reached (meaning-nests source gives.fuel) (λ stuck. cc)
 
--- where there is a level of nesting, what takes one is as it is
-pub has-level : {A : Type 0} (levels : ℕ) (result : Result A MirEvalError) → 0 < levels → on_a_level levels result ≡ result
-has-level zero result less = absurd (omega arith)
-has-level (suc levels) result less = refl
+-- where there are enough levels of nesting, what takes them is as it is
+pub has-levels : {A : Type 0} (taken left : ℕ) (result : Result A MirEvalError) → taken ≤ left → on_levels taken left result ≡ result
+has-levels taken left result enough = ap (λ (test : Bool). if test then result else Err error.StackOverflow) (le-leb taken left enough)
 
--- a value that was handed out on a level is the one that was there
-pub value-on-level : (levels : ℕ) (value konst : Const) → Ok konst ≡ on_a_level levels (Ok value) → konst ≡ value
-value-on-level zero value konst h = absurd cc
-value-on-level (suc levels) value konst h = cc
+levels-tested : (test : Bool) (value konst : Const) → Ok konst ≡ (if test then Ok value else Err error.StackOverflow) → konst ≡ value
+levels-tested true value konst h = cc
+levels-tested false value konst h = absurd cc
 
--- a value that wasn't handed out had no level
-pub fault-on-level : (levels : ℕ) (value : Const) (e : MirEvalError) → Err e ≡ on_a_level levels (Ok value) → (levels ≡ 0) × (e ≡ error.StackOverflow)
-fault-on-level zero value e h = (refl, cc)
-fault-on-level (suc levels) value e h = absurd cc
+-- a value that was handed out on levels is the one that was there
+pub value-on-levels : (taken left : ℕ) (value konst : Const) → Ok konst ≡ on_levels taken left (Ok value) → konst ≡ value
+value-on-levels taken left value konst h = levels-tested (nat_le taken left) value konst h
+
+levels-lacked : (taken left : ℕ) (test : Bool) → nat_le taken left ≡ test → (value : Const) (e : MirEvalError) → Err e ≡ (if test then Ok value else Err error.StackOverflow) → (left < taken) × (e ≡ error.StackOverflow)
+levels-lacked taken left true is value e h = absurd cc
+levels-lacked taken left false is value e h = (leb-false taken left is, cc)
+
+-- a value that wasn't handed out had too few
+pub fault-on-levels : (taken left : ℕ) (value : Const) (e : MirEvalError) → Err e ≡ on_levels taken left (Ok value) → (left < taken) × (e ≡ error.StackOverflow)
+fault-on-levels taken left value e h = levels-lacked taken left (nat_le taken left) refl value e h
 
 -- what takes a level was refused for want of it, or for a cause of its own
 pub refused-on-level : {A : Type 0} (levels : ℕ) (result : Result A MirEvalError) (e : MirEvalError) → on_a_level levels result ≡ Err e → ((e ≡ error.StackOverflow) × (levels ≡ 0)) ⊎ ((0 < levels) × (result ≡ Err e))

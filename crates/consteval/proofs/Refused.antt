@@ -47,6 +47,7 @@ use Rattle.consteval.specs.Sources.{source_of}
 use Rattle.consteval.specs.Valid.{IsPlainItem, IsValid}
 use Rattle.consteval.proofs.Begins.{begins, begun-never, begun-refusal}
 use Rattle.consteval.proofs.Built.{built-without-args}
+use Rattle.consteval.proofs.Nesting.{run-nests}
 use Rattle.consteval.proofs.Faults.{NeverRunsFor, never-without-level, overflowed}
 use Rattle.consteval.proofs.Parameters.{refuses-no-parameters}
 
@@ -82,7 +83,7 @@ module _ (world : HirDatabase) (def : DefWithBodyId) (args : GenericArgs) (row :
 
   pub run-refusal : RefusesRun world def body limits e → EndsEvaluation (source_of world row) limits e
   run-refusal refuses =
-      refusal-cases refuses (λ is none. subst (EndsEvaluation (source_of world row) limits) (sym is) (overflowed (source_of world row) limits (omega arith)))
+      refusal-cases refuses (λ is none. subst (EndsEvaluation (source_of world row) limits) (sym is) (overflowed (source_of world row) limits (let nests = run-nests (source_of world row) in omega arith)))
       (begun-refusal (source_of world row) (program_of world limits []) limits body e refl refl simulates)
 
   -- so none begins

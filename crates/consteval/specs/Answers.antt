@@ -149,7 +149,7 @@ EndsFrame source limits e = MakesSomeCall source × EndsAtCall source limits e
 -- the error names, without a layout, for the reason that the error gives, or without a size.
 abbrev pub EndsLayer : Source → Limits → MirEvalError-F MirEvalError → Type 0
 EndsLayer source limits (layer.InFunction inner trail) = EndsFrame source limits inner
-EndsLayer source limits layer.StackOverflow = limits.nesting < run_cost.nesting
+EndsLayer source limits layer.StackOverflow = limits.nesting < (run_cost source).nesting
 EndsLayer source limits layer.MemoryLimitExceeded = PassesBytesAtOnce source limits.bytes
 EndsLayer source limits (layer.LayoutError e ty) = (e ≡ layout_error_of ty) × LacksLayout source ty
 EndsLayer source limits (layer.TypeIsUnsized ty text) = LacksSize source ty

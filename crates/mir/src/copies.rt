@@ -1,13 +1,14 @@
 //! Copies of errors, operands and bodies, which equal them.
 ghost use Rattle.std.specs.Prelude.{◌≡◌, IfOk};
+ghost use Rattle.mir.specs.declared.operand.Rvalue.TheVariants.{Aggregate, Cast, CheckedBinaryOp, Repeat};
 
 use crate::{
-    AggregateKind, BasicBlock, ConstEvalError, LayoutError, Local, LocalId, MirBody, MirEvalError,
-    MirLowerError, Operand, OperandKind, Rvalue, Statement, StatementKind, Terminator,
-    TerminatorKind, TrailEntry,
+    AggregateKind, BasicBlock, BinOp, CastKind, ConstEvalError, LayoutError, Local, LocalId,
+    MirBody, MirEvalError, MirLowerError, Operand, OperandKind, Rvalue, Statement, StatementKind,
+    Terminator, TerminatorKind, TrailEntry,
 };
 use std::alloc::Global;
-use world::{Box, NoMemory, TryClone};
+use world::{Box, Const, List, NoMemory, TryClone, Ty};
 
 impl TryClone for LayoutError {
     fn try_clone(&self, _alloc: Global) -> Result<LayoutError, NoMemory> {
@@ -134,28 +135,56 @@ impl TryClone for AggregateKind {
     }
 }
 
+fn copy_repeat(alloc: Global, operand: &Operand, len: &Const) -> Result<Rvalue, NoMemory>
+    ensures { IfOk result (λ copy. copy ≡ Repeat operand.now len.now) }
+{
+    let operand = operand.try_clone(alloc)?;
+    let len = len.try_clone(alloc)?;
+    Ok(Rvalue::Repeat(operand, len))
+}
+
+fn copy_cast(alloc: Global, kind: CastKind, operand: &Operand, ty: &Ty) -> Result<Rvalue, NoMemory>
+    ensures { IfOk result (λ copy. copy ≡ Cast kind operand.now ty.now) }
+{
+    let operand = operand.try_clone(alloc)?;
+    let ty = ty.try_clone(alloc)?;
+    Ok(Rvalue::Cast(kind, operand, ty))
+}
+
+fn copy_binary(
+    alloc: Global,
+    op: BinOp,
+    left: &Operand,
+    right: &Operand,
+) -> Result<Rvalue, NoMemory>
+    ensures { IfOk result (λ copy. copy ≡ CheckedBinaryOp op left.now right.now) }
+{
+    let left = left.try_clone(alloc)?;
+    let right = right.try_clone(alloc)?;
+    Ok(Rvalue::CheckedBinaryOp(op, left, right))
+}
+
+fn copy_aggregate(
+    alloc: Global,
+    kind: &AggregateKind,
+    operands: &List<Operand>,
+) -> Result<Rvalue, NoMemory>
+    ensures { IfOk result (λ copy. copy ≡ Aggregate kind.now operands.now) }
+{
+    let kind = kind.try_clone(alloc)?;
+    let operands = operands.try_clone(alloc)?;
+    Ok(Rvalue::Aggregate(kind, operands))
+}
+
 impl TryClone for Rvalue {
     fn try_clone(&self, alloc: Global) -> Result<Rvalue, NoMemory> {
         match self {
             Rvalue::Use(operand) => Ok(Rvalue::Use(operand.try_clone(alloc)?)),
-            Rvalue::Repeat(operand, len) => {
-                let operand = operand.try_clone(alloc)?;
-                Ok(Rvalue::Repeat(operand, len.try_clone(alloc)?))
-            }
-            Rvalue::Cast(kind, operand, ty) => {
-                let operand = operand.try_clone(alloc)?;
-                Ok(Rvalue::Cast(*kind, operand, ty.try_clone(alloc)?))
-            }
-            Rvalue::CheckedBinaryOp(op, left, right) => {
-                let left = left.try_clone(alloc)?;
-                let right = right.try_clone(alloc)?;
-                Ok(Rvalue::CheckedBinaryOp(*op, left, right))
-            }
+            Rvalue::Repeat(operand, len) => copy_repeat(alloc, operand, len),
+            Rvalue::Cast(kind, operand, ty) => copy_cast(alloc, *kind, operand, ty),
+            Rvalue::CheckedBinaryOp(op, left, right) => copy_binary(alloc, *op, left, right),
             Rvalue::UnaryOp(op, operand) => Ok(Rvalue::UnaryOp(*op, operand.try_clone(alloc)?)),
-            Rvalue::Aggregate(kind, operands) => {
-                let kind = kind.try_clone(alloc)?;
-                Ok(Rvalue::Aggregate(kind, operands.try_clone(alloc)?))
-            }
+            Rvalue::Aggregate(kind, operands) => copy_aggregate(alloc, kind, operands),
         }
     }
 }

@@ -20,10 +20,19 @@ impl From<LocalId> for Place {
 }
 
 /// What an operation reads.
-#[derive(PartialEq, Eq, Drop)]
+#[derive(PartialEq, Eq)]
 pub struct Operand {
     pub kind: OperandKind,
     pub span: Option<MirSpan>,
+}
+
+impl Drop for Operand {
+    fn drop(self) {
+        let Operand {
+            kind: _kind,
+            span: _span,
+        } = self;
+    }
 }
 
 /// A place, whose bytes are read when the operation runs, or a constant.
@@ -48,7 +57,7 @@ pub enum CastKind {
 }
 
 /// What an aggregate is.
-#[derive(PartialEq, Eq, Drop)]
+#[derive(PartialEq, Eq)]
 pub enum AggregateKind {
     /// An array, by the type of its elements. They lie one behind another.
     Array(Ty),
@@ -56,8 +65,17 @@ pub enum AggregateKind {
     Tuple(Ty),
 }
 
+impl Drop for AggregateKind {
+    fn drop(self) {
+        match self {
+            AggregateKind::Array(_ty) => {}
+            AggregateKind::Tuple(_ty) => {}
+        }
+    }
+}
+
 /// What an assignment computes.
-#[derive(PartialEq, Eq, Drop)]
+#[derive(PartialEq, Eq)]
 pub enum Rvalue {
     Use(Operand),
     /// A value as often as a constant says, one behind another.
@@ -67,6 +85,19 @@ pub enum Rvalue {
     UnaryOp(UnOp, Operand),
     /// A value that consists of others.
     Aggregate(AggregateKind, List<Operand>),
+}
+
+impl Drop for Rvalue {
+    fn drop(self) {
+        match self {
+            Rvalue::Use(_operand) => {}
+            Rvalue::Repeat(_operand, _len) => {}
+            Rvalue::Cast(_kind, _operand, _ty) => {}
+            Rvalue::CheckedBinaryOp(_op, _left, _right) => {}
+            Rvalue::UnaryOp(_op, _operand) => {}
+            Rvalue::Aggregate(_kind, _operands) => {}
+        }
+    }
 }
 
 impl From<Operand> for Rvalue {

@@ -1,6 +1,7 @@
 -- The machine that runs a body, as its callers see it, and what its calls do.
-use Rattle.std.specs.Prelude.{◌≡◌, ◌⊎◌, ℕ, zero, suc, ◌-◌, ◌≤◌, List, [], Option, Some, None, Result, Ok, Err, slice_get, option_and_then}
+use Rattle.std.specs.Prelude.{◌≡◌, ◌⊎◌, ℕ, zero, suc, ◌-◌, ◌≤◌, nat_le, if◌then◌else◌, List, [], Option, Some, None, Result, Ok, Err, slice_get, option_and_then}
 use Rattle.world.specs.declared.database.HirDatabase.{HirDatabase}
+use Rattle.heights.specs.Heights.{height}
 use Rattle.types.specs.declared.ty.Const.{Const}
 use Rattle.types.specs.declared.ty.Const.TheVariants.{Value}
 use Rattle.types.specs.declared.ty.MemoryMap.TheVariants.{Empty}
@@ -104,10 +105,18 @@ abbrev pub wrapped : MirEvalError → List TrailEntry → MirEvalError
 wrapped error.NoMemory trail = error.NoMemory
 wrapped e trail = error.InFunction e trail
 
--- What a run hands out at its end, which began in `body`: the value, or the fault. A value takes one of the `levels` levels of nesting that
--- are left, for its type; where none is left, that is the outcome, and no frame's fault. A run that asks isn't over.
+-- how many levels of nesting the value of a body takes: as many as the type of its return slot is high
+abbrev pub height_of : MirBody → ℕ
+height_of body = elim (slice_get body.locals 0) [ Some slot ↦ height slot.ty | None ↦ 0 ]
+
+-- a result that takes so many of the levels of nesting that are left: `StackOverflow` where there are fewer
+abbrev pub on_levels : {A : Type 0} → (taken left : ℕ) → Result A MirEvalError → Result A MirEvalError
+on_levels taken left result = if nat_le taken left then result else Err error.StackOverflow
+
+-- What a run hands out at its end, which began in `body`: the value, or the fault. A value takes as many of the `levels` levels of nesting that
+-- are left as its type is high; where there are fewer, that is the outcome, and no frame's fault. A run that asks isn't over.
 unfoldable pub outcome_of : (levels : ℕ) → MirBody → Ending → Option (Result Const MirEvalError)
-outcome_of levels body (Returned bytes) = Some (on_a_level levels (value_of body bytes))
+outcome_of levels body (Returned bytes) = Some (on_levels (height_of body) levels (value_of body bytes))
 outcome_of levels body (Faulted e trail) = Some (Err (wrapped e trail))
 outcome_of levels body (Asked q frame memory call) = None
 

@@ -7,12 +7,13 @@ ghost use Rattle.mir.specs.declared.errors.MirEvalError as error;
 ghost use Rattle.mir.specs.Memory.{cell_bytes};
 ghost use Rattle.mir.specs.Run.{bad_read, returned};
 ghost use Rattle.mir_eval.specs.Frames.{callers};
-ghost use Rattle.mir_eval.specs.Machine.{on_a_level, value_of, wrapped, outcome_of};
+ghost use Rattle.mir_eval.specs.Machine.{height_of, on_levels, value_of, wrapped, outcome_of};
 
 use crate::cells::{cell_of, read};
 use crate::faults::{Fault, to_error};
 use crate::frames::Suspended;
 use crate::pieces::copy_of;
+use heights::is_within;
 use mir::{Interval, LocalId, MirBody, MirEvalError, TrailEntry};
 use mir_mem::{Memory, View};
 use std::alloc::Global;
@@ -73,13 +74,13 @@ fn value(
     bytes: &View<'_>,
     levels: u32,
 ) -> Result<Result<Const, MirEvalError>, NoMemory>
-    ensures { IfOk result (λ r. r ≡ on_a_level levels (value_of body.now (concat bytes.now))) }
+    ensures { IfOk result (λ r. r ≡ on_levels (height_of body.now) levels (value_of body.now (concat bytes.now))) }
 {
-    if levels == 0 {
-        return Ok(Err(MirEvalError::StackOverflow));
-    }
     match body.locals.get(0) {
         Some(slot) => {
+            if !is_within(&slot.ty, levels) {
+                return Ok(Err(MirEvalError::StackOverflow));
+            }
             let ty = slot.ty.try_clone(alloc)?;
             let memory = copy_of(alloc, bytes)?;
             let value = ValueConst {

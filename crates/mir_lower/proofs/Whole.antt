@@ -125,18 +125,18 @@ module _ (source : Source) (program : Program) (memory : Memory) (run : ℕ → 
 
   -- what the run does alone, at the end of the body's meaning
   abbrev Alone : End (List ℕ) → Type 0
-  Alone end = StopsWithin source program (levels_over []) (first_areas program.bytes) (cost_of end) run ⊎ EndsOn (after run_cost end) run
+  Alone end = StopsWithin source program (levels_over []) (first_areas program.bytes) (cost_of end) run ⊎ EndsOn (after (run_cost source) end) run
 
   ends-alone : (end : End (List ℕ)) → Covers (entering_cost source) end → StopsWithin source program (levels_over []) memory (cost_of (once_placed source end)) run ⊎ EndsOn (once_placed source end) run → Alone end
   unfolding run_cost after
   ends-alone (Go bytes store cost) covers (inl stops) = inl (stops-alone cost covers stops)
-  ends-alone (Go bytes store cost) covers (inr on) = inr (ends-on-costed run_cost (Go bytes store cost) run refl on)
+  ends-alone (Go bytes store cost) covers (inr on) = inr (ends-on-costed (run_cost source) (Go bytes store cost) run refl on)
   ends-alone (Jumps to store cost) covers either = inr tt
   ends-alone (Faults fault cost) covers (inl stops) = inl (stops-alone cost covers stops)
-  ends-alone (Faults fault cost) covers (inr on) = inr (ends-on-costed run_cost (Faults fault cost) run refl on)
+  ends-alone (Faults fault cost) covers (inr on) = inr (ends-on-costed (run_cost source) (Faults fault cost) run refl on)
   ends-alone Stuck covers either = inr tt
   ends-alone (More cost) covers (inl stops) = inl (stops-alone cost covers stops)
-  ends-alone (More cost) covers (inr on) = inr (ends-on-costed run_cost (More cost) run refl on)
+  ends-alone (More cost) covers (inr on) = inr (ends-on-costed (run_cost source) (More cost) run refl on)
 
 -- a body's meaning counts at least what entering it costs
 meaning-covers : (source : Source) (fuel : ℕ) → Covers (entering_cost source) (meaning_from source (zeroed source) fuel)

@@ -40,13 +40,13 @@ module _ (source : Source) where
   pub run_goes_on : (many : ℕ) → IsChecked source.world → IsCheckedBody source.body source.infer → (fuel : ℕ) × GoesOn many (meaning_of source fuel)
   run_goes_on many world checked =
       let reached = bodies_go_on source (zeroed source) many world checked in
-      (reached.0, goes_on_after many run_cost (meaning_from source (zeroed source) reached.0) reached.1)
+      (reached.0, goes_on_after many (run_cost source) (meaning_from source (zeroed source) reached.0) reached.1)
 
   module _ (fuel : ℕ) (checked : IsChecked source.world) (aggregates : HasAggregates source.world) (body : IsCheckedBody source.body source.infer) (plain : IsPlainThroughout source) (laid_out : AreLaidOutThroughout source) where
     pub run_is_never_stuck : meaning_of source fuel ≢ Stuck
     run_is_never_stuck stuck =
-        plain_is_never_stuck source (zeroed source) fuel checked aggregates body plain laid_out (zeroed_is_sized source) (stuck_before run_cost (meaning_from source (zeroed source) fuel) stuck)
+        plain_is_never_stuck source (zeroed source) fuel checked aggregates body plain laid_out (zeroed_is_sized source) (stuck_before (run_cost source) (meaning_from source (zeroed source) fuel) stuck)
 
     pub run_jumps_nowhere : JumpsNowhere (meaning_of source fuel)
     run_jumps_nowhere =
-        jumps_nowhere_after run_cost (meaning_from source (zeroed source) fuel) (plain_jumps_nowhere source (zeroed source) fuel checked aggregates body plain laid_out (zeroed_is_sized source))
+        jumps_nowhere_after (run_cost source) (meaning_from source (zeroed source) fuel) (plain_jumps_nowhere source (zeroed source) fuel checked aggregates body plain laid_out (zeroed_is_sized source))

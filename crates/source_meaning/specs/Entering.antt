@@ -3,6 +3,7 @@ use Rattle.std.specs.Prelude.{ℕ, zero, suc, ◌+◌, Bool, true, false, cond, 
 use Rattle.std.specs.List.{list_all}
 use Rattle.types.specs.declared.ty.Ty.{Ty}
 use Rattle.world.specs.declared.layout.Layout.{Layout}
+use Rattle.heights.specs.Heights.{height}
 use Rattle.world.specs.Lookups.{layout_of}
 use Rattle.source_meaning.specs.Core.{is_path}
 use Rattle.source_meaning.specs.Ends.{Cost}
@@ -66,15 +67,15 @@ is_cost_defined source =
     list_all (is_sized_node source) (evaluated source (root source))
     && list_all (λ b. is_sized_or_none source (binding_type source b)) (below (length source.body.bindings))
 
--- How many levels of nesting the value of a run takes: one. Its bytes are handed out as they are, and nothing walks through its parts, so
--- that these take none.
-abbrev pub levels : ℕ
-levels = 1
+-- how many levels of nesting a value takes, by its type
+abbrev pub value_height : Option Ty → ℕ
+value_height (Some ty) = height ty
+value_height None = 0
 
 -- The cost of entering a body: a block, the bytes of its cells, and the level of nesting that it runs on.
 unfoldable pub entering : Source → Cost
 entering source = record { turns = 1; bytes = body_room source; nesting = 1; defined = is_cost_defined source }
 
 -- What a run of a body by itself costs beside the body: on its level of nesting stand those of its value.
-unfoldable pub run_cost : Cost
-run_cost = record { turns = 0; bytes = 0; nesting = suc levels; defined = true }
+unfoldable pub run_cost : Source → Cost
+run_cost source = record { turns = 0; bytes = 0; nesting = suc (value_height (node_type source (root source))); defined = true }

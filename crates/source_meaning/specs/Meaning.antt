@@ -406,7 +406,7 @@ meaning_from source store fuel = body_meaning source (level_at source fuel) stor
 
 -- what a body means that runs by itself: from zeroed cells on
 abbrev pub meaning_of : Source → ℕ → End (List ℕ)
-meaning_of source fuel = after run_cost (meaning_from source (zeroed source) fuel)
+meaning_of source fuel = after (run_cost source) (meaning_from source (zeroed source) fuel)
 
 -- the end that a source has with enough fuel
 pub record Gives (source : Source) (end : End (List ℕ)) : Type 0 where
