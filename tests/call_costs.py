@@ -99,8 +99,8 @@ def shown_type(ty):
     if name == "Tuple":
         types = [shown_type(one) for one in part]
         return f"({types[0]},)" if len(types) == 1 else f"({', '.join(types)})"
-    if name == "Array" and array_length(ty) is not None and kind_of(part[1]["Value"]["ty"]) == "unsigned":
-        return f"[{shown_type(part[0])}; {array_length(ty)}]"
+    if name == "Array":
+        return f"[{shown_type(part[0])}; {shown_length(part[1])}]"
     if name in ("Bool", "Char", "Str"):
         return name.lower()
     if name == "Never":
@@ -108,11 +108,36 @@ def shown_type(ty):
     raise Unknown(f"the text of {ty}")
 
 
+def shown_length(constant):
+    """The text of an array's length: a number, where it has as many bytes as some integer has, or else its bytes."""
+    name, value = variant(constant)
+    if name != "Value" or kind_of(value["ty"]) != "unsigned":
+        raise Unknown(f"the text of {constant}")
+    memory = bytes.fromhex(value["memory"])
+    return str(int.from_bytes(memory, "little")) if len(memory) in INTEGERS.values() else f"0x{memory.hex()}"
+
+
 def array_length(ty):
     """How many elements an array type has, where that is known."""
     name, value = variant(ty[variant(ty)[0]][1])
     memory = bytes.fromhex(value["memory"]) if name == "Value" else None
     return None if memory is None or len(memory) > 16 else int.from_bytes(memory, "little")
+
+
+def is_zero(constant):
+    """Whether all bytes of a constant's value are 0."""
+    name, value = variant(constant)
+    return name == "Value" and not any(bytes.fromhex(value["memory"]))
+
+
+def height(ty):
+    """How many levels a value of a type has, by the types of its parts."""
+    name, part = variant(ty)
+    if name == "Tuple":
+        return 1 + max(map(height, part), default=0)
+    if name == "Array" and not is_zero(part[1]):
+        return 1 + height(part[0])
+    return 1
 
 
 # The table of operators.
@@ -651,9 +676,10 @@ class Run:
             value = self.run(Frame(body, cells, ()))
         except Fault as fault:
             return f"error eval {fault.shown()}"
-        if self.limits["nesting"] < 2:
+        ty = self.type_of(body, RESULT)
+        if self.limits["nesting"] - 1 < height(ty):
             return "error eval StackOverflow"
-        return f"value {shown_type(self.type_of(body, RESULT))} {value.hex() or '-'}"
+        return f"value {shown_type(ty)} {value.hex() or '-'}"
 
     def run(self, frame):
         """Runs a body from its first block on. The answer has the bytes of its result."""

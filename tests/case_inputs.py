@@ -123,6 +123,14 @@ def with_root(root):
 COPIES = {True: SCALARS, False: [], "all": ALL}
 
 
+def limited(made, row):
+    """A world of one goal, under the limits that a row has."""
+    limits = {name: row[name] for name in ("blocks", "nesting", "bytes") if name in row}
+    if limits:
+        made["goals"][0]["limits"] = {"blocks": 10000000, "nesting": 100, "bytes": 1000000, **limits}
+    return made
+
+
 def source_world(row):
     """A world of one constant, whose body is written in Rust, as the functions are that it may call, and whose run may have
     limits."""
@@ -134,10 +142,7 @@ def source_world(row):
     if "goal" in row:
         names = [one.name for one in functions]
         made["goals"] = [goal({"FunctionId": names.index(row["goal"])})]
-    limits = {name: row[name] for name in ("blocks", "nesting", "bytes") if name in row}
-    if limits:
-        made["goals"][0]["limits"] = {"blocks": 10000000, "nesting": 100, "bytes": 1000000, **limits}
-    return json_of(made)
+    return json_of(limited(made, row))
 
 
 def nested_ifs(depth):
@@ -180,13 +185,15 @@ def nested_arrays(depth):
 FORMS = {"if": nested_ifs, "loop": nested_loops, "block": nested_blocks, "tuple": nested_tuples, "array": nested_arrays}
 
 
-def deep(parts):
-    """A world of one constant, in whose body so many expressions of a form stand, each in the next one."""
-    form, depth = parts
+def deep(row):
+    """A world of one constant, in whose body so many expressions of a form stand, each in the next one, and whose run may have
+    limits."""
+    form, depth = row["deep"]
     exprs, types = FORMS[form](depth)
-    row = body(exprs, found={"expr_types": types, "copy_types": ALL}, labels=["'a"] * depth)
+    inside = body(exprs, found={"expr_types": types, "copy_types": ALL}, labels=["'a"] * depth)
     layouts = [*LAYOUTS, *rows_with_parts(types, LAYOUTS)]
-    return json_of(world([goal({"ConstId": 0})], consts=[const(types[-1], body=0)], bodies=[row], layouts=layouts))
+    made = world([goal({"ConstId": 0})], consts=[const(types[-1], body=0)], bodies=[inside], layouts=layouts)
+    return json_of(limited(made, row))
 
 
 # The keys of a row that tell its input, with what makes the text of the input.
@@ -201,5 +208,5 @@ INPUTS = {
     "root": lambda row: with_root(row["root"]),
     "unplaced": lambda row: with_binding(row["unplaced"]),
     "source": source_world,
-    "deep": lambda row: deep(row["deep"]),
+    "deep": deep,
 }
