@@ -96,13 +96,48 @@ def shown_type(ty):
     name, part = variant(ty)
     if name in ("Int", "Uint"):
         return part.lower()
-    if name == "Tuple" and not part:
-        return "()"
+    if name == "Tuple":
+        types = [shown_type(one) for one in part]
+        return f"({types[0]},)" if len(types) == 1 else f"({', '.join(types)})"
+    if name == "Array":
+        return f"[{shown_type(part[0])}; {shown_length(part[1])}]"
     if name in ("Bool", "Char", "Str"):
         return name.lower()
     if name == "Never":
         return "!"
     raise Unknown(f"the text of {ty}")
+
+
+def shown_length(constant):
+    """The text of an array's length: a number, where it has as many bytes as some integer has, or else its bytes."""
+    name, value = variant(constant)
+    if name != "Value" or kind_of(value["ty"]) != "unsigned":
+        raise Unknown(f"the text of {constant}")
+    memory = bytes.fromhex(value["memory"])
+    return str(int.from_bytes(memory, "little")) if len(memory) in INTEGERS.values() else f"0x{memory.hex()}"
+
+
+def array_length(ty):
+    """How many elements an array type has, where that is known."""
+    name, value = variant(ty[variant(ty)[0]][1])
+    memory = bytes.fromhex(value["memory"]) if name == "Value" else None
+    return None if memory is None or len(memory) > 16 else int.from_bytes(memory, "little")
+
+
+def is_zero(constant):
+    """Whether all bytes of a constant's value are 0."""
+    name, value = variant(constant)
+    return name == "Value" and not any(bytes.fromhex(value["memory"]))
+
+
+def height(ty):
+    """How many levels a value of a type has, by the types of its parts."""
+    name, part = variant(ty)
+    if name == "Tuple":
+        return 1 + max(map(height, part), default=0)
+    if name == "Array" and not is_zero(part[1]):
+        return 1 + height(part[0])
+    return 1
 
 
 # The table of operators.
@@ -147,6 +182,8 @@ def arithmetic(op, kind, left, right, right_kind):
     a, b, size = number_of(kind, left), number_of(right_kind, right), len(left)
     if "char" in (kind, right_kind):
         raise LookupError("arithmetic on characters")
+    if None in (kind, right_kind):
+        raise LookupError("arithmetic on values of other types")
     if op in ("BitAnd", "BitOr", "BitXor"):
         made = {"BitAnd": lambda x, y: x & y, "BitOr": lambda x, y: x | y, "BitXor": lambda x, y: x ^ y}[op]
         return bytes(made(x, y) for x, y in zip(left, right))
@@ -162,6 +199,12 @@ def arithmetic(op, kind, left, right, right_kind):
         quotient = divided(a, b)
         return low_bytes(size, quotient if op == "Div" else a - b * quotient)
     return held(kind, size, {"Add": a + b, "Sub": a - b, "Mul": a * b}[op], op)
+
+
+def are_compared(kinds, left, right):
+    """Whether values of two kinds are compared: numbers of one length, or two truth values or characters."""
+    are_numbers = all(kind in ("signed", "unsigned") for kind in kinds)
+    return len(left) == len(right) and (are_numbers or (kinds[0] is not None and kinds[0] == kinds[1]))
 
 
 def compared(op, left, right):
@@ -352,6 +395,26 @@ class Reading:
             raise Refusal(NOT_BUILT)
         self.operand(part["expr"])
 
+    def own_tuple(self, e, part):
+        self.operands(part.get("exprs", []))
+
+    def own_array(self, e, part):
+        self.needs_array(e, "Array expression with non array type")
+        self.operands(part.get("elements", []))
+
+    def own_repeat(self, e, part):
+        self.operand(part["initializer"])
+        self.needs_array(e, "Array repeat expression with non array type")
+
+    def operands(self, exprs):
+        for e in exprs:
+            self.operand(e)
+
+    def needs_array(self, e, refusal):
+        """The own type of an expression has to be an array's."""
+        if variant(self.body.infer["expr_types"][e])[0] != "Array":
+            raise Refusal(f"TypeError({quoted(refusal)})")
+
     def own_binaryop(self, e, part):
         if part.get("op") is None:
             raise Refusal("IncompleteExpr")
@@ -456,8 +519,7 @@ class Reading:
         """A call of a function, where it is known."""
         if function is None or not is_direct(self.world["functions"][function]):
             raise Refusal(NOT_BUILT)
-        for arg in args:
-            self.operand(arg)
+        self.operands(args)
 
 
 def is_direct(row):
@@ -614,9 +676,10 @@ class Run:
             value = self.run(Frame(body, cells, ()))
         except Fault as fault:
             return f"error eval {fault.shown()}"
-        if self.limits["nesting"] < 2:
+        ty = self.type_of(body, RESULT)
+        if self.limits["nesting"] - 1 < height(ty):
             return "error eval StackOverflow"
-        return f"value {shown_type(self.type_of(body, RESULT))} {value.hex() or '-'}"
+        return f"value {shown_type(ty)} {value.hex() or '-'}"
 
     def run(self, frame):
         """Runs a body from its first block on. The answer has the bytes of its result."""
@@ -692,7 +755,7 @@ class Run:
     def own_unaryop(self, frame, e, part, cell):
         given = self.value(frame, self.operand(frame, part["expr"]))
         kind = kind_of(self.operand_type(frame, part["expr"]))
-        if kind == "char":
+        if kind in ("char", None):
             raise Fault(UNDEFINED, frame.trail)
         if kind == "bool":
             made = bytes([given[0] ^ 1])
@@ -709,6 +772,40 @@ class Run:
             given = low_bytes(fixed_size(frame.body.infer["expr_types"][e]), number)
         self.put(frame, cell, given)
 
+    def own_tuple(self, frame, e, part, cell):
+        """A tuple. Its parts are put in order to their offsets in zero bytes."""
+        parts = self.values(frame, part.get("exprs", []))
+        layout = self.layouts.get(key(frame.body.infer["expr_types"][e]))
+        if layout is None:
+            raise Fault('InternalError("mismatched layout")', frame.trail)
+        made, offsets = bytearray(layout["size"]), layout.get("offsets", [])
+        for number, given in enumerate(parts):
+            if number == len(offsets):
+                raise Fault('InternalError("field without offset")', frame.trail)
+            start = offsets[number]
+            if start + len(given) > len(made):
+                raise Fault(f'InternalError("field offset ({start}) is out of bounds 0..{len(made)}")', frame.trail)
+            made[start : start + len(given)] = given
+        self.put(frame, cell, bytes(made))
+
+    def own_array(self, frame, e, part, cell):
+        self.put(frame, cell, b"".join(self.values(frame, part.get("elements", []))))
+
+    def own_repeat(self, frame, e, part, cell):
+        """An array of one value, which is evaluated once."""
+        [given] = self.values(frame, [part["initializer"]])
+        count = array_length(frame.body.infer["expr_types"][e])
+        if count is None:
+            raise Fault('NotSupported("non evaluatable array len in repeat Rvalue")', frame.trail)
+        if len(given) * count != len(frame.cells[cell]):
+            raise Unknown("a value that isn't as long as its cell")
+        self.put(frame, cell, given * count if given else b"")
+
+    def values(self, frame, exprs):
+        """The values of operands, which are read once all are evaluated."""
+        given = [self.operand(frame, e) for e in exprs]
+        return [self.value(frame, operand) for operand in given]
+
     def own_binaryop(self, frame, e, part, cell):
         name, op = variant(part["op"])
         if name == "Assignment":
@@ -721,6 +818,8 @@ class Run:
         right = self.operand(frame, part["rhs"])
         left, right = self.value(frame, left), self.value(frame, right)
         kinds = [kind_of(self.operand_type(frame, part[side])) for side in ("lhs", "rhs")]
+        if name == "CmpOp" and not are_compared(kinds, left, right):
+            raise Fault(UNDEFINED, frame.trail)
         if name == "CmpOp":
             made = bytes([compared(op, number_of(kinds[0], left), number_of(kinds[1], right))])
         else:

@@ -2,8 +2,9 @@
 
 import json
 
+from part_layouts import rows_with_parts
 from running import ROOT
-from rust_text import read, read_function
+from rust_text import read, read_function, read_type
 from typed_bodies import ALL, LAYOUTS, SCALARS, body_row, world_of_bodies
 from worlds import (
     BOOL,
@@ -11,6 +12,8 @@ from worlds import (
     U8,
     USIZE,
     WILD,
+    array_expr,
+    array_of,
     block,
     body,
     break_to,
@@ -27,6 +30,8 @@ from worlds import (
     loop,
     static,
     struct_row,
+    tuple_expr,
+    tuple_of,
     variant_row,
     world,
 )
@@ -118,20 +123,26 @@ def with_root(root):
 COPIES = {True: SCALARS, False: [], "all": ALL}
 
 
+def limited(made, row):
+    """A world of one goal, under the limits that a row has."""
+    limits = {name: row[name] for name in ("blocks", "nesting", "bytes") if name in row}
+    if limits:
+        made["goals"][0]["limits"] = {"blocks": 10000000, "nesting": 100, "bytes": 1000000, **limits}
+    return made
+
+
 def source_world(row):
     """A world of one constant, whose body is written in Rust, as the functions are that it may call, and whose run may have
     limits."""
     copy_types = COPIES[row.get("copies", True)]
     functions = [read_function(text) for text in row.get("functions", [])]
-    body_of_goal = body_row(read(row["source"]), row["type"], copy_types, functions)
-    made = world_of_bodies([(body_of_goal, row["type"])], functions, copy_types)
+    ty = read_type(row["type"])
+    body_of_goal = body_row(read(row["source"]), ty, copy_types, functions)
+    made = world_of_bodies([(body_of_goal, ty)], functions, copy_types)
     if "goal" in row:
         names = [one.name for one in functions]
         made["goals"] = [goal({"FunctionId": names.index(row["goal"])})]
-    limits = {name: row[name] for name in ("blocks", "nesting", "bytes") if name in row}
-    if limits:
-        made["goals"][0]["limits"] = {"blocks": 10000000, "nesting": 100, "bytes": 1000000, **limits}
-    return json_of(made)
+    return json_of(limited(made, row))
 
 
 def nested_ifs(depth):
@@ -155,15 +166,34 @@ def nested_blocks(depth):
     return [literal(7), *(block(tail=place, label=place) for place in range(depth))], [U8] * (depth + 1)
 
 
-FORMS = {"if": nested_ifs, "loop": nested_loops, "block": nested_blocks}
+def nested_tuples(depth):
+    """So many tuples of one part, each the part of the next one, around the number 7."""
+    types = [U8]
+    for _ in range(depth):
+        types.append(tuple_of(types[-1]))
+    return [literal(7), *map(tuple_expr, range(depth))], types
 
 
-def deep(parts):
-    """A world of one constant, in whose body so many expressions of a form stand, each in the next one."""
-    form, depth = parts
+def nested_arrays(depth):
+    """So many arrays of one element, each the element of the next one, around the number 7."""
+    types = [U8]
+    for _ in range(depth):
+        types.append(array_of(types[-1], 1))
+    return [literal(7), *(array_expr(place) for place in range(depth))], types
+
+
+FORMS = {"if": nested_ifs, "loop": nested_loops, "block": nested_blocks, "tuple": nested_tuples, "array": nested_arrays}
+
+
+def deep(row):
+    """A world of one constant, in whose body so many expressions of a form stand, each in the next one, and whose run may have
+    limits."""
+    form, depth = row["deep"]
     exprs, types = FORMS[form](depth)
-    row = body(exprs, found={"expr_types": types, "copy_types": ALL}, labels=["'a"] * depth)
-    return json_of(world([goal({"ConstId": 0})], consts=[const(U8, body=0)], bodies=[row], layouts=LAYOUTS))
+    inside = body(exprs, found={"expr_types": types, "copy_types": ALL}, labels=["'a"] * depth)
+    layouts = [*LAYOUTS, *rows_with_parts(types, LAYOUTS)]
+    made = world([goal({"ConstId": 0})], consts=[const(types[-1], body=0)], bodies=[inside], layouts=layouts)
+    return json_of(limited(made, row))
 
 
 # The keys of a row that tell its input, with what makes the text of the input.
@@ -178,5 +208,5 @@ INPUTS = {
     "root": lambda row: with_root(row["root"]),
     "unplaced": lambda row: with_binding(row["unplaced"]),
     "source": source_world,
-    "deep": lambda row: deep(row["deep"]),
+    "deep": deep,
 }

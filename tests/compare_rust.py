@@ -5,10 +5,12 @@ usage: compare_rust.py
 
 The tables of operators and the texts of types are compared with what the programs in `rust_programs` print. Each case
 in `cases` whose values come from `Rust` is compiled as the body of a function, and its value or its panic is compared. A method
-is one of a trait there, with its name, that its type implements.
+is one of a trait there, with its name, that its type implements. The layouts of tuples and arrays in the worlds of cases in Rust are
+compared with those that it chooses.
 Rust checks for overflow here. The exit code is 1 where something differs.
 """
 
+import json
 import re
 import shutil
 import subprocess
@@ -17,28 +19,46 @@ import tempfile
 from collections import Counter
 from pathlib import Path
 
+from call_costs import shown_type
 from case_files import CASES, RUST, all_rows
-from case_inputs import json_of
+from case_inputs import INPUTS, json_of
 from faults import show
+from part_layouts import has_parts
 from running import ROOT
 
 PROGRAMS = Path(__file__).resolve().parent / "rust_programs"
 TYPES = PROGRAMS / "types.rs"
 OPTIONS = ["--edition", "2024", "-C", "overflow-checks=on"]
-METHOD = re.compile(r"fn (\w+)\((mut )?self: (\w+|\(\))")
+METHOD = re.compile(r"fn (\w+)\((mut )?self: (\w+|\([^)]*\)|\[[^\]]*\])")
 
 # What stands around the sources of cases. A case's line is its number and the bytes of its value, or `panic`.
 FRONT = """#![allow(arithmetic_overflow, non_camel_case_types, path_statements, unconditional_panic, unused)]
-trait Bytes { fn text(self) -> String; }
+trait Bytes { fn bytes(self) -> Vec<u8>; }
 macro_rules! integers { ($($ty:ident)*) => { $(impl Bytes for $ty {
-    fn text(self) -> String { self.to_le_bytes().iter().map(|byte| format!("{byte:02x}")).collect() }
+    fn bytes(self) -> Vec<u8> { self.to_le_bytes().to_vec() }
 })* }; }
 integers!(i8 i16 i32 i64 i128 isize u8 u16 u32 u64 u128 usize);
-impl Bytes for bool { fn text(self) -> String { (self as u8).text() } }
-impl Bytes for char { fn text(self) -> String { (self as u32).text() } }
-impl Bytes for () { fn text(self) -> String { "-".to_string() } }
+impl Bytes for bool { fn bytes(self) -> Vec<u8> { vec![self as u8] } }
+impl Bytes for char { fn bytes(self) -> Vec<u8> { (self as u32).bytes() } }
+impl Bytes for () { fn bytes(self) -> Vec<u8> { vec![] } }
+impl<T: Bytes, const N: usize> Bytes for [T; N] {
+    fn bytes(self) -> Vec<u8> { self.into_iter().flat_map(Bytes::bytes).collect() }
+}
+// the bytes between the parts are zero
+macro_rules! tuples { ($(($($ty:ident $part:tt)*))*) => { $(impl<$($ty: Bytes),*> Bytes for ($($ty,)*) {
+    fn bytes(self) -> Vec<u8> {
+        let mut whole = vec![0; size_of::<Self>()];
+        $(let (part, start) = (self.$part.bytes(), std::mem::offset_of!(Self, $part));
+        whole[start..start + part.len()].copy_from_slice(&part);)*
+        whole
+    }
+})* }; }
+tuples!((A 0) (A 0 B 1) (A 0 B 1 C 2) (A 0 B 1 C 2 D 3) (A 0 B 1 C 2 D 3 E 4) (A 0 B 1 C 2 D 3 E 4 F 5));
+fn shown(bytes: Vec<u8>) -> String {
+    if bytes.is_empty() { "-".to_string() } else { bytes.iter().map(|byte| format!("{byte:02x}")).collect() }
+}
 fn show<T: Bytes>(number: usize, run: fn() -> T) {
-    println!("{number} {}", std::panic::catch_unwind(run).map_or("panic".to_string(), Bytes::text));
+    println!("{number} {}", std::panic::catch_unwind(run).map_or("panic".to_string(), |value| shown(value.bytes())));
 }
 fn main() {
 std::panic::set_hook(Box::new(|_| {}));
@@ -92,7 +112,7 @@ def program_of(rows):
 
 def wanted(row):
     """What Rust has to give where the answer of a row is right: the bytes of its value, or `panic`."""
-    found = re.fullmatch(r"value \S+ (\S+)", row["answer"])
+    found = re.fullmatch(r"value .+ (\S+)", row["answer"])
     return found.group(1) if found else "panic"
 
 
@@ -106,6 +126,28 @@ def faults_of_sources(folder, rows):
             yield f"{row['name']}: Rust gives {line.partition(' ')[2]}, and not {wanted(row)}: {json_of(row)}"
 
 
+def layouts_of(rows):
+    """The layouts of types with parts in the worlds of the sources of these rows, by the texts of the types."""
+    worlds = (json.loads(INPUTS["source"](row))["world"] for row in rows if "source" in row)
+    return {shown_type(ty): (ty, found) for world in worlds for ty, found in world["layouts"] if has_parts(ty)}
+
+
+def faults_of_layouts(folder, rows):
+    """Layouts that differ from those of Rust. It has no layout to show of a tuple with a part of type `!`."""
+    made = {text: known for text, known in layouts_of(rows).items() if "!" not in text}
+    calls = []
+    for number, (text, (ty, _)) in enumerate(made.items()):
+        offsets = ", ".join(f"std::mem::offset_of!({text}, {part})" for part in range(len(ty.get("Tuple", []))))
+        shown = f"[size_of::<{text}>(), align_of::<{text}>(), {offsets}]"
+        calls.append(f'println!("{number} {{:?}}", {shown});')
+    source = Path(folder) / "layouts.rs"
+    source.write_text("\n".join(["fn main() {", *calls, "}", ""]), encoding="utf-8")
+    for line, (number, (text, (_, found))) in zip(output_of(source, folder), enumerate(made.items()), strict=True):
+        wanted_line = f"{number} {[found['size'], found['align'], *found.get('offsets', [])]}"
+        if line != wanted_line:
+            yield f"{text}: Rust has the layout {line}, and not {wanted_line}"
+
+
 def main():
     if len(sys.argv) > 1:
         sys.exit("usage: compare_rust.py")
@@ -115,6 +157,7 @@ def main():
     rows = [row for _, row in all_rows()]
     with tempfile.TemporaryDirectory() as folder:
         faults = [*faults_of_operators(folder), *faults_of_types(folder, rows), *faults_of_sources(folder, rows)]
+        faults += faults_of_layouts(folder, rows)
     show("rust", faults)
     print(f"rust: {len(faults)} faults")
     return 1 if faults else 0

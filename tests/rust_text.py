@@ -1,5 +1,5 @@
 """Reads bodies that are written in Rust: numbers, truth values, characters, names, operators, casts, blocks, `if`, loops, jumps,
-`let`, assignments, calls of functions by their names, method calls, fields and indices. It reads functions too.
+`let`, assignments, calls of functions by their names, method calls, tuples, arrays, fields and indices. It reads functions and types too.
 
 A body is read as a tree of tuples, the first part of which says what it is:
 
@@ -13,6 +13,9 @@ A body is read as a tree of tuples, the first part of which says what it is:
     ("leave", value or None, label or None)     ("again", label or None)        ("give_back", value or None)
     ("call", name, arguments)               ("method", receiver, name, arguments)
     ("field", operand, name)                ("index", operand, index)
+    ("tuple", parts)                        ("array", elements)         ("repeat", operand, count)
+
+A type is its name, as `u8` and `()`, or one that has parts: `("tuple", types)` and `("array", element, length)`.
 
 A label is its text, as `'a`. `while c { .. }` is read as the loop with an `if` that it stands for,
 `loop { if c { .. } else { break } }`, where the loop's body is the `if` itself. An operator is one of the worlds' JSON, as
@@ -43,8 +46,11 @@ UNARY = {"-": "Neg", "!": "Not", "*": "Deref"}
 # Which operators bind as strongly as one another, from the weakest to the strongest.
 LEVELS = (("||",), ("&&",), tuple(COMPARISONS), ("|",), ("^",), ("&",), ("<<", ">>"), ("+", "-"), ("*", "/", "%"))
 
+# How an expression begins that ends in a block.
+BLOCKS = ("{", "if", "loop", "while")
+
 # What follows a jump that has no value.
-ENDS = (";", "}", ")", ",", "")
+ENDS = (";", "}", ")", "]", ",", "")
 
 TOKEN = re.compile(
     r"\s*('(?:\\u\{[0-9a-f]+\}|\\.|[^\\'])'|\d+(?:[iu](?:8|16|32|64|128|size))?|'?[A-Za-z_]\w*|<<=|>>=|&&|\|\||<<|>>|->|[-+*/%&|^=!<>]=|[-+*/%&|^=!<>(){}\[\];:,.])"
@@ -63,6 +69,11 @@ def character_of(token):
     if inside.startswith("\\u"):
         return int(inside[3:-1], 16)
     return ord(ESCAPES[inside[1]] if inside.startswith("\\") else inside)
+
+
+def tuple_type(types):
+    """The type of tuples with parts of these types."""
+    return ("tuple", tuple(types)) if types else "()"
 
 
 @dataclass
@@ -156,13 +167,47 @@ class Reader:
 
     def operand(self):
         """An expression without casts and operators of two operands. A method call, a field and an index bind stronger than an operator
-        of one operand."""
+        of one operand. A square bracket behind a block begins another expression."""
         if self.next() in UNARY:
             return ("unary", UNARY[self.need()], self.operand())
+        signs = (".",) if self.next() in BLOCKS or self.next_is_label() else (".", "[")
         found = self.simple()
-        while (token := self.take(".", "[")) is not None:
+        while (token := self.take(*signs)) is not None:
             found = self.index(found) if token == "[" else self.member(found)
         return found
+
+    def parts(self, end, found):
+        """What follows in a list with commas, up to its end, behind the parts that were found."""
+        while not self.take(end):
+            found.append(self.expr())
+            if self.next() != end:
+                self.need(",")
+        return found
+
+    def tuple(self):
+        """What follows the bracket of a tuple, or of an expression in brackets."""
+        if self.take(")"):
+            return ("tuple", [])
+        first = self.expr()
+        if self.need(")", ",") == ")":
+            return first
+        return ("tuple", self.parts(")", [first]))
+
+    def array(self):
+        """What follows the bracket of an array."""
+        if self.take("]"):
+            return ("array", [])
+        first = self.expr()
+        token = self.need("]", ",", ";")
+        if token == ";":
+            return ("repeat", first, self.count())
+        return ("array", [first] if token == "]" else self.parts("]", [first]))
+
+    def count(self):
+        """The length of an array, with the bracket behind it."""
+        count = int(self.need())
+        self.need("]")
+        return count
 
     def index(self, base):
         """What follows the bracket of an index."""
@@ -197,9 +242,9 @@ class Reader:
         if token == "return":
             return ("give_back", None if self.next() in ENDS else self.expr())
         if token == "(":
-            inside = self.expr()
-            self.need(")")
-            return inside
+            return self.tuple()
+        if token == "[":
+            return self.array()
         if token in ("true", "false"):
             return ("truth", token == "true")
         if token[0].isdigit():
@@ -212,12 +257,7 @@ class Reader:
     def arguments(self):
         """The arguments of a call in brackets."""
         self.need("(")
-        found = []
-        while not self.take(")"):
-            found.append(self.expr())
-            if self.next() != ")":
-                self.need(",")
-        return found
+        return self.parts(")", [])
 
     def function(self):
         """The whole text as one function."""
@@ -254,8 +294,10 @@ class Reader:
 
     def label(self):
         """The label that a jump has, or nothing."""
-        is_label = self.next().startswith("'") and not self.next().endswith("'")
-        return self.need() if is_label else None
+        return self.need() if self.next_is_label() else None
+
+    def next_is_label(self):
+        return self.next().startswith("'") and not self.next().endswith("'")
 
     def block(self, label=None):
         """Statements and a tail in braces."""
@@ -287,17 +329,35 @@ class Reader:
         return ("let", name, ty, initializer, other)
 
     def type(self):
-        """A type: its name, or `()`."""
+        """A type: its name, a tuple's or an array's."""
         token = self.need()
         if token == "(":
-            self.need(")")
-            return "()"
+            return self.tuple_type()
+        if token == "[":
+            element = self.type()
+            self.need(";")
+            return ("array", element, self.count())
         return token
+
+    def tuple_type(self):
+        """What follows the bracket of a tuple's type, or of a type in brackets."""
+        types = []
+        while not self.take(")"):
+            types.append(self.type())
+            if self.take(")"):
+                return types[0] if len(types) == 1 else tuple_type(types)
+            self.need(",")
+        return tuple_type(types)
 
 
 def read(text):
     """The tree of a body."""
     return Reader(text).body()
+
+
+def read_type(text):
+    """The type that a text is."""
+    return Reader(text).type()
 
 
 def read_function(text):

@@ -1,7 +1,8 @@
 """Makes the typed bodies of a world from the trees that `rust_text.py` reads.
 
 Types are found as Rust finds them: a literal without a suffix has the type that its uses ask for, and `i32` where none
-does; the literal that a cast has as its operand has the type of the cast, where that is an integer's, and `u8` in a cast to `char`. A
+does; the literal that a cast has as its operand has the type of the cast, where that is an integer's, and `u8` in a cast to `char`. A type
+that has parts is that of a tuple or an array, as `rust_text.py` reads it, whose parts may not be known yet. A
 block without a tail may have any type that is asked for, as where its end isn't reached. A jump, and a loop that
 no `break` leaves, are of type `!`, and become of the type that is asked for, where one is.
 
@@ -14,13 +15,16 @@ A jump means what it means here: one without a label the innermost loop or label
 
 from dataclasses import dataclass
 
-from rust_text import NoBody
+from part_layouts import rows_with_parts
+from rust_text import NoBody, tuple_type
 from worlds import (
     BOOL,
     CHAR,
     INTEGER_SIZES,
     NEVER,
     UNIT,
+    array_expr,
+    array_of,
     assignment,
     bind,
     block,
@@ -40,6 +44,8 @@ from worlds import (
     return_with,
     sized,
     statement,
+    tuple_expr,
+    tuple_of,
     world,
 )
 
@@ -72,14 +78,33 @@ def known(ty):
     return ty
 
 
+def parts_of(ty):
+    """The types of a type's parts: none where it has no parts, or isn't known."""
+    if not isinstance(ty, tuple):
+        return ()
+    return ty[1] if ty[0] == "tuple" else ty[1:2]
+
+
+def has_form(ty, other):
+    """Whether a type with parts is of the form of another type: a tuple of as many parts, or an array as long."""
+    if not isinstance(ty, tuple) or not isinstance(other, tuple) or ty[0] != other[0]:
+        return False
+    return len(ty[1]) == len(other[1]) if ty[0] == "tuple" else ty[2] == other[2]
+
+
 def same(left, right):
     """Makes two types the same one."""
     left, right = known(left), known(right)
     if left is right or left == right:
         return
+    if has_form(left, right):
+        for one, other in zip(parts_of(left), parts_of(right)):
+            same(one, other)
+        return
     if not isinstance(left, Unknown):
         left, right = right, left
-    if not isinstance(left, Unknown) or (left.is_integer and isinstance(right, str) and right not in INTEGERS):
+    is_other = isinstance(right, tuple) or (isinstance(right, str) and right not in INTEGERS)
+    if not isinstance(left, Unknown) or (left.is_integer and is_other):
         raise NoBody(f"{left} and {right} are two types")
     if isinstance(right, Unknown):
         right.is_integer = right.is_integer or left.is_integer
@@ -92,6 +117,8 @@ def settled(ty):
     ty = known(ty)
     if isinstance(ty, dict):
         return ty
+    if isinstance(ty, tuple):
+        return tuple_of(*map(settled, ty[1])) if ty[0] == "tuple" else array_of(settled(ty[1]), ty[2])
     if not isinstance(ty, Unknown):
         return TYPES[ty]
     return TYPES["i32" if ty.is_integer else "!" if ty.is_endless else "()"]
@@ -181,6 +208,22 @@ class Draft:
     def coercions(self):
         """The operands of the casts to a type that they have already."""
         return [operand for operand, given, ty in self.casts if settled(given) == settled(ty)]
+
+    def tuple(self, parts, ty):
+        """A tuple, whose parts may be of any types."""
+        types = [Unknown() for _ in parts]
+        same(ty, tuple_type(types))
+        return self.add(tuple_expr(*map(self.expr, parts, types)), ty)
+
+    def array(self, elements, ty):
+        element = Unknown()
+        same(ty, ("array", element, len(elements)))
+        return self.add(array_expr(*(self.expr(one, element) for one in elements)), ty)
+
+    def repeat(self, operand, count, ty):
+        element = Unknown()
+        same(ty, ("array", element, count))
+        return self.add({"Repeat": {"initializer": self.expr(operand, element)}}, ty)
 
     def field(self, operand, name, ty):
         """A field, of any type, of a value of any type."""
@@ -394,6 +437,13 @@ class Draft:
         return {"body": {**nodes, "body_expr": len(self.exprs) - 1}, "infer": found}
 
 
+def types_in(row):
+    """The types in a body: of its nodes, of what these are adjusted to, and of bindings."""
+    found = row["infer"]
+    types = [ty for kind in ("expr_types", "pat_types", "binding_types") for ty in found.get(kind, [])]
+    return types + [step["target"] for _, steps in found.get("expr_adjustments", []) for step in steps]
+
+
 def body_row(tree, ty, copy_types=SCALARS, functions=()):
     """The row of a body that is a tree, at a type, with the types that are listed as `Copy`, and the functions that it may
     call."""
@@ -412,14 +462,19 @@ def row_of_function(called, copy_types, functions):
 
 
 def world_of_bodies(bodies, functions=(), copy_types=SCALARS):
-    """An input in which each of these bodies, which stand with the names of their types, is a constant and a goal. The bodies of
-    the functions stand behind them."""
-    consts = [const(TYPES[ty], name="GOAL", body=place) for place, (_, ty) in enumerate(bodies)]
+    """An input in which each of these bodies, which stand with their types, is a constant and a goal. The bodies of
+    the functions stand behind them. Where all types are listed as `Copy`, those with parts are too."""
+    consts = [const(settled(ty), name="GOAL", body=place) for place, (_, ty) in enumerate(bodies)]
     goals = [goal({"ConstId": place}) for place in range(len(bodies))]
     rows = [row for row, _ in bodies] + [row_of_function(one, copy_types, functions) for one in functions]
     called = [
-        function([TYPES[ty] for _, ty in one.params], TYPES[one.ret], name=one.name, body=len(bodies) + place)
+        function([settled(ty) for _, ty in one.params], settled(one.ret), name=one.name, body=len(bodies) + place)
         for place, one in enumerate(functions)
     ]
+    named = [row["ty"] for row in consts] + [ty for row in called for ty in (*row["sig"].get("params", []), row["sig"]["ret"])]
+    placed = rows_with_parts([*named, *(ty for row in rows for ty in types_in(row))], LAYOUTS)
+    if copy_types == ALL:
+        for row in rows:
+            row["infer"]["copy_types"] = [*ALL, *(ty for ty, _ in placed)]
     tables = {"functions": called} if called else {}
-    return world(goals, consts=consts, bodies=rows, layouts=LAYOUTS, **tables)
+    return world(goals, consts=consts, bodies=rows, layouts=[*LAYOUTS, *placed], **tables)

@@ -236,6 +236,10 @@ def tuple_expr(*exprs):
     return variant("Tuple", exprs=list(exprs))
 
 
+def array_expr(*exprs):
+    return variant("Array", elements=list(exprs))
+
+
 def assignment(target, assigned):
     """`target = assigned`, where the target is a pattern."""
     return {"Assignment": {"target": target, "value": assigned}}

@@ -1,0 +1,105 @@
+"""The layouts of types that have parts, tuples and arrays, as rustc 1.95 chooses them. `compare_rust.py` compares those of the types that
+cases name.
+
+The last part of a tuple stays the last one. Of the others those with a greater alignment, or whose size is a multiple of a greater power
+of two, come first, and of these such whose bytes leave more values free, as `char` and `bool` do.
+"""
+
+from dataclasses import dataclass
+
+from worlds import BOOL, CHAR, layout
+
+# How many values the bytes of a type leave free.
+FREE = {BOOL: 2**8 - 2, CHAR: 2**32 - 0x110000}
+
+
+@dataclass
+class Placed:
+    """A layout, with how many values its best part leaves free, and where that part lies."""
+
+    layout: dict
+    free: int = 0
+    free_at: int = 0
+
+
+def twos(number):
+    """How many times 2 is a factor of a number."""
+    return (number & -number).bit_length() - 1
+
+
+def in_order(parts):
+    """The numbers of a tuple's parts, in the order in which they lie."""
+    moved = parts[:-1]
+    most = max((twos(part.layout["align"]) for part in moved), default=0)
+    some_free = any(part.free for part in moved)
+
+    def rank(number):
+        part = moved[number]
+        group = twos(max(part.layout["align"], part.layout["size"]))
+        return -(min(most, group) if some_free else group), -part.free, part.free_at
+
+    return [*sorted(range(len(moved)), key=rank), len(moved)]
+
+
+def rounded(number, align):
+    """The least multiple of an alignment that isn't below a number."""
+    return -(-number // align) * align
+
+
+def of_tuple(parts):
+    """The layout of a tuple of these parts."""
+    align, end, offsets, best = max(part.layout["align"] for part in parts), 0, {}, Placed({})
+    for number in in_order(parts):
+        part = parts[number]
+        offsets[number] = rounded(end, part.layout["align"])
+        end = offsets[number] + part.layout["size"]
+        if part.free > best.free:
+            best = Placed({}, part.free, offsets[number] + part.free_at)
+    placed = [offsets[number] for number in range(len(parts))]
+    return Placed(layout(rounded(end, align), align, placed), best.free, best.free_at)
+
+
+def of_array(element, count):
+    """The layout of an array of so many elements."""
+    found = layout(count * element.layout["size"], element.layout["align"])
+    return Placed(found, element.free, element.free_at) if count else Placed(found)
+
+
+class Layouts:
+    """The layouts of types: those of the rows that are given, and of types that have parts."""
+
+    def __init__(self, rows):
+        self.known = [(ty, Placed(found, FREE.get(ty, 0) if isinstance(ty, str) else 0)) for ty, found in rows]
+        self.given = len(self.known)
+
+    def placed(self, ty):
+        """The layout of a type, which is noted behind those of its parts."""
+        found = next((found for known, found in self.known if known == ty), None)
+        if found is None:
+            found = self.of_parts(ty)
+            self.known.append((ty, found))
+        return found
+
+    def of_parts(self, ty):
+        if "Tuple" in ty:
+            return of_tuple([self.placed(part) for part in ty["Tuple"]])
+        element, count = ty["Array"]
+        return of_array(self.placed(element), int.from_bytes(bytes.fromhex(count["Value"]["memory"]), "little"))
+
+    def rows(self):
+        """The rows of types that have parts, each behind those of its parts."""
+        return [[ty, found.layout] for ty, found in self.known[self.given :]]
+
+
+def has_parts(ty):
+    """Whether a type is one of tuples or of arrays, but for `()`."""
+    return isinstance(ty, dict) and ("Array" in ty or bool(ty.get("Tuple")))
+
+
+def rows_with_parts(types, rows):
+    """The rows of those of the types that have parts, and of their parts, over rows of types without."""
+    found = Layouts(rows)
+    for ty in types:
+        if has_parts(ty):
+            found.placed(ty)
+    return found.rows()
