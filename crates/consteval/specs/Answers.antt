@@ -107,11 +107,11 @@ undefined_text = fold-MirEvalError (Option (List ℕ)) undefined_layer
 abbrev pub PassesBlocks : Source → ℕ → Type 0
 PassesBlocks source blocks = (fuel : ℕ) × (blocks < (cost_of (meaning_of source fuel)).turns)
 
--- what a source's body costs at an amount of fuel, without the level of its value
+-- what a source's body costs at an amount of fuel, without the levels of its value
 abbrev pub cost_at : Source → (fuel : ℕ) → Cost
 cost_at source fuel = cost_of (meaning_from source (zeroed source) fuel)
 
--- at some amount of fuel the source counts deeper nesting than a limit for its body, without the level of its value
+-- at some amount of fuel the source counts deeper nesting than a limit for its body, without the levels of its value
 abbrev pub PassesNesting : Source → ℕ → Type 0
 PassesNesting source nesting = (fuel : ℕ) × (nesting < (cost_at source fuel).nesting)
 

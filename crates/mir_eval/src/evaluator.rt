@@ -158,7 +158,7 @@ impl<'a, M: Memory + Drop> Evaluator<'a, M> {
     }
 
     /// Runs one block to its end, to a query or to a fault; or, after an answer, the call that waited for it. Want of memory
-    /// ends the run, and so does a value for which no level of nesting is left.
+    /// ends the run, and so does a value for which too few levels of nesting are left.
     pub fn advance(&mut self)
         requires { IsTrue (is_going (machine_of M.areas self.old).state) }
         ensures stepped { Goes (machine_of M.areas self.old).state StepsTo (machine_of M.areas self.new).state }
@@ -174,8 +174,8 @@ impl<'a, M: Memory + Drop> Evaluator<'a, M> {
         };
     }
 
-    /// Runs to the end, or to a query, and returns which. A value takes one of the levels of nesting that are left:
-    /// where there is none, the end is `StackOverflow`, a fault that isn't the body's own. Want of memory is a fault.
+    /// Runs to the end, or to a query, and returns which. A value takes as many of the levels of nesting that are left as
+    /// its type is high: where there are fewer, the end is `StackOverflow`, a fault that isn't the body's own. Want of memory is a fault.
     pub fn run(&mut self) -> Turned
         requires { IsTrue (is_going (machine_of M.areas self.old).state) }
         ensures ended { Goes (machine_of M.areas self.old).state RunsTo (machine_of M.areas self.new).state }

@@ -28,7 +28,7 @@ EndsOn Stuck run = Unit {0}
 EndsOn (More cost) run = Enters cost.turns run
 
 -- The run of a body that none called ends as the body's meaning at some amount of fuel, or it stops at a call, within what that counts without the
--- level of its value.
+-- levels of its value.
 abbrev pub EndsAs : Source → Program → (fuel : ℕ) → (ℕ → Ended) → Type 0
 EndsAs source program fuel run =
     StopsWithin source program (levels_over []) (first_areas program.bytes) (cost_of (meaning_from source (zeroed source) fuel)) run
