@@ -6,8 +6,6 @@ use Rattle.numbers.specs.Constants.{number_in}
 use Rattle.numbers.specs.declared.operator.Operator.{Operator}
 use Rattle.numbers.specs.Operators.{Answer, Computes as Computed, Panics, Undefined, computed, converted}
 use Rattle.types.specs.declared.ty.Const.{Const}
-use Rattle.types.specs.declared.ty.Const.TheOpen as layer
-use Rattle.types.specs.declared.ty.Const.TheViews.{out-Ty, out-roll-Ty}
 use Rattle.types.specs.declared.ty.Ty.{Ty}
 use Rattle.types.specs.declared.ty.Ty.TheVariants as type
 use Rattle.world.specs.Checked.{fixed_size}
@@ -31,6 +29,7 @@ use Rattle.source_meaning.specs.Core.{Operation, Negate, Invert, Keep, Convert, 
 use Rattle.source_meaning.specs.Meaning.{Value, value_of, answered, converted_to}
 use Rattle.body_forms.specs.Form.{operation_of}
 use Rattle.source_meaning.specs.Source.{Source, own_type, Store, Operand, operand_bytes, operand_type}
+use Rattle.source_meaning.proofs.Aggregates.{length_of_array}
 use Rattle.mir_lower.specs.Does.{Holds, Fits, FitAll}
 use Rattle.mir_lower.specs.Graph.{Shape}
 use Rattle.mir_lower.specs.Operations.{IsArray, IsKindOf, IsMade, IsRepeat, IsRvalueOf, IsTuple, several_operation}
@@ -208,11 +207,6 @@ array-computes source e element operands whole frame values store memory same ho
     subst (λ given. Agrees given (rvalue_bytes frame memory (Aggregate (kind.Array element) operands))) (sym (array-answer source.world (own_type source e) all))
     (array-bytes frame memory element operands (map (λ (part : Value). part.bytes) all) (parts-bytes source whole frame store memory holds operands values fits) ∙ ap Ok (joined all))
 
--- how many elements the type of an array says
-length-of : (element : Ty) (len : Const) → array_length (type.Array element len) ≡ number_in len
-unfolding array_length
-length-of element len = rw (sym (ap out-Ty (sym (type.rolls-Array element len)) ∙ out-roll-Ty (layer.Array element len))) refl
-
 repeat-agrees : (count : Option ℕ) (bytes : List ℕ) → Agrees (repeated_for count bytes) (repeats count (Some bytes))
 unfolding repeats
 repeat-agrees (Some count) bytes = refl
@@ -231,7 +225,7 @@ repeat-computes source e element len x typed whole frame [] store memory same ho
 repeat-computes source e element len x typed whole frame (value ∷ []) store memory same holds fits =
     let given = value_of source store value in
     let answers : answered source.world (own_type source e) Repeat (given ∷ []) ≡ repeated_for (number_in len) given.bytes =
-    ap (λ t. answered source.world t Repeat (given ∷ [])) typed ∙ repeat-answer source.world (type.Array element len) given ∙ ap (λ count. repeated_for count given.bytes) (length-of element len) in
+    ap (λ t. answered source.world t Repeat (given ∷ [])) typed ∙ repeat-answer source.world (type.Array element len) given ∙ ap (λ count. repeated_for count given.bytes) (length_of_array element len) in
     let runs = repeat-bytes frame memory len x given.bytes (fits.0.bytes store memory holds) in
     subst (λ answer. Agrees answer (rvalue_bytes frame memory (Repeated x len))) (sym answers)
     (subst (Agrees (repeated_for (number_in len) given.bytes)) (sym runs) (repeat-agrees (number_in len) given.bytes))
