@@ -5,3 +5,4 @@ pub mod Listed
 pub mod Form
 pub mod Literals
 pub mod Refusals
+pub mod Operations

@@ -1,5 +1,5 @@
 //! What lowering reads of a typed body: the form of each expression, as far as forms have a meaning, the types that inference
-//! found, and literals and callees as operands. Nothing here touches a graph.
+//! found, literals and callees as operands, and what the operations on operands are in a graph. Nothing here touches one.
 #![tactic(auto)]
 
 mod call;
@@ -7,6 +7,7 @@ mod context;
 mod form;
 mod inferred;
 mod literal;
+mod operation;
 mod unbuilt;
 
 pub use call::{lower_callee, method_args, must_not_return};
@@ -16,4 +17,5 @@ pub use inferred::{
     array_of, binding_ty, diverges, is_copy, never_type, node_ty, own_ty, value_type,
 };
 pub use literal::{LiteralValue, lower_literal};
+pub use operation::{Several, Single, kind_of, made_of};
 pub use unbuilt::{form_not_built, type_error};

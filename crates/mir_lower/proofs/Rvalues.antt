@@ -32,9 +32,9 @@ use Rattle.source_meaning.specs.Source.{Source, own_type, Store, Operand, operan
 use Rattle.source_meaning.proofs.Aggregates.{length_of_array}
 use Rattle.mir_lower.specs.Does.{Holds, Fits, FitAll}
 use Rattle.mir_lower.specs.Graph.{Shape}
-use Rattle.mir_lower.specs.Operations.{IsArray, IsKindOf, IsMade, IsRepeat, IsRvalueOf, IsTuple, several_operation}
-use Rattle.mir_lower.specs.declared.operation.Several.{Several}
-use Rattle.mir_lower.specs.declared.operation.Several.TheVariants as several
+use Rattle.body_forms.specs.Operations.{IsArray, IsKindOf, IsMade, IsRepeat, IsRvalueOf, IsTuple, several_operation}
+use Rattle.body_forms.specs.declared.operation.Several.{Several}
+use Rattle.body_forms.specs.declared.operation.Several.TheVariants as several
 
 -- A run of the graph gives what an operation answers, where that is a value or a panic. Of an answer without meaning nothing is said.
 abbrev pub Agrees : Answer → Result (List ℕ) MirEvalError → Type 0

@@ -24,7 +24,7 @@ use Rattle.mir_lower.specs.Does.{Stands, here, IsFrameOf, Holds, Landings, Reach
 use Rattle.mir_lower.specs.Graph.{Shape, with_statement, local_of}
 use Rattle.mir_lower.specs.Growth.{Grows, IsSound, IsOpen, IsReady}
 use Rattle.mir_lower.specs.Lowered.{LaysOut, LowersOwn, LowersOperand, LowersOperands}
-use Rattle.mir_lower.specs.Operations.{IsRvalueOf}
+use Rattle.body_forms.specs.Operations.{IsRvalueOf}
 use Rattle.mir_lower.proofs.Growing.{grows-refl, grows-trans, with_statement-grows}
 use Rattle.mir_lower.proofs.Laid.{layouts-before, plain-part, one-of}
 use Rattle.mir_lower.proofs.Operations.{assignment}

@@ -14,4 +14,3 @@ pub mod Callees
 pub mod Calling
 pub mod Stops
 pub mod Parameters
-pub mod Operations

@@ -10,7 +10,6 @@ mod jump;
 mod leave;
 mod locals;
 mod lower;
-mod operation;
 mod params;
 
 pub use body::lower_to_mir;

@@ -15,7 +15,7 @@ ghost use Rattle.body_forms.specs.Contexts.{source_of};
 ghost use Rattle.body_forms.specs.Form.{core_value};
 ghost use Rattle.mir_lower.specs.Graph.{shape, local_of};
 ghost use Rattle.mir_lower.specs.Growth.{IsPlaced, IsReady, ArePartsReady, IsReadyPart};
-ghost use Rattle.mir_lower.specs.Operations.{several_operation, single_operation};
+ghost use Rattle.body_forms.specs.Operations.{several_operation, single_operation};
 ghost use Rattle.mir_lower.specs.Lowered.{HasStatements, LowersInto, LowersPlace, LowersOperand, LowersOperands, LowersStatements, LowersTail, IsStatementOf, LowersOwn};
 ghost use Rattle.mir_lower.specs.Built.{IsBuilt, IsBuiltThrough};
 ghost use Rattle.mir_lower.specs.Refusals.{RefusesAt};
@@ -30,10 +30,9 @@ use crate::leave::leave_scope;
 use crate::locals::{
     assign, assign_target, bind, combined_place, fake_read, new_never, new_temp, place_named,
 };
-use crate::operation::{Several, Single, kind_of, made_of};
 use body_forms::{
-    Context, Form, LiteralValue, diverges, form_at, form_not_built, literal_at, lower_callee,
-    lower_literal, method_args, path_at,
+    Context, Form, LiteralValue, Several, Single, diverges, form_at, form_not_built, kind_of,
+    literal_at, lower_callee, lower_literal, made_of, method_args, path_at,
 };
 use mir::{BinOp, LocalId, MirLowerError, MirSpan, Operand, OperandKind, Place, Rvalue};
 use world::{ExprId, LabelId, List, LogicOp, PatId, Statement, Text, TryClone};

@@ -36,7 +36,7 @@ use Rattle.mir_lower.proofs.Drops.{opened-within, scope-left}
 use Rattle.mir_lower.proofs.Operands.{lowers-literal-operand, lowers-place-operand, lowers-temp, lowers-name}
 use Rattle.mir_lower.proofs.Rvalues.{is-aggregate}
 use Rattle.mir_lower.proofs.Strict.{lowers-strict, lowers-one, lowers-two, first-part, second-part}
-use Rattle.mir_lower.specs.Operations.{several_operation, single_operation}
+use Rattle.body_forms.specs.Operations.{several_operation, single_operation}
 use Rattle.mir_lower.proofs.Refused.{refuses-here, refuses-no-memory, refuses-part, refuses-unbuilt-form, refuses-statement, without-initializer, with-else, item-is-unbuilt, refuses-pattern, refuses-target, refused-exit, part-below, part-of-statement, refuses-break}
 use Rattle.mir_lower.proofs.Growing.{grows-trans}
 use Rattle.mir_lower.proofs.Steps.{local_of-grows, placed-later}

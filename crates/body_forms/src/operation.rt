@@ -8,15 +8,17 @@ ghost use Rattle.world.specs.Checked.{IsCheckedBody};
 ghost use Rattle.world.specs.Nodes.{expr_numbers};
 ghost use Rattle.body_forms.specs.Contexts.{source_of};
 ghost use Rattle.body_forms.specs.Refusals.{RefusesNode};
-ghost use Rattle.mir_lower.specs.Operations.{IsKindOf, IsRvalueOf, several_operation, single_operation};
+ghost use Rattle.body_forms.specs.Operations.{IsKindOf, IsRvalueOf, several_operation, single_operation};
 
-use body_forms::{Context, array_of, own_ty, type_error};
+use crate::context::Context;
+use crate::inferred::{array_of, own_ty};
+use crate::unbuilt::type_error;
 use mir::{AggregateKind, CastKind, MirLowerError, Operand, Rvalue, UnOp};
 use world::{ExprId, TryClone};
 
 /// What is made of one operand.
 #[derive(Clone, Copy)]
-pub(crate) enum Single {
+pub enum Single {
     Unary(UnOp),
     /// A cast that is a coercion: the bytes are kept as they are.
     Coercion,
@@ -28,7 +30,7 @@ pub(crate) enum Single {
 
 /// What is made of any number of operands.
 #[derive(Clone, Copy)]
-pub(crate) enum Several {
+pub enum Several {
     Tuple,
     Array,
 }
@@ -61,7 +63,7 @@ fn repeated(context: &Context<'_>, e: ExprId, value: Operand) -> Result<Rvalue, 
 }
 
 /// What an expression makes of its one operand.
-pub(crate) fn made_of(
+pub fn made_of(
     context: &Context<'_>,
     e: ExprId,
     single: Single,
@@ -83,7 +85,7 @@ pub(crate) fn made_of(
 }
 
 /// What an aggregate is that an expression makes: of its own type, or, for an array, of the type of its elements.
-pub(crate) fn kind_of(
+pub fn kind_of(
     context: &Context<'_>,
     e: ExprId,
     several: Several,

@@ -13,10 +13,10 @@ use Rattle.mir.specs.declared.operand.Rvalue.{Rvalue}
 use Rattle.mir.specs.declared.operand.Rvalue.TheVariants as rvalue
 use Rattle.mir.specs.declared.operand.UnOp.TheVariants as one
 use Rattle.body_forms.specs.Form.{operation_of}
-use Rattle.mir_lower.specs.declared.operation.Several.{Several}
-use Rattle.mir_lower.specs.declared.operation.Several.TheVariants as several
-use Rattle.mir_lower.specs.declared.operation.Single.{Single}
-use Rattle.mir_lower.specs.declared.operation.Single.TheVariants as single
+use Rattle.body_forms.specs.declared.operation.Several.{Several}
+use Rattle.body_forms.specs.declared.operation.Several.TheVariants as several
+use Rattle.body_forms.specs.declared.operation.Single.{Single}
+use Rattle.body_forms.specs.declared.operation.Single.TheVariants as single
 
 -- the operation on one operand
 abbrev pub single_operation : Single → Operation
