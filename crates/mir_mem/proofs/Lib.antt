@@ -1,6 +1,9 @@
+pub mod Parts
 pub mod Bounds
 pub mod Growing
 pub mod IntParts
+pub mod Joined
 pub mod Padding
-pub mod Parts
+pub mod Placed
+pub mod Repeated
 pub mod Writing

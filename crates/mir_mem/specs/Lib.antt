@@ -1,3 +1,4 @@
+pub mod Construction
 pub mod Flat
 pub mod IntValue
 pub mod MemoryLaws

@@ -2,6 +2,7 @@
 #![tactic(auto)]
 
 mod area;
+mod construction;
 mod faults;
 mod flat;
 mod int_arithmetic;
@@ -12,9 +13,14 @@ mod memory;
 mod memory_laws;
 mod moves;
 mod pad;
+mod pieces;
 mod placing;
 mod view;
 
+pub use construction::{
+    TagBytes, VariantShape, construct_with_layout, is_too_long, part_outside, put_part, put_view,
+    repeat, zeros,
+};
 pub use flat::FlatMemory;
 pub use int_value::IntValue;
 pub use interval::IntervalOrOwned;
@@ -25,4 +31,5 @@ pub use memory_laws::{
 };
 pub use mir::{Address, CellSize, Interval, MemFault};
 pub use pad::pad16;
+pub use pieces::{Gathered, append, copy_of, gather, whole};
 pub use view::View;

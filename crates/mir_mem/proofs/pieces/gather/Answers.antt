@@ -1,7 +1,7 @@
 use Rattle.std.proofs.Common.{◌≡◌, ◌+◌, ◌++◌, ℕ, List, suc, length, take, ap, sym, ◌∙◌, arith, length-append}
 use Rattle.std.specs.List.{concat}
-use Rattle.mir_eval.proofs.Joined.{concat-fits, concat-next}
-use Rattle.mir_eval.proofs.pieces.gather.Goals as goal
+use Rattle.mir_mem.proofs.Joined.{concat-fits, concat-next}
+use Rattle.mir_mem.proofs.pieces.gather.Goals as goal
 
 pub put-requires : goal.put-requires
 put-requires c =

@@ -1,6 +1,6 @@
 use Rattle.std.proofs.Common.{◌≡◌, ◌≤◌, ◌-◌, length, take}
 use Rattle.std.specs.List.{concat}
-use Rattle.mir_eval.proofs.pieces.gather.Given as goal
+use Rattle.mir_mem.proofs.pieces.gather.Given as goal
 
 -- the pieces so far are gathered
 abbrev pub invariant-loop-i : goal.invariant-loop-i

@@ -3,13 +3,13 @@
 ghost use Rattle.std.specs.Prelude.{◌≡◌, ◌+◌, ◌++◌, ◌<◌, ◌≤◌, length, take, IfNone, IfOk, IfSome, OnOk};
 ghost use Rattle.std.specs.List.{concat};
 
-use mir_mem::View;
+use crate::View;
 use std::alloc::Global;
 use world::{Bytes, NoMemory};
 
 /// Bytes that were gathered: the first `count` of `room`.
 #[derive(Clone, Copy, PartialEq, Eq, Debug)]
-pub(crate) struct Gathered {
+pub struct Gathered {
     pub room: [u8; 16],
     pub count: usize,
     ghost fits: { count ≤ 16 },
@@ -17,7 +17,7 @@ pub(crate) struct Gathered {
 
 impl Gathered {
     /// The bytes.
-    pub(crate) fn bytes(&self) -> &[u8]
+    pub fn bytes(&self) -> &[u8]
         ensures { result.now ≡ take self.now.count self.now.room }
     {
         &self.room[..self.count]
@@ -27,7 +27,7 @@ impl Gathered {
 /// The bytes of a view that lies in one piece.
 #[inline(always)]
 #[tactic(auto, using(crate::proofs::Joined::concat_of_one))]
-pub(crate) fn whole<'r>(view: &'r View<'_>) -> Option<&'r [u8]>
+pub fn whole<'r>(view: &'r View<'_>) -> Option<&'r [u8]>
     ensures { IfSome result (λ bytes. bytes.now ≡ concat view.now) }
 {
     if view.pieces() == 1 {
@@ -46,7 +46,7 @@ fn put(room: &mut [u8; 16], count: usize, bytes: &[u8])
 }
 
 /// The bytes of a view, however many pieces it has, if there are at most 16.
-pub(crate) fn gather(view: &View<'_>) -> Option<Gathered>
+pub fn gather(view: &View<'_>) -> Option<Gathered>
     ensures some { IfSome result (λ all. take all.count all.room ≡ concat view.now) }
     ensures none { IfNone result (16 < length (concat view.now)) }
 {
@@ -65,26 +65,23 @@ pub(crate) fn gather(view: &View<'_>) -> Option<Gathered>
     Some(Gathered { room, count })
 }
 
-/// Appends bytes to others.
-fn append(all: &mut Bytes, bytes: &[u8]) -> Result<(), NoMemory>
-    ensures { OnOk result (all.new ≡ all.old ++ bytes.now) }
+/// Appends the bytes of a view to others.
+pub fn append(all: &mut Vec<u8>, view: &View<'_>) -> Result<(), NoMemory>
+    ensures { OnOk result (all.new.items ≡ all.old.items ++ concat view.now) }
 {
-    for byte in bytes {
-        all.push(*byte)?;
+    let mut i: u64 = 0;
+    while i < view.pieces() {
+        all.extend_from_slice(view.piece(i))?;
+        i += 1;
     }
     Ok(())
 }
 
 /// A copy of the bytes of a view.
-pub(crate) fn copy_of(alloc: Global, view: &View<'_>) -> Result<Bytes, NoMemory>
+pub fn copy_of(alloc: Global, view: &View<'_>) -> Result<Bytes, NoMemory>
     ensures { IfOk result (λ copy. copy ≡ concat view.now) }
 {
-    let mut copy = Bytes::new(alloc);
-    let mut i: u64 = 0;
-    while i < view.pieces() {
-        let piece = view.piece(i);
-        append(&mut copy, piece)?;
-        i += 1;
-    }
-    Ok(copy)
+    let mut copy = Vec::new(alloc);
+    append(&mut copy, view)?;
+    Ok(Bytes::from_vec(copy))
 }
