@@ -13,12 +13,10 @@ use Rattle.mir_mem.specs.declared.construction.VariantShape.{VariantShape}
 abbrev pub tag_place : (offset size : ℕ) → List ℕ
 tag_place offset size = codes "encoded tag (" ++ (decimal offset ++ (codes ", " ++ decimal size))
 
--- what the error says of a tag that doesn't end inside the value that it is to be a part of
-abbrev pub tag_text : (offset size : ℕ) (value : ℤ) → List ℕ
-tag_text offset size value = tag_place offset size ++ (codes ", " ++ (signed_decimal value ++ (codes ") is out of bounds 0.." ++ decimal size)))
-
+-- a tag that doesn't end inside the value that it is to be a part of
 abbrev pub tag_outside : (offset size : ℕ) (value : ℤ) → MirEvalError
-tag_outside offset size value = error.InternalError (tag_text offset size value)
+tag_outside offset size value =
+    error.InternalError (tag_place offset size ++ (codes ", " ++ (signed_decimal value ++ (codes ") is out of bounds 0.." ++ decimal size))))
 
 -- bytes in which a tag stands at its offset, where there is one
 unfoldable pub with_tag : Option TagBytes → List ℕ → Result (List ℕ) MirEvalError

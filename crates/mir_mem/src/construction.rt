@@ -9,7 +9,7 @@ ghost use Rattle.mir.specs.declared.errors.MirEvalError as error;
 ghost use Rattle.mir.specs.Run.{part_outside, placed_parts};
 ghost use Rattle.numbers.specs.Aggregates.{repeated, with_part};
 ghost use Rattle.numbers.specs.Bytes.{low_bytes};
-ghost use Rattle.mir_mem.specs.Construction.{constructed, placed_at, tag_outside, tag_place, tag_text, with_tag};
+ghost use Rattle.mir_mem.specs.Construction.{constructed, placed_at, tag_outside, tag_place, with_tag};
 
 use crate::area::write_part;
 use crate::pieces::{append, copy_of, whole};
@@ -103,23 +103,16 @@ pub fn is_too_long<M: Memory>(memory: &M, size: u64, count: u128) -> bool
     }
 }
 
-/// The error with this text.
-fn internal(alloc: Global, text: &str) -> MirEvalError
-    ensures { (result ≡ error.NoMemory) ⊎ (result ≡ error.InternalError text.now) }
-{
-    match Text::from_str(alloc, text) {
-        Ok(text) => MirEvalError::InternalError(text),
-        Err(_) => MirEvalError::NoMemory,
-    }
-}
-
 /// The error with this text, or want of memory where there is no text.
 fn internal_as(alloc: Global, text: Result<String, AllocError>) -> MirEvalError
     ensures text { IfOk text (λ text. (result ≡ error.NoMemory) ⊎ (result ≡ error.InternalError (string_bytes text))) }
     ensures none { IsErr text → result ≡ error.NoMemory }
 {
     match text {
-        Ok(text) => internal(alloc, text.as_str()),
+        Ok(text) => match Text::from_str(alloc, text.as_str()) {
+            Ok(text) => MirEvalError::InternalError(text),
+            Err(_) => MirEvalError::NoMemory,
+        },
         Err(_) => MirEvalError::NoMemory,
     }
 }
@@ -145,20 +138,20 @@ fn outside_text(alloc: Global, place: &str, value: &str, size: u64) -> Result<St
     format!(in alloc; "{place}, {value}) is out of bounds 0..{size}")
 }
 
-/// What the error says of a tag that doesn't end inside its value.
-fn tag_text(alloc: Global, offset: u64, size: u64, value: i128) -> Result<String, AllocError>
-    ensures { IfOk result (λ text. string_bytes text ≡ tag_text offset size value) }
-{
-    let place = tag_place(alloc, offset, size)?;
-    let value = decimal_text(alloc, value)?;
-    outside_text(alloc, place.as_str(), value.as_str(), size)
-}
-
 /// The error of a tag that doesn't end inside its value.
 fn tag_outside(alloc: Global, offset: u64, size: u64, value: i128) -> MirEvalError
     ensures { (result ≡ error.NoMemory) ⊎ (result ≡ tag_outside offset size value) }
 {
-    internal_as(alloc, tag_text(alloc, offset, size, value))
+    let Ok(place) = tag_place(alloc, offset, size) else {
+        return MirEvalError::NoMemory;
+    };
+    let Ok(value) = decimal_text(alloc, value) else {
+        return MirEvalError::NoMemory;
+    };
+    internal_as(
+        alloc,
+        outside_text(alloc, place.as_str(), value.as_str(), size),
+    )
 }
 
 /// The error of a field that doesn't end inside its value.
@@ -225,7 +218,7 @@ fn put_value(
                 Err(part_outside(alloc, shape.size, *offset))
             }
         }
-        None => Err(internal(alloc, "field without offset")),
+        None => Err(internal_as(alloc, String::from_str(alloc, "field without offset"))),
     }
 }
 

@@ -1,4 +1,4 @@
-//! The memory of a run, and the numbers of the integer types as the bytes that it holds.
+//! The memory of a run, the numbers of the integer types as the bytes that it holds, and the bytes of values that are made of parts.
 #![tactic(auto)]
 
 mod area;
