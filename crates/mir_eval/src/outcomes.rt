@@ -12,9 +12,8 @@ ghost use Rattle.mir_eval.specs.Machine.{on_a_level, value_of, wrapped, outcome_
 use crate::cells::{cell_of, read};
 use crate::faults::{Fault, to_error};
 use crate::frames::Suspended;
-use crate::pieces::copy_of;
 use mir::{Interval, LocalId, MirBody, MirEvalError, TrailEntry};
-use mir_mem::{Memory, View};
+use mir_mem::{Memory, View, copy_of};
 use std::alloc::Global;
 use world::{Box, Const, List, MemoryMap, NoMemory, TryClone, ValueConst};
 
