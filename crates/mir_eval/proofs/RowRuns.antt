@@ -1,5 +1,5 @@
 -- Rows that run: what the statements that they are those of do.
-use Rattle.std.proofs.Common.{◌≡◌, ℕ, suc, drop, drop-cons, get_or, ◌+◌, ◌<◌, ◌≤◌, Bool, true, false, List, [], ◌∷◌, length, Result, Ok, Err, refl, sym, ap, ◌∙◌, subst, arith}
+use Rattle.std.proofs.Common.{◌≡◌, ℕ, suc, drop, drop-cons, get_or, ◌+◌, ◌<◌, ◌≤◌, Bool, true, false, List, [], ◌∷◌, length, Result, Ok, Err, refl, sym, ap, ◌∙◌, subst, arith, inl, inr, ⊎_elim}
 use Rattle.std.proofs.lemmas.Bool.{false≢true}
 use Rattle.std.proofs.lemmas.List.{drop_all}
 use Rattle.mir.specs.declared.body.MirBody.{MirBody}
@@ -9,6 +9,9 @@ use Rattle.mir.specs.declared.statement.StatementKind.{StatementKind}
 use Rattle.mir.specs.declared.statement.StatementKind.TheVariants.{Assign, FakeRead, StorageLive, StorageDead}
 use Rattle.mir.specs.Memory.{Memory}
 use Rattle.mir.specs.Run.{Frame, after_statement, after_statements}
+use Rattle.mir_eval.specs.declared.faults.Fault.{Fault}
+use Rattle.mir_eval.specs.Steps.{OrNoMemory, error_of, left_with}
+use Rattle.mir_eval.proofs.Memoryless.{is-said}
 use Rattle.mir_rows.specs.declared.row.Row.{Row}
 use Rattle.mir_rows.specs.Rows.{AreRows, IsRow, RowsFrom, is_idle}
 
@@ -82,17 +85,19 @@ module _ (frame : Frame) where
       has-statement = (first.statement, first.is_row)
 
       -- its statement ran
-      pub ran : (after : Memory) → ((statement : Statement) → IsRow body block statement row → Ok after ≡ after_statement frame memory statement.kind) → Left (drop (i + 1) rows) after whole
-      ran after does =
+      pub ran : (result : Result (Unit {0}) Fault) (after : Memory) → result ≡ Ok tt → ((statement : Statement) → IsRow body block statement row → OrNoMemory result (left_with after result ≡ after_statement frame memory statement.kind)) → Left (drop (i + 1) rows) after whole
+      ran result after done does =
+          let said = is-said result tt (left_with after result ≡ after_statement frame memory first.statement.kind) done (does first.statement first.is_row) in
+          let does_so : Ok after ≡ after_statement frame memory first.statement.kind = sym (ap (left_with after) done) ∙ said in
           record {
             statements = first.rest;
             are = first.others;
-            same = ap (Then first.rest) (does first.statement first.is_row) ∙ sym (first.same memory) ∙ left.same;
+            same = ap (Then first.rest) does_so ∙ sym (first.same memory) ∙ left.same;
           }
 
       -- its statement faulted
-      pub faulted : (e : MirEvalError) → ((statement : Statement) → IsRow body block statement row → Err e ≡ after_statement frame memory statement.kind) → Err e ≡ whole
-      faulted e does = ap (Then first.rest) (does first.statement first.is_row) ∙ sym (first.same memory) ∙ left.same
+      pub faulted : (e : Fault) → ((statement : Statement) → IsRow body block statement row → OrNoMemory {A = Unit {0}} (Err e) (Err (error_of e) ≡ after_statement frame memory statement.kind)) → OrNoMemory {A = Unit {0}} (Err e) (Err (error_of e) ≡ whole)
+      faulted e does = ⊎_elim (λ said. inl (ap (Then first.rest) said ∙ sym (first.same memory) ∙ left.same)) inr (does first.statement first.is_row)
 
     -- no row is left
     pub all-ran : (rows : List Row) (i : ℕ) (memory : Memory) (whole : Result Memory MirEvalError) → length rows ≤ i → Left (drop i rows) memory whole → Ok memory ≡ whole

@@ -17,7 +17,7 @@ use Rattle.mir.specs.declared.operand.Operand.{Operand}
 use Rattle.mir.specs.declared.operand.OperandKind.{OperandKind}
 use Rattle.mir.specs.declared.operand.OperandKind.TheVariants as operand
 use Rattle.mir.specs.declared.operand.Place.{Place}
-use Rattle.mir.specs.declared.operand.Rvalue.TheVariants.{Use, CheckedBinaryOp, UnaryOp, Cast}
+use Rattle.mir.specs.declared.operand.Rvalue.TheVariants.{Use, Repeat, CheckedBinaryOp, UnaryOp, Cast, Aggregate}
 use Rattle.mir.specs.declared.statement.StatementKind.{StatementKind}
 use Rattle.mir.specs.declared.statement.StatementKind.TheVariants.{Assign, FakeRead, StorageLive, StorageDead}
 use Rattle.mir.specs.declared.switch.SwitchTargets.{SwitchTargets}
@@ -96,6 +96,8 @@ module _ (frame : Frame) (memory : Memory) where
     combines op kind left right m makes is (Assign place (Use given)) says = absurd says
     combines op kind left right m makes is (Assign place (UnaryOp operator given)) says = absurd says
     combines op kind left right m makes is (Assign place (Cast cast given ty)) says = absurd says
+    combines op kind left right m makes is (Assign place (Repeat given len)) says = absurd says
+    combines op kind left right m makes is (Assign place (Aggregate made parts)) says = absurd says
     combines op kind left right m makes is (FakeRead place) says = absurd says
     combines op kind left right m makes is (StorageLive local) says = absurd says
     combines op kind left right m makes is (StorageDead local) says = absurd says
@@ -121,6 +123,8 @@ module _ (frame : Frame) (memory : Memory) where
     copies from does (Assign place (CheckedBinaryOp operator one other)) says = absurd says
     copies from does (Assign place (UnaryOp operator one)) says = absurd says
     copies from does (Assign place (Cast cast one ty)) says = absurd says
+    copies from does (Assign place (Repeat given len)) says = absurd says
+    copies from does (Assign place (Aggregate made parts)) says = absurd says
     copies from does (FakeRead place) says = absurd says
     copies from does (StorageLive local) says = absurd says
     copies from does (StorageDead local) says = absurd says
@@ -135,6 +139,8 @@ module _ (frame : Frame) (memory : Memory) where
     puts-short short does (Assign place (CheckedBinaryOp operator one other)) says = absurd says
     puts-short short does (Assign place (UnaryOp operator one)) says = absurd says
     puts-short short does (Assign place (Cast cast one ty)) says = absurd says
+    puts-short short does (Assign place (Repeat given len)) says = absurd says
+    puts-short short does (Assign place (Aggregate made parts)) says = absurd says
     puts-short short does (FakeRead place) says = absurd says
     puts-short short does (StorageLive local) says = absurd says
     puts-short short does (StorageDead local) says = absurd says

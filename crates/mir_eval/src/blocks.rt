@@ -3,22 +3,21 @@
 ghost use Rattle.std.specs.Prelude.{◌≡◌, ◌<◌, ◌≤◌, ◌∷◌, [], IfSome, IsSome, OnOk, Ok, Option, Some, slice_get, option_and_then};
 ghost use Rattle.mir.specs.declared.body.Terminator.{Terminator};
 ghost use Rattle.mir.specs.declared.operand.OperandKind.{OperandKind};
-ghost use Rattle.mir.specs.Run.{GoesTo, operand_bytes, terminated, next_from, entering, going_on};
+ghost use Rattle.mir.specs.Run.{GoesTo, operand_bytes, terminated, next_from, entering};
 ghost use Rattle.mir_rows.specs.declared.row.Source.TheVariants.{Local};
 ghost use Rattle.mir_rows.specs.Rows.{IsSource, IsWay};
 ghost use Rattle.mir_eval.specs.Machine.{call_at, call_of, terminator_at};
 ghost use Rattle.mir_eval.specs.declared.steps.Exit.TheVariants.{Calls};
 ghost use Rattle.mir_eval.specs.Frames.{frame_of};
-ghost use Rattle.mir_eval.specs.Steps.{next_of, halt_of, HaltsAtCall};
+ghost use Rattle.mir_eval.specs.Steps.{next_of, Halts, HaltsAtCall, OrNoMemory};
 
 use crate::cells::{cell_of, read};
 use crate::faults::Fault;
 use crate::frames::StackFrame;
-use crate::pieces::whole;
 use crate::rows::run_rows;
 use crate::steps::{Exit, Halt, Stop, terminate};
 use mir::{BasicBlockId, LocalId, Terminator};
-use mir_mem::Memory;
+use mir_mem::{Memory, whole};
 use mir_rows::Way;
 
 /// The one byte of a local, where it has one that can be read.
@@ -82,7 +81,7 @@ pub(crate) fn enter<M: Memory>(
     memory: &mut M,
     block: BasicBlockId,
 ) -> Result<Exit, Fault>
-    ensures next { next_of (frame_of frame.entry) (M.areas memory.new) (terminator_at frame.entry.body.now block.0) result ≡ next_from (frame_of frame.entry) (M.areas memory.old) (slice_get frame.entry.body.now.basic_blocks block.0) 0 }
+    ensures next { OrNoMemory result (next_of (frame_of frame.entry) (M.areas memory.new) (terminator_at frame.entry.body.now block.0) result ≡ next_from (frame_of frame.entry) (M.areas memory.old) (slice_get frame.entry.body.now.basic_blocks block.0) 0) }
     ensures call { result ≡ Ok Calls → IsSome (call_at frame.entry.body.now block.0) }
 {
     let Some(rows) = frame.body.block(block) else {
@@ -106,7 +105,7 @@ pub(crate) fn enter_all<M: Memory>(
     start: BasicBlockId,
     blocks: u64,
 ) -> Stop
-    ensures run { going_on result.left (halt_of (frame_of frame.entry) (M.areas memory.new) (terminator_at frame.entry.body.now result.block.0) result.end) ≡ entering blocks (frame_of frame.entry) (M.areas memory.old) start.0 }
+    ensures run { Halts (frame_of frame.entry) (M.areas memory.new) (terminator_at frame.entry.body.now result.block.0) result.left result.end (entering blocks (frame_of frame.entry) (M.areas memory.old) start.0) }
     ensures call { HaltsAtCall frame.entry.body.now result.block.0 result.end }
     ensures fewer { OnOk result.end (result.left < blocks) }
     ensures within { result.left ≤ blocks }

@@ -140,6 +140,7 @@ impl<'a, M: Memory + Drop> Evaluator<'a, M> {
         match Run::start(
             self.alloc,
             Program {
+                alloc: self.alloc,
                 db: self.db,
                 nesting: self.nesting,
                 bytes: self.bytes,

@@ -4,6 +4,7 @@ ghost use Rattle.std.specs.Prelude.{◌≡◌, IfOk};
 ghost use Rattle.mir_eval.specs.Steps.{error_of};
 
 use mir::{BinOp, MirEvalError};
+use mir_mem::part_outside;
 use std::alloc::Global;
 use world::{NoMemory, Text};
 
@@ -24,6 +25,15 @@ pub(crate) enum Fault {
     NoLevel,
     TooManyArguments,
     TooFewArguments,
+    /// The length of an array is no number.
+    NoCount,
+    /// A type of which a value is to be made has no layout.
+    NoLayout,
+    /// A layout doesn't say where a part begins.
+    NoOffset,
+    /// A part at an offset doesn't end inside the value that it is to be a part of.
+    PartOutside { size: u64, offset: u64 },
+    NoMemory,
 }
 
 /// The error that a fault is.
@@ -69,5 +79,22 @@ pub(crate) fn to_error(alloc: Global, fault: Fault) -> Result<MirEvalError, NoMe
             let text = Text::from_str(alloc, "too few arguments")?;
             Ok(MirEvalError::InternalError(text))
         }
+        Fault::NoCount => {
+            let text = Text::from_str(alloc, "non evaluatable array len in repeat Rvalue")?;
+            Ok(MirEvalError::NotSupported(text))
+        }
+        Fault::NoLayout => {
+            let text = Text::from_str(alloc, "mismatched layout")?;
+            Ok(MirEvalError::InternalError(text))
+        }
+        Fault::NoOffset => {
+            let text = Text::from_str(alloc, "field without offset")?;
+            Ok(MirEvalError::InternalError(text))
+        }
+        Fault::PartOutside { size, offset } => match part_outside(alloc, size, offset) {
+            MirEvalError::NoMemory => Err(NoMemory),
+            error => Ok(error),
+        },
+        Fault::NoMemory => Ok(MirEvalError::NoMemory),
     }
 }

@@ -9,6 +9,7 @@ ghost use Rattle.mir_eval.specs.Callees.{AreCallees};
 use crate::callees::Callee;
 use mir::{Answers, BasicBlockId, Interval, TrailEntry};
 use mir_rows::Code;
+use std::alloc::Global;
 use std::collections::BTreeMap;
 use std::rc::Rc;
 use world::{FunctionId, HirDatabase};
@@ -16,6 +17,7 @@ use world::{FunctionId, HirDatabase};
 /// What a run goes by: its world, its limits, and what it was told.
 #[derive(Drop)]
 pub(crate) struct Program<'a> {
+    pub alloc: Global,
     pub db: &'a HirDatabase,
     /// How many levels of nesting it may take.
     pub nesting: u32,

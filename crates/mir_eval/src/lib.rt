@@ -2,6 +2,7 @@
 //! block, and gives the end that the meaning of the blocks has. It stops where it needs a body that it wasn't told.
 #![tactic(auto)]
 
+mod aggregates;
 mod blocks;
 mod callees;
 mod calls;
@@ -11,12 +12,10 @@ mod faults;
 mod frames;
 mod outcomes;
 mod output;
-mod pieces;
 mod places;
 mod rows;
 mod runs;
 mod steps;
-mod words;
 
 pub use evaluator::{Evaluator, Turned};
 pub use output::MirOutput;

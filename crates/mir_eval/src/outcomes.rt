@@ -12,10 +12,9 @@ ghost use Rattle.mir_eval.specs.Machine.{height_of, on_levels, value_of, wrapped
 use crate::cells::{cell_of, read};
 use crate::faults::{Fault, to_error};
 use crate::frames::Suspended;
-use crate::pieces::copy_of;
 use heights::is_within;
 use mir::{Interval, LocalId, MirBody, MirEvalError, TrailEntry};
-use mir_mem::{Memory, View};
+use mir_mem::{Memory, View, copy_of};
 use std::alloc::Global;
 use world::{Box, Const, List, MemoryMap, NoMemory, TryClone, ValueConst};
 

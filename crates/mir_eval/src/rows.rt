@@ -11,15 +11,14 @@ ghost use Rattle.mir_ops.specs.Made.{made_bytes};
 ghost use Rattle.mir_rows.specs.declared.row.Source.TheVariants.{Constant, Local};
 ghost use Rattle.mir_rows.specs.Rows.{AreOperands, AreRows, IsRow, IsSource, Says};
 ghost use Rattle.mir_eval.specs.Frames.{frame_of};
-ghost use Rattle.mir_eval.specs.Steps.{left_with};
+ghost use Rattle.mir_eval.specs.Steps.{left_with, OrNoMemory};
 
 use crate::cells::{cell_of, copy, read, write};
 use crate::faults::Fault;
 use crate::frames::StackFrame;
-use crate::pieces::whole;
 use crate::steps::execute;
 use mir::{BasicBlock, BinOp, LocalId};
-use mir_mem::{Memory, View};
+use mir_mem::{Memory, View, whole};
 use mir_ops::{Made, byte_of, bytes1, bytes2, bytes4, bytes8, bytes16, made_of};
 use mir_rows::{Action, Row, Short, Source};
 use numbers::Kind;
@@ -159,7 +158,7 @@ fn run_row<M: Memory>(
     row: &Row,
 ) -> Result<(), Fault>
     requires { (statement : Statement) × IsRow frame.body.now block.now.statements statement row.now }
-    ensures { (statement : Statement) → IsRow frame.entry.body.now block.now.statements statement row.now → left_with (M.areas memory.new) result ≡ after_statement (frame_of frame.entry) (M.areas memory.old) statement.kind }
+    ensures { (statement : Statement) → IsRow frame.entry.body.now block.now.statements statement row.now → OrNoMemory result (left_with (M.areas memory.new) result ≡ after_statement (frame_of frame.entry) (M.areas memory.old) statement.kind) }
 {
     match act(frame, memory, &row.action) {
         Some(done) => done,
@@ -179,7 +178,7 @@ pub(crate) fn run_rows<M: Memory>(
     rows: &[Row],
 ) -> Result<(), Fault>
     requires { AreRows frame.body.now block.now.statements block.now.statements rows.now }
-    ensures { left_with (M.areas memory.new) result ≡ after_statements (frame_of frame.entry) block.now.statements (M.areas memory.old) }
+    ensures { OrNoMemory result (left_with (M.areas memory.new) result ≡ after_statements (frame_of frame.entry) block.now.statements (M.areas memory.old)) }
 {
     for row in rows {
         match run_row(frame, memory, block, row) {

@@ -72,13 +72,13 @@ pub(crate) enum Went {
 
 impl<'a, M: Memory + Drop> Run<'a, M> {
     ghost use Rattle.mir.specs.declared.errors.MirEvalError as error;
-    ghost use Rattle.mir.specs.Run.{after_return, begun, called, called_by, callee_error, body_query, calls, going_on, next_from, entered, entry_of, entering, faults, terminated, trail_of, Stops, GoesTo, Faulted};
+    ghost use Rattle.mir.specs.Run.{after_return, begun, called, called_by, callee_error, body_query, calls, next_from, entered, entry_of, entering, faults, terminated, trail_of, Stops, GoesTo, Faulted};
     ghost use Rattle.mir.specs.Answers.{answer_to};
     ghost use Rattle.mir_eval.specs.Calls.{call_is, called_frame, function_is};
     ghost use Rattle.mir_eval.specs.Frames.{program_of};
     ghost use Rattle.std.specs.Option.{option_to_list};
     ghost use Rattle.mir_eval.specs.Machine.{Entry, Going, RunsTo, StepsTo, call_at, terminator_at};
-    ghost use Rattle.mir_eval.specs.Steps.{error_of, halt_of, next_of, HaltsAtCall};
+    ghost use Rattle.mir_eval.specs.Steps.{error_of, halt_of, next_of, Halts, HaltsAtCall, OrNoMemory};
     ghost use Rattle.mir_eval.specs.declared.steps.Exit.TheVariants.{Calls};
     ghost use Rattle.mir_eval.specs.Start.{started};
     ghost use Rattle.mir_eval.specs.Phases.{AsksAtCall, Continues, HasStopped, IsInRun, Leads, to_go, frame_in, position_at, position_of, state_of, state_after};
@@ -422,7 +422,7 @@ impl<'a, M: Memory + Drop> Run<'a, M> {
 
     /// Runs blocks of the frame, until the body returns, calls or faults.
     fn run_blocks(&mut self, block: BasicBlockId) -> Stop
-        ensures run { going_on result.left (halt_of (frame_in self.old) (M.areas self.new.memory) (terminator_at self.old.body.value result.block.0) result.end) ≡ entering self.old.left (frame_in self.old) (M.areas self.old.memory) block.0 }
+        ensures run { Halts (frame_in self.old) (M.areas self.new.memory) (terminator_at self.old.body.value result.block.0) result.left result.end (entering self.old.left (frame_in self.old) (M.areas self.old.memory) block.0) }
         ensures frame { frame_in self.new ≡ frame_in self.old }
         ensures left { self.new.left ≡ result.left }
         ensures call { HaltsAtCall self.new.body.value result.block.0 result.end }
@@ -446,7 +446,7 @@ impl<'a, M: Memory + Drop> Run<'a, M> {
 
     /// Runs one block of the frame.
     fn run_block(&mut self, block: BasicBlockId) -> Result<Exit, Fault>
-        ensures next { next_of (frame_in self.old) (M.areas self.new.memory) (terminator_at self.old.body.value block.0) result ≡ next_from (frame_in self.old) (M.areas self.old.memory) (slice_get self.old.body.value.basic_blocks block.0) 0 }
+        ensures next { OrNoMemory result (next_of (frame_in self.old) (M.areas self.new.memory) (terminator_at self.old.body.value block.0) result ≡ next_from (frame_in self.old) (M.areas self.old.memory) (slice_get self.old.body.value.basic_blocks block.0) 0) }
         ensures frame { frame_in self.new ≡ frame_in self.old }
         ensures left { self.new.left ≡ self.old.left }
         ensures call { result ≡ Ok Calls → IsSome (call_at self.new.body.value block.0) }

@@ -7,20 +7,19 @@ ghost use Rattle.mir_eval.specs.Machine.{call_of};
 ghost use Rattle.mir_eval.specs.declared.steps.Exit.TheVariants.{Calls};
 ghost use Rattle.numbers.specs.Computed.{answer_of, count_of};
 ghost use Rattle.mir_eval.specs.Frames.{frame_of};
-ghost use Rattle.mir_eval.specs.Steps.{operated_bytes, left_with, next_of};
+ghost use Rattle.mir_eval.specs.Steps.{operated_bytes, left_with, next_of, OrNoMemory};
 
+use crate::aggregates::{aggregate, assign_bytes, repeated};
 use crate::cells::{cell_of, copy, read, write};
 use crate::faults::Fault;
 use crate::frames::StackFrame;
-use crate::pieces::{gather, whole};
-use crate::words::unsigned;
 use mir::{
     BasicBlockId, BinOp, CastKind, Interval, OperandKind, Rvalue, StatementKind, SwitchTargets,
     Terminator, TerminatorKind, UnOp, fixed_size,
 };
-use mir_mem::{Memory, View};
+use mir_mem::{Memory, View, gather, whole};
 use mir_rows::{constant_bytes, operand_kind};
-use numbers::{Computed, compute, convert, invert, negate};
+use numbers::{Computed, compute, convert, invert, negate, number_of};
 use types::Ty;
 
 /// Where a block leads that doesn't fault: out of the body, to another block of it, or to a call, which its terminator is.
@@ -50,8 +49,8 @@ pub(crate) struct Stop {
 
 /// The bytes that an operand has now.
 #[inline(always)]
-#[tactic(auto, unfolding(mir::specs::Run::operand_bytes), using(crate::proofs::Joined::concat_pieces_of))]
-fn operand<'r, M: Memory>(
+#[tactic(auto, unfolding(mir::specs::Run::operand_bytes), using(mir_mem::proofs::Joined::concat_pieces_of))]
+pub(crate) fn operand<'r, M: Memory>(
     frame: StackFrame<'_, '_>,
     memory: &'r M,
     kind: &'r OperandKind,
@@ -214,10 +213,14 @@ fn assign<M: Memory>(
     to: Interval,
     rvalue: &Rvalue,
 ) -> Result<(), Fault>
-    ensures { left_with (M.areas memory.new) result ≡ copied (M.areas memory.old) (Some to) (rvalue_bytes (frame_of frame.entry) (M.areas memory.old) rvalue.now) }
+    ensures { OrNoMemory result (left_with (M.areas memory.new) result ≡ copied (M.areas memory.old) (Some to) (rvalue_bytes (frame_of frame.entry) (M.areas memory.old) rvalue.now)) }
 {
     match rvalue {
         Rvalue::Use(operand) => assign_operand(frame, memory, to, &operand.kind),
+        Rvalue::Repeat(operand, len) => {
+            let made = repeated(frame, memory, &operand.kind, len);
+            assign_bytes(memory, to, made)
+        }
         Rvalue::Cast(CastKind::IntToInt, operand, ty) => {
             let made = cast(frame, memory, &operand.kind, ty);
             assign_made(memory, to, made)
@@ -230,6 +233,10 @@ fn assign<M: Memory>(
             let made = operate_on(frame, memory, *op, &operand.kind);
             assign_made(memory, to, made)
         }
+        Rvalue::Aggregate(kind, operands) => {
+            let made = aggregate(frame, memory, kind, operands.as_slice());
+            assign_bytes(memory, to, made)
+        }
     }
 }
 
@@ -241,7 +248,7 @@ pub(crate) fn execute<M: Memory>(
     memory: &mut M,
     statement: &StatementKind,
 ) -> Result<(), Fault>
-    ensures { left_with (M.areas memory.new) result ≡ after_statement (frame_of frame.entry) (M.areas memory.old) statement.now }
+    ensures { OrNoMemory result (left_with (M.areas memory.new) result ≡ after_statement (frame_of frame.entry) (M.areas memory.old) statement.now) }
 {
     match statement {
         StatementKind::Assign(place, rvalue) => match cell_of(frame.cells, place.local) {
@@ -272,9 +279,9 @@ fn branch<M: Memory>(
         return Err(Fault::Undefined);
     }
     let number = match whole(&view) {
-        Some(bytes) => unsigned(bytes),
+        Some(bytes) => number_of(bytes),
         None => match gather(&view) {
-            Some(bytes) => unsigned(bytes.bytes()),
+            Some(bytes) => number_of(bytes.bytes()),
             None => return Err(Fault::Undefined),
         },
     };

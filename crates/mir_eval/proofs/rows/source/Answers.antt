@@ -1,7 +1,7 @@
 use Rattle.std.proofs.Common.{sym, ap, ◌∙◌}
 use Rattle.std.specs.List.{concat}
 use Rattle.mir_eval.specs.Frames.{frame_of}
-use Rattle.mir_eval.proofs.Joined.{concat_pieces_of}
+use Rattle.mir_mem.proofs.Joined.{concat_pieces_of}
 use Rattle.mir_eval.proofs.RowSays.{short-bytes, view-of-local}
 use Rattle.mir_eval.proofs.rows.source.Goals as goal
 

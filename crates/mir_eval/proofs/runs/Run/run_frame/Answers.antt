@@ -6,6 +6,7 @@ use Rattle.mir_eval.specs.Machine.{Entry, Position, end_of, terminator_at}
 use Rattle.mir_eval.specs.Phases.{IsInRun, Leads, frame_in, position_at}
 use Rattle.mir_eval.specs.Steps.{halt_of}
 use Rattle.mir_eval.proofs.Leading.{fewer-left, leads-continues}
+use Rattle.mir_eval.proofs.Memoryless.{halts-lead}
 use Rattle.mir_eval.proofs.runs.Run.run_frame.Goals as goal
 
 pub returns-clause-went : goal.returns-clause-went
@@ -18,9 +19,11 @@ returns-clause-went g c =
     let next-in : Frame → Next = λ frame. halt_of frame (g.M.Memory.areas mid.memory) (terminator_at frame.body stop.block.0) stop.end in
     let same = c.run_blocks-stop.ensures.frame in
     let left : stop.left ≡ c.go_on.new.self.left = sym c.run_blocks-stop.ensures.left ∙ sym c.go_on.ensures.same in
-    leads-continues g.M.Memory.areas start c.go_on.new.self c.go_on.result (next-in (frame_in old))
-    (sym c.run_blocks-stop.ensures.run ∙ ap (λ (n : ℕ). going_on n (next-in (frame_in old))) left)
-    (subst (λ (frame : Frame). Leads g.M.Memory.areas frame (next-in frame) c.go_on.new.self c.go_on.result) same c.go_on.ensures.leads)
+    let halts = c.run_blocks-stop.ensures.run in
+    leads-continues g.M.Memory.areas start c.go_on.new.self c.go_on.result halts.0
+    (sym halts.1 ∙ ap (λ (n : ℕ). going_on n halts.0) left)
+    (halts-lead g.M.Memory.areas (frame_in old) (g.M.Memory.areas mid.memory) (terminator_at old.body.value stop.block.0) stop.end halts.0 c.go_on.new.self c.go_on.result halts.2
+    (subst (λ (frame : Frame). Leads g.M.Memory.areas frame (next-in frame) c.go_on.new.self c.go_on.result) same c.go_on.ensures.leads))
     (subst (λ (frame : Frame). IsInRun frame c.go_on.new.self c.go_on.result) same c.go_on.ensures.run)
 
 pub returns-clause-fewer : goal.returns-clause-fewer
