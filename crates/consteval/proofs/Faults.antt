@@ -13,6 +13,7 @@ use Rattle.mir.specs.declared.errors.MirLowerError.TheVariants as refusal
 use Rattle.mir.specs.declared.errors.TrailEntry.{TrailEntry}
 use Rattle.mir_lower.specs.Stops.{LacksLayout, LacksSize, MakesSomeCall}
 use Rattle.mir.specs.Errors.{from_eval_error, from_lower_error, layout_error_of}
+use Rattle.source_meaning.specs.Entering.{run_cost}
 use Rattle.source_meaning.specs.Source.{Source}
 use Rattle.consteval.specs.Answers.{NeverRuns, NeverRunsLayer, EndsAtCall, EndsEvaluation, EndsFrame, EndsIn, EndsLayer, EndsLowering, GivesPanic, GivesUndefined, PassesBytesAtOnce, panic_layer, panic_word, undefined_layer, undefined_text}
 

@@ -1,5 +1,5 @@
 -- Each answer has its cause.
-use Rattle.std.proofs.Common.{Err, sym, subst, ◌∙◌}
+use Rattle.std.proofs.Common.{◌≡◌, Err, rules, sym, subst, ◌∙◌}
 use Rattle.mir.specs.declared.errors.ConstEvalError.{ConstEvalError}
 use Rattle.source_meaning.specs.Aggregates.{HasAggregates}
 use Rattle.consteval.specs.Answers.{HasCause}
@@ -25,7 +25,11 @@ pub returns-clause-stays : goal.returns-clause-stays
 returns-clause-stays c = stays-then c.args.self.now c.body_of.new.self c.run_body.new.self c.body_of.ensures.stays c.run_body.ensures.stays
 
 pub returns-in-Err-clause-parts : goal.returns-in-Err-clause-parts
-returns-in-Err-clause-parts c = subst (λ kept. HasAggregates kept) (sym c.body_of.ensures.stays.world) (has-aggregates _ c.db-db.ensures.holds)
+returns-in-Err-clause-parts c =
+    let same : c.db-db.result.now ≡ c.args.self.now.world = search rules in
+    subst HasAggregates (sym c.body_of.ensures.stays.world) (subst HasAggregates same (has-aggregates c.db-db.result.now c.db-db.ensures.holds))
 
 pub returns-clause-parts : goal.returns-clause-parts
-returns-clause-parts c = subst (λ kept. HasAggregates kept) (sym (c.run_body.ensures.stays.world ∙ c.body_of.ensures.stays.world)) (has-aggregates _ c.db-db.ensures.holds)
+returns-clause-parts c =
+    let same : c.db-db.result.now ≡ c.args.self.now.world = search rules in
+    subst HasAggregates (sym (c.run_body.ensures.stays.world ∙ c.body_of.ensures.stays.world)) (subst HasAggregates same (has-aggregates c.db-db.result.now c.db-db.ensures.holds))
