@@ -3,6 +3,8 @@ use Rattle.std.specs.Prelude.{ℕ, Bool, true, false, not, ◌||◌, ◌&&◌, �
 use Rattle.std.specs.BTreeMap.{is_at}
 use Rattle.std.specs.List.{list_any}
 use Rattle.std.specs.Map.{lookup}
+use Rattle.either.specs.declared.Either.{Either}
+use Rattle.either.specs.declared.Either.TheVariants.{Left, Right}
 use Rattle.numbers.specs.declared.operator.Operator.{Operator}
 use Rattle.numbers.specs.Operators.{kind_of, of_arith, of_compare}
 use Rattle.types.specs.contracts.ids.ExprIdOrd.TheImpl as ExprIdOrd
@@ -10,7 +12,9 @@ use Rattle.types.specs.contracts.ids.PatIdOrd.TheImpl as PatIdOrd
 use Rattle.types.specs.declared.ids.BindingId.{BindingId}
 use Rattle.types.specs.declared.ids.ExprId.{ExprId}
 use Rattle.types.specs.declared.ids.LabelId.{LabelId}
+use Rattle.types.specs.declared.ids.FieldId.{FieldId}
 use Rattle.types.specs.declared.ids.PatId.{PatId}
+use Rattle.types.specs.declared.ids.TupleFieldId.{TupleFieldId}
 use Rattle.types.specs.declared.operators.ArithOp.{ArithOp}
 use Rattle.types.specs.declared.operators.BinaryOp.{BinaryOp}
 use Rattle.types.specs.declared.operators.BinaryOp.TheVariants as binary
@@ -60,10 +64,12 @@ pub data Operation : Type 0 where
 -- its branches. An assignment writes a value to what its target names, and a compound one what an operator makes of that and the value. A `loop` evaluates its body again and again. A `break`
 -- ends a loop or a labelled block around it, with a value or without, and a `continue` starts it again. A `return` ends the
 -- body, with a value or without. A call evaluates its arguments from left to right, and then enters the body of a function: the one that
--- its callee's type names, or, where it is a method call, the one that it is resolved to; the receiver is its first argument.
+-- its callee's type names, or, where it is a method call, the one that it is resolved to; the receiver is its first argument. A field is
+-- a part of its base, which is a tuple.
 pub data CoreExpr : Type 0 where
   Literal : CoreLiteral → CoreExpr
   Path : (name : List ℕ) → CoreExpr
+  Field : (base : ℕ) → (field : TupleFieldId) → CoreExpr
   Strict : Operation → (operands : List ℕ) → CoreExpr
   Logic : LogicOp → (left right : ℕ) → CoreExpr
   If : (condition then_branch : ℕ) → (else_branch : Option ExprId) → CoreExpr
@@ -111,28 +117,35 @@ binary_form lhs rhs (binary.Assignment op) = compound_form lhs rhs op
 abbrev pub unary_form : ℕ → Option Operation → Option CoreExpr
 unary_form e operation = option_map (λ op. Strict op (e ∷ [])) operation
 
+-- a field, by what inference resolved it to: so far one of a tuple, and none of a struct, a variant or a union
+abbrev pub field_form : ℕ → Option (Either FieldId TupleFieldId) → Option CoreExpr
+field_form base (Some (Right field)) = Some (Field base field)
+field_form base _ = None
+
 -- The form of an expression, where it is one with a meaning. A path is not resolved to an item that a trait or an impl has,
--- or to a variant. `casts`: what a cast of an operand computes, where it has a meaning.
-abbrev pub core_of : (names_item : Bool) → (casts : ExprId → Option Operation) → Expr → Option CoreExpr
-core_of names_item casts (expr.Literal given) = option_map Literal (core_literal given)
-core_of names_item casts (expr.Path name) = if names_item then None else Some (Path name)
-core_of names_item casts (expr.UnaryOp e op) = unary_form e.0 (unary_operation op)
-core_of names_item casts (expr.Cast operand) = unary_form operand.0 (casts operand)
-core_of names_item casts (expr.BinaryOp lhs rhs op) = option_and_then (binary_form lhs.0 rhs.0) op
-core_of names_item casts (expr.If condition then_branch else_branch) = Some (If condition.0 then_branch.0 else_branch)
-core_of names_item casts (expr.Assignment target value) = Some (Assign target.0 value.0)
-core_of names_item casts (expr.Block statements tail None) = Some (Block statements tail)
-core_of names_item casts (expr.Block statements tail (Some label)) = Some (Labelled label statements tail)
-core_of names_item casts (expr.Loop body label) = Some (Loop label body.0)
-core_of names_item casts (expr.Break value label) = Some (Break label value)
-core_of names_item casts (expr.Continue label) = Some (Continue label)
-core_of names_item casts (expr.Return value) = Some (Return value)
-core_of names_item casts (expr.Call callee args) = Some (Call (Some callee.0) (expr_numbers args))
-core_of names_item casts (expr.MethodCall receiver args name) = Some (Call None (receiver.0 ∷ expr_numbers args))
-core_of names_item casts (expr.Tuple parts) = Some (Strict MakeTuple (expr_numbers parts))
-core_of names_item casts (expr.Array elements) = Some (Strict MakeArray (expr_numbers elements))
-core_of names_item casts (expr.Repeat initializer) = Some (Strict Repeat (initializer.0 ∷ []))
-core_of names_item casts _ = None
+-- or to a variant. `casts`: what a cast of an operand computes, where it has a meaning. `field`: what the expression is resolved to, where
+-- it names a field.
+abbrev pub core_of : (names_item : Bool) → (casts : ExprId → Option Operation) → (field : Option (Either FieldId TupleFieldId)) → Expr → Option CoreExpr
+core_of names_item casts field (expr.Literal given) = option_map Literal (core_literal given)
+core_of names_item casts field (expr.Path name) = if names_item then None else Some (Path name)
+core_of names_item casts field (expr.Field base name) = field_form base.0 field
+core_of names_item casts field (expr.UnaryOp e op) = unary_form e.0 (unary_operation op)
+core_of names_item casts field (expr.Cast operand) = unary_form operand.0 (casts operand)
+core_of names_item casts field (expr.BinaryOp lhs rhs op) = option_and_then (binary_form lhs.0 rhs.0) op
+core_of names_item casts field (expr.If condition then_branch else_branch) = Some (If condition.0 then_branch.0 else_branch)
+core_of names_item casts field (expr.Assignment target value) = Some (Assign target.0 value.0)
+core_of names_item casts field (expr.Block statements tail None) = Some (Block statements tail)
+core_of names_item casts field (expr.Block statements tail (Some label)) = Some (Labelled label statements tail)
+core_of names_item casts field (expr.Loop body label) = Some (Loop label body.0)
+core_of names_item casts field (expr.Break value label) = Some (Break label value)
+core_of names_item casts field (expr.Continue label) = Some (Continue label)
+core_of names_item casts field (expr.Return value) = Some (Return value)
+core_of names_item casts field (expr.Call callee args) = Some (Call (Some callee.0) (expr_numbers args))
+core_of names_item casts field (expr.MethodCall receiver args name) = Some (Call None (receiver.0 ∷ expr_numbers args))
+core_of names_item casts field (expr.Tuple parts) = Some (Strict MakeTuple (expr_numbers parts))
+core_of names_item casts field (expr.Array elements) = Some (Strict MakeArray (expr_numbers elements))
+core_of names_item casts field (expr.Repeat initializer) = Some (Strict Repeat (initializer.0 ∷ []))
+core_of names_item casts field _ = None
 
 -- the type that a step leads to, where it is `NeverToAny`, the one from `!` to any type
 abbrev pub never_step : Adjust → Ty → Option Ty
@@ -183,6 +196,10 @@ cast_operation infer cast operand =
     if is_coercion infer operand then Some Keep
     else if is_number_type (value_type infer operand) && is_number_type (type_of infer cast.0) then Some Convert
     else None
+
+-- what a field is resolved to, where it is
+abbrev pub field_named : InferenceResult → ExprId → Option (Either FieldId TupleFieldId)
+field_named infer e = lookup (is_at (ExprIdOrd.ghosts.cmp e)) infer.field_res
 
 -- whether a path is resolved to an associated item or a variant
 unfoldable pub names_item : InferenceResult → ExprId → Bool
@@ -257,6 +274,12 @@ is_truth _ = false
 abbrev pub is_path : Option CoreExpr → Bool
 is_path (Some (Path name)) = true
 is_path _ = false
+
+-- whether an expression is a place as it stands, which has no cell of its own: a path, or a field
+abbrev pub is_place : Option CoreExpr → Bool
+is_place (Some (Path name)) = true
+is_place (Some (Field base field)) = true
+is_place _ = false
 
 -- an expression that is no call
 abbrev pub IsNoCall : Option CoreExpr → Type 0

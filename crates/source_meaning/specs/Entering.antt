@@ -5,7 +5,7 @@ use Rattle.types.specs.declared.ty.Ty.{Ty}
 use Rattle.world.specs.declared.layout.Layout.{Layout}
 use Rattle.heights.specs.Heights.{height}
 use Rattle.world.specs.Lookups.{layout_of}
-use Rattle.source_meaning.specs.Core.{is_path}
+use Rattle.source_meaning.specs.Core.{is_place}
 use Rattle.source_meaning.specs.Ends.{Cost}
 use Rattle.source_meaning.specs.Source.{Source, Cell, Node, Binding, Never, binding_type, cell_layout, node, unadjusted, own_type, node_type, root}
 use Rattle.source_meaning.specs.Steps.{parts_of}
@@ -23,9 +23,9 @@ room_of None = 0
 abbrev pub cell_room : Source → Cell → ℕ
 cell_room source cell = room_of (cell_layout source cell)
 
--- whether an expression has a cell: a path has none, unless it is the root, whose cell is that of the result
+-- whether an expression has a cell: a path or a field has none, unless it is the root, whose cell is that of the result
 abbrev pub has_cell : Source → ℕ → Bool
-has_cell source e = not (is_path (unadjusted source e)) || (e == root source)
+has_cell source e = not (is_place (unadjusted source e)) || (e == root source)
 
 -- how many bytes the cells of a body take at most: those of its expressions, those of the `!` of expressions that are adjusted
 -- by `NeverToAny`, and those of its bindings that no closure owns

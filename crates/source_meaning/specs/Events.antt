@@ -1,9 +1,9 @@
 -- Which scopes open and close, and which cells come into use in them, in the order of lowering. From this listing derive
 -- the cells that leaving a scope drops, and those of all scopes that are open at a point.
-use Rattle.std.specs.Prelude.{ℕ, zero, suc, cond, List, [], ◌∷◌, ◌++◌, length, map, flat_map, Option, Some, None}
+use Rattle.std.specs.Prelude.{Bool, ℕ, zero, suc, cond, List, [], ◌∷◌, ◌++◌, length, map, flat_map, Option, Some, None}
 use Rattle.types.specs.declared.ids.ExprId.{ExprId}
 use Rattle.world.specs.declared.body.Statement.{Statement}
-use Rattle.source_meaning.specs.Core.{CoreExpr, is_literal, is_path}
+use Rattle.source_meaning.specs.Core.{CoreExpr, is_literal, is_path, is_place}
 use Rattle.source_meaning.specs.Source.{Source, Cell, Node, node, unadjusted, never_marks, pattern, bound_by}
 use Rattle.source_meaning.specs.Steps.{Step, statement_steps, tail_steps, block_steps, steps_of}
 use Rattle.source_meaning.specs.Steps as step
@@ -14,10 +14,14 @@ pub data Event : Type 0 where
   Marks : (cell : Cell) → Event
   Closes : Event
 
--- An expression that is evaluated to a place and is none itself has its own cell marked, before what it is made of. A
--- literal as an operand has no cell.
+-- the mark of an expression's own cell, which a place has not
+abbrev pub own_mark : (has_none : Bool) → ℕ → List Event
+own_mark has_none e = cond has_none [] (Marks (Node e) ∷ [])
+
+-- An expression that is evaluated to a place and is none itself has its own cell marked, before what it is made of. A field is its base's
+-- place, and a literal as an operand has no cell.
 abbrev pub place_events : Source → (ℕ → List Event) → ℕ → List Event
-place_events source below e = cond (is_path (unadjusted source e)) [] (Marks (Node e) ∷ below e)
+place_events source below e = cond (is_path (unadjusted source e)) [] (own_mark (is_place (unadjusted source e)) e ++ below e)
 
 abbrev pub operand_events : Source → (ℕ → List Event) → ℕ → List Event
 operand_events source below e = cond (is_literal (unadjusted source e)) [] (place_events source below e)

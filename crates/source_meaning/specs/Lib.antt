@@ -8,6 +8,7 @@ pub mod Entering
 pub mod Events
 pub mod Laws
 pub mod Meaning
+pub mod Places
 pub mod Source
 pub mod Steps
 pub mod Valid

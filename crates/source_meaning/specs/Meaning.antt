@@ -4,6 +4,7 @@ use Rattle.std.specs.Prelude.{◌≡◌, ℕ, zero, suc, pos, Bool, true, false,
 use Rattle.types.specs.declared.ids.BindingId.{BindingId}
 use Rattle.types.specs.declared.ids.ExprId.{ExprId}
 use Rattle.types.specs.declared.ids.LabelId.{LabelId}
+use Rattle.types.specs.declared.ids.TupleFieldId.{TupleFieldId}
 use Rattle.types.specs.declared.ty.Ty.{Ty}
 use Rattle.types.specs.declared.operators.LogicOp.{LogicOp}
 use Rattle.types.specs.declared.operators.LogicOp.TheVariants as logic
@@ -26,7 +27,8 @@ use Rattle.source_meaning.specs.Ends.{Cost, no_cost, turns_alone, bytes_alone, p
 use Rattle.source_meaning.specs.Entering.{room_of, entering, run_cost}
 use Rattle.source_meaning.specs.Around.{Around, Target, at_root, marking, inside, target_of}
 use Rattle.source_meaning.specs.Events.{marked, marked_as_place, marked_as_operand, marked_by_statement, marked_by_tail, marked_in_block}
-use Rattle.source_meaning.specs.Source.{Source, node, unadjusted, own_type, own_layout, named_by, pattern, target, compound_target, root, Result, Node, Binding, Path, never_marks, own_path, Store, zeroed, with_cell_bytes, Operand, Literally, At, operand_bytes, operand_type, drops}
+use Rattle.source_meaning.specs.Places.{place_bytes, operand_type, operand_bytes, operands_bytes}
+use Rattle.source_meaning.specs.Source.{Source, node, unadjusted, own_type, own_layout, named_by, pattern, target, compound_target, root, Result, Node, Binding, Path, Part, Place, whole, projected, never_marks, own_path, Store, zeroed, with_cell_bytes, Operand, Literally, At, drops}
 
 -- the byte of a truth value: 1 for true
 abbrev pub truth_byte : Bool → ℕ
@@ -42,6 +44,11 @@ literal_bytes source e (Character code) = option_map (λ layout. low_bytes layou
 unfoldable pub put : Store → Path → List ℕ → End (Unit {0})
 put store path bytes =
     if length bytes == length (store path.cell) then Go tt (with_cell_bytes store path.cell bytes) no_cost else Stuck
+
+-- bytes are written that were read, where there are some
+abbrev pub copy_to : Store → Path → Option (List ℕ) → End (Unit {0})
+copy_to store path (Some bytes) = put store path bytes
+copy_to store path None = Stuck
 
 -- a literal is a constant of its type, which takes as many bytes as a cell each time that it is evaluated
 abbrev pub constant_cost : Source → ℕ → Cost
@@ -66,8 +73,14 @@ pub record Value : Type 0 where
   pub kind : Option Kind
   pub bytes : List ℕ
 
-abbrev pub value_of : Source → Store → Operand → Value
-value_of source store operand = record { kind = operand_kind source operand; bytes = operand_bytes store operand }
+abbrev pub value_of : Source → Store → Operand → Option Value
+value_of source store operand = option_map (λ bytes. record { kind = operand_kind source operand; bytes = bytes }) (operand_bytes source store operand)
+
+-- what an operation reads of operands when it runs, where each has bytes
+unfoldable pub values_of : Source → Store → List Operand → Option (List Value)
+values_of source store [] = Some []
+values_of source store (first ∷ rest) =
+    option_and_then (λ value. option_map (λ others. value ∷ others) (values_of source store rest)) (value_of source store first)
 
 -- a value converted to a type of a size
 abbrev pub converted_to : Option ℕ → Value → Answer
@@ -87,10 +100,15 @@ answered world ty MakeArray parts = Computes (flat_map (λ part. part.bytes) par
 answered world ty Repeat (one ∷ []) = repeated_for (option_and_then array_length ty) one.bytes
 answered world ty _ _ = Undefined
 
+-- and of operands, where each has bytes
+abbrev pub answered_for : HirDatabase → (ty : Option Ty) → Operation → Option (List Value) → Answer
+answered_for world ty operation (Some values) = answered world ty operation values
+answered_for world ty operation None = Undefined
+
 -- What each expression means at one amount of fuel: as a place, as an operand, evaluated into a path, and, before its value is
 -- adjusted, itself evaluated into a path.
 pub record Level : Type 0 where
-  pub place : ℕ → Store → End Path
+  pub place : ℕ → Store → End Place
   pub operand : ℕ → Store → End Operand
   pub into : ℕ → Path → Store → End (Unit {0})
   pub own : ℕ → Path → Store → End (Unit {0})
@@ -113,16 +131,21 @@ no_fuel around = record {
 }
 
 -- the place that a path names: the cell of a binding
-abbrev pub named_place : Option ValueNs → Store → End Path
-named_place (Some (LocalBinding b)) store = Go (record { cell = Binding b.0 }) store no_cost
+abbrev pub named_place : Option ValueNs → Store → End Place
+named_place (Some (LocalBinding b)) store = Go (whole (Binding b.0)) store no_cost
 named_place _ store = Stuck
+
+-- a field is its base's place, and the step to the part
+abbrev pub field_place : Level → (base : ℕ) → TupleFieldId → Store → End Place
+field_place below base field store = then_do (below.place base store) (λ place later. Go (projected (Part field) place) later no_cost)
 
 -- a path is the place that it names; an expression that is no place goes into a cell of its own, which is then its
 -- place
-abbrev pub place_of : Source → Levels → Around → ℕ → Option CoreExpr → Store → End Path
+abbrev pub place_of : Source → Levels → Around → ℕ → Option CoreExpr → Store → End Place
 place_of source below around e (Some (expr.Path name)) store = named_place (named_by source e) store
+place_of source below around e (Some (expr.Field base field)) store = field_place (below around) base field store
 place_of source below around e _ store =
-    then_do ((below (marking (Node e ∷ []) around)).into e (record { cell = Node e }) store) (λ _ later. Go (record { cell = Node e }) later no_cost)
+    then_do ((below (marking (Node e ∷ []) around)).into e (record { cell = Node e }) store) (λ _ later. Go (whole (Node e)) later no_cost)
 
 -- a literal is its bytes; any other expression is evaluated to a place, whose bytes the
 -- operation reads
@@ -135,7 +158,7 @@ literal_operand source e store None = Stuck
 
 abbrev pub operand_of : Source → Levels → Around → ℕ → Option CoreExpr → Store → End Operand
 operand_of source below around e (Some (expr.Literal l)) store = literal_operand source e store (literal_bytes source e l)
-operand_of source below around e _ store = then_do ((below around).place e store) (λ path later. Go (At path) later no_cost)
+operand_of source below around e _ store = then_do ((below around).place e store) (λ place later. Go (At place) later no_cost)
 
 -- operands from left to right
 unfoldable pub operands_of : Source → Levels → Around → List ℕ → Store → End (List Operand)
@@ -147,11 +170,11 @@ operands_of source below around (e ∷ rest) store =
 -- the operands from left to right, and then the operation, which reads them all, computes, and writes
 abbrev pub strict_into : Source → Levels → Around → ℕ → Operation → List ℕ → Path → Store → End (Unit {0})
 strict_into source below around e operation operands path store =
-    then_do (operands_of source below around operands store) (λ given later. put_answer later path (answered source.world (own_type source e) operation (map (value_of source later) given)))
+    then_do (operands_of source below around operands store) (λ given later. put_answer later path (answered_for source.world (own_type source e) operation (values_of source later given)))
 
 -- Whether bytes are one byte, and this is the given number. Other bytes than one have no answer.
-abbrev pub is_byte : ℕ → List ℕ → Option Bool
-is_byte number (byte ∷ []) = Some (byte == number)
+abbrev pub is_byte : ℕ → Option (List ℕ) → Option Bool
+is_byte number (Some (byte ∷ [])) = Some (byte == number)
 is_byte number _ = None
 
 -- the byte of a left operand at which the right one isn't evaluated: 0 for `&&`, 1 for `||`
@@ -166,7 +189,7 @@ reading_cost source (At path) = no_cost
 
 -- An operand that decides is written. Else the right operand is evaluated into the path.
 abbrev pub decided_into : Source → Level → Operand → (right : ℕ) → Option Bool → Path → Store → End (Unit {0})
-decided_into source below left right (Some true) path store = after (reading_cost source left) (put store path (operand_bytes store left))
+decided_into source below left right (Some true) path store = after (reading_cost source left) (copy_to store path (operand_bytes source store left))
 decided_into source below left right (Some false) path store = below.into right path store
 decided_into source below left right None path store = Stuck
 
@@ -178,7 +201,7 @@ branched branch = after (turns_alone 1) (then_do branch (λ _ last. Go tt last (
 abbrev pub logic_into : Source → Levels → Around → LogicOp → (left right : ℕ) → Path → Store → End (Unit {0})
 logic_into source below around op left right path store =
     then_do ((below around).operand left store) (λ given later.
-    branched (decided_into source (below (marking (marked_as_operand source left) around)) given right (is_byte (deciding_byte op) (operand_bytes later given)) path later))
+    branched (decided_into source (below (marking (marked_as_operand source left) around)) given right (is_byte (deciding_byte op) (operand_bytes source later given)) path later))
 
 -- an expression that may be left out, evaluated into a path: the tail of a block, or the second branch of an `if`
 abbrev pub tail_into : Level → Option ExprId → Path → Store → End (Unit {0})
@@ -196,23 +219,28 @@ branch_into source below around then_branch else_branch None path store = Stuck
 abbrev pub if_into : Source → Levels → Around → (condition then_branch : ℕ) → (else_branch : Option ExprId) → Path → Store → End (Unit {0})
 if_into source below around condition then_branch else_branch path store =
     then_do ((below around).operand condition store) (λ given later.
-    branched (branch_into source below (marking (marked_as_operand source condition) around) then_branch else_branch (is_byte 1 (operand_bytes later given)) path later))
+    branched (branch_into source below (marking (marked_as_operand source condition) around) then_branch else_branch (is_byte 1 (operand_bytes source later given)) path later))
 
 -- the bytes of what a path names
 abbrev pub named_into : Option ValueNs → Path → Store → End (Unit {0})
 named_into (Some (LocalBinding b)) path store = put store path (store (Binding b.0))
 named_into _ path store = Stuck
 
+-- a field's bytes, after its base's place
+abbrev pub field_into : Source → Level → (base : ℕ) → TupleFieldId → Path → Store → End (Unit {0})
+field_into source below base field path store =
+    then_do (field_place below base field store) (λ place later. copy_to later path (place_bytes source later place))
+
 -- a name is bound, or assigned: the bytes of a place go into the binding's cell
-abbrev pub bind : Option BindingId → Path → Store → End (Unit {0})
-bind (Some id) path store = put store (record { cell = Binding id.0 }) (store path.cell)
-bind None path store = Stuck
+abbrev pub bind : Source → Option BindingId → Place → Store → End (Unit {0})
+bind source (Some id) place store = copy_to store (record { cell = Binding id.0 }) (place_bytes source store place)
+bind source None place store = Stuck
 
 -- a `let` with an initializer: its place, and then the name is bound. An expression statement: its place, and then
 -- what came into use in it is left; a place that is only named is not read.
 abbrev pub statement_of : Source → Level → Statement → Store → End (Unit {0})
 statement_of source below (statement.Let pat (Some e) None) store =
-    then_do (below.place e.0 store) (λ path later. bind (pattern source pat.0) path later)
+    then_do (below.place e.0 store) (λ place later. bind source (pattern source pat.0) place later)
 statement_of source below (statement.Expr e has_semi) store =
     then_do (below.place e.0 store) (λ _ later. Go tt later (turns_alone (drops source (marked_as_place source e.0))))
 statement_of source below _ store = Stuck
@@ -220,12 +248,12 @@ statement_of source below _ store = Stuck
 -- the value's place, and then the name that is the target is assigned; nothing is written where the assignment itself
 -- would be
 abbrev pub assign_into : Source → Level → (target value : ℕ) → Store → End (Unit {0})
-assign_into source below assigned value store = then_do (below.place value store) (λ path later. bind (target source assigned) path later)
+assign_into source below assigned value store = then_do (below.place value store) (λ place later. bind source (target source assigned) place later)
 
 -- A local is assigned what an operator makes of its own value and another: both are read when the operation runs.
 abbrev pub combine_into : Source → Operator → Option BindingId → Operand → Store → End (Unit {0})
 combine_into source op (Some id) given store =
-    put_answer store (record { cell = Binding id.0 }) (answered source.world None (Combine op) (value_of source store (At (record { cell = Binding id.0 })) ∷ value_of source store given ∷ []))
+    put_answer store (record { cell = Binding id.0 }) (answered_for source.world None (Combine op) (values_of source store (At (whole (Binding id.0)) ∷ given ∷ [])))
 combine_into source op None given store = Stuck
 
 -- the value's operand, and then the local that is the target is assigned; nothing is written where the assignment itself would be
@@ -334,21 +362,22 @@ entered_from callees diverging callee None path store = Stuck
 
 -- The body that a call enters. Its return place is the call's destination, and holds what that holds; where the callee must not return,
 -- it is a new cell of the callee's result type.
-abbrev pub entered_into : Callees → (diverging : Bool) → (callee : Option Source) → (given : List (List ℕ)) → Path → Store → End (Unit {0})
-entered_into callees diverging (Some callee) given path store =
+abbrev pub entered_into : Callees → (diverging : Bool) → (callee : Option Source) → (given : Option (List (List ℕ))) → Path → Store → End (Unit {0})
+entered_into callees diverging (Some callee) (Some given) path store =
     entered_from callees diverging callee (started callee (cond diverging (zeroed callee Result) (store path.cell)) given) path store
-entered_into callees diverging None given path store = Stuck
+entered_into callees diverging _ _ path store = Stuck
 
 -- A call: its arguments' operands from left to right, and then its terminator, which reads them all, late, and enters the callee's body.
 abbrev pub call_into : Source → Levels → Callees → Around → ℕ → (callee : Option ℕ) → (args : List ℕ) → Path → Store → End (Unit {0})
 call_into source below callees around e callee args path store =
     then_do (operands_of source below around args store) (λ given later.
-    entered_into callees (must_not_return source e) (source_called source e callee) (map (operand_bytes later) given) path later)
+    entered_into callees (must_not_return source e) (source_called source e callee) (operands_bytes source later given) path later)
 
 -- an expression itself evaluated into a path: the forms that have a meaning so far
 abbrev pub into_of : Source → Levels → Callees → Around → ℕ → Option CoreExpr → Path → Store → End (Unit {0})
 into_of source below callees around e (Some (expr.Literal l)) path store = put_literal source e store path (literal_bytes source e l)
 into_of source below callees around e (Some (expr.Path name)) path store = named_into (named_by source e) path store
+into_of source below callees around e (Some (expr.Field base field)) path store = field_into source (below around) base field path store
 into_of source below callees around e (Some (expr.Strict operation operands)) path store = strict_into source below around e operation operands path store
 into_of source below callees around e (Some (expr.Logic op left right)) path store = logic_into source below around op left right path store
 into_of source below callees around e (Some (expr.If condition then_branch else_branch)) path store = if_into source below around condition then_branch else_branch path store

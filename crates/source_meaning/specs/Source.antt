@@ -1,5 +1,5 @@
 -- A typed body in its world, its nodes, and the cells that hold their values.
-use Rattle.std.specs.Prelude.{◌≡◌, ◌==◌, ◌||◌, ℕ, Bool, true, false, cond, List, [], ◌∷◌, length, filter, not, replicate, Option, Some, None, is_some, slice_get, unwrap_or, option_map, option_and_then, if◌then◌else◌}
+use Rattle.std.specs.Prelude.{◌≡◌, ◌==◌, ◌||◌, ℕ, Bool, true, false, cond, List, [], ◌∷◌, ◌++◌, length, filter, not, replicate, Option, Some, None, is_some, slice_get, unwrap_or, option_map, option_and_then, if◌then◌else◌}
 use Rattle.std.specs.BTreeMap.{is_at}
 use Rattle.std.specs.Map.{lookup}
 use Rattle.types.specs.contracts.ids.ExprIdOrd.TheImpl as ExprIdOrd
@@ -11,8 +11,9 @@ use Rattle.world.specs.declared.infer.ValueNs.{ValueNs}
 use Rattle.world.specs.declared.layout.Layout.{Layout}
 use Rattle.types.specs.declared.ty.Ty.{Ty}
 use Rattle.types.specs.declared.ids.BindingId.{BindingId}
+use Rattle.types.specs.declared.ids.TupleFieldId.{TupleFieldId}
 use Rattle.world.specs.Lookups.{layout_of, type_of, expr_of, is_copy}
-use Rattle.source_meaning.specs.Core.{CoreExpr, cast_operation, core_of, is_adjusted_otherwise, is_adjusted_twice, named_path, type_after, is_adjusted_pattern, is_dereferenced_pattern, path_of, pattern_names_item, local_named, name_of, names_item, never_target}
+use Rattle.source_meaning.specs.Core.{CoreExpr, cast_operation, core_of, field_named, is_adjusted_otherwise, is_adjusted_twice, named_path, type_after, is_adjusted_pattern, is_dereferenced_pattern, path_of, pattern_names_item, local_named, name_of, names_item, never_target}
 
 -- a typed body in its world
 pub record Source : Type 0 where
@@ -25,7 +26,7 @@ pub record Source : Type 0 where
 unfoldable pub node : Source → ℕ → Option CoreExpr
 node source e =
     if is_adjusted_otherwise source.infer (record { 0 = e }) then None
-    else option_and_then (core_of (names_item source.infer (record { 0 = e })) (cast_operation source.infer (record { 0 = e }))) (expr_of source.body e)
+    else option_and_then (core_of (names_item source.infer (record { 0 = e })) (cast_operation source.infer (record { 0 = e })) (field_named source.infer (record { 0 = e }))) (expr_of source.body e)
 
 -- whether an expression's value is adjusted by `NeverToAny`
 abbrev pub diverges : Source → ℕ → Bool
@@ -141,9 +142,27 @@ is_dropped source cell = is_dropped_type source (cell_type source cell)
 abbrev pub drops : Source → List Cell → ℕ
 drops source cells = length (filter (is_dropped source) cells)
 
--- Where a value lies: a cell. Paths are read late: when an operation runs.
+-- where a value is written: a cell
 pub record Path : Type 0 where
   pub cell : Cell
+
+-- one step from a value into it: to a part of a tuple
+pub data PlaceElem : Type 0 where
+  Part : (field : TupleFieldId) → PlaceElem
+
+-- Where a value is read: a cell, or what elements lead to in it, the first one applied first. Places are read late: when an operation
+-- runs.
+pub record Place : Type 0 where
+  pub cell : Cell
+  pub projection : List PlaceElem
+
+-- all of a cell, as a place
+abbrev pub whole : Cell → Place
+whole cell = record { cell = cell; projection = [] }
+
+-- what an element leads to from a place
+abbrev pub projected : PlaceElem → Place → Place
+projected elem place = record { cell = place.cell; projection = place.projection ++ elem ∷ [] }
 
 -- the `!` cell of an expression under `NeverToAny`, which is marked as live before the cells of its parts
 abbrev pub never_marks : Source → ℕ → List Cell
@@ -170,15 +189,7 @@ pub record IsSized (source : Source) (store : Store) : Type 0 where
 abbrev pub with_cell_bytes : Store → Cell → List ℕ → Store
 with_cell_bytes store cell bytes = λ other. cond (same_cell cell other) bytes (store other)
 
--- what an operation reads: a literal's bytes, of a type, or what a path holds when the operation runs
+-- what an operation reads: a literal's bytes, of a type, or what lies at a place when the operation runs
 pub data Operand : Type 0 where
   Literally : (ty : Ty) (bytes : List ℕ) → Operand
-  At : (path : Path) → Operand
-
-abbrev pub operand_bytes : Store → Operand → List ℕ
-operand_bytes store (Literally ty bytes) = bytes
-operand_bytes store (At path) = store path.cell
-
-abbrev pub operand_type : Source → Operand → Option Ty
-operand_type source (Literally ty bytes) = Some ty
-operand_type source (At path) = cell_type source path.cell
+  At : (place : Place) → Operand

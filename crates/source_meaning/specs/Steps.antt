@@ -37,6 +37,7 @@ block_steps statements tail = flat_map statement_steps statements ++ tail_steps 
 abbrev pub steps_of : CoreExpr → List Step
 steps_of (expr.Literal given) = []
 steps_of (expr.Path name) = []
+steps_of (expr.Field base field) = Place base ∷ []
 steps_of (expr.Strict operation operands) = map Operand operands
 steps_of (expr.Logic op left right) = Operand left ∷ Into right ∷ []
 steps_of (expr.If condition then_branch else_branch) = Operand condition ∷ Into then_branch ∷ tail_steps else_branch

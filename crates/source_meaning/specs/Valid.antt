@@ -1,11 +1,12 @@
 -- Which sources the theorem speaks of.
-use Rattle.std.specs.Prelude.{◌≡◌, ℕ, true, cond, List, [], ◌∷◌, length, flat_map, Contains, All, Option, Some, None, option_and_then}
+use Rattle.std.specs.Prelude.{◌≡◌, ℕ, true, cond, List, [], ◌∷◌, length, flat_map, Contains, All, Option, Some, None, option_and_then, slice_get}
 use Rattle.world.specs.declared.body.Statement.{Statement}
 use Rattle.world.specs.declared.body.Statement.TheVariants as statement
 use Rattle.types.specs.declared.ids.BindingId.{BindingId}
 use Rattle.types.specs.declared.ids.ExprId.{ExprId}
 use Rattle.types.specs.declared.ids.FunctionId.{FunctionId}
 use Rattle.types.specs.declared.ids.LabelId.{LabelId}
+use Rattle.types.specs.declared.ids.TupleFieldId.{TupleFieldId}
 use Rattle.world.specs.declared.infer.ValueNs.TheVariants.{LocalBinding}
 use Rattle.world.specs.declared.items.FunctionRow.{FunctionRow}
 use Rattle.world.specs.declared.layout.Layout.{Layout}
@@ -198,6 +199,12 @@ pub record IsPlainPath (source : Source) (e : ℕ) (ty : Ty) : Type 0 where
   pub named : named_by source e ≡ Some (LocalBinding binding)
   pub binding_has : binding_type source binding.0 ≡ Some ty
 
+-- a field is the part of its base that inference resolved it to, and has that part's type; the base is a tuple
+pub record IsPlainField (source : Source) (base : ℕ) (field : TupleFieldId) (ty : Ty) : Type 0 where
+  pub parts : List Ty
+  pub base_has : node_type source base ≡ Some (TupleTy parts)
+  pub part_has : slice_get parts field.index ≡ Some ty
+
 -- the value of a `return`, where there is one, has the type of the body's result
 pub record HasPlainReturn (source : Source) (value : Option ExprId) : Type 0 where
   pub ty : Ty
@@ -240,6 +247,7 @@ pub record IsPlainCall (source : Source) (e : ℕ) (callee : Option ℕ) (args :
 abbrev pub HasPlainForm : Source → ℕ → Option CoreExpr → Ty → Type 0
 HasPlainForm source e (Some (expr.Literal l)) ty = IsPlainLiteral l ty
 HasPlainForm source e (Some (expr.Path name)) ty = IsPlainPath source e ty
+HasPlainForm source e (Some (expr.Field base field)) ty = IsPlainField source base field ty
 HasPlainForm source e (Some (expr.Strict operation operands)) ty = IsPlainStrict source operation operands ty
 HasPlainForm source e (Some (expr.Logic op left right)) ty = IsPlainLogic source left right ty
 HasPlainForm source e (Some (expr.If condition then_branch else_branch)) ty = IsPlainIf source condition then_branch else_branch ty

@@ -1,0 +1,82 @@
+-- Places: which bytes of a cell one is, and of which type.
+use Rattle.std.specs.Prelude.{ℕ, ◌+◌, List, [], ◌∷◌, length, take, drop, Option, Some, None, option_and_then, option_map, slice_get, if◌then◌else◌, nat_le}
+use Rattle.types.specs.declared.ids.TupleFieldId.{TupleFieldId}
+use Rattle.types.specs.declared.ty.ComplexMemoryMap.{ComplexMemoryMap}
+use Rattle.types.specs.declared.ty.Const.{Const}
+use Rattle.types.specs.declared.ty.GenericArg.{GenericArg}
+use Rattle.types.specs.declared.ty.GenericArgs.{GenericArgs}
+use Rattle.types.specs.declared.ty.MemoryMap.{MemoryMap}
+use Rattle.types.specs.declared.ty.TraitRef.{TraitRef}
+use Rattle.types.specs.declared.ty.Ty.{Ty, Ty-F, out-Ty}
+use Rattle.types.specs.declared.ty.Const.TheOpen as layer
+use Rattle.types.specs.declared.ty.UnevaluatedConst.{UnevaluatedConst}
+use Rattle.types.specs.declared.ty.ValueConst.{ValueConst}
+use Rattle.world.specs.declared.database.HirDatabase.{HirDatabase}
+use Rattle.world.specs.Lookups.{layout_of}
+use Rattle.source_meaning.specs.Source.{Source, Store, cell_type, PlaceElem, Part, Place, Operand, Literally, At}
+
+-- a type's variant
+abbrev TyLayer : Type 0
+TyLayer = Ty-F Const GenericArg MemoryMap Ty ComplexMemoryMap GenericArgs TraitRef UnevaluatedConst ValueConst
+
+-- the type of a part of a tuple
+abbrev part_at : TupleFieldId → TyLayer → Option Ty
+part_at field (layer.Tuple parts) = slice_get parts field.index
+part_at field _ = None
+
+-- the type that an element leads to from a value of a type
+abbrev pub elem_type : PlaceElem → Ty → Option Ty
+elem_type (Part field) ty = part_at field (out-Ty ty)
+
+-- how far behind the value's first byte that begins: as the layout of the value's type says
+abbrev pub elem_offset : HirDatabase → PlaceElem → Ty → Option ℕ
+elem_offset world (Part field) ty = option_and_then (λ layout. slice_get layout.offsets field.index) (layout_of world ty)
+
+-- the type of what elements lead to, one after another
+unfoldable pub type_behind : List PlaceElem → Option Ty → Option Ty
+type_behind [] ty = ty
+type_behind (elem ∷ rest) ty = type_behind rest (option_and_then (elem_type elem) ty)
+
+-- the sum of two numbers, where both are there
+abbrev pub added : Option ℕ → Option ℕ → Option ℕ
+added (Some first) (Some second) = Some (first + second)
+added _ _ = None
+
+-- how far behind the value's first byte it begins
+unfoldable pub offset_behind : HirDatabase → List PlaceElem → Option Ty → Option ℕ
+offset_behind world [] ty = Some 0
+offset_behind world (elem ∷ rest) ty = added (option_and_then (elem_offset world elem) ty) (offset_behind world rest (option_and_then (elem_type elem) ty))
+
+-- so many bytes from an offset on, where there are as many
+abbrev pub part_of : (offset size : ℕ) → List ℕ → Option (List ℕ)
+part_of offset size bytes = if nat_le (offset + size) (length bytes) then Some (take size (drop offset bytes)) else None
+
+-- What elements lead to in a value of a type: as many bytes as the type there has, from where it begins. Without elements it is all of the
+-- value.
+unfoldable pub bytes_behind : HirDatabase → List PlaceElem → Option Ty → List ℕ → Option (List ℕ)
+bytes_behind world [] ty bytes = Some bytes
+bytes_behind world (elem ∷ rest) ty bytes =
+    option_and_then (λ offset. option_and_then (λ size. part_of offset size bytes)
+    (option_map (λ layout. layout.size) (option_and_then (layout_of world) (type_behind (elem ∷ rest) ty)))) (offset_behind world (elem ∷ rest) ty)
+
+-- the type of a place's value, and its bytes now, where its type and the layouts on the way say which they are
+unfoldable pub place_type : Source → Place → Option Ty
+place_type source place = type_behind place.projection (cell_type source place.cell)
+
+unfoldable pub place_bytes : Source → Store → Place → Option (List ℕ)
+place_bytes source store place = bytes_behind source.world place.projection (cell_type source place.cell) (store place.cell)
+
+-- the type of an operand, and its bytes now
+abbrev pub operand_type : Source → Operand → Option Ty
+operand_type source (Literally ty bytes) = Some ty
+operand_type source (At place) = place_type source place
+
+abbrev pub operand_bytes : Source → Store → Operand → Option (List ℕ)
+operand_bytes source store (Literally ty bytes) = Some bytes
+operand_bytes source store (At place) = place_bytes source store place
+
+-- the bytes of operands, where each has some
+unfoldable pub operands_bytes : Source → Store → List Operand → Option (List (List ℕ))
+operands_bytes source store [] = Some []
+operands_bytes source store (first ∷ rest) =
+    option_and_then (λ bytes. option_map (λ others. bytes ∷ others) (operands_bytes source store rest)) (operand_bytes source store first)
