@@ -12,6 +12,7 @@ pub mod Marks
 pub mod Never
 mod Operators
 pub mod Parts
+pub mod Places
 pub mod Reached
 pub mod Runs
 pub mod Sizes

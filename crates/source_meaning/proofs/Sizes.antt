@@ -8,6 +8,7 @@ use Rattle.world.specs.declared.body.Statement.{Statement}
 use Rattle.world.specs.declared.body.Statement.TheVariants as statement
 use Rattle.types.specs.declared.ids.ExprId.{ExprId}
 use Rattle.types.specs.declared.ids.LabelId.{LabelId}
+use Rattle.types.specs.declared.ids.TupleFieldId.{TupleFieldId}
 use Rattle.types.specs.declared.operators.LogicOp.{LogicOp}
 use Rattle.types.specs.declared.ty.Ty.{Ty, Bool as BoolTy, Int as IntType, Uint as UintType}
 use Rattle.world.specs.Checked.{IsChecked, IsCheckedBody}
@@ -25,17 +26,20 @@ use Rattle.source_meaning.specs.Core.{CoreExpr, CoreLiteral, Truth, Number, Char
 use Rattle.source_meaning.specs.Ends.{Cost, no_cost, turns_alone, plus, End, Go, Jumps, Jump, Break, Continue, Return, Faults, Stuck, More, JumpsNowhere, after, then_do}
 use Rattle.source_meaning.specs.Entering.{entering}
 use Rattle.source_meaning.specs.Events.{marked, marked_as_operand, marked_by_statement}
-use Rattle.source_meaning.specs.Meaning.{Level, Levels, Callees, value_of, answered, truth_byte, literal_bytes, constant_cost, put, put_literal, put_answer, literal_operand, named_place, named_into, bind, operands_of, strict_into, is_byte, deciding_byte, reading_cost, decided_into, branched, logic_into, tail_into, branch_into, if_into, assign_into, combine_into, compound_into, statement_of, statements_of, block_into, caught, again_into, labelled_into, turn_of, loop_into, break_to, break_into, continue_to, continue_into, return_into, call_ended, entered_from, entered_into, call_into, no_fuel, place_of, operand_of, into_of, level_above, level_at, returned, body_meaning, callees_at, meaning_from}
-use Rattle.source_meaning.specs.Source.{Source, Store, IsSized, Path, Cell, Result, Node, Binding, Operand, Literally, At, operand_bytes, zeroed, node, unadjusted, never_marks, own_path, own_type, node_type, own_layout, pattern, target, compound_target, root, cell_type, binding_type, cell_size}
+use Rattle.source_meaning.specs.Meaning.{Level, Levels, Callees, Value, operand_kind, values_of, answered, answered_for, truth_byte, literal_bytes, constant_cost, put, copy_to, put_literal, put_answer, literal_operand, named_place, named_into, field_place, field_into, bind, operands_of, strict_into, is_byte, deciding_byte, reading_cost, decided_into, branched, logic_into, tail_into, branch_into, if_into, assign_into, combine_into, compound_into, statement_of, statements_of, block_into, caught, again_into, labelled_into, turn_of, loop_into, break_to, break_into, continue_to, continue_into, return_into, call_ended, entered_from, entered_into, call_into, no_fuel, place_of, operand_of, into_of, level_above, level_at, returned, body_meaning, callees_at, meaning_from}
+use Rattle.source_meaning.specs.Places.{place_bytes, operand_bytes, operands_bytes}
+use Rattle.source_meaning.specs.Source.{Source, Store, IsSized, Path, Part, Place, whole, projected, Cell, Result, Node, Binding, Operand, Literally, At, zeroed, node, unadjusted, never_marks, own_path, own_type, node_type, own_layout, pattern, target, compound_target, root, cell_type, binding_type, cell_size}
 use Rattle.source_meaning.specs.Steps.{parts_of, statement_parts, tail_steps}
 use Rattle.source_meaning.specs.Steps as step
 use Rattle.source_meaning.specs.Valid.{Evaluates, itself, part, IsNumber, IsBool, IsPlainLiteral, HaveTypes, IsPlainLet, IsPlainStatement, IsPlainTail, IsPlainAssign, IsPlainCompound, HasPlainForm, IsPlainNode, EvaluatesIn, itself_in, part_in, opened_in, HasPlainTarget, HasOpenTarget, FitsAround, JumpsFit, IsPlain, AreBound, IsLaidOut, IsLaidOutNode, sized_parts, NeedsLayout, own, inside, AreLaidOut, Calls, through, at_once, IsPlainThroughout, AreLaidOutThroughout}
+use Rattle.source_meaning.proofs.Aggregates.{AreBytes}
 use Rattle.source_meaning.proofs.Calls.{called_world, called_by_name, AreFor, started_is_sized}
 use Rattle.source_meaning.proofs.Depth.{evaluates_then, operand_is_part, argument_is_part, logic_operand_is_part, if_part_is_part}
 use Rattle.source_meaning.proofs.Layouts.{bool_is_number, bool_length_is_one}
 use Rattle.source_meaning.proofs.Never.{undiverted-type, own_path-fits, unadjusted-plain}
 use Rattle.source_meaning.proofs.Operators.{Fits, IsLengthOf}
 use Rattle.source_meaning.proofs.Parts.{first_is_contained, rest_is_contained, operand_is_sized, first_is_sized, right_is_sized, branch_is_sized, sized_part_is_part, sized_block_parts, sized_tail}
+use Rattle.source_meaning.proofs.Places.{IsPlaceOf, HasValue, whole_is_place, part_is_place, place_has_bytes, place_has_value, values_of-more, operands_bytes-more}
 use Rattle.source_meaning.proofs.Stores.{with_bytes_is_sized}
 use Rattle.source_meaning.proofs.Values.{size_at, IsValueOf, AreValues, combined_fits, number_is_long, typed_fits}
 
@@ -88,6 +92,10 @@ put_is_sound : (source : Source) (targets : List Target) (store : Store) (path :
 unfolding put
 put_is_sound source targets store path bytes sized fits =
     either_is_sound source targets (length bytes == length (store path.cell)) _ Stuck (eq-eqb _ _ (fits ∙ sym (sized.holds_all path.cell))) (with_bytes_is_sized source store path.cell bytes sized fits, tt)
+
+copy_is_sound : (source : Source) (targets : List Target) (store : Store) (path : Path) (given : Option (List ℕ)) → IsSized source store → AreBytes (cell_size source path.cell) given → IsSound source targets Nothing (copy_to store path given)
+copy_is_sound source targets store path given sized there =
+    subst (λ bytes. IsSound source targets Nothing (copy_to store path bytes)) (sym there.is) (put_is_sound source targets store path there.bytes sized there.long)
 
 put_answer_is_sound : (source : Source) (targets : List Target) (store : Store) (path : Path) (answer : Answer) → IsSized source store → Fits (cell_size source path.cell) answer → IsSound source targets Nothing (put_answer store path answer)
 put_answer_is_sound source targets store path (Computes bytes) sized fits = put_is_sound source targets store path bytes sized fits
@@ -194,6 +202,10 @@ module _ (source : Source) (checked : IsChecked source.world) where
   abbrev PathFits : ℕ → Path → Type 0
   PathFits e path = cell_type source path.cell ≡ node_type source e
 
+  -- a place of an expression's value
+  abbrev PlaceFits : ℕ → Place → Type 0
+  PlaceFits e place = IsPlaceOf source place (node_type source e)
+
   -- a path to a cell of the expression's own type
   abbrev OwnFits : ℕ → Path → Type 0
   OwnFits e path = cell_type source path.cell ≡ own_type source e
@@ -206,7 +218,7 @@ module _ (source : Source) (checked : IsChecked source.world) where
   -- an operand of an expression's type
   abbrev OperandFits : ℕ → Operand → Type 0
   OperandFits e (Literally ty bytes) = (node_type source e ≡ Some ty) × IsLiteralOf ty bytes
-  OperandFits e (At path) = PathFits e path × IsLaidOut source (node_type source e)
+  OperandFits e (At place) = PlaceFits e place
 
   abbrev OperandsFit : List ℕ → List Operand → Type 0
   OperandsFit [] [] = Unit {0}
@@ -224,7 +236,7 @@ module _ (source : Source) (checked : IsChecked source.world) where
   marks_stand cells stands = record { opened = stands.opened; fits = stands.fits; returns = stands.returns }
 
   record IsSoundLevel (outer : List Opened) (targets : List Target) (level : Level) : Type 0 where
-    place : (e : ℕ) (store : Store) → IsFine source outer e → IsSized source store → IsSound source targets (PathFits e) (level.place e store)
+    place : (e : ℕ) (store : Store) → IsFine source outer e → IsSized source store → IsSound source targets (PlaceFits e) (level.place e store)
     operand : (e : ℕ) (store : Store) → IsFineOperand source outer e → IsSized source store → IsSound source targets (OperandFits e) (level.operand e store)
     into : (e : ℕ) (path : Path) (store : Store) → IsFine source outer e → IsSized source store → PathFits e path → IsSound source targets Nothing (level.into e path store)
     own : (e : ℕ) (path : Path) (store : Store) → IsFine source outer e → IsSized source store → OwnFits e path → IsSound source targets Nothing (level.own e path store)
@@ -247,67 +259,67 @@ module _ (source : Source) (checked : IsChecked source.world) where
   same_layout called same ty laid = record { layout = laid.layout; found = ap (λ world. option_and_then (layout_of world) ty) (sym same) ∙ laid.found }
 
   -- what an operand's bytes are when the operation runs
-  operand_is_value : (e : ℕ) (ty : Ty) (operand : Operand) (store : Store) → IsSized source store → node_type source e ≡ Some ty → OperandFits e operand → IsValueOf source ty (value_of source store operand)
+  operand_is_value : (e : ℕ) (ty : Ty) (operand : Operand) (store : Store) → IsSized source store → node_type source e ≡ Some ty → OperandFits e operand → HasValue source store operand ty
   operand_is_value e ty (Literally given bytes) store sized is fits =
       let same : given ≡ ty = (let one = fits.0 in cc) in
       record {
-        kind = ap kind_of same;
-        long = subst (λ t. IsNumber t → IsLengthOf t (length bytes)) same fits.1.long;
-        size = subst (λ t. (length bytes ≡ size_at source (Some t)) ⊎ IsBool t) same fits.1.size;
+        bytes = bytes;
+        is = refl;
+        value = record {
+          kind = ap kind_of same;
+          long = subst (λ t. IsNumber t → IsLengthOf t (length bytes)) same fits.1.long;
+          size = subst (λ t. (length bytes ≡ size_at source (Some t)) ⊎ IsBool t) same fits.1.size;
+        };
       }
-  operand_is_value e ty (At path) store sized is fits =
-      let size : length (store path.cell) ≡ size_at source (Some ty) = sized.holds_all path.cell ∙ ap (size_at source) (fits.0 ∙ is) in
-      record {
-        kind = ap (option_and_then kind_of) (fits.0 ∙ is);
-        long = λ scalar. subst (IsLengthOf ty) (sym size) (scalar_size ty (subst (IsLaidOut source) is fits.1) scalar);
-        size = inl size;
-      }
-
-  -- what lies in a binding's cell
-  binding_is_value : (b : ℕ) (ty : Ty) (store : Store) → IsSized source store → binding_type source b ≡ Some ty → IsLaidOut source (Some ty) → IsValueOf source ty (value_of source store (At (record { cell = Binding b })))
-  binding_is_value b ty store sized is laid =
-      let size : length (store (Binding b)) ≡ size_at source (Some ty) = sized.holds_all (Binding b) ∙ ap (size_at source) is in
-      record {
-        kind = ap (option_and_then kind_of) is;
-        long = λ number. subst (IsLengthOf ty) (sym size) (scalar_size ty laid number);
-        size = inl size;
-      }
+  operand_is_value e ty (At place) store sized is fits = place_has_value source checked store place ty sized (subst (IsPlaceOf source place) is fits)
 
   -- the one byte of an operand of type `bool`
-  truth_has_byte : (e : ℕ) (operand : Operand) (store : Store) → IsSized source store → node_type source e ≡ Some BoolTy → OperandFits e operand → length (operand_bytes store operand) ≡ 1
-  truth_has_byte e operand store sized is fits = let value = operand_is_value e BoolTy operand store sized is fits in value.long tt
+  truth_has_byte : (e : ℕ) (operand : Operand) (store : Store) → IsSized source store → node_type source e ≡ Some BoolTy → OperandFits e operand → AreBytes 1 (operand_bytes source store operand)
+  truth_has_byte e operand store sized is fits = let read = operand_is_value e BoolTy operand store sized is fits in record { bytes = read.bytes; is = read.is; long = read.value.long tt }
 
   -- is a number or is none
-  byte_decides : (number : ℕ) (bytes : List ℕ) → length bytes ≡ 1 → (test : Bool) × (is_byte number bytes ≡ Some test)
-  byte_decides number [] long = absurd (omega arith)
-  byte_decides number (byte ∷ []) long = (byte == number, refl)
-  byte_decides number (byte ∷ other ∷ rest) long = absurd (omega arith)
+  byte_decides : (number : ℕ) (given : Option (List ℕ)) → AreBytes 1 given → (test : Bool) × (is_byte number given ≡ Some test)
+  byte_decides number given one = let decided = of_bytes one.bytes one.long in (decided.0, ap (is_byte number) one.is ∙ decided.1)
+    where
+      of_bytes : (bytes : List ℕ) → length bytes ≡ 1 → (test : Bool) × (is_byte number (Some bytes) ≡ Some test)
+      of_bytes [] long = absurd (omega arith)
+      of_bytes (byte ∷ []) long = (byte == number, refl)
+      of_bytes (byte ∷ other ∷ rest) long = absurd (omega arith)
 
-  operands_are_values : (operands : List ℕ) (types : List Ty) (given : List Operand) (store : Store) → IsSized source store → HaveTypes source operands types → OperandsFit operands given → AreValues source types (map (value_of source store) given)
-  operands_are_values [] [] [] store sized have fits = tt
+  operands_are_values : (operands : List ℕ) (types : List Ty) (given : List Operand) (store : Store) → IsSized source store → HaveTypes source operands types → OperandsFit operands given →
+      (values : List Value) × (values_of source store given ≡ Some values) × AreValues source types values
+  unfolding values_of
+  operands_are_values [] [] [] store sized have fits = ([], refl, tt)
   operands_are_values [] [] (one ∷ others) store sized have fits = absurd fits
   operands_are_values [] (ty ∷ types) given store sized have fits = absurd have
   operands_are_values (e ∷ rest) [] given store sized have fits = absurd have
   operands_are_values (e ∷ rest) (ty ∷ types) [] store sized have fits = absurd fits
   operands_are_values (e ∷ rest) (ty ∷ types) (one ∷ others) store sized have fits =
-      (operand_is_value e ty one store sized have.0 fits.0, operands_are_values rest types others store sized have.1 fits.1)
+      let read = operand_is_value e ty one store sized have.0 fits.0 in
+      let later = operands_are_values rest types others store sized have.1 fits.1 in
+      (record { kind = operand_kind source one; bytes = read.bytes } ∷ later.0, values_of-more source store one others read.bytes later.0 read.is later.1, (read.value, later.2))
 
   -- an argument has as many bytes as the cell of a parameter of its type
   argument_fits : (called : Source) → called.world ≡ source.world → AreLaidOut called → (e b : ℕ) (ty : Ty) (operand : Operand) (store : Store) → IsSized source store → node_type source e ≡ Some ty → binding_type called b ≡ Some ty → OperandFits e operand →
-      length (operand_bytes store operand) ≡ cell_size called (Binding b)
+      AreBytes (cell_size called (Binding b)) (operand_bytes source store operand)
   argument_fits called same laid_out e b ty operand store sized is is' fits =
-      let value = operand_is_value e ty operand store sized is fits in
+      let read = operand_is_value e ty operand store sized is fits in
       let size : cell_size called (Binding b) ≡ size_at source (Some ty) = ap (size_at called) is' ∙ same_size called same (Some ty) in
       let laid = same_layout called same (Some ty) (laid_out.bindings b ty is') in
-      ⊎_elim (λ long. long ∙ sym size)
-      (λ is_bool.
-      let scalar = bool_is_number ty is_bool in
-      bool_length_is_one ty (length (operand_bytes store operand)) is_bool (value.long scalar) ∙ sym (bool_length_is_one ty (size_at source (Some ty)) is_bool (scalar_size ty laid scalar)) ∙ sym size)
-      value.size
+      record {
+        bytes = read.bytes;
+        is = read.is;
+        long = ⊎_elim (λ long. long ∙ sym size)
+            (λ is_bool.
+            let scalar = bool_is_number ty is_bool in
+            bool_length_is_one ty (length read.bytes) is_bool (read.value.long scalar) ∙ sym (bool_length_is_one ty (size_at source (Some ty)) is_bool (scalar_size ty laid scalar)) ∙ sym size)
+            read.value.size;
+      }
 
   arguments_fit : (called : Source) → called.world ≡ source.world → AreLaidOut called → (types : List Ty) (args bound : List ℕ) (given : List Operand) (store : Store) → IsSized source store → HaveTypes source args types → AreBound called bound types → OperandsFit args given →
-      AreFor called bound (map (operand_bytes store) given)
-  arguments_fit called same laid_out [] [] [] [] store sized have bound_have fits = tt
+      (all : List (List ℕ)) × (operands_bytes source store given ≡ Some all) × AreFor called bound all
+  unfolding operands_bytes
+  arguments_fit called same laid_out [] [] [] [] store sized have bound_have fits = ([], refl, tt)
   arguments_fit called same laid_out [] [] (b ∷ bound) given store sized have bound_have fits = absurd bound_have
   arguments_fit called same laid_out [] [] [] (one ∷ others) store sized have bound_have fits = absurd fits
   arguments_fit called same laid_out [] (e ∷ rest) bound given store sized have bound_have fits = absurd have
@@ -315,7 +327,9 @@ module _ (source : Source) (checked : IsChecked source.world) where
   arguments_fit called same laid_out (ty ∷ types) (e ∷ rest) [] given store sized have bound_have fits = absurd bound_have
   arguments_fit called same laid_out (ty ∷ types) (e ∷ rest) (b ∷ bound) [] store sized have bound_have fits = absurd fits
   arguments_fit called same laid_out (ty ∷ types) (e ∷ rest) (b ∷ bound) (one ∷ others) store sized have bound_have fits =
-      (argument_fits called same laid_out e b ty one store sized have.0 bound_have.0 fits.0, arguments_fit called same laid_out types rest bound others store sized have.1 bound_have.1 fits.1)
+      let read = argument_fits called same laid_out e b ty one store sized have.0 bound_have.0 fits.0 in
+      let later = arguments_fit called same laid_out types rest bound others store sized have.1 bound_have.1 fits.1 in
+      (read.bytes ∷ later.0, operands_bytes-more source store one others read.bytes later.0 read.is later.1, (read.long, later.2))
 
   -- a call ends well where its callee does
   call_is_sound : (targets : List Target) (diverging : Bool) (called : Source) (path : Path) (store : Store) (end : End (List ℕ)) → IsSized source store → cell_size called Result ≡ cell_size source path.cell → IsSettled called end → IsSound source targets Nothing (call_ended diverging path store end)
@@ -338,7 +352,7 @@ module _ (source : Source) (checked : IsChecked source.world) where
   result_is_long called false path store sized same = sized.holds_all path.cell ∙ sym same
 
   entered_is_sound : (targets : List Target) (callees : Callees) (diverging : Bool) (called : Source) (bound : List ℕ) (given : List (List ℕ)) (path : Path) (store : Store) → IsSized source store → cell_size called Result ≡ cell_size source path.cell →
-      parameters called ≡ Some bound → AreFor called bound given → ((start : Store) → IsSized called start → IsSettled called (callees called start)) → IsSound source targets Nothing (entered_into callees diverging (Some called) given path store)
+      parameters called ≡ Some bound → AreFor called bound given → ((start : Store) → IsSized called start → IsSettled called (callees called start)) → IsSound source targets Nothing (entered_into callees diverging (Some called) (Some given) path store)
   entered_is_sound targets callees diverging called bound given path store sized same binds fits settle =
       let from = started_is_sized called bound (cond diverging (zeroed called Result) (store path.cell)) given binds (result_is_long called diverging path store sized same) fits in
       subst (λ start. IsSound source targets Nothing (entered_from callees diverging called start path store)) (sym from.1)
@@ -369,17 +383,22 @@ module _ (source : Source) (checked : IsChecked source.world) where
       subst (λ g. IsSound source targets Nothing (put_literal source e store path g)) (sym is)
       (after_is_sound source targets Nothing (constant_cost source e) (put store path bytes) (put_is_sound source targets store path bytes sized fits))
 
+  -- what lies at a place goes to a cell of its type
+  copied_is_sound : (targets : List Target) (place : Place) (ty : Option Ty) (path : Path) (store : Store) → IsSized source store → IsPlaceOf source place ty → cell_type source path.cell ≡ ty → IsSound source targets Nothing (copy_to store path (place_bytes source store place))
+  copied_is_sound targets place ty path store sized fits is =
+      copy_is_sound source targets store path (place_bytes source store place) sized (subst (λ size. AreBytes size (place_bytes source store place)) (sym (ap (size_at source) is)) (place_has_bytes source store place ty sized fits))
+
   -- the binding of a plain `let` has the initializer's type
-  bind_is_sound : (targets : List Target) (pat e : ℕ) (path : Path) (store : Store) → IsPlainLet source pat e → IsSized source store → PathFits e path → IsSound source targets Nothing (bind (pattern source pat) path store)
-  bind_is_sound targets pat e path store plain sized fits =
-      subst (λ given. IsSound source targets Nothing (bind given path store)) (sym plain.binds)
-      (put_is_sound source targets store (record { cell = Binding plain.binding.0 }) (store path.cell) sized (sized.holds_all path.cell ∙ ap (size_at source) (fits ∙ plain.initializer_has ∙ sym plain.binding_has)))
+  bind_is_sound : (targets : List Target) (pat e : ℕ) (place : Place) (store : Store) → IsPlainLet source pat e → IsSized source store → PlaceFits e place → IsSound source targets Nothing (bind source (pattern source pat) place store)
+  bind_is_sound targets pat e place store plain sized fits =
+      subst (λ given. IsSound source targets Nothing (bind source given place store)) (sym plain.binds)
+      (copied_is_sound targets place (node_type source e) (record { cell = Binding plain.binding.0 }) store sized fits (plain.binding_has ∙ sym plain.initializer_has))
 
   -- the binding that a plain assignment names has the value's type
-  assigned_is_sound : (targets : List Target) (assigned value : ℕ) (path : Path) (store : Store) → IsPlainAssign source assigned value → IsSized source store → PathFits value path → IsSound source targets Nothing (bind (target source assigned) path store)
-  assigned_is_sound targets assigned value path store plain sized fits =
-      subst (λ given. IsSound source targets Nothing (bind given path store)) (sym plain.names)
-      (put_is_sound source targets store (record { cell = Binding plain.binding.0 }) (store path.cell) sized (sized.holds_all path.cell ∙ ap (size_at source) (fits ∙ plain.value_has ∙ sym plain.binding_has)))
+  assigned_is_sound : (targets : List Target) (assigned value : ℕ) (place : Place) (store : Store) → IsPlainAssign source assigned value → IsSized source store → PlaceFits value place → IsSound source targets Nothing (bind source (target source assigned) place store)
+  assigned_is_sound targets assigned value place store plain sized fits =
+      subst (λ given. IsSound source targets Nothing (bind source given place store)) (sym plain.names)
+      (copied_is_sound targets place (node_type source value) (record { cell = Binding plain.binding.0 }) store sized fits (plain.binding_has ∙ sym plain.value_has))
 
   -- what the node of a fine expression is
   form_of : (e : ℕ) (form : Option CoreExpr) → node source e ≡ form → (plain : IsPlainNode source e) → HasPlainForm source e form plain.ty
@@ -397,18 +416,36 @@ module _ (source : Source) (checked : IsChecked source.world) where
       part_is_fine outer e child (Some (expr.Block statements tail)) is (sized_block_parts source statements tail child within) fine
 
   module _ (aggregates : HasAggregates source.world) (below : Levels) (sound : (outer : List Opened) (around : Around) → Stands outer around → IsSoundLevel outer around.targets (below around)) where
-    place_is_sound : (outer : List Opened) (around : Around) (stands : Stands outer around) (e : ℕ) (form : Option CoreExpr) (store : Store) → unadjusted source e ≡ form → IsFine source outer e → IsSized source store → IsSound source around.targets (PathFits e) (place_of source below around e form store)
+    -- a field is a part of its base's place, and has its own type
+    field_is_sound : (outer : List Opened) (around : Around) (stands : Stands outer around) (e base : ℕ) (field : TupleFieldId) (store : Store) → node source e ≡ Some (expr.Field base field) → IsFine source outer e → IsSized source store →
+        IsSound source around.targets (λ place. IsPlaceOf source place (own_type source e)) (field_place (below around) base field store)
+    field_is_sound outer around stands e base field store is fine sized =
+        let plain = fine.plain e itself in
+        let form = form_of e _ is plain in
+        let base_is_fine = part_is_fine outer e base (Some (expr.Field base field)) is (first_is_contained base []) fine in
+        then_do_is_sound source around.targets (PlaceFits base) (λ place. IsPlaceOf source place (own_type source e)) ((below around).place base store) _ ((sound outer around stands).place base store base_is_fine sized) (λ place later sized' fits.
+        (sized', subst (IsPlaceOf source (projected (Part field) place)) (sym plain.has_type)
+        (part_is_place source aggregates place form.parts field plain.ty (subst (IsPlaceOf source place) form.base_has fits) form.part_has)))
+
+    place_is_sound : (outer : List Opened) (around : Around) (stands : Stands outer around) (e : ℕ) (form : Option CoreExpr) (store : Store) → unadjusted source e ≡ form → IsFine source outer e → IsSized source store → IsSound source around.targets (PlaceFits e) (place_of source below around e form store)
     place_is_sound outer around stands e (Some (expr.Path name)) store is fine sized =
         let plain = fine.plain e itself in
         let form = form_at e _ is plain in
-        subst (λ named. IsSound source around.targets (PathFits e) (named_place named store)) (sym form.0.named) (sized, form.0.binding_has ∙ sym form.1)
+        let laid = fine.laid_out e own in
+        subst (λ named. IsSound source around.targets (PlaceFits e) (named_place named store)) (sym form.0.named)
+        (sized, whole_is_place source (Binding form.0.binding.0) (node_type source e) (form.0.binding_has ∙ sym form.1) laid.of_value)
+    place_is_sound outer around stands e (Some (expr.Field base field)) store is fine sized =
+        let found = unadjusted-plain source e _ is in
+        subst (λ ty. IsSound source around.targets (λ place. IsPlaceOf source place ty) (field_place (below around) base field store)) (sym (undiverted-type source e found.0))
+        (field_is_sound outer around stands e base field store found.1 fine sized)
     place_is_sound outer around stands e _ store is fine sized =
-        then_do_is_sound source around.targets Nothing (PathFits e) ((below (marking (Node e ∷ []) around)).into e _ store) _ ((sound outer (marking (Node e ∷ []) around) (marks_stand (Node e ∷ []) stands)).into e _ store fine sized refl) (λ done later sized' is'. (sized', refl))
+        let laid = fine.laid_out e own in
+        then_do_is_sound source around.targets Nothing (PlaceFits e) ((below (marking (Node e ∷ []) around)).into e _ store) _ ((sound outer (marking (Node e ∷ []) around) (marks_stand (Node e ∷ []) stands)).into e _ store fine sized refl)
+        (λ done later sized' is'. (sized', whole_is_place source (Node e) (node_type source e) refl laid.of_value))
 
-    as_place_is_sound : (outer : List Opened) (around : Around) (stands : Stands outer around) (e : ℕ) (store : Store) → is_truth (unadjusted source e) ≡ false → IsFineOperand source outer e → IsSized source store → IsSound source around.targets (OperandFits e) (then_do ((below around).place e store) (λ path later. Go (At path) later no_cost))
+    as_place_is_sound : (outer : List Opened) (around : Around) (stands : Stands outer around) (e : ℕ) (store : Store) → is_truth (unadjusted source e) ≡ false → IsFineOperand source outer e → IsSized source store → IsSound source around.targets (OperandFits e) (then_do ((below around).place e store) (λ place later. Go (At place) later no_cost))
     as_place_is_sound outer around stands e store truth fine sized =
-        let as_place = fine_as_place outer e truth fine in
-        then_do_is_sound source around.targets (PathFits e) (OperandFits e) ((below around).place e store) _ ((sound outer around stands).place e store as_place sized) (λ path later sized' fits. (let laid = as_place.laid_out e own in (sized', (fits, laid.of_value))))
+        then_do_is_sound source around.targets (PlaceFits e) (OperandFits e) ((below around).place e store) _ ((sound outer around stands).place e store (fine_as_place outer e truth fine) sized) (λ place later sized' fits. (sized', fits))
 
     -- a literal whose bytes are those of a number
     number_is_sound : (outer : List Opened) (around : Around) (e : ℕ) (given : CoreLiteral) (number : ℤ) (store : Store) → unadjusted source e ≡ Some (expr.Literal given) → is_truth (Some (expr.Literal given)) ≡ false → IsFineOperand source outer e → IsSized source store →
@@ -431,6 +468,7 @@ module _ (source : Source) (checked : IsChecked source.world) where
     operand_is_sound outer around stands e (Some (expr.Literal (Number number))) store is fine sized = number_is_sound outer around e (Number number) number store is refl fine sized
     operand_is_sound outer around stands e (Some (expr.Literal (Character code))) store is fine sized = number_is_sound outer around e (Character code) (pos code) store is refl fine sized
     operand_is_sound outer around stands e (Some (expr.Path name)) store is fine sized = as_place_is_sound outer around stands e store (ap is_truth is) fine sized
+    operand_is_sound outer around stands e (Some (expr.Field base field)) store is fine sized = as_place_is_sound outer around stands e store (ap is_truth is) fine sized
     operand_is_sound outer around stands e (Some (expr.Strict operation operands)) store is fine sized = as_place_is_sound outer around stands e store (ap is_truth is) fine sized
     operand_is_sound outer around stands e (Some (expr.Logic op left right)) store is fine sized = as_place_is_sound outer around stands e store (ap is_truth is) fine sized
     operand_is_sound outer around stands e (Some (expr.If condition then_branch else_branch)) store is fine sized = as_place_is_sound outer around stands e store (ap is_truth is) fine sized
@@ -458,18 +496,20 @@ module _ (source : Source) (checked : IsChecked source.world) where
         let form = form_of e _ is plain in
         then_do_is_sound source around.targets (OperandsFit operands) Nothing (operands_of source below around operands store) _ (operands_are_sound outer around stands operands store (λ child within.
         operand_is_fine outer e child (Some (expr.Strict operation operands)) is (operand_is_part source e operation operands child is within) (operand_is_sized source operands child within) fine) sized) (λ given later sized' fit.
+        let read = operands_are_values operands form.types given later sized' form.operands_have fit in
         put_answer_is_sound source around.targets later path _ sized'
-        (subst (λ size. Fits size (answered source.world (own_type source e) operation (map (value_of source later) given))) (sym (ap (size_at source) (fits ∙ plain.has_type)))
-        (subst (λ ty. Fits (size_at source (Some plain.ty)) (answered source.world ty operation (map (value_of source later) given))) (sym plain.has_type)
-        (typed_fits source checked aggregates operation form.types (map (value_of source later) given) plain.ty (laid_at outer e plain.ty fine plain.has_type) form.typed (operands_are_values operands form.types given later sized' form.operands_have fit)))))
+        (subst (λ size. Fits size (answered_for source.world (own_type source e) operation (values_of source later given))) (sym (ap (size_at source) (fits ∙ plain.has_type)))
+        (subst (λ values. Fits (size_at source (Some plain.ty)) (answered_for source.world (own_type source e) operation values)) (sym read.1)
+        (subst (λ ty. Fits (size_at source (Some plain.ty)) (answered source.world ty operation read.0)) (sym plain.has_type)
+        (typed_fits source checked aggregates operation form.types read.0 plain.ty (laid_at outer e plain.ty fine plain.has_type) form.typed read.2)))))
 
     statement_is_sound : (outer : List Opened) (around : Around) (stands : Stands outer around) (given : Statement) (store : Store) → IsPlainStatement source given → ((child : ℕ) → Contains (statement_parts given) child → IsFine source outer child) → IsSized source store → IsSound source around.targets Nothing (statement_of source (below around) given store)
     statement_is_sound outer around stands (statement.Let pat (Some e) None) store plain parts sized =
-        then_do_is_sound source around.targets (PathFits e.0) Nothing ((below around).place e.0 store) _ ((sound outer around stands).place e.0 store (parts e.0 (first_is_contained e.0 [])) sized) (λ path later sized' fits. bind_is_sound around.targets pat.0 e.0 path later plain sized' fits)
+        then_do_is_sound source around.targets (PlaceFits e.0) Nothing ((below around).place e.0 store) _ ((sound outer around stands).place e.0 store (parts e.0 (first_is_contained e.0 [])) sized) (λ place later sized' fits. bind_is_sound around.targets pat.0 e.0 place later plain sized' fits)
     statement_is_sound outer around stands (statement.Let pat (Some e) (Some other)) store plain parts sized = absurd plain
     statement_is_sound outer around stands (statement.Let pat None other) store plain parts sized = absurd plain
     statement_is_sound outer around stands (statement.Expr e has_semi) store plain parts sized =
-        then_do_is_sound source around.targets (PathFits e.0) Nothing ((below around).place e.0 store) _ ((sound outer around stands).place e.0 store (parts e.0 (first_is_contained e.0 [])) sized) (λ path later sized' fits. (sized', tt))
+        then_do_is_sound source around.targets (PlaceFits e.0) Nothing ((below around).place e.0 store) _ ((sound outer around stands).place e.0 store (parts e.0 (first_is_contained e.0 [])) sized) (λ place later sized' fits. (sized', tt))
     statement_is_sound outer around stands statement.Item store plain parts sized = absurd plain
 
     statements_are_sound : (outer : List Opened) (around : Around) (stands : Stands outer around) (statements : List Statement) (store : Store) → All (IsPlainStatement source) statements → ((child : ℕ) → Contains (flat_map statement_parts statements) child → IsFine source outer child) → IsSized source store → IsSound source around.targets Nothing (statements_of source below around statements store)
@@ -489,10 +529,10 @@ module _ (source : Source) (checked : IsChecked source.world) where
     branched_is_sound targets branch is =
         after_is_sound source targets Nothing (turns_alone 1) _ (then_do_is_sound source targets Nothing Nothing branch _ is (λ done later sized done_is. (sized, tt)))
 
-    decided_is_sound : (outer : List Opened) (around : Around) (stands : Stands outer around) (left : Operand) (right : ℕ) (test : Bool) (path : Path) (store : Store) → IsFine source outer right → IsSized source store → PathFits right path → length (operand_bytes store left) ≡ cell_size source path.cell → IsSound source around.targets Nothing (decided_into source (below around) left right (Some test) path store)
-    decided_is_sound outer around stands left right true path store fine sized fits long =
-        after_is_sound source around.targets Nothing (reading_cost source left) _ (put_is_sound source around.targets store path (operand_bytes store left) sized long)
-    decided_is_sound outer around stands left right false path store fine sized fits long = (sound outer around stands).into right path store fine sized fits
+    decided_is_sound : (outer : List Opened) (around : Around) (stands : Stands outer around) (left : Operand) (right : ℕ) (test : Bool) (path : Path) (store : Store) → IsFine source outer right → IsSized source store → PathFits right path → AreBytes (cell_size source path.cell) (operand_bytes source store left) → IsSound source around.targets Nothing (decided_into source (below around) left right (Some test) path store)
+    decided_is_sound outer around stands left right true path store fine sized fits there =
+        after_is_sound source around.targets Nothing (reading_cost source left) _ (copy_is_sound source around.targets store path (operand_bytes source store left) sized there)
+    decided_is_sound outer around stands left right false path store fine sized fits there = (sound outer around stands).into right path store fine sized fits
 
     logic_is_sound : (outer : List Opened) (around : Around) (stands : Stands outer around) (e : ℕ) (op : LogicOp) (left right : ℕ) (path : Path) (store : Store) → node source e ≡ Some (expr.Logic op left right) → IsFine source outer e → IsSized source store → OwnFits e path → IsSound source around.targets Nothing (logic_into source below around op left right path store)
     logic_is_sound outer around stands e op left right path store is fine sized fits =
@@ -502,12 +542,12 @@ module _ (source : Source) (checked : IsChecked source.world) where
         let size : cell_size source path.cell ≡ 1 = ap (size_at source) (fits ∙ is_bool) ∙ scalar_size BoolTy (laid_at outer e BoolTy fine is_bool) tt in
         let left_is_fine = operand_is_fine outer e left (Some (expr.Logic op left right)) is (logic_operand_is_part source e op left right left is (first_is_contained left (right ∷ []))) (first_is_sized source left (step.Into right ∷ [])) fine in
         then_do_is_sound source around.targets (OperandFits left) Nothing ((below around).operand left store) _ ((sound outer around stands).operand left store left_is_fine sized) (λ given later sized' fit.
-        let long = truth_has_byte left given later sized' form.left_has fit in
+        let byte = truth_has_byte left given later sized' form.left_has fit in
         let behind = marking (marked_as_operand source left) around in
-        let decides = byte_decides (deciding_byte op) (operand_bytes later given) long in
+        let decides = byte_decides (deciding_byte op) (operand_bytes source later given) byte in
         branched_is_sound around.targets _
         (subst (λ test. IsSound source around.targets Nothing (decided_into source (below behind) given right test path later)) (sym decides.1)
-        (decided_is_sound outer behind (marks_stand _ stands) given right decides.0 path later (part_is_fine outer e right (Some (expr.Logic op left right)) is (right_is_sized source op left right) fine) sized' (fits ∙ is_bool ∙ sym form.right_has) (long ∙ sym size))))
+        (decided_is_sound outer behind (marks_stand _ stands) given right decides.0 path later (part_is_fine outer e right (Some (expr.Logic op left right)) is (right_is_sized source op left right) fine) sized' (fits ∙ is_bool ∙ sym form.right_has) (subst (λ count. AreBytes count (operand_bytes source later given)) (sym size) byte))))
 
     branch_is_sound : (outer : List Opened) (around : Around) (stands : Stands outer around) (then_branch : ℕ) (else_branch : Option ExprId) (test : Bool) (ty : Ty) (path : Path) (store : Store) → node_type source then_branch ≡ Some ty → IsPlainTail source else_branch ty → cell_type source path.cell ≡ Some ty → ((child : ℕ) → Contains (then_branch ∷ optional else_branch) child → IsFine source outer child) → IsSized source store → IsSound source around.targets Nothing (branch_into source below around then_branch else_branch (Some test) path store)
     branch_is_sound outer around stands then_branch else_branch true ty path store has plain fits parts sized =
@@ -523,7 +563,7 @@ module _ (source : Source) (checked : IsChecked source.world) where
         let condition_is_fine = operand_is_fine outer e condition whole is (if_part_is_part source e condition then_branch else_branch condition is (first_is_contained condition (then_branch ∷ optional else_branch))) (first_is_sized source condition (step.Into then_branch ∷ tail_steps else_branch)) fine in
         then_do_is_sound source around.targets (OperandFits condition) Nothing ((below around).operand condition store) _ ((sound outer around stands).operand condition store condition_is_fine sized) (λ given later sized' fit.
         let behind = marking (marked_as_operand source condition) around in
-        let holds = byte_decides 1 (operand_bytes later given) (truth_has_byte condition given later sized' form.condition_has fit) in
+        let holds = byte_decides 1 (operand_bytes source later given) (truth_has_byte condition given later sized' form.condition_has fit) in
         branched_is_sound around.targets _
         (subst (λ test. IsSound source around.targets Nothing (branch_into source below behind then_branch else_branch test path later)) (sym holds.1)
         (branch_is_sound outer behind (marks_stand _ stands) then_branch else_branch holds.0 plain.ty path later form.then_has form.else_has (fits ∙ plain.has_type) (λ child within.
@@ -533,19 +573,24 @@ module _ (source : Source) (checked : IsChecked source.world) where
     assign_is_sound outer around stands e assigned value store is fine sized =
         let form = form_of e _ is (fine.plain e itself) in
         let value_is_fine = part_is_fine outer e value (Some (expr.Assign assigned value)) is (first_is_contained value []) fine in
-        then_do_is_sound source around.targets (PathFits value) Nothing ((below around).place value store) _ ((sound outer around stands).place value store value_is_fine sized) (λ path later sized' fits. assigned_is_sound around.targets assigned value path later form sized' fits)
+        then_do_is_sound source around.targets (PlaceFits value) Nothing ((below around).place value store) _ ((sound outer around stands).place value store value_is_fine sized) (λ place later sized' fits. assigned_is_sound around.targets assigned value place later form sized' fits)
 
     -- what an operator makes of a local and a value has the size of the local
     combined_is_sound : (targets : List Target) (op : Operator) (assigned value : ℕ) (given : Operand) (store : Store) → IsPlainCompound source op assigned value → AreBindingsLaidOut source → IsSized source store → OperandFits value given → IsSound source targets Nothing (combine_into source op (compound_target source assigned) given store)
-    unfolding answered
+    unfolding answered values_of
     combined_is_sound targets op assigned value given store plain laid sized fits =
         let own = laid plain.binding.0 plain.ty plain.binding_has in
-        let cell : Path = record { cell = Binding plain.binding.0 } in
+        let cell : Cell = Binding plain.binding.0 in
+        let left = place_has_value source checked store (whole cell) plain.ty sized (whole_is_place source cell (Some plain.ty) plain.binding_has own) in
+        let right = operand_is_value value plain.other given store sized plain.value_has fits in
+        let one : Value = record { kind = operand_kind source (At (whole cell)); bytes = left.bytes } in
+        let other : Value = record { kind = operand_kind source given; bytes = right.bytes } in
+        let read = values_of-more source store (At (whole cell)) (given ∷ []) left.bytes (other ∷ []) left.is (values_of-more source store given [] right.bytes [] right.is refl) in
         subst (λ target. IsSound source targets Nothing (combine_into source op target given store)) (sym plain.names)
-        (put_answer_is_sound source targets store cell _ sized
-        (subst (λ size. Fits size (answered source.world None (Combine op) (value_of source store (At cell) ∷ value_of source store given ∷ []))) (sym (ap (size_at source) plain.binding_has))
-        (combined_fits source op plain.ty plain.other plain.ty (value_of source store (At cell)) (value_of source store given) plain.typed (λ number. scalar_size plain.ty own number)
-        (binding_is_value plain.binding.0 plain.ty store sized plain.binding_has own) (operand_is_value value plain.other given store sized plain.value_has fits))))
+        (put_answer_is_sound source targets store (record { cell = cell }) _ sized
+        (subst (λ values. Fits (cell_size source cell) (answered_for source.world None (Combine op) values)) (sym read)
+        (subst (λ size. Fits size (answered source.world None (Combine op) (one ∷ other ∷ []))) (sym (ap (size_at source) plain.binding_has))
+        (combined_fits source op plain.ty plain.other plain.ty one other plain.typed (λ number. scalar_size plain.ty own number) left.value right.value))))
 
     compound_is_sound : (outer : List Opened) (around : Around) (stands : Stands outer around) (e : ℕ) (op : Operator) (assigned value : ℕ) (store : Store) → node source e ≡ Some (expr.Compound op assigned value) → IsFine source outer e → IsSized source store → IsSound source around.targets Nothing (compound_into source (below around) op assigned value store)
     compound_is_sound outer around stands e op assigned value store is fine sized =
@@ -622,7 +667,7 @@ module _ (source : Source) (checked : IsChecked source.world) where
 
     turn_is_sound : (outer : List Opened) (around : Around) (stands : Stands outer around) (body : ℕ) (store : Store) → IsFine source outer body → IsSized source store → IsSound source around.targets Nothing (turn_of source below around body store)
     turn_is_sound outer around stands body store fine sized =
-        then_do_is_sound source around.targets (PathFits body) Nothing ((below around).place body store) _ ((sound outer around stands).place body store fine sized) (λ path later sized' fits. (sized', tt))
+        then_do_is_sound source around.targets (PlaceFits body) Nothing ((below around).place body store) _ ((sound outer around stands).place body store fine sized) (λ place later sized' fits. (sized', tt))
 
     loop_is_sound : (outer : List Opened) (around : Around) (stands : Stands outer around) (e : ℕ) (label : Option LabelId) (body : ℕ) (path : Path) (store : Store) → node source e ≡ Some (expr.Loop label body) → IsFine source outer e → IsSized source store → OwnFits e path → IsSound source around.targets Nothing (loop_into source below around e label body path store)
     loop_is_sound outer around stands e label body path store is fine sized fits =
@@ -668,10 +713,10 @@ module _ (source : Source) (checked : IsChecked source.world) where
         ap (size_at form.called) form.body_has ∙ same_size form.called world (Some form.row.sig.ret) ∙ ap (size_at source) (sym (fits ∙ plain.has_type ∙ ap Some form.typed)) in
         then_do_is_sound source around.targets (OperandsFit args) Nothing (operands_of source below around args store) _ (operands_are_sound outer around stands args store (λ child within.
         operand_is_fine outer e child (Some (expr.Call callee args)) is (argument_is_part source e callee args child is within) (operand_is_sized source args child within) fine) sized) (λ given later sized' fit.
-        subst (λ found. IsSound source around.targets Nothing (entered_into callees (must_not_return source e) found (map (operand_bytes later) given) path later)) (sym enters)
-        (entered_is_sound around.targets callees (must_not_return source e) form.called form.bound (map (operand_bytes later) given) path later sized' same form.binds
-        (arguments_fit form.called world (callees_are.laid_out form.called calls) form.row.sig.params args form.bound given later sized' form.arguments_have form.parameters_have fit)
-        (callees_are.settle form.called calls)))
+        let read = arguments_fit form.called world (callees_are.laid_out form.called calls) form.row.sig.params args form.bound given later sized' form.arguments_have form.parameters_have fit in
+        subst (λ found. IsSound source around.targets Nothing (entered_into callees (must_not_return source e) found (operands_bytes source later given) path later)) (sym enters)
+        (subst (λ bytes. IsSound source around.targets Nothing (entered_into callees (must_not_return source e) (Some form.called) bytes path later)) (sym read.1)
+        (entered_is_sound around.targets callees (must_not_return source e) form.called form.bound read.0 path later sized' same form.binds read.2 (callees_are.settle form.called calls))))
 
     into_is_sound : (callees : Callees) → AreSoundCallees source callees → (outer : List Opened) (around : Around) (stands : Stands outer around) (e : ℕ) (form : Option CoreExpr) (path : Path) (store : Store) → node source e ≡ form → IsFine source outer e → IsSized source store → OwnFits e path → IsSound source around.targets Nothing (into_of source below callees around e form path store)
     into_is_sound callees callees_are outer around stands e (Some (expr.Literal given)) path store is fine sized fits =
@@ -683,6 +728,9 @@ module _ (source : Source) (checked : IsChecked source.world) where
         let form = form_of e _ is plain in
         subst (λ named. IsSound source around.targets Nothing (named_into named path store)) (sym form.named)
         (put_is_sound source around.targets store path (store (Binding form.binding.0)) sized (sized.holds_all (Binding form.binding.0) ∙ ap (size_at source) (form.binding_has ∙ sym plain.has_type ∙ sym fits)))
+    into_is_sound callees callees_are outer around stands e (Some (expr.Field base field)) path store is fine sized fits =
+        then_do_is_sound source around.targets (λ place. IsPlaceOf source place (own_type source e)) Nothing (field_place (below around) base field store) _ (field_is_sound outer around stands e base field store is fine sized)
+        (λ place later sized' given. copied_is_sound around.targets place (own_type source e) path later sized' given fits)
     into_is_sound callees callees_are outer around stands e (Some (expr.Strict operation operands)) path store is fine sized fits = strict_is_sound outer around stands e operation operands path store is fine sized fits
     into_is_sound callees callees_are outer around stands e (Some (expr.Logic op left right)) path store is fine sized fits = logic_is_sound outer around stands e op left right path store is fine sized fits
     into_is_sound callees callees_are outer around stands e (Some (expr.If condition then_branch else_branch)) path store is fine sized fits = if_is_sound outer around stands e condition then_branch else_branch path store is fine sized fits

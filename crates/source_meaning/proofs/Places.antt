@@ -1,0 +1,157 @@
+-- What lies at a place: as many bytes as its type's layout says, which are all inside the cell.
+use Rattle.std.proofs.Common.{inl, ◌≡◌, ℕ, ◌+◌, ◌≤◌, List, [], ◌∷◌, ◌++◌, length, take, drop, slice_get, get_or, if◌then◌else◌, Option, Some, None, unwrap_or, option_map, option_and_then, refl, sym, ap, ◌∙◌, subst, rules, arith, le-leb, length-drop, length-take-le}
+use Rattle.std.proofs.lemmas.Option.{slice_get_within, slice_get-get_or}
+use Rattle.types.specs.declared.ids.TupleFieldId.{TupleFieldId}
+use Rattle.types.specs.declared.ty.Const.TheFolds.{the_lemmas}
+use Rattle.types.specs.declared.ty.Ty.{Ty}
+use Rattle.types.specs.declared.ty.Ty.TheVariants.{Tuple}
+use Rattle.world.specs.declared.database.HirDatabase.{HirDatabase}
+use Rattle.world.specs.declared.layout.Layout.{Layout}
+use Rattle.world.specs.Checked.{IsChecked}
+use Rattle.world.specs.Lookups.{layout_of}
+use Rattle.numbers.specs.Operators.{kind_of}
+use Rattle.source_meaning.specs.Aggregates.{HasAggregates}
+use Rattle.source_meaning.specs.Meaning.{Value, operand_kind, values_of}
+use Rattle.source_meaning.specs.Places.{elem_type, elem_offset, type_behind, added, offset_behind, part_of, bytes_behind, place_type, place_bytes, operand_bytes, operands_bytes}
+use Rattle.source_meaning.specs.Source.{Source, Store, IsSized, Cell, PlaceElem, Part, Place, whole, projected, Operand, At, cell_type, cell_size}
+use Rattle.source_meaning.specs.Valid.{IsLaidOut}
+use Rattle.source_meaning.proofs.Aggregates.{AreBytes}
+use Rattle.source_meaning.proofs.Operators.{IsLengthOf}
+use Rattle.source_meaning.proofs.Values.{size_at, IsValueOf, number_is_long}
+
+-- the type of a part of a tuple
+pub part-type : (field : TupleFieldId) (parts : List Ty) → elem_type (Part field) (Tuple parts) ≡ slice_get parts field.index
+part-type field parts = search (the_lemmas, rules)
+
+-- the type behind one element more
+pub type_behind-more : (elems : List PlaceElem) (elem : PlaceElem) (ty : Option Ty) → type_behind (elems ++ elem ∷ []) ty ≡ option_and_then (elem_type elem) (type_behind elems ty)
+unfolding type_behind
+type_behind-more [] elem ty = refl
+type_behind-more (first ∷ rest) elem ty = type_behind-more rest elem (option_and_then (elem_type first) ty)
+
+added-nothing : (some : Option ℕ) → added some (Some 0) ≡ added (Some 0) some
+added-nothing (Some n) = ap Some (omega arith)
+added-nothing None = refl
+
+added-grouped : (first second third : Option ℕ) → added first (added second third) ≡ added (added first second) third
+added-grouped (Some a) (Some b) (Some c) = ap Some (omega arith)
+added-grouped (Some a) (Some b) None = refl
+added-grouped (Some a) None third = refl
+added-grouped None second third = refl
+
+-- where it begins
+pub offset_behind-more : (world : HirDatabase) (elems : List PlaceElem) (elem : PlaceElem) (ty : Option Ty) →
+    offset_behind world (elems ++ elem ∷ []) ty ≡ added (offset_behind world elems ty) (option_and_then (elem_offset world elem) (type_behind elems ty))
+unfolding offset_behind type_behind
+offset_behind-more world [] elem ty = added-nothing (option_and_then (elem_offset world elem) ty)
+offset_behind-more world (first ∷ rest) elem ty =
+    ap (added (option_and_then (elem_offset world first) ty)) (offset_behind-more world rest elem (option_and_then (elem_type first) ty))
+    ∙ added-grouped (option_and_then (elem_offset world first) ty) (offset_behind world rest (option_and_then (elem_type first) ty)) (option_and_then (elem_offset world elem) (type_behind rest (option_and_then (elem_type first) ty)))
+
+-- a part that ends within bytes is there
+pub part_of-there : (offset size : ℕ) (bytes : List ℕ) → offset + size ≤ length bytes → AreBytes size (part_of offset size bytes)
+part_of-there offset size bytes within = record {
+  bytes = take size (drop offset bytes);
+  is = ap (λ fits. if fits then Some (take size (drop offset bytes)) else None) (le-leb (offset + size) (length bytes) within);
+  long = length-take-le size (drop offset bytes) (omega (arith, length-drop offset bytes));
+}
+
+-- A place of a type that has a layout: its elements lead to that type, and the value there ends within the cell.
+pub record IsPlaceOf (source : Source) (place : Place) (ty : Option Ty) : Type 0 where
+  pub typed : place_type source place ≡ ty
+  pub laid : IsLaidOut source ty
+  pub offset : ℕ
+  pub begins : offset_behind source.world place.projection (cell_type source place.cell) ≡ Some offset
+  pub ends : offset + size_at source ty ≤ cell_size source place.cell
+
+-- an operand is a value of a type when the operation runs
+pub record HasValue (source : Source) (store : Store) (operand : Operand) (ty : Ty) : Type 0 where
+  pub bytes : List ℕ
+  pub is : operand_bytes source store operand ≡ Some bytes
+  pub value : IsValueOf source ty (record { kind = operand_kind source operand; bytes = bytes })
+
+module _ (source : Source) where
+  -- a cell is a place of its type
+  pub whole_is_place : (cell : Cell) (ty : Option Ty) → cell_type source cell ≡ ty → IsLaidOut source ty → IsPlaceOf source (whole cell) ty
+  unfolding place_type type_behind offset_behind
+  whole_is_place cell ty is laid = record { typed = is; laid = laid; offset = 0; begins = refl; ends = let same = ap (size_at source) is in omega (arith, same) }
+
+  -- a part of a tuple is a place, and has the part's type
+  pub part_is_place : HasAggregates source.world → (place : Place) (parts : List Ty) (field : TupleFieldId) (ty : Ty) → IsPlaceOf source place (Some (Tuple parts)) → slice_get parts field.index ≡ Some ty → IsPlaceOf source (projected (Part field) place) (Some ty)
+  unfolding place_type
+  part_is_place aggregates place parts field ty fits has =
+      let layout = fits.laid.layout in
+      let found : layout_of source.world (Tuple parts) ≡ Some layout = fits.laid.found in
+      let inside = aggregates.tuples parts layout found in
+      let within = slice_get_within parts field.index ty has in
+      let behind = get_or layout.offsets field.index 0 in
+      let there : slice_get layout.offsets field.index ≡ Some behind = slice_get-get_or layout.offsets field.index 0 (omega (arith, within, inside.count)) in
+      let part = inside.inside field.index behind ty has there in
+      let size : size_at source (Some (Tuple parts)) ≡ layout.size = ap (λ given. unwrap_or (option_map (λ l. l.size) given) 0) found in
+      let size' : size_at source (Some ty) ≡ part.layout.size = ap (λ given. unwrap_or (option_map (λ l. l.size) given) 0) part.has in
+      let whole_type = cell_type source place.cell in
+      record {
+        typed = type_behind-more place.projection (Part field) whole_type ∙ ap (option_and_then (elem_type (Part field))) fits.typed ∙ part-type field parts ∙ has;
+        laid = record { layout = part.layout; found = part.has };
+        offset = fits.offset + behind;
+        begins = offset_behind-more source.world place.projection (Part field) whole_type
+            ∙ ap (λ given. added given (option_and_then (elem_offset source.world (Part field)) (type_behind place.projection whole_type))) fits.begins
+            ∙ ap (λ given. added (Some fits.offset) (option_and_then (elem_offset source.world (Part field)) given)) fits.typed
+            ∙ ap (λ given. added (Some fits.offset) (option_and_then (λ l. slice_get l.offsets field.index) given)) found
+            ∙ ap (added (Some fits.offset)) there;
+        ends = omega (arith, fits.ends, part.ends, size, size');
+      }
+
+  -- what elements lead to in the bytes of a value
+  behind-there : (elems : List PlaceElem) (from ty : Option Ty) (offset : ℕ) (bytes : List ℕ) → type_behind elems from ≡ ty → IsLaidOut source ty → offset_behind source.world elems from ≡ Some offset →
+      offset + size_at source ty ≤ length bytes → length bytes ≡ size_at source from → AreBytes (size_at source ty) (bytes_behind source.world elems from bytes)
+  unfolding bytes_behind type_behind
+  behind-there [] from ty offset bytes typed laid begins ends long = record { bytes = bytes; is = refl; long = long ∙ ap (size_at source) typed }
+  behind-there (elem ∷ rest) from ty offset bytes typed laid begins ends long =
+      let size : option_map (λ layout. layout.size) (option_and_then (layout_of source.world) ty) ≡ Some (size_at source ty) =
+      ap (option_map (λ layout. layout.size)) laid.found ∙ ap Some (sym (ap (λ given. unwrap_or (option_map (λ layout. layout.size) given) 0) laid.found)) in
+      let there = part_of-there offset (size_at source ty) bytes ends in
+      record {
+        bytes = there.bytes;
+        is = ap (option_and_then (λ start. option_and_then (λ count. part_of start count bytes) (option_map (λ layout. layout.size) (option_and_then (layout_of source.world) (type_behind (elem ∷ rest) from))))) begins
+            ∙ ap (λ given. option_and_then (λ count. part_of offset count bytes) (option_map (λ layout. layout.size) (option_and_then (layout_of source.world) given))) typed
+            ∙ ap (option_and_then (λ count. part_of offset count bytes)) size
+            ∙ there.is;
+        long = there.long;
+      }
+
+  -- what lies at a place of a type has the size of the type
+  pub place_has_bytes : (store : Store) (place : Place) (ty : Option Ty) → IsSized source store → IsPlaceOf source place ty → AreBytes (size_at source ty) (place_bytes source store place)
+  unfolding place_bytes place_type
+  place_has_bytes store place ty sized fits =
+      let all = sized.holds_all place.cell in
+      behind-there place.projection (cell_type source place.cell) ty fits.offset (store place.cell) fits.typed fits.laid fits.begins (omega (arith, fits.ends, all)) all
+
+  -- which is a value of it
+  pub place_has_value : IsChecked source.world → (store : Store) (place : Place) (ty : Ty) → IsSized source store → IsPlaceOf source place (Some ty) → HasValue source store (At place) ty
+  place_has_value checked store place ty sized fits =
+      let there = place_has_bytes store place (Some ty) sized fits in
+      record {
+        bytes = there.bytes;
+        is = there.is;
+        value = record {
+          kind = ap (option_and_then kind_of) fits.typed;
+          long = λ number. subst (IsLengthOf ty) (sym there.long) (number_is_long source checked ty fits.laid number);
+          size = inl there.long;
+        };
+      }
+
+  -- the values of operands, where each has bytes
+  pub values_of-more : (store : Store) (first : Operand) (rest : List Operand) (bytes : List ℕ) (others : List Value) → operand_bytes source store first ≡ Some bytes → values_of source store rest ≡ Some others →
+      values_of source store (first ∷ rest) ≡ Some (record { kind = operand_kind source first; bytes = bytes } ∷ others)
+  unfolding values_of
+  values_of-more store first rest bytes others is is' =
+      ap (λ given. option_and_then (λ (value : Value). option_map (λ all. value ∷ all) (values_of source store rest)) (option_map (λ read. record { kind = operand_kind source first; bytes = read }) given)) is
+      ∙ ap (option_map (λ all. record { kind = operand_kind source first; bytes = bytes } ∷ all)) is'
+
+  -- and their bytes
+  pub operands_bytes-more : (store : Store) (first : Operand) (rest : List Operand) (bytes : List ℕ) (others : List (List ℕ)) → operand_bytes source store first ≡ Some bytes → operands_bytes source store rest ≡ Some others →
+      operands_bytes source store (first ∷ rest) ≡ Some (bytes ∷ others)
+  unfolding operands_bytes
+  operands_bytes-more store first rest bytes others is is' =
+      ap (option_and_then (λ (read : List ℕ). option_map (λ all. read ∷ all) (operands_bytes source store rest))) is ∙ ap (option_map (λ all. bytes ∷ all)) is'
