@@ -1,23 +1,25 @@
--- What lies at a place: as many bytes as its type's layout says, which are all inside the cell.
-use Rattle.std.proofs.Common.{inl, ◌≡◌, ℕ, ◌+◌, ◌≤◌, List, [], ◌∷◌, ◌++◌, length, take, drop, slice_get, get_or, if◌then◌else◌, Option, Some, None, unwrap_or, option_map, option_and_then, refl, sym, ap, ◌∙◌, subst, rules, arith, le-leb, length-drop, length-take-le}
+-- What lies at a place: as many bytes as its type's layout says, which are all inside the cell. So an operand has a value of its type
+-- when the operation runs.
+use Rattle.std.proofs.Common.{⊎_elim, ◌⊎◌, inl, ◌≡◌, ℕ, ◌+◌, ◌≤◌, ◌==◌, Bool, List, [], ◌∷◌, ◌++◌, length, take, drop, slice_get, get_or, if◌then◌else◌, Option, Some, None, unwrap_or, option_map, option_and_then, refl, sym, ap, ◌∙◌, subst, rules, arith, le-leb, length-drop, length-take-le}
 use Rattle.std.proofs.lemmas.Option.{slice_get_within, slice_get-get_or}
 use Rattle.types.specs.declared.ids.TupleFieldId.{TupleFieldId}
 use Rattle.types.specs.declared.ty.Const.TheFolds.{the_lemmas}
-use Rattle.types.specs.declared.ty.Ty.{Ty}
+use Rattle.types.specs.declared.ty.Ty.{Ty, Bool as BoolTy}
 use Rattle.types.specs.declared.ty.Ty.TheVariants.{Tuple}
 use Rattle.world.specs.declared.database.HirDatabase.{HirDatabase}
-use Rattle.world.specs.declared.layout.Layout.{Layout}
 use Rattle.world.specs.Checked.{IsChecked}
 use Rattle.world.specs.Lookups.{layout_of}
 use Rattle.numbers.specs.Operators.{kind_of}
 use Rattle.source_meaning.specs.Aggregates.{HasAggregates}
-use Rattle.source_meaning.specs.Meaning.{Value, operand_kind, values_of}
+use Rattle.source_meaning.specs.Meaning.{Value, operand_kind, values_of, is_byte}
 use Rattle.source_meaning.specs.Places.{elem_type, elem_offset, type_behind, added, offset_behind, part_of, bytes_behind, place_type, place_bytes, operand_bytes, operands_bytes}
-use Rattle.source_meaning.specs.Source.{Source, Store, IsSized, Cell, PlaceElem, Part, Place, whole, projected, Operand, At, cell_type, cell_size}
-use Rattle.source_meaning.specs.Valid.{IsLaidOut}
+use Rattle.source_meaning.specs.Source.{Source, Store, IsSized, Cell, PlaceElem, Part, Place, whole, projected, Binding, Operand, Literally, At, node_type, binding_type, cell_type, cell_size}
+use Rattle.source_meaning.specs.Valid.{IsNumber, IsBool, HaveTypes, AreBound, IsLaidOut, AreLaidOut}
 use Rattle.source_meaning.proofs.Aggregates.{AreBytes}
+use Rattle.source_meaning.proofs.Calls.{AreFor}
+use Rattle.source_meaning.proofs.Layouts.{bool_is_number, bool_length_is_one}
 use Rattle.source_meaning.proofs.Operators.{IsLengthOf}
-use Rattle.source_meaning.proofs.Values.{size_at, IsValueOf, number_is_long}
+use Rattle.source_meaning.proofs.Values.{size_at, IsValueOf, AreValues, number_is_long}
 
 -- the type of a part of a tuple
 pub part-type : (field : TupleFieldId) (parts : List Ty) → elem_type (Part field) (Tuple parts) ≡ slice_get parts field.index
@@ -63,6 +65,31 @@ pub record IsPlaceOf (source : Source) (place : Place) (ty : Option Ty) : Type 0
   pub offset : ℕ
   pub begins : offset_behind source.world place.projection (cell_type source place.cell) ≡ Some offset
   pub ends : offset + size_at source ty ≤ cell_size source place.cell
+
+-- bytes that a literal of a type may have
+pub record IsLiteralOf (source : Source) (ty : Ty) (bytes : List ℕ) : Type 0 where
+  pub long : IsNumber ty → IsLengthOf ty (length bytes)
+  pub size : (length bytes ≡ size_at source (Some ty)) ⊎ IsBool ty
+
+-- an operand of the type of an expression's value
+abbrev pub IsOperandOf : Source → ℕ → Operand → Type 0
+IsOperandOf source e (Literally ty bytes) = (node_type source e ≡ Some ty) × IsLiteralOf source ty bytes
+IsOperandOf source e (At place) = IsPlaceOf source place (node_type source e)
+
+-- and operands, one of each expression's
+abbrev pub AreOperandsOf : Source → List ℕ → List Operand → Type 0
+AreOperandsOf source [] [] = Unit {0}
+AreOperandsOf source (e ∷ rest) (one ∷ others) = IsOperandOf source e one × AreOperandsOf source rest others
+AreOperandsOf source _ _ = ⊥
+
+-- one byte is a number or is none
+pub byte_decides : (number : ℕ) (given : Option (List ℕ)) → AreBytes 1 given → (test : Bool) × (is_byte number given ≡ Some test)
+byte_decides number given one = let decided = of_bytes one.bytes one.long in (decided.0, ap (is_byte number) one.is ∙ decided.1)
+  where
+    of_bytes : (bytes : List ℕ) → length bytes ≡ 1 → (test : Bool) × (is_byte number (Some bytes) ≡ Some test)
+    of_bytes [] long = absurd (omega arith)
+    of_bytes (byte ∷ []) long = (byte == number, refl)
+    of_bytes (byte ∷ other ∷ rest) long = absurd (omega arith)
 
 -- an operand is a value of a type when the operation runs
 pub record HasValue (source : Source) (store : Store) (operand : Operand) (ty : Ty) : Type 0 where
@@ -155,3 +182,78 @@ module _ (source : Source) where
   unfolding operands_bytes
   operands_bytes-more store first rest bytes others is is' =
       ap (option_and_then (λ (read : List ℕ). option_map (λ all. read ∷ all) (operands_bytes source store rest))) is ∙ ap (option_map (λ all. bytes ∷ all)) is'
+
+  -- a source in the same world has types of the same sizes
+  pub same_size : (called : Source) → called.world ≡ source.world → (ty : Option Ty) → size_at called ty ≡ size_at source ty
+  same_size called same ty = ap (λ world. unwrap_or (option_map (λ layout. layout.size) (option_and_then (layout_of world) ty)) 0) same
+
+  -- and with the same layouts
+  same_layout : (called : Source) → called.world ≡ source.world → (ty : Option Ty) → IsLaidOut called ty → IsLaidOut source ty
+  same_layout called same ty laid = record { layout = laid.layout; found = ap (λ world. option_and_then (layout_of world) ty) (sym same) ∙ laid.found }
+
+  module _ (checked : IsChecked source.world) where
+    -- what an operand's bytes are when the operation runs
+    pub operand_is_value : (e : ℕ) (ty : Ty) (operand : Operand) (store : Store) → IsSized source store → node_type source e ≡ Some ty → IsOperandOf source e operand → HasValue source store operand ty
+    operand_is_value e ty (Literally given bytes) store sized is fits =
+        let same : given ≡ ty = (let one = fits.0 in cc) in
+        record {
+          bytes = bytes;
+          is = refl;
+          value = record {
+            kind = ap kind_of same;
+            long = subst (λ t. IsNumber t → IsLengthOf t (length bytes)) same fits.1.long;
+            size = subst (λ t. (length bytes ≡ size_at source (Some t)) ⊎ IsBool t) same fits.1.size;
+          };
+        }
+    operand_is_value e ty (At place) store sized is fits = place_has_value checked store place ty sized (subst (IsPlaceOf source place) is fits)
+
+    -- the one byte of an operand of type `bool`
+    pub truth_has_byte : (e : ℕ) (operand : Operand) (store : Store) → IsSized source store → node_type source e ≡ Some BoolTy → IsOperandOf source e operand → AreBytes 1 (operand_bytes source store operand)
+    truth_has_byte e operand store sized is fits = let read = operand_is_value e BoolTy operand store sized is fits in record { bytes = read.bytes; is = read.is; long = read.value.long tt }
+
+    -- what an operation reads of operands when it runs
+    pub operands_are_values : (operands : List ℕ) (types : List Ty) (given : List Operand) (store : Store) → IsSized source store → HaveTypes source operands types → AreOperandsOf source operands given →
+        (values : List Value) × (values_of source store given ≡ Some values) × AreValues source types values
+    unfolding values_of
+    operands_are_values [] [] [] store sized have fits = ([], refl, tt)
+    operands_are_values [] [] (one ∷ others) store sized have fits = absurd fits
+    operands_are_values [] (ty ∷ types) given store sized have fits = absurd have
+    operands_are_values (e ∷ rest) [] given store sized have fits = absurd have
+    operands_are_values (e ∷ rest) (ty ∷ types) [] store sized have fits = absurd fits
+    operands_are_values (e ∷ rest) (ty ∷ types) (one ∷ others) store sized have fits =
+        let read = operand_is_value e ty one store sized have.0 fits.0 in
+        let later = operands_are_values rest types others store sized have.1 fits.1 in
+        (record { kind = operand_kind source one; bytes = read.bytes } ∷ later.0, values_of-more store one others read.bytes later.0 read.is later.1, (read.value, later.2))
+
+    -- an argument has as many bytes as the cell of a parameter of its type
+    argument_fits : (called : Source) → called.world ≡ source.world → AreLaidOut called → (e b : ℕ) (ty : Ty) (operand : Operand) (store : Store) → IsSized source store → node_type source e ≡ Some ty → binding_type called b ≡ Some ty → IsOperandOf source e operand →
+        AreBytes (cell_size called (Binding b)) (operand_bytes source store operand)
+    argument_fits called same laid_out e b ty operand store sized is is' fits =
+        let read = operand_is_value e ty operand store sized is fits in
+        let size : cell_size called (Binding b) ≡ size_at source (Some ty) = ap (size_at called) is' ∙ same_size called same (Some ty) in
+        let laid = same_layout called same (Some ty) (laid_out.bindings b ty is') in
+        record {
+          bytes = read.bytes;
+          is = read.is;
+          long = ⊎_elim (λ long. long ∙ sym size)
+              (λ is_bool.
+              let scalar = bool_is_number ty is_bool in
+              bool_length_is_one ty (length read.bytes) is_bool (read.value.long scalar) ∙ sym (bool_length_is_one ty (size_at source (Some ty)) is_bool (number_is_long source checked ty laid scalar)) ∙ sym size)
+              read.value.size;
+        }
+
+    -- and arguments that of all parameters
+    pub arguments_fit : (called : Source) → called.world ≡ source.world → AreLaidOut called → (types : List Ty) (args bound : List ℕ) (given : List Operand) (store : Store) → IsSized source store → HaveTypes source args types → AreBound called bound types → AreOperandsOf source args given →
+        (all : List (List ℕ)) × (operands_bytes source store given ≡ Some all) × AreFor called bound all
+    unfolding operands_bytes
+    arguments_fit called same laid_out [] [] [] [] store sized have bound_have fits = ([], refl, tt)
+    arguments_fit called same laid_out [] [] (b ∷ bound) given store sized have bound_have fits = absurd bound_have
+    arguments_fit called same laid_out [] [] [] (one ∷ others) store sized have bound_have fits = absurd fits
+    arguments_fit called same laid_out [] (e ∷ rest) bound given store sized have bound_have fits = absurd have
+    arguments_fit called same laid_out (ty ∷ types) [] bound given store sized have bound_have fits = absurd have
+    arguments_fit called same laid_out (ty ∷ types) (e ∷ rest) [] given store sized have bound_have fits = absurd bound_have
+    arguments_fit called same laid_out (ty ∷ types) (e ∷ rest) (b ∷ bound) [] store sized have bound_have fits = absurd fits
+    arguments_fit called same laid_out (ty ∷ types) (e ∷ rest) (b ∷ bound) (one ∷ others) store sized have bound_have fits =
+        let read = argument_fits called same laid_out e b ty one store sized have.0 bound_have.0 fits.0 in
+        let later = arguments_fit called same laid_out types rest bound others store sized have.1 bound_have.1 fits.1 in
+        (read.bytes ∷ later.0, operands_bytes-more store one others read.bytes later.0 read.is later.1, (read.long, later.2))

@@ -1,6 +1,6 @@
 -- A plain body of a checked world is never stuck, and never ends in a jump: each value has the size of its type.
 use Rattle.std.specs.Prelude.{All, flat_map, Contains}
-use Rattle.std.proofs.Common.{⊎_elim, ◌⊎◌, inl, inr, ◌≡◌, ◌≢◌, ℕ, zero, suc, Bool, true, false, cond, if◌then◌else◌, ◌==◌, List, [], ◌∷◌, ◌++◌, length, map, Option, Some, None, unwrap_or, option_map, option_and_then, ℤ, pos, refl, sym, ap, ◌∙◌, subst, arith, eq-eqb}
+use Rattle.std.proofs.Common.{⊎_elim, ◌⊎◌, inl, inr, ◌≡◌, ◌≢◌, ℕ, zero, suc, Bool, true, false, cond, if◌then◌else◌, ◌==◌, List, [], ◌∷◌, ◌++◌, length, map, Option, Some, None, unwrap_or, option_map, ℤ, pos, refl, sym, ap, ◌∙◌, subst, arith, eq-eqb}
 use Rattle.std.proofs.lemmas.Bool.{false≢true}
 use Rattle.std.proofs.lemmas.List.{length-replicate}
 use Rattle.std.proofs.lemmas.List.Elements.{All-head, All-tail, Contains-append_left, Contains-append_right, Contains-append_cases}
@@ -12,11 +12,10 @@ use Rattle.types.specs.declared.ids.TupleFieldId.{TupleFieldId}
 use Rattle.types.specs.declared.operators.LogicOp.{LogicOp}
 use Rattle.types.specs.declared.ty.Ty.{Ty, Bool as BoolTy, Int as IntType, Uint as UintType}
 use Rattle.world.specs.Checked.{IsChecked, IsCheckedBody}
-use Rattle.world.specs.Lookups.{layout_of}
 use Rattle.world.specs.Nodes.{optional}
 use Rattle.numbers.specs.Bytes.{low_bytes}
 use Rattle.numbers.specs.declared.operator.Operator.{Operator}
-use Rattle.numbers.specs.Operators.{Answer, Computes, Panics, Undefined, kind_of}
+use Rattle.numbers.specs.Operators.{Answer, Computes, Panics, Undefined}
 use Rattle.numbers.proofs.Digits.{length-low_bytes}
 use Rattle.source_meaning.specs.Aggregates.{HasAggregates}
 use Rattle.source_meaning.specs.Around.{Opened, Target, Around, at_root, marking, entered, inside as inside_of, is_meant, meant, target_of}
@@ -26,12 +25,12 @@ use Rattle.source_meaning.specs.Core.{CoreExpr, CoreLiteral, Truth, Number, Char
 use Rattle.source_meaning.specs.Ends.{Cost, no_cost, turns_alone, plus, End, Go, Jumps, Jump, Break, Continue, Return, Faults, Stuck, More, JumpsNowhere, after, then_do}
 use Rattle.source_meaning.specs.Entering.{entering}
 use Rattle.source_meaning.specs.Events.{marked, marked_as_operand, marked_by_statement}
-use Rattle.source_meaning.specs.Meaning.{Level, Levels, Callees, Value, operand_kind, values_of, answered, answered_for, truth_byte, literal_bytes, constant_cost, put, copy_to, put_literal, put_answer, literal_operand, named_place, named_into, field_place, field_into, bind, operands_of, strict_into, is_byte, deciding_byte, reading_cost, decided_into, branched, logic_into, tail_into, branch_into, if_into, assign_into, combine_into, compound_into, statement_of, statements_of, block_into, caught, again_into, labelled_into, turn_of, loop_into, break_to, break_into, continue_to, continue_into, return_into, call_ended, entered_from, entered_into, call_into, no_fuel, place_of, operand_of, into_of, level_above, level_at, returned, body_meaning, callees_at, meaning_from}
+use Rattle.source_meaning.specs.Meaning.{Level, Levels, Callees, Value, operand_kind, values_of, answered, answered_for, truth_byte, literal_bytes, constant_cost, put, copy_to, put_literal, put_answer, literal_operand, named_place, named_into, field_place, bind, operands_of, strict_into, deciding_byte, reading_cost, decided_into, branched, logic_into, tail_into, branch_into, if_into, assign_into, combine_into, compound_into, statement_of, statements_of, block_into, caught, again_into, labelled_into, turn_of, loop_into, break_to, break_into, continue_to, continue_into, return_into, call_ended, entered_from, entered_into, call_into, no_fuel, place_of, operand_of, into_of, level_above, level_at, returned, body_meaning, callees_at, meaning_from}
 use Rattle.source_meaning.specs.Places.{place_bytes, operand_bytes, operands_bytes}
 use Rattle.source_meaning.specs.Source.{Source, Store, IsSized, Path, Part, Place, whole, projected, Cell, Result, Node, Binding, Operand, Literally, At, zeroed, node, unadjusted, never_marks, own_path, own_type, node_type, own_layout, pattern, target, compound_target, root, cell_type, binding_type, cell_size}
 use Rattle.source_meaning.specs.Steps.{parts_of, statement_parts, tail_steps}
 use Rattle.source_meaning.specs.Steps as step
-use Rattle.source_meaning.specs.Valid.{Evaluates, itself, part, IsNumber, IsBool, IsPlainLiteral, HaveTypes, IsPlainLet, IsPlainStatement, IsPlainTail, IsPlainAssign, IsPlainCompound, HasPlainForm, IsPlainNode, EvaluatesIn, itself_in, part_in, opened_in, HasPlainTarget, HasOpenTarget, FitsAround, JumpsFit, IsPlain, AreBound, IsLaidOut, IsLaidOutNode, sized_parts, NeedsLayout, own, inside, AreLaidOut, Calls, through, at_once, IsPlainThroughout, AreLaidOutThroughout}
+use Rattle.source_meaning.specs.Valid.{Evaluates, itself, part, IsNumber, IsBool, IsPlainLiteral, IsPlainLet, IsPlainStatement, IsPlainTail, IsPlainAssign, IsPlainCompound, HasPlainForm, IsPlainNode, EvaluatesIn, itself_in, part_in, opened_in, HasPlainTarget, HasOpenTarget, FitsAround, JumpsFit, IsPlain, IsLaidOut, IsLaidOutNode, sized_parts, NeedsLayout, own, inside, AreLaidOut, Calls, through, at_once, IsPlainThroughout, AreLaidOutThroughout}
 use Rattle.source_meaning.proofs.Aggregates.{AreBytes}
 use Rattle.source_meaning.proofs.Calls.{called_world, called_by_name, AreFor, started_is_sized}
 use Rattle.source_meaning.proofs.Depth.{evaluates_then, operand_is_part, argument_is_part, logic_operand_is_part, if_part_is_part}
@@ -39,9 +38,9 @@ use Rattle.source_meaning.proofs.Layouts.{bool_is_number, bool_length_is_one}
 use Rattle.source_meaning.proofs.Never.{undiverted-type, own_path-fits, unadjusted-plain}
 use Rattle.source_meaning.proofs.Operators.{Fits, IsLengthOf}
 use Rattle.source_meaning.proofs.Parts.{first_is_contained, rest_is_contained, operand_is_sized, first_is_sized, right_is_sized, branch_is_sized, sized_part_is_part, sized_block_parts, sized_tail}
-use Rattle.source_meaning.proofs.Places.{IsPlaceOf, HasValue, whole_is_place, part_is_place, place_has_bytes, place_has_value, values_of-more, operands_bytes-more}
+use Rattle.source_meaning.proofs.Places.{IsPlaceOf, IsLiteralOf, IsOperandOf, AreOperandsOf, byte_decides, whole_is_place, part_is_place, place_has_bytes, place_has_value, values_of-more, same_size, operand_is_value, truth_has_byte, operands_are_values, arguments_fit}
 use Rattle.source_meaning.proofs.Stores.{with_bytes_is_sized}
-use Rattle.source_meaning.proofs.Values.{size_at, IsValueOf, AreValues, combined_fits, number_is_long, typed_fits}
+use Rattle.source_meaning.proofs.Values.{size_at, combined_fits, number_is_long, typed_fits}
 
 -- how many bytes the values of an expression itself have
 abbrev pub size_of : Source → ℕ → ℕ
@@ -210,20 +209,12 @@ module _ (source : Source) (checked : IsChecked source.world) where
   abbrev OwnFits : ℕ → Path → Type 0
   OwnFits e path = cell_type source path.cell ≡ own_type source e
 
-  -- bytes that a literal of a type may have
-  record IsLiteralOf (ty : Ty) (bytes : List ℕ) : Type 0 where
-    long : IsNumber ty → IsLengthOf ty (length bytes)
-    size : (length bytes ≡ size_at source (Some ty)) ⊎ IsBool ty
-
-  -- an operand of an expression's type
+  -- an operand, and operands, of expressions' types
   abbrev OperandFits : ℕ → Operand → Type 0
-  OperandFits e (Literally ty bytes) = (node_type source e ≡ Some ty) × IsLiteralOf ty bytes
-  OperandFits e (At place) = PlaceFits e place
+  OperandFits e operand = IsOperandOf source e operand
 
   abbrev OperandsFit : List ℕ → List Operand → Type 0
-  OperandsFit [] [] = Unit {0}
-  OperandsFit (e ∷ rest) (one ∷ others) = OperandFits e one × OperandsFit rest others
-  OperandsFit _ _ = ⊥
+  OperandsFit operands given = AreOperandsOf source operands given
 
   -- the targets around an expression are the blocks that are open, and the path of each is of its type; the return path is of the
   -- root's
@@ -250,86 +241,6 @@ module _ (source : Source) (checked : IsChecked source.world) where
 
   laid_at : (outer : List Opened) (e : ℕ) (ty : Ty) → IsFine source outer e → own_type source e ≡ Some ty → IsLaidOut source (Some ty)
   laid_at outer e ty fine is = let laid = fine.laid_out e own in subst (IsLaidOut source) is laid.of_itself
-
-  -- a source in the same world has types of the same sizes
-  same_size : (called : Source) → called.world ≡ source.world → (ty : Option Ty) → size_at called ty ≡ size_at source ty
-  same_size called same ty = ap (λ world. unwrap_or (option_map (λ layout. layout.size) (option_and_then (layout_of world) ty)) 0) same
-
-  same_layout : (called : Source) → called.world ≡ source.world → (ty : Option Ty) → IsLaidOut called ty → IsLaidOut source ty
-  same_layout called same ty laid = record { layout = laid.layout; found = ap (λ world. option_and_then (layout_of world) ty) (sym same) ∙ laid.found }
-
-  -- what an operand's bytes are when the operation runs
-  operand_is_value : (e : ℕ) (ty : Ty) (operand : Operand) (store : Store) → IsSized source store → node_type source e ≡ Some ty → OperandFits e operand → HasValue source store operand ty
-  operand_is_value e ty (Literally given bytes) store sized is fits =
-      let same : given ≡ ty = (let one = fits.0 in cc) in
-      record {
-        bytes = bytes;
-        is = refl;
-        value = record {
-          kind = ap kind_of same;
-          long = subst (λ t. IsNumber t → IsLengthOf t (length bytes)) same fits.1.long;
-          size = subst (λ t. (length bytes ≡ size_at source (Some t)) ⊎ IsBool t) same fits.1.size;
-        };
-      }
-  operand_is_value e ty (At place) store sized is fits = place_has_value source checked store place ty sized (subst (IsPlaceOf source place) is fits)
-
-  -- the one byte of an operand of type `bool`
-  truth_has_byte : (e : ℕ) (operand : Operand) (store : Store) → IsSized source store → node_type source e ≡ Some BoolTy → OperandFits e operand → AreBytes 1 (operand_bytes source store operand)
-  truth_has_byte e operand store sized is fits = let read = operand_is_value e BoolTy operand store sized is fits in record { bytes = read.bytes; is = read.is; long = read.value.long tt }
-
-  -- is a number or is none
-  byte_decides : (number : ℕ) (given : Option (List ℕ)) → AreBytes 1 given → (test : Bool) × (is_byte number given ≡ Some test)
-  byte_decides number given one = let decided = of_bytes one.bytes one.long in (decided.0, ap (is_byte number) one.is ∙ decided.1)
-    where
-      of_bytes : (bytes : List ℕ) → length bytes ≡ 1 → (test : Bool) × (is_byte number (Some bytes) ≡ Some test)
-      of_bytes [] long = absurd (omega arith)
-      of_bytes (byte ∷ []) long = (byte == number, refl)
-      of_bytes (byte ∷ other ∷ rest) long = absurd (omega arith)
-
-  operands_are_values : (operands : List ℕ) (types : List Ty) (given : List Operand) (store : Store) → IsSized source store → HaveTypes source operands types → OperandsFit operands given →
-      (values : List Value) × (values_of source store given ≡ Some values) × AreValues source types values
-  unfolding values_of
-  operands_are_values [] [] [] store sized have fits = ([], refl, tt)
-  operands_are_values [] [] (one ∷ others) store sized have fits = absurd fits
-  operands_are_values [] (ty ∷ types) given store sized have fits = absurd have
-  operands_are_values (e ∷ rest) [] given store sized have fits = absurd have
-  operands_are_values (e ∷ rest) (ty ∷ types) [] store sized have fits = absurd fits
-  operands_are_values (e ∷ rest) (ty ∷ types) (one ∷ others) store sized have fits =
-      let read = operand_is_value e ty one store sized have.0 fits.0 in
-      let later = operands_are_values rest types others store sized have.1 fits.1 in
-      (record { kind = operand_kind source one; bytes = read.bytes } ∷ later.0, values_of-more source store one others read.bytes later.0 read.is later.1, (read.value, later.2))
-
-  -- an argument has as many bytes as the cell of a parameter of its type
-  argument_fits : (called : Source) → called.world ≡ source.world → AreLaidOut called → (e b : ℕ) (ty : Ty) (operand : Operand) (store : Store) → IsSized source store → node_type source e ≡ Some ty → binding_type called b ≡ Some ty → OperandFits e operand →
-      AreBytes (cell_size called (Binding b)) (operand_bytes source store operand)
-  argument_fits called same laid_out e b ty operand store sized is is' fits =
-      let read = operand_is_value e ty operand store sized is fits in
-      let size : cell_size called (Binding b) ≡ size_at source (Some ty) = ap (size_at called) is' ∙ same_size called same (Some ty) in
-      let laid = same_layout called same (Some ty) (laid_out.bindings b ty is') in
-      record {
-        bytes = read.bytes;
-        is = read.is;
-        long = ⊎_elim (λ long. long ∙ sym size)
-            (λ is_bool.
-            let scalar = bool_is_number ty is_bool in
-            bool_length_is_one ty (length read.bytes) is_bool (read.value.long scalar) ∙ sym (bool_length_is_one ty (size_at source (Some ty)) is_bool (scalar_size ty laid scalar)) ∙ sym size)
-            read.value.size;
-      }
-
-  arguments_fit : (called : Source) → called.world ≡ source.world → AreLaidOut called → (types : List Ty) (args bound : List ℕ) (given : List Operand) (store : Store) → IsSized source store → HaveTypes source args types → AreBound called bound types → OperandsFit args given →
-      (all : List (List ℕ)) × (operands_bytes source store given ≡ Some all) × AreFor called bound all
-  unfolding operands_bytes
-  arguments_fit called same laid_out [] [] [] [] store sized have bound_have fits = ([], refl, tt)
-  arguments_fit called same laid_out [] [] (b ∷ bound) given store sized have bound_have fits = absurd bound_have
-  arguments_fit called same laid_out [] [] [] (one ∷ others) store sized have bound_have fits = absurd fits
-  arguments_fit called same laid_out [] (e ∷ rest) bound given store sized have bound_have fits = absurd have
-  arguments_fit called same laid_out (ty ∷ types) [] bound given store sized have bound_have fits = absurd have
-  arguments_fit called same laid_out (ty ∷ types) (e ∷ rest) [] given store sized have bound_have fits = absurd bound_have
-  arguments_fit called same laid_out (ty ∷ types) (e ∷ rest) (b ∷ bound) [] store sized have bound_have fits = absurd fits
-  arguments_fit called same laid_out (ty ∷ types) (e ∷ rest) (b ∷ bound) (one ∷ others) store sized have bound_have fits =
-      let read = argument_fits called same laid_out e b ty one store sized have.0 bound_have.0 fits.0 in
-      let later = arguments_fit called same laid_out types rest bound others store sized have.1 bound_have.1 fits.1 in
-      (read.bytes ∷ later.0, operands_bytes-more source store one others read.bytes later.0 read.is later.1, (read.long, later.2))
 
   -- a call ends well where its callee does
   call_is_sound : (targets : List Target) (diverging : Bool) (called : Source) (path : Path) (store : Store) (end : End (List ℕ)) → IsSized source store → cell_size called Result ≡ cell_size source path.cell → IsSettled called end → IsSound source targets Nothing (call_ended diverging path store end)
@@ -373,7 +284,7 @@ module _ (source : Source) (checked : IsChecked source.world) where
   literal_has_size outer e (Number number) ty fine is plain = number_has_bytes outer e number fine
   literal_has_size outer e (Character code) ty fine is plain = number_has_bytes outer e (pos code) fine
 
-  literal_operand_is_sound : (targets : List Target) (e : ℕ) (ty : Ty) (store : Store) (given : Option (List ℕ)) (bytes : List ℕ) → IsSized source store → own_type source e ≡ Some ty → node_type source e ≡ Some ty → given ≡ Some bytes → IsLiteralOf ty bytes → IsSound source targets (OperandFits e) (literal_operand source e store given)
+  literal_operand_is_sound : (targets : List Target) (e : ℕ) (ty : Ty) (store : Store) (given : Option (List ℕ)) (bytes : List ℕ) → IsSized source store → own_type source e ≡ Some ty → node_type source e ≡ Some ty → given ≡ Some bytes → IsLiteralOf source ty bytes → IsSound source targets (OperandFits e) (literal_operand source e store given)
   literal_operand_is_sound targets e ty store given bytes sized own_is is is' fits =
       subst (λ g. IsSound source targets (OperandFits e) (literal_operand source e store g)) (sym is')
       (subst (λ t. IsSound source targets (OperandFits e) (elim t [ Some found ↦ Go (Literally found bytes) store (constant_cost source e) | None ↦ Stuck ])) (sym own_is) (sized, (is, fits)))
@@ -423,9 +334,11 @@ module _ (source : Source) (checked : IsChecked source.world) where
         let plain = fine.plain e itself in
         let form = form_of e _ is plain in
         let base_is_fine = part_is_fine outer e base (Some (expr.Field base field)) is (first_is_contained base []) fine in
-        then_do_is_sound source around.targets (PlaceFits base) (λ place. IsPlaceOf source place (own_type source e)) ((below around).place base store) _ ((sound outer around stands).place base store base_is_fine sized) (λ place later sized' fits.
-        (sized', subst (IsPlaceOf source (projected (Part field) place)) (sym plain.has_type)
-        (part_is_place source aggregates place form.parts field plain.ty (subst (IsPlaceOf source place) form.base_has fits) form.part_has)))
+        then_do_is_sound source around.targets (PlaceFits base) (λ place. IsPlaceOf source place (own_type source e)) ((below around).place base store) _ ((sound outer around stands).place base store base_is_fine sized) (λ place later sized' fits. (
+          sized',
+          subst (IsPlaceOf source (projected (Part field) place)) (sym plain.has_type)
+              (part_is_place source aggregates place form.parts field plain.ty (subst (IsPlaceOf source place) form.base_has fits) form.part_has),
+        ))
 
     place_is_sound : (outer : List Opened) (around : Around) (stands : Stands outer around) (e : ℕ) (form : Option CoreExpr) (store : Store) → unadjusted source e ≡ form → IsFine source outer e → IsSized source store → IsSound source around.targets (PlaceFits e) (place_of source below around e form store)
     place_is_sound outer around stands e (Some (expr.Path name)) store is fine sized =
@@ -496,7 +409,7 @@ module _ (source : Source) (checked : IsChecked source.world) where
         let form = form_of e _ is plain in
         then_do_is_sound source around.targets (OperandsFit operands) Nothing (operands_of source below around operands store) _ (operands_are_sound outer around stands operands store (λ child within.
         operand_is_fine outer e child (Some (expr.Strict operation operands)) is (operand_is_part source e operation operands child is within) (operand_is_sized source operands child within) fine) sized) (λ given later sized' fit.
-        let read = operands_are_values operands form.types given later sized' form.operands_have fit in
+        let read = operands_are_values source checked operands form.types given later sized' form.operands_have fit in
         put_answer_is_sound source around.targets later path _ sized'
         (subst (λ size. Fits size (answered_for source.world (own_type source e) operation (values_of source later given))) (sym (ap (size_at source) (fits ∙ plain.has_type)))
         (subst (λ values. Fits (size_at source (Some plain.ty)) (answered_for source.world (own_type source e) operation values)) (sym read.1)
@@ -542,7 +455,7 @@ module _ (source : Source) (checked : IsChecked source.world) where
         let size : cell_size source path.cell ≡ 1 = ap (size_at source) (fits ∙ is_bool) ∙ scalar_size BoolTy (laid_at outer e BoolTy fine is_bool) tt in
         let left_is_fine = operand_is_fine outer e left (Some (expr.Logic op left right)) is (logic_operand_is_part source e op left right left is (first_is_contained left (right ∷ []))) (first_is_sized source left (step.Into right ∷ [])) fine in
         then_do_is_sound source around.targets (OperandFits left) Nothing ((below around).operand left store) _ ((sound outer around stands).operand left store left_is_fine sized) (λ given later sized' fit.
-        let byte = truth_has_byte left given later sized' form.left_has fit in
+        let byte = truth_has_byte source checked left given later sized' form.left_has fit in
         let behind = marking (marked_as_operand source left) around in
         let decides = byte_decides (deciding_byte op) (operand_bytes source later given) byte in
         branched_is_sound around.targets _
@@ -563,7 +476,7 @@ module _ (source : Source) (checked : IsChecked source.world) where
         let condition_is_fine = operand_is_fine outer e condition whole is (if_part_is_part source e condition then_branch else_branch condition is (first_is_contained condition (then_branch ∷ optional else_branch))) (first_is_sized source condition (step.Into then_branch ∷ tail_steps else_branch)) fine in
         then_do_is_sound source around.targets (OperandFits condition) Nothing ((below around).operand condition store) _ ((sound outer around stands).operand condition store condition_is_fine sized) (λ given later sized' fit.
         let behind = marking (marked_as_operand source condition) around in
-        let holds = byte_decides 1 (operand_bytes source later given) (truth_has_byte condition given later sized' form.condition_has fit) in
+        let holds = byte_decides 1 (operand_bytes source later given) (truth_has_byte source checked condition given later sized' form.condition_has fit) in
         branched_is_sound around.targets _
         (subst (λ test. IsSound source around.targets Nothing (branch_into source below behind then_branch else_branch test path later)) (sym holds.1)
         (branch_is_sound outer behind (marks_stand _ stands) then_branch else_branch holds.0 plain.ty path later form.then_has form.else_has (fits ∙ plain.has_type) (λ child within.
@@ -582,7 +495,7 @@ module _ (source : Source) (checked : IsChecked source.world) where
         let own = laid plain.binding.0 plain.ty plain.binding_has in
         let cell : Cell = Binding plain.binding.0 in
         let left = place_has_value source checked store (whole cell) plain.ty sized (whole_is_place source cell (Some plain.ty) plain.binding_has own) in
-        let right = operand_is_value value plain.other given store sized plain.value_has fits in
+        let right = operand_is_value source checked value plain.other given store sized plain.value_has fits in
         let one : Value = record { kind = operand_kind source (At (whole cell)); bytes = left.bytes } in
         let other : Value = record { kind = operand_kind source given; bytes = right.bytes } in
         let read = values_of-more source store (At (whole cell)) (given ∷ []) left.bytes (other ∷ []) left.is (values_of-more source store given [] right.bytes [] right.is refl) in
@@ -710,10 +623,10 @@ module _ (source : Source) (checked : IsChecked source.world) where
         let calls : Calls source form.called = record { e = e; evaluated = fine.evaluated; callee = callee; args = args; is_call = is; enters = enters } in
         let world = called_world source e callee form.called enters in
         let same : cell_size form.called Result ≡ cell_size source path.cell =
-        ap (size_at form.called) form.body_has ∙ same_size form.called world (Some form.row.sig.ret) ∙ ap (size_at source) (sym (fits ∙ plain.has_type ∙ ap Some form.typed)) in
+        ap (size_at form.called) form.body_has ∙ same_size source form.called world (Some form.row.sig.ret) ∙ ap (size_at source) (sym (fits ∙ plain.has_type ∙ ap Some form.typed)) in
         then_do_is_sound source around.targets (OperandsFit args) Nothing (operands_of source below around args store) _ (operands_are_sound outer around stands args store (λ child within.
         operand_is_fine outer e child (Some (expr.Call callee args)) is (argument_is_part source e callee args child is within) (operand_is_sized source args child within) fine) sized) (λ given later sized' fit.
-        let read = arguments_fit form.called world (callees_are.laid_out form.called calls) form.row.sig.params args form.bound given later sized' form.arguments_have form.parameters_have fit in
+        let read = arguments_fit source checked form.called world (callees_are.laid_out form.called calls) form.row.sig.params args form.bound given later sized' form.arguments_have form.parameters_have fit in
         subst (λ found. IsSound source around.targets Nothing (entered_into callees (must_not_return source e) found (operands_bytes source later given) path later)) (sym enters)
         (subst (λ bytes. IsSound source around.targets Nothing (entered_into callees (must_not_return source e) (Some form.called) bytes path later)) (sym read.1)
         (entered_is_sound around.targets callees (must_not_return source e) form.called form.bound read.0 path later sized' same form.binds read.2 (callees_are.settle form.called calls))))
