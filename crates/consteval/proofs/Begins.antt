@@ -22,6 +22,7 @@ use Rattle.mir_lower.specs.Simulates.{Simulates}
 use Rattle.mir_lower.specs.Stops.{IsCellType, LacksLayout, LacksSize}
 use Rattle.mir_lower.proofs.Placing.{first-ok}
 use Rattle.mir_lower.proofs.Whole.{begun-cells}
+use Rattle.source_meaning.specs.Aggregates.{HasAggregates}
 use Rattle.source_meaning.specs.Entering.{entering}
 use Rattle.source_meaning.specs.Source.{Source, Cell, Result as Slot, Node, Binding, Never, cell_type, diverges, own_type, node_type, root}
 use Rattle.mir_lower.specs.Growth.{IsUsed}
@@ -56,12 +57,12 @@ cells-sizes world locals memory all h =
     (first.0, first.1)
 
 -- the types of a plain body that began have layouts
-pub has-layouts : (source : Source) (program : Program) (body : MirBody) (start : Frame × Memory) → program.world ≡ source.world → Simulates source body → begun program body ≡ Ok start → IsPlain source → AreLaidOut source
-has-layouts source program body start same simulates began plain =
+pub has-layouts : (source : Source) (program : Program) (body : MirBody) (start : Frame × Memory) → program.world ≡ source.world → Simulates source body → begun program body ≡ Ok start → HasAggregates source.world → IsPlain source → AreLaidOut source
+has-layouts source program body start same simulates began parts plain =
     let cells = begun-cells program body start began in
     let sizes = cells-sizes program.world body.locals (first_areas program.bytes) cells.0 cells.1 in
     let in_world : sizes_of source.world body.locals ≡ Ok sizes.0 = ap (λ w. sizes_of w body.locals) (sym same) ∙ sizes.1 in
-    simulates.laid_out plain (λ l local there. let cell = sizes-found source.world body.locals sizes.0 in_world l local there in record { layout = cell.0; found = cell.1 })
+    simulates.laid_out parts plain (λ l local there. let cell = sizes-found source.world body.locals sizes.0 in_world l local there in record { layout = cell.0; found = cell.1 })
 
 -- the size of a cell of a type
 abbrev size-of : Layout → CellSize

@@ -121,7 +121,7 @@ module _ (world : HirDatabase) (checked : IsChecked world) (parts : HasAggregate
 
       -- the types of a body that began have layouts
       laid-out : AreLaidOut Of
-      laid-out = has-layouts Of (program_of kept.world limits ran.answers) body ran.start same (simulated body lowered) ran.began (valid.plain.each Of at_once)
+      laid-out = has-layouts Of (program_of kept.world limits ran.answers) body ran.start same (simulated body lowered) ran.began parts (valid.plain.each Of at_once)
 
       -- its value is what the source means
       ran-value : (konst : Const) → outcome ≡ Ok konst → GivesValue Of konst

@@ -25,7 +25,8 @@ use Rattle.mir.specs.Areas.{AreApart}
 use Rattle.mir.specs.Memory.{Memory, cell_bytes, cell_before, cells_of}
 use Rattle.mir.specs.Run.{Frame, operand_bytes as mir_bytes, bad_write, read, copied, filled as mir_filled, called_cells, function_of as mir_function_of, function_in as mir_function_in}
 use Rattle.source_meaning.specs.Calls.{without_generics, function_of, function_in, filled}
-use Rattle.source_meaning.specs.Source.{Source, Cell, Result as Slot, Binding, Store, Operand, operand_bytes, cell_type, cell_layout, cell_size, zeroed, with_cell_bytes}
+use Rattle.source_meaning.specs.Places.{operand_bytes, operands_bytes}
+use Rattle.source_meaning.specs.Source.{Source, Cell, Result as Slot, Binding, Store, Operand, cell_type, cell_layout, cell_size, zeroed, with_cell_bytes}
 use Rattle.mir_lower.specs.Callees.{AreLocalsOf}
 use Rattle.mir_lower.specs.Does.{Holds, FitAll}
 use Rattle.mir_lower.specs.Graph.{Shape, local_of}
@@ -105,6 +106,32 @@ module _ (allotted : Cell → Option ℕ) (own : (c d : Cell) (l : ℕ) → allo
             stays other old (subst (λ (i : Interval). AreApart i other) (sym same) lies) read,
       )
 
+-- operands of a caller have these bytes, one each, in each memory that holds its store
+abbrev pub ShowAll : Shape → Frame → Store → List MirOperand → List (List ℕ) → Type 0
+ShowAll whole caller store [] [] = Unit {0}
+ShowAll whole caller store (arg ∷ args) (bytes ∷ given) = ((memory : Memory) → Holds whole caller store memory → mir_bytes caller memory arg.kind ≡ Some bytes) × ShowAll whole caller store args given
+ShowAll whole caller store _ _ = ⊥
+
+-- so they do where they fit operands of the source that have these bytes
+pub shows-all : (source : Source) (whole : Shape) (caller : Frame) (store : Store) (args : List MirOperand) (values : List Operand) → FitAll source (map (λ (arg : MirOperand). arg.kind) args) whole caller values → (given : List (List ℕ)) → operands_bytes source store values ≡ Some given → ShowAll whole caller store args given
+unfolding operands_bytes
+shows-all source whole caller store [] [] fit given is = let none : [] ≡ given = cc in subst (ShowAll whole caller store []) none tt
+shows-all source whole caller store [] (value ∷ values) fit given is = absurd fit
+shows-all source whole caller store (arg ∷ args) [] fit given is = absurd fit
+shows-all source whole caller store (arg ∷ args) (value ∷ values) fit given is = by_first (operand_bytes source store value) refl is
+  where
+    Goal : Type 0
+    Goal = ShowAll whole caller store (arg ∷ args) given
+    by_rest : (bytes : List ℕ) → operand_bytes source store value ≡ Some bytes → (rest : Option (List (List ℕ))) → operands_bytes source store values ≡ rest → option_map (λ (others : List (List ℕ)). bytes ∷ others) rest ≡ Some given → Goal
+    by_rest bytes bytes-are (Some rest) rest-is same =
+        let all : bytes ∷ rest ≡ given = cc in
+        subst (ShowAll whole caller store (arg ∷ args)) all
+        ((λ memory holds. fit.0.bytes store memory holds ∙ bytes-are), shows-all source whole caller store args values fit.1 rest rest-is)
+    by_rest bytes bytes-are None rest-is same = absurd cc
+    by_first : (first : Option (List ℕ)) → operand_bytes source store value ≡ first → option_and_then (λ (bytes : List ℕ). option_map (λ (others : List (List ℕ)). bytes ∷ others) (operands_bytes source store values)) first ≡ Some given → Goal
+    by_first (Some bytes) bytes-are same = by_rest bytes bytes-are (operands_bytes source store values) refl same
+    by_first None bytes-are same = absurd cc
+
 -- a test that is passed where something comes of it
 passed : {A : Type 0} (m n : ℕ) (next : Option A) (x : A) (b : Bool) → eqb m n ≡ b → cond b next None ≡ Some x → (m ≡ n) × (next ≡ Some x)
 passed m n next x true is h = (eqb-true m n is, h)
@@ -127,8 +154,8 @@ module _ (source : Source) (whole : Shape) (caller : Frame) (store : Store) (bef
       (λ two. ap (λ (t : Bool). length (cond t bytes (now (Binding c)))) two.1 ∙ sized c)
       (cells (Binding b) (Binding c))
 
-  pub fills : (bound : List ℕ) (params : List LocalId) (args : List MirOperand) (values : List Operand) (now start : Store) (memory : Memory) → AreLocalsOf allotted bound params → FitAll source (map (λ (arg : MirOperand). arg.kind) args) whole caller values →
-      Filling now memory → filled called now bound (map (operand_bytes store) values) ≡ Some start → (after : Memory) × (mir_filled caller frame.cells params args memory ≡ Ok after) × Filling start after
+  pub fills : (bound : List ℕ) (params : List LocalId) (args : List MirOperand) (values : List (List ℕ)) (now start : Store) (memory : Memory) → AreLocalsOf allotted bound params → ShowAll whole caller store args values →
+      Filling now memory → filled called now bound values ≡ Some start → (after : Memory) × (mir_filled caller frame.cells params args memory ≡ Ok after) × Filling start after
   unfolding filled mir_filled
   fills [] [] [] [] now start memory locals fit filling is = let same : now ≡ start = cc in (memory, refl, subst (λ (s : Store). Filling s memory) same filling)
   fills [] [] [] (value ∷ values) now start memory locals fit filling is = absurd fit
@@ -139,12 +166,11 @@ module _ (source : Source) (whole : Shape) (caller : Frame) (store : Store) (bef
   fills (b ∷ bound) (param ∷ params) [] [] now start memory locals fit filling is = absurd cc
   fills (b ∷ bound) (param ∷ params) [] (value ∷ values) now start memory locals fit filling is = absurd fit
   fills (b ∷ bound) (param ∷ params) (arg ∷ args) [] now start memory locals fit filling is = absurd fit
-  fills (b ∷ bound) (param ∷ params) (arg ∷ args) (value ∷ values) now start memory locals fit filling is =
-      let bytes = operand_bytes store value in
+  fills (b ∷ bound) (param ∷ params) (arg ∷ args) (bytes ∷ values) now start memory locals fit filling is =
       let next = with_cell_bytes now (Binding b) bytes in
-      let test = passed (length bytes) (cell_size called (Binding b)) (filled called next bound (map (operand_bytes store) values)) start (eqb (length bytes) (cell_size called (Binding b))) refl is in
+      let test = passed (length bytes) (cell_size called (Binding b)) (filled called next bound values) start (eqb (length bytes) (cell_size called (Binding b))) refl is in
       let written = writes allotted own frame apart now memory filling.holds (Binding b) param.0 locals.0 bytes (test.0 ∙ sym (filling.sized b)) in
-      let has : mir_bytes caller memory arg.kind ≡ Some bytes = fit.0.bytes store memory (represents-later (local_of whole) caller store before memory held filling.kept) in
+      let has : mir_bytes caller memory arg.kind ≡ Some bytes = fit.0 memory (represents-later (local_of whole) caller store before memory held filling.kept) in
       let rest = fills bound params args values next start written.0 locals.1 fit.1
       (record {
         holds = written.2;

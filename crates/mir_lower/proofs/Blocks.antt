@@ -11,7 +11,8 @@ use Rattle.types.specs.declared.ids.PatId.{PatId}
 use Rattle.world.specs.Nodes.{optional}
 use Rattle.mir.specs.declared.operand.Operand.{Operand as MirOperand}
 use Rattle.mir.specs.declared.operand.OperandKind.TheVariants.{Copy}
-use Rattle.mir.specs.declared.operand.Place.{Place}
+use Rattle.mir.specs.declared.ids.LocalId.{LocalId}
+use Rattle.mir.specs.declared.operand.Place.{Place as GraphPlace}
 use Rattle.mir.specs.declared.operand.Rvalue.TheVariants.{Use}
 use Rattle.mir.specs.declared.span.MirSpan.{MirSpan}
 use Rattle.mir.specs.declared.statement.Statement.{Statement as MirStatement}
@@ -21,14 +22,15 @@ use Rattle.mir.specs.Run.{Frame, after_statement}
 use Rattle.source_meaning.specs.Around.{Around, marking}
 use Rattle.source_meaning.specs.Ends.{no_cost, End, Go, then_do}
 use Rattle.source_meaning.specs.Events.{marked_as_place, marked_by_statement, marked_by_tail, marked_in_block}
-use Rattle.source_meaning.specs.Meaning.{Levels, level_at, put, bind, statement_of, statements_of, tail_into, block_into}
-use Rattle.source_meaning.specs.Source.{Source, node, own_type, node_type, pattern, Cell, Binding, Path, Store, bound_by, drops}
+use Rattle.source_meaning.specs.Meaning.{Levels, level_at, copy_to, bind, statement_of, statements_of, tail_into, block_into}
+use Rattle.source_meaning.specs.Places.{place_bytes}
+use Rattle.source_meaning.specs.Source.{Source, node, own_type, node_type, pattern, Cell, Binding, Place, Store, bound_by, drops}
 use Rattle.source_meaning.specs.Steps.{parts_of, statement_parts}
 use Rattle.source_meaning.specs.Valid.{itself, HasPlainForm, IsPlainNode, IsPlainTail, IsLaidOut, NeedsLayout, own, inside, IsLaidOutNode}
 use Rattle.source_meaning.proofs.Costs.{then-then, then-same, then-go}
 use Rattle.source_meaning.proofs.Marks.{let_marks, expression_marks, tail_marks, no_tail_marks, inner_marks, block_marks}
 use Rattle.source_meaning.proofs.Parts.{block_parts, sized_part_is_part}
-use Rattle.mir_lower.specs.Does.{here, IsFrameOf, Reaches, Performs, Nothing, LeadsTo, DoesStatements}
+use Rattle.mir_lower.specs.Does.{here, IsAt, IsFrameOf, Reaches, Performs, Nothing, LeadsTo, DoesStatements}
 use Rattle.mir_lower.specs.Graph.{Shape, with_statement, with_scope, local_of}
 use Rattle.mir_lower.specs.Growth.{Grows, IsSound, IsOpen, IsReady}
 use Rattle.mir_lower.specs.Leaving.{Idles}
@@ -37,22 +39,23 @@ use Rattle.mir_lower.specs.Runs.{Point, Comes}
 use Rattle.mir_lower.proofs.Growing.{grows-refl, grows-trans, with_statement-grows, with_scope-grows}
 use Rattle.mir_lower.proofs.Laid.{layouts-before, plain-part, one-of}
 use Rattle.mir_lower.proofs.Leaving.{here-scope}
-use Rattle.mir_lower.proofs.Operations.{assignment, name-computes}
+use Rattle.mir_lower.proofs.Operations.{assignment, copy-computes}
+use Rattle.mir_lower.proofs.Projecting.{at-later}
 use Rattle.mir_lower.proofs.Reaching.{keeps-refl, comes-refl, comes-from, reaches-then}
 use Rattle.mir_lower.proofs.Running.{comes-statement}
 use Rattle.mir_lower.proofs.Sound.{with_statement-sound, with_statement-open, with_statement-scope}
 use Rattle.mir_lower.proofs.Sparing.{spares-refl, spares-trans, with_statement-spares, scoped-spares}
 use Rattle.mir_lower.proofs.Standing.{marking-fits, marking-none, marking-more, stands-with}
-use Rattle.mir_lower.proofs.Steps.{local_of-grows, assigned-bytes, reaches-from, does-form}
+use Rattle.mir_lower.proofs.Steps.{local_of-grows, assigned-copy, reaches-from, does-form}
 use Rattle.source_meaning.specs.Core.{CoreExpr}
 use Rattle.types.specs.declared.ty.Ty.{Ty}
 
 -- noting that a value was named leaves everything as it is
-read-does-nothing : (frame : Frame) (memory : Memory) (place : Place) → after_statement frame memory (FakeRead place) ≡ Ok memory
+read-does-nothing : (frame : Frame) (memory : Memory) (place : GraphPlace) → after_statement frame memory (FakeRead place) ≡ Ok memory
 unfolding after_statement
 read-does-nothing frame memory place = refl
 
-pub idles-read : (source : Source) (s new : Shape) (place : Place) (span : MirSpan) → IsSound source s → IsOpen s → new ≡ with_statement (record { kind = FakeRead place; span = span }) s → Idles source s new 0
+pub idles-read : (source : Source) (s new : Shape) (place : GraphPlace) (span : MirSpan) → IsSound source s → IsOpen s → new ≡ with_statement (record { kind = FakeRead place; span = span }) s → Idles source s new 0
 idles-read source s new place span sound opened same =
     let st : MirStatement = record { kind = FakeRead place; span = span } in
     subst (λ (n : Shape). Idles source s n 0) (sym same)
@@ -65,13 +68,13 @@ idles-read source s new place span sound opened same =
       comes = λ whole frame grows is memory. comes-statement st s whole frame memory opened grows is memory (read-does-nothing frame memory place) (keeps-refl frame memory);
     })
 
--- a name is bound to the value of a cell
-pub binds-name : (source : Source) (s0 s1 new : Shape) (pat : PatId) (id : BindingId) (place from : Place) (operand : MirOperand) (span : MirSpan) → pattern source pat.0 ≡ Some id → IsGiven source s0 s1 (Binding id.0) place.local.0 → operand.kind ≡ Copy from → new ≡ with_statement (assignment place (Use operand) span) s1 → (c : Cell) → local_of s0 c ≡ Some from.local.0 → Binds source s0 new pat.0 c
-binds-name source s0 s1 new pat id place from operand span binds given copies same c found =
-    let st = assignment place (Use operand) span in
+-- a name is bound to the value of a place
+pub binds-name : (source : Source) (s0 s1 new : Shape) (pat : PatId) (id : BindingId) (to : LocalId) (from : GraphPlace) (operand : MirOperand) (span : MirSpan) → pattern source pat.0 ≡ Some id → IsGiven source s0 s1 (Binding id.0) to.0 → operand.kind ≡ Copy from → new ≡ with_statement (assignment to (Use operand) span) s1 → (at : Place) → IsAt s0 from at → Binds source s0 new pat.0 at
+binds-name source s0 s1 new pat id to from operand span binds given copies same at is-at =
+    let st = assignment to (Use operand) span in
     let opened = given.keeps.«open» in
     let last : Grows s1 (with_statement st s1) = with_statement-grows st s1 opened in
-    subst (λ (n : Shape). Binds source s0 n pat.0 c) (sym same)
+    subst (λ (n : Shape). Binds source s0 n pat.0 at) (sym same)
     (record {
       keeps = record {
         grows = grows-trans s0 s1 (with_statement st s1) given.keeps.grows last;
@@ -83,12 +86,12 @@ binds-name source s0 s1 new pat id place from operand span binds given copies sa
       does = record {
         reaches = λ whole frame grows sound is lands around stands fuel serves store memory holds.
             let grown : Grows s1 whole = grows-trans s1 (with_statement st s1) whole last grows in
-            let to = local_of-grows s1 whole grown (Binding id.0) place.local.0 given.found in
-            let at = local_of-grows s0 whole (grows-trans s0 s1 whole given.keeps.grows grown) c from.local.0 found in
-            subst (λ (p : Option BindingId). Reaches source whole lands frame (here s0) (here (with_statement st s1)) memory (Nothing whole frame) (bind p (record { cell = c }) store)) (sym binds)
-            (reaches-from source whole lands frame (here s0) (here s1) (here (with_statement st s1)) memory (Nothing whole frame) (given.comes whole frame grown is memory) (put store (record { cell = Binding id.0 }) (store c))
-            (assigned-bytes source s1 whole frame place (Use operand) span opened sound is lands grows (Binding id.0) to store memory holds (store c)
-            (name-computes source whole frame c from operand copies sound is at store memory holds)));
+            let found = local_of-grows s1 whole grown (Binding id.0) to.0 given.found in
+            let later = at-later s0 whole (grows-trans s0 s1 whole given.keeps.grows grown) from at is-at in
+            subst (λ (p : Option BindingId). Reaches source whole lands frame (here s0) (here (with_statement st s1)) memory (Nothing whole frame) (bind source p at store)) (sym binds)
+            (reaches-from source whole lands frame (here s0) (here s1) (here (with_statement st s1)) memory (Nothing whole frame) (given.comes whole frame grown is memory) (copy_to store (record { cell = Binding id.0 }) (place_bytes source store at))
+            (assigned-copy source s1 whole frame to (Use operand) span opened sound is lands grows (Binding id.0) found store memory holds (place_bytes source store at)
+            (copy-computes source whole frame from at operand copies sound is serves.world later store memory holds)));
       };
     })
 
@@ -171,10 +174,10 @@ lowers-more source s0 s1 s2 xs ys first second =
     }
 
 -- a `let`: the initializer's place, which is noted as read, and then the name is bound
-pub lowers-let : (source : Source) (s0 s1 s2 s3 : Shape) (pat : PatId) (e : ExprId) (local : ℕ) (place : LowersPlace source s0 s1 e.0 local) → Idles source s1 s2 0 → ((c : Cell) → local_of s2 c ≡ Some local → Binds source s2 s3 pat.0 c) → LowersStatements source s0 s3 (statement.Let pat (Some e) None ∷ [])
+pub lowers-let : (source : Source) (s0 s1 s2 s3 : Shape) (pat : PatId) (e : ExprId) (local : GraphPlace) (place : LowersPlace source s0 s1 e.0 local) → Idles source s1 s2 0 → ((at : Place) → IsAt s2 local at → Binds source s2 s3 pat.0 at) → LowersStatements source s0 s3 (statement.Let pat (Some e) None ∷ [])
 lowers-let source s0 s1 s2 s3 pat e local place idles binding =
-    let c = place.does.cell in
-    let binds = binding c (local_of-grows s1 s2 idles.grows c local place.does.found) in
+    let c = place.does.at in
+    let binds = binding c (at-later s1 s2 idles.grows local c place.does.is) in
     let later : Grows s1 s3 = grows-trans s1 s2 s3 idles.grows binds.keeps.grows in
     record {
       keeps = record {
@@ -193,7 +196,7 @@ lowers-let source s0 s1 s2 s3 pat e local place idles binding =
             reaches-then source whole lands frame (here s0) (here s1) (here s3) memory (LeadsTo c whole frame) (Nothing whole frame) ((level_at source fuel around).place e.0 store) _
             (place.does.does.reaches whole frame (grows-trans s1 s2 whole idles.grows grown) sound is lands around stands fuel serves store memory holds)
             (λ path store1 memory1 claims.
-            subst (λ (p : Path). Reaches source whole lands frame (here s1) (here s3) memory1 (Nothing whole frame) (bind (pattern source pat.0) p store1)) (sym claims.1)
+            subst (λ (p : Place). Reaches source whole lands frame (here s1) (here s3) memory1 (Nothing whole frame) (bind source (pattern source pat.0) p store1)) (sym claims.1)
             (reaches-from source whole lands frame (here s1) (here s2) (here s3) memory1 (Nothing whole frame) (idles.comes whole frame grown is memory1) _
             (binds.does.reaches whole frame grows sound is lands (record around { marks = s2.scope }) (stands-with (idles.spares.targets ∙ place.keeps.spares.targets) stands) fuel serves store1 memory1 claims.0)));
       });
@@ -208,7 +211,7 @@ scope-idles s outer source new turns idles whole frame grows is memory =
     subst (λ (p : Point). Comes frame turns 0 p memory (here new) memory) (here-scope s outer) (idles.comes whole frame grows is memory)
 
 -- an expression statement: its place, in a scope of its own, which is then left
-pub lowers-expr-statement : (source : Source) (s0 s1 s2 s3 : Shape) (e : ExprId) (has_semi : _) (local : ℕ) → LowersPlace source s0 s1 e.0 local → Idles source s1 s2 0 → Idles source (with_scope s0.scope s2) s3 (drops source (marked_as_place source e.0)) → LowersStatements source s0 s3 (statement.Expr e has_semi ∷ [])
+pub lowers-expr-statement : (source : Source) (s0 s1 s2 s3 : Shape) (e : ExprId) (has_semi : _) (local : GraphPlace) → LowersPlace source s0 s1 e.0 local → Idles source s1 s2 0 → Idles source (with_scope s0.scope s2) s3 (drops source (marked_as_place source e.0)) → LowersStatements source s0 s3 (statement.Expr e has_semi ∷ [])
 lowers-expr-statement source s0 s1 s2 s3 e has_semi local place read left =
     let into : Grows s1 s3 = grows-trans s1 s2 s3 read.grows (grows-trans s2 (with_scope s0.scope s2) s3 (with_scope-grows s0.scope s2) left.grows) in
     let turns = drops source (marked_as_place source e.0) in
@@ -223,7 +226,7 @@ lowers-expr-statement source s0 s1 s2 s3 e has_semi local place read left =
       does = one-statement source s0 s3 (statement.Expr e has_semi) (record {
         reaches = λ whole frame grows sound is lands around stands fuel serves store memory holds.
             let grown2 : Grows s2 whole = grows-trans s2 (with_scope s0.scope s2) whole (with_scope-grows s0.scope s2) (grows-trans (with_scope s0.scope s2) s3 whole left.grows grows) in
-            reaches-then source whole lands frame (here s0) (here s1) (here s3) memory (LeadsTo place.does.cell whole frame) (Nothing whole frame) ((level_at source fuel around).place e.0 store) _
+            reaches-then source whole lands frame (here s0) (here s1) (here s3) memory (LeadsTo place.does.at whole frame) (Nothing whole frame) ((level_at source fuel around).place e.0 store) _
             (place.does.does.reaches whole frame (grows-trans s1 s2 whole read.grows grown2) sound is lands around stands fuel serves store memory holds)
             (λ path store1 memory1 claims. inr (
               memory1,

@@ -50,10 +50,11 @@ module _ {source : Source} {s0 s1 s2 s3 s4 s5 s6 : Shape} {operand : OperandKind
     without = subst (λ (end : End (Unit {0})). Reaches source whole lands frame (here s1) (here s6) memory (Nothing whole frame) (branched end)) (sym stuck) stuck-branch
 
     -- by the operand's byte one of the branches is taken; other bytes than one have no meaning
-    pub reaches-branched : (bytes : List ℕ) → mir_bytes frame memory operand ≡ Some bytes → Reaches source whole lands frame (here s1) (here s6) memory (Nothing whole frame) (branched (branch (is_byte number bytes)))
-    reaches-branched [] has = without
-    reaches-branched (byte ∷ []) has = by-test byte has (eqb byte number) refl
-    reaches-branched (byte ∷ more ∷ rest) has = without
+    pub reaches-branched : (bytes : Option (List ℕ)) → mir_bytes frame memory operand ≡ bytes → Reaches source whole lands frame (here s1) (here s6) memory (Nothing whole frame) (branched (branch (is_byte number bytes)))
+    reaches-branched None has = without
+    reaches-branched (Some []) has = without
+    reaches-branched (Some (byte ∷ [])) has = by-test byte has (eqb byte number) refl
+    reaches-branched (Some (byte ∷ more ∷ rest)) has = without
 
 -- an operand that is tested, where it needs a layout
 pub lays-tested : (source : Source) (s0 s1 new : Shape) (e child : ℕ) (operand : OperandKind) → LowersOperand source s0 s1 e operand → Grows s1 new → Contains (sized_part source (Operand e)) child → IsPlainWithin source child → HasLayouts source new → (f : ℕ) → NeedsLayout source child f → IsLaidOutNode source f

@@ -1,5 +1,5 @@
 -- Calls: the arguments' operands from left to right, and then the call.
-use Rattle.std.proofs.Common.{◌≡◌, ℕ, zero, suc, ◌+◌, ◌<◌, Bool, true, false, List, [], ◌∷◌, ◌++◌, length, get_or, drop, map, Contains, Option, Some, refl, sym, ap, ◌∙◌, subst, append_assoc, append-nil, drop-cons, arith}
+use Rattle.std.proofs.Common.{◌≡◌, ℕ, zero, suc, ◌+◌, ◌<◌, Bool, true, false, List, [], ◌∷◌, ◌++◌, length, get_or, drop, map, Contains, Option, Some, None, refl, sym, ap, ◌∙◌, subst, append_assoc, append-nil, drop-cons, arith}
 use Rattle.std.specs.Prelude.{All}
 use Rattle.std.proofs.lemmas.List.Elements.{All-nil, All-cons, All-head, All-tail}
 use Rattle.std.proofs.Math.ListN.{length-set}
@@ -8,7 +8,7 @@ use Rattle.mir.specs.declared.body.Terminator.{Terminator}
 use Rattle.mir.specs.declared.ids.BasicBlockId.{BasicBlockId}
 use Rattle.mir.specs.declared.operand.Operand.{Operand as MirOperand}
 use Rattle.mir.specs.declared.operand.OperandKind.{OperandKind}
-use Rattle.mir.specs.declared.operand.Place.{Place}
+use Rattle.mir.specs.declared.ids.LocalId.{LocalId}
 use Rattle.mir.specs.Memory.{Memory}
 use Rattle.mir.specs.Run.{Frame, Calling, calls, going_on, terminated, operand_type as mir_type}
 use Rattle.body_forms.specs.Callees.{IsCalleeOperand}
@@ -17,8 +17,10 @@ use Rattle.source_meaning.specs.Built.{CallsFunction}
 use Rattle.source_meaning.specs.Calls.{must_not_return, source_called}
 use Rattle.source_meaning.specs.Core as expr
 use Rattle.source_meaning.specs.Core.{is_truth}
-use Rattle.source_meaning.specs.Meaning.{level_at, callees_at, operands_of, entered_into, into_of}
-use Rattle.source_meaning.specs.Source.{Source, node, unadjusted, Cell, Store, Operand, operand_bytes}
+use Rattle.source_meaning.specs.Ends.{End, Stuck}
+use Rattle.source_meaning.specs.Meaning.{Callees, level_at, callees_at, operands_of, entered_into, into_of}
+use Rattle.source_meaning.specs.Places.{operands_bytes}
+use Rattle.source_meaning.specs.Source.{Source, node, unadjusted, Cell, Path, Store, Operand}
 use Rattle.source_meaning.specs.Valid.{own, inside, sized_parts, IsLaidOutNode}
 use Rattle.source_meaning.proofs.Depth.{argument_is_part}
 use Rattle.source_meaning.proofs.Marks.{call_marks}
@@ -33,6 +35,7 @@ use Rattle.mir_lower.specs.Growth.{Grows, Spares, IsSound, IsOpen, IsReady}
 use Rattle.mir_lower.specs.Lowered.{LaysOut, LowersOwn, LowersOperand, LowersOperands}
 use Rattle.mir_lower.specs.Runs.{Point, start_of}
 use Rattle.mir_lower.specs.Stops.{MakesCall}
+use Rattle.mir_lower.proofs.Arguments.{ShowAll, shows-all}
 use Rattle.mir_lower.proofs.Entering.{call-returns, call-strays}
 use Rattle.mir_lower.proofs.Growing.{current_of, grows-refl, grows-trans, with_terminator-is, with_terminator-grows, with_block-grows}
 use Rattle.mir_lower.proofs.Laid.{layouts-before, plain-part}
@@ -92,17 +95,17 @@ built-arguments source (first ∷ rest) all =
     (built-arguments source rest (All-tail (λ (arg : ExprId). IsBuilt source arg.0) first rest all))
 
 -- what the terminator of a call does
-call-leads : (frame : Frame) (memory : Memory) (e : ExprId) (func : MirOperand) (args : List MirOperand) (destination : Place) (target : Option BasicBlockId) → terminated frame memory (Some (call_terminator e func args destination target)) ≡ calls frame memory (call_of e func args destination target)
+call-leads : (frame : Frame) (memory : Memory) (e : ExprId) (func : MirOperand) (args : List MirOperand) (to : LocalId) (target : Option BasicBlockId) → terminated frame memory (Some (call_terminator e func args (local_place to) target)) ≡ calls frame memory (call_of e func args (local_place to) target)
 unfolding terminated
-call-leads frame memory e func args destination target = refl
+call-leads frame memory e func args to target = refl
 
 -- ending the current block by a call, and opening the next
-pub has-called : (source : Source) (s new : Shape) (e : ExprId) (func : MirOperand) (args : List MirOperand) (destination : Place) (target : Option BasicBlockId) → IsSound source s → IsOpen s → new ≡ with_block (with_terminator (call_terminator e func args destination target) s) → HasCalled source s new (call_of e func args destination target) (length s.blocks)
-has-called source s new e func args destination target sound opened same =
-    let t : Terminator = call_terminator e func args destination target in
+pub has-called : (source : Source) (s new : Shape) (e : ExprId) (func : MirOperand) (args : List MirOperand) (to : LocalId) (target : Option BasicBlockId) → IsSound source s → IsOpen s → new ≡ with_block (with_terminator (call_terminator e func args (local_place to) target) s) → HasCalled source s new (call_of e func args (local_place to) target) (length s.blocks)
+has-called source s new e func args to target sound opened same =
+    let t : Terminator = call_terminator e func args (local_place to) target in
     let b = current_of s opened in
     let many : length (with_terminator t s).blocks ≡ length s.blocks = ap (λ (n : Shape). length n.blocks) (with_terminator-is t s b.0 b.1) ∙ length-set s.blocks s.current (ended t b.0) in
-    subst (λ (n : Shape). HasCalled source s n (call_of e func args destination target) (length s.blocks)) (sym same)
+    subst (λ (n : Shape). HasCalled source s n (call_of e func args (local_place to) target) (length s.blocks)) (sym same)
     (record {
       grows = grows-trans s (with_terminator t s) (with_block (with_terminator t s)) (with_terminator-grows t s opened) (with_block-grows (with_terminator t s));
       spares = spares-trans s (with_terminator t s) (with_block (with_terminator t s)) (with_terminator-spares t s opened) (with_block-spares (with_terminator t s));
@@ -112,7 +115,7 @@ has-called source s new e func args destination target sound opened same =
       begins = here-with_block (with_terminator t s) ∙ ap start_of many;
       does = λ whole frame grows is memory budget.
           let grown = grows-trans (with_terminator t s) (with_block (with_terminator t s)) whole (with_block-grows (with_terminator t s)) grows in
-          run-terminator t s whole frame opened grown is memory budget ∙ ap (going_on budget) (call-leads frame memory e func args destination target);
+          run-terminator t s whole frame opened grown is memory budget ∙ ap (going_on budget) (call-leads frame memory e func args to target);
     })
 
 lays-call : (source : Source) (s1 new : Shape) (e : ℕ) (callee : Option ℕ) (es : List ℕ) → node source e ≡ Some (expr.Call callee es) → ((child : ℕ) → Contains es child → is_truth (unadjusted source child) ≡ false → LaysOut source s1 child) → Grows s1 new → IsLaidOutNode source e → LaysOut source new e
@@ -126,11 +129,16 @@ callee-type : (frame : Frame) (operand : OperandKind) (source : Source) (e : ℕ
 unfolding mir_type
 callee-type frame operand source e callee is = ap (mir_type frame.body) is.is
 
+-- without bytes for each argument a call has no meaning
+enters-nothing : (callees : Callees) (diverging : Bool) (callee : Option Source) (path : Path) (store : Store) → entered_into callees diverging callee None path store ≡ Stuck
+enters-nothing callees diverging (Some callee) path store = refl
+enters-nothing callees diverging None path store = refl
+
 -- a call was lowered: its arguments, and then the call
-pub lowers-call : (source : Source) (s0 s1 new : Shape) (e : ExprId) (callee : Option ℕ) (es : List ℕ) (func : MirOperand) (args : List MirOperand) (place : Place) (next : BasicBlockId) → IsReady source s0 e.0 → node source e.0 ≡ Some (expr.Call callee es) →
+pub lowers-call : (source : Source) (s0 s1 new : Shape) (e : ExprId) (callee : Option ℕ) (es : List ℕ) (func : MirOperand) (args : List MirOperand) (to : LocalId) (next : BasicBlockId) → IsReady source s0 e.0 → node source e.0 ≡ Some (expr.Call callee es) →
     LowersOperands source s0 s1 es (map (λ (arg : MirOperand). arg.kind) args) → IsCalleeOperand source e.0 callee func.kind → CallsFunction source e.0 callee → next.0 ≡ length s1.blocks →
-    HasCalled source s1 new (call_of e func args place (target_of_call (must_not_return source e.0) next)) (length s1.blocks) → (c : Cell) → local_of s0 c ≡ Some place.local.0 → LowersOwn source s0 new e.0 c
-lowers-call source s0 s1 new e callee es func args place next ready form given is built at called c local =
+    HasCalled source s1 new (call_of e func args (local_place to) (target_of_call (must_not_return source e.0) next)) (length s1.blocks) → (c : Cell) → local_of s0 c ≡ Some to.0 → LowersOwn source s0 new e.0 c
+lowers-call source s0 s1 new e callee es func args to next ready form given is built at called c local =
     record {
       keeps = record {
         grows = grows-trans s0 s1 new given.keeps.grows called.grows;
@@ -146,26 +154,35 @@ lowers-call source s0 s1 new e callee es func args place next ready form given i
       makes = record { e = e.0; evaluated = ready.reached; callee = callee; args = es; is_call = form; names = built.names }
 
       -- from the call on, by whether its callee must not return
-      by-mark : (whole : Shape) (frame : Frame) → Grows new whole → IsSound source whole → IsFrameOf whole frame → (lands : Landings) (fuel : ℕ) → Serves (suc fuel) source frame.program → (values : List Operand) (store : Store) (memory : Memory) → Holds whole frame store memory →
-          FitAll source (map (λ (arg : MirOperand). arg.kind) args) whole frame values → (marked : Bool) → must_not_return source e.0 ≡ marked →
-          Reaches source whole lands frame (here s1) (here new) memory (Nothing whole frame) (entered_into (callees_at fuel) marked (source_called source e.0 callee) (map (operand_bytes store) values) (record { cell = c }) store)
+      by-mark : (whole : Shape) (frame : Frame) → Grows new whole → IsSound source whole → IsFrameOf whole frame → (lands : Landings) (fuel : ℕ) → Serves (suc fuel) source frame.program → (values : List (List ℕ)) (store : Store) (memory : Memory) → Holds whole frame store memory →
+          ShowAll whole frame store args values → (marked : Bool) → must_not_return source e.0 ≡ marked →
+          Reaches source whole lands frame (here s1) (here new) memory (Nothing whole frame) (entered_into (callees_at fuel) marked (source_called source e.0 callee) (Some values) (record { cell = c }) store)
       by-mark whole frame grows sound frame-is lands fuel serves values store memory holds fit true mark =
-          let call : Calling = call_of e func args place (target_of_call true next) in
-          let found = local_of-grows s0 whole (grows-trans s0 s1 whole given.keeps.grows (grows-trans s1 new whole called.grows grows)) c place.local.0 local in
+          let call : Calling = call_of e func args (local_place to) (target_of_call true next) in
+          let found = local_of-grows s0 whole (grows-trans s0 s1 whole given.keeps.grows (grows-trans s1 new whole called.grows grows)) c to.0 local in
           call-strays source whole frame lands (here s1) memory store sound frame-is holds fuel serves call values fit e.0 callee is.ty (callee-type frame func.kind source e.0 callee is) built.id (is.names ∙ built.names) built.names makes c found
-          (λ budget. called.does whole frame grows frame-is memory budget ∙ ap (λ (m : Bool). going_on budget (calls frame memory (call_of e func args place (target_of_call m next)))) mark)
+          (λ budget. called.does whole frame grows frame-is memory budget ∙ ap (λ (m : Bool). going_on budget (calls frame memory (call_of e func args (local_place to) (target_of_call m next)))) mark)
           (here new) refl
       by-mark whole frame grows sound frame-is lands fuel serves values store memory holds fit false mark =
-          let call : Calling = call_of e func args place (target_of_call false next) in
-          let found = local_of-grows s0 whole (grows-trans s0 s1 whole given.keeps.grows (grows-trans s1 new whole called.grows grows)) c place.local.0 local in
-          subst (λ (p : Point). Reaches source whole lands frame (here s1) p memory (Nothing whole frame) (entered_into (callees_at fuel) false (source_called source e.0 callee) (map (operand_bytes store) values) (record { cell = c }) store)) (ap start_of at ∙ sym called.begins)
+          let call : Calling = call_of e func args (local_place to) (target_of_call false next) in
+          let found = local_of-grows s0 whole (grows-trans s0 s1 whole given.keeps.grows (grows-trans s1 new whole called.grows grows)) c to.0 local in
+          subst (λ (p : Point). Reaches source whole lands frame (here s1) p memory (Nothing whole frame) (entered_into (callees_at fuel) false (source_called source e.0 callee) (Some values) (record { cell = c }) store)) (ap start_of at ∙ sym called.begins)
           (call-returns source whole frame lands (here s1) memory store sound frame-is holds fuel serves call values fit e.0 callee is.ty (callee-type frame func.kind source e.0 callee is) built.id (is.names ∙ built.names) built.names makes c found
-          (λ budget. called.does whole frame grows frame-is memory budget ∙ ap (λ (m : Bool). going_on budget (calls frame memory (call_of e func args place (target_of_call m next)))) mark)
+          (λ budget. called.does whole frame grows frame-is memory budget ∙ ap (λ (m : Bool). going_on budget (calls frame memory (call_of e func args (local_place to) (target_of_call m next)))) mark)
           next.0 refl)
+
+      -- by whether each argument has bytes
+      by-given : (whole : Shape) (frame : Frame) → Grows new whole → IsSound source whole → IsFrameOf whole frame → (lands : Landings) (fuel : ℕ) → Serves (suc fuel) source frame.program → (values : List Operand) (store : Store) (memory : Memory) → Holds whole frame store memory →
+          FitAll source (map (λ (arg : MirOperand). arg.kind) args) whole frame values → (given : Option (List (List ℕ))) → operands_bytes source store values ≡ given →
+          Reaches source whole lands frame (here s1) (here new) memory (Nothing whole frame) (entered_into (callees_at fuel) (must_not_return source e.0) (source_called source e.0 callee) given (record { cell = c }) store)
+      by-given whole frame grows sound frame-is lands fuel serves values store memory holds fit (Some given) is =
+          by-mark whole frame grows sound frame-is lands fuel serves given store memory holds (shows-all source whole frame store args values fit given is) (must_not_return source e.0) refl
+      by-given whole frame grows sound frame-is lands fuel serves values store memory holds fit None is =
+          subst (Reaches source whole lands frame (here s1) (here new) memory (Nothing whole frame)) (sym (enters-nothing (callees_at fuel) (must_not_return source e.0) (source_called source e.0 callee) (record { cell = c }) store)) (inr tt)
 
       reaches : (whole : Shape) (frame : Frame) → Grows new whole → IsSound source whole → IsFrameOf whole frame → (lands : Landings) (around : Around) → Stands whole s0 lands around → (fuel : ℕ) → Serves (suc fuel) source frame.program → (store : Store) (memory : Memory) → Holds whole frame store memory →
           Reaches source whole lands frame (here s0) (here new) memory (Nothing whole frame) (into_of source (level_at source fuel) (callees_at fuel) around e.0 (Some (expr.Call callee es)) (record { cell = c }) store)
       reaches whole frame grows sound frame-is lands around stands fuel serves store memory holds =
           reaches-then source whole lands frame (here s0) (here s1) (here new) memory (FitAll source (map (λ (arg : MirOperand). arg.kind) args) whole frame) (Nothing whole frame) (operands_of source (level_at source fuel) around es store) _
           (given.does.reaches whole frame (grows-trans s1 new whole called.grows grows) sound frame-is lands around stands fuel (serves-less fuel source frame.program serves) store memory holds)
-          (λ values store1 memory1 claims. by-mark whole frame grows sound frame-is lands fuel serves values store1 memory1 claims.0 claims.1 (must_not_return source e.0) refl)
+          (λ values store1 memory1 claims. by-given whole frame grows sound frame-is lands fuel serves values store1 memory1 claims.0 claims.1 (operands_bytes source store1 values) refl)

@@ -9,16 +9,16 @@ use Rattle.mir.specs.declared.errors.MirLowerError.{MirLowerError}
 use Rattle.mir.specs.declared.errors.MirLowerError.TheVariants as refusal
 use Rattle.mir.specs.declared.operand.Operand.{Operand as MirOperand}
 use Rattle.mir.specs.declared.operand.OperandKind.TheVariants.{Copy}
-use Rattle.mir.specs.declared.operand.Place.{Place}
+use Rattle.mir.specs.declared.ids.LocalId.{LocalId}
 use Rattle.mir.specs.declared.operand.Rvalue.TheVariants.{CheckedBinaryOp}
 use Rattle.mir.specs.declared.span.MirSpan.{MirSpan}
 use Rattle.mir.specs.Memory.{Memory}
-use Rattle.mir.specs.Run.{Frame, answered as answer}
+use Rattle.mir.specs.Run.{Frame}
 use Rattle.source_meaning.specs.Around.{Around}
-use Rattle.source_meaning.specs.Core.{CoreExpr, is_truth, local_named}
+use Rattle.source_meaning.specs.Core.{CoreExpr, Combine, is_truth, local_named}
 use Rattle.source_meaning.specs.Core as expr
-use Rattle.source_meaning.specs.Meaning.{level_at, callees_at, value_of, combine_into, into_of}
-use Rattle.source_meaning.specs.Source.{Source, node, unadjusted, named_by, compound_path, compound_target, Cell, Binding, Store, Operand, At}
+use Rattle.source_meaning.specs.Meaning.{level_at, callees_at, values_of, combine_into, into_of}
+use Rattle.source_meaning.specs.Source.{Source, node, unadjusted, named_by, compound_path, compound_target, Cell, Binding, whole as place_of_cell, Store, At}
 use Rattle.source_meaning.specs.Steps.{parts_of}
 use Rattle.source_meaning.specs.Valid.{own, inside, sized_parts, IsLaidOutNode}
 use Rattle.source_meaning.proofs.Depth.{combined_is_part}
@@ -27,20 +27,20 @@ use Rattle.source_meaning.proofs.Parts.{sized_operand}
 use Rattle.body_forms.specs.Refusals.{IsUnbuilt, IsUnresolved, LacksLocal}
 use Rattle.mir_lower.specs.Callees.{Serves}
 use Rattle.mir_lower.specs.Does.{Stands, here, IsFrameOf, Holds, Landings, Reaches, Nothing, Fits}
-use Rattle.mir_lower.specs.Graph.{Shape, with_statement, local_of}
+use Rattle.mir_lower.specs.Graph.{Shape, with_statement, local_place}
 use Rattle.mir_lower.specs.Growth.{Grows, IsSound, IsReady}
 use Rattle.mir_lower.specs.Lowered.{IsCombinedIn, LaysOut, LowersOwn, LowersOperand}
 use Rattle.mir_lower.specs.Refusals.{RefusesAt, RefusesCombined}
 use Rattle.mir_lower.proofs.Growing.{grows-trans, with_statement-grows}
 use Rattle.mir_lower.proofs.Laid.{layouts-before, plain-part, one-of}
-use Rattle.mir_lower.proofs.Operands.{place-fits}
-use Rattle.mir_lower.proofs.Operations.{assignment}
+use Rattle.mir_lower.proofs.Operations.{assignment, local-at}
 use Rattle.mir_lower.proofs.Reaching.{reaches-then}
+use Rattle.mir_lower.proofs.Reading.{place-fits}
 use Rattle.mir_lower.proofs.Refused.{refuses-here, refuses-no-memory}
 use Rattle.mir_lower.proofs.Sound.{with_statement-sound, with_statement-open, with_statement-scope}
 use Rattle.mir_lower.proofs.Sparing.{spares-trans, with_statement-spares}
-use Rattle.mir_lower.proofs.Steps.{local_of-grows, assigned-answer, does-form}
-use Rattle.mir_lower.proofs.Rvalues.{binary-bytes, two-answer}
+use Rattle.mir_lower.proofs.Steps.{local_of-grows, assigned-values, does-form}
+use Rattle.mir_lower.proofs.Rvalues.{binary-agrees, read-all}
 
 -- the value is a part
 pub combined-part : (source : Source) (e : ℕ) (op : Operator) (assigned value : ℕ) → node source e ≡ Some (expr.Compound op assigned value) → Contains (parts_of (node source e)) value
@@ -65,10 +65,10 @@ lays-compound source s1 new e op assigned value form below grows laid plain layo
     one-value child within = one-of value child within
 
 -- a compound assignment was lowered: its value, and then one assignment
-pub lowers-compound : (source : Source) (s0 s1 new : Shape) (e : ℕ) (op : Operator) (assigned value : ℕ) (left right : MirOperand) (place : Place) (span : MirSpan) (c : Cell) → IsReady source s0 e → node source e ≡ Some (expr.Compound op assigned value) → LowersOperand source s0 s1 value right.kind → IsCombinedIn source s1 assigned place.local.0 → left.kind ≡ Copy place →
-    new ≡ with_statement (assignment place (CheckedBinaryOp op left right) span) s1 → LowersOwn source s0 new e c
-lowers-compound source s0 s1 new e op assigned value left right place span c ready form given named copies same =
-    let st = assignment place (CheckedBinaryOp op left right) span in
+pub lowers-compound : (source : Source) (s0 s1 new : Shape) (e : ℕ) (op : Operator) (assigned value : ℕ) (left right : MirOperand) (to : LocalId) (span : MirSpan) (c : Cell) → IsReady source s0 e → node source e ≡ Some (expr.Compound op assigned value) → LowersOperand source s0 s1 value right.kind → IsCombinedIn source s1 assigned to.0 → left.kind ≡ Copy (local_place to) →
+    new ≡ with_statement (assignment to (CheckedBinaryOp op left right) span) s1 → LowersOwn source s0 new e c
+lowers-compound source s0 s1 new e op assigned value left right to span c ready form given named copies same =
+    let st = assignment to (CheckedBinaryOp op left right) span in
     let opened = given.keeps.«open» in
     let last : Grows s1 (with_statement st s1) = with_statement-grows st s1 opened in
     subst (λ (n : Shape). LowersOwn source s0 n e c) (sym same)
@@ -83,22 +83,23 @@ lowers-compound source s0 s1 new e op assigned value left right place span c rea
       does = does-form source s0 (with_statement st s1) e c (Some (expr.Compound op assigned value)) form (record { reaches = reaches });
       laid = lays-compound source s1 (with_statement st s1) e op assigned value form given.laid last;
     }) where
-      reaches : (whole : Shape) (frame : Frame) → Grows (with_statement (assignment place (CheckedBinaryOp op left right) span) s1) whole → IsSound source whole → IsFrameOf whole frame → (lands : Landings) (around : Around) → Stands whole s0 lands around → (fuel : ℕ) → Serves fuel source frame.program → (store : Store) (memory : Memory) → Holds whole frame store memory →
-          Reaches source whole lands frame (here s0) (here (with_statement (assignment place (CheckedBinaryOp op left right) span) s1)) memory (Nothing whole frame) (into_of source (level_at source fuel) (callees_at fuel) around e (Some (expr.Compound op assigned value)) (record { cell = c }) store)
+      reaches : (whole : Shape) (frame : Frame) → Grows (with_statement (assignment to (CheckedBinaryOp op left right) span) s1) whole → IsSound source whole → IsFrameOf whole frame → (lands : Landings) (around : Around) → Stands whole s0 lands around → (fuel : ℕ) → Serves fuel source frame.program → (store : Store) (memory : Memory) → Holds whole frame store memory →
+          Reaches source whole lands frame (here s0) (here (with_statement (assignment to (CheckedBinaryOp op left right) span) s1)) memory (Nothing whole frame) (into_of source (level_at source fuel) (callees_at fuel) around e (Some (expr.Compound op assigned value)) (record { cell = c }) store)
       reaches whole frame grows sound frame-is lands around stands fuel serves store memory holds =
-          let st = assignment place (CheckedBinaryOp op left right) span in
+          let st = assignment to (CheckedBinaryOp op left right) span in
           let opened = given.keeps.«open» in
           let grown : Grows s1 whole = grows-trans s1 (with_statement st s1) whole (with_statement-grows st s1 opened) grows in
           let b = Binding named.binding.0 in
-          let found = local_of-grows s1 whole grown b place.local.0 named.found in
+          let found = local_of-grows s1 whole grown b to.0 named.found in
           reaches-then source whole lands frame (here s0) (here s1) (here (with_statement st s1)) memory (Fits source right.kind whole frame) (Nothing whole frame) ((level_at source fuel around).operand value store) _
           (given.does.reaches whole frame grown sound frame-is lands around stands fuel serves store memory holds)
           (λ v store1 memory1 claims.
           subst (λ (target : Option BindingId). Reaches source whole lands frame (here s1) (here (with_statement st s1)) memory1 (Nothing whole frame) (combine_into source op target v store1)) (sym named.names)
-          (assigned-answer source s1 whole frame place (CheckedBinaryOp op left right) span opened sound frame-is lands grows b found store1 memory1 claims.0 _
-          (let own = At (record { cell = b }) in
-          let fits = subst (λ kind. Fits source kind whole frame own) (sym copies) (place-fits source whole frame b place sound frame-is found) in
-          binary-bytes source whole frame op own v left right store1 memory1 claims.0 fits claims.1 ∙ ap answer (two-answer source.world None op (value_of source store1 own) (value_of source store1 v)))))
+          (assigned-values source s1 whole frame to (CheckedBinaryOp op left right) span opened sound frame-is lands grows b found store1 memory1 claims.0 None (Combine op) (values_of source store1 (At (place_of_cell b) ∷ v ∷ []))
+          (λ given have.
+          let own = subst (λ kind. Fits source kind whole frame (At (place_of_cell b))) (sym copies) (place-fits source whole frame (local_place to) (place_of_cell b) sound frame-is serves.world (local-at whole to b found)) in
+          binary-agrees source.world None op left right frame given memory1
+          (read-all source whole frame store1 memory1 claims.0 (left ∷ right ∷ []) (At (place_of_cell b) ∷ v ∷ []) (own, (claims.1, tt)) given have))))
 
 -- the refusal of the target of a compound assignment
 pub refuses-combined : (source : Source) (e : ℕ) (error : MirLowerError) (op : Operator) (assigned value : ℕ) → node source e ≡ Some (expr.Compound op assigned value) → RefusesCombined source assigned error → RefusesAt source e error

@@ -23,17 +23,17 @@ use Rattle.source_meaning.specs.Calls.{function_called, function_in, source_of, 
 use Rattle.source_meaning.specs.Ends.{Cost, cost_of, no_cost, turns_alone, one_level_more, plus, End, Go, Jumps, Faults, Stuck, More, after, then_do}
 use Rattle.source_meaning.specs.Entering.{body_room, entering as entering_cost}
 use Rattle.source_meaning.specs.Meaning.{put, call_returned, call_diverged, entered_from, entered_into, level_at, callees_at, meaning_from, returned}
-use Rattle.source_meaning.specs.Source.{Source, Cell, Result as Slot, Binding, cell_size, Path, Store, Operand, operand_bytes, root, zeroed, with_cell_bytes}
+use Rattle.source_meaning.specs.Source.{Source, Cell, Result as Slot, Binding, cell_size, Path, Store, root, zeroed, with_cell_bytes}
 use Rattle.source_meaning.specs.Valid.{Calls, at_once, through}
 use Rattle.source_meaning.proofs.Calls.{called_by_name, called_row, called_world}
 use Rattle.mir_lower.specs.Callees.{RunsAs, DoesBelow, Serves, cost_once_placed, once_placed}
-use Rattle.mir_lower.specs.Does.{IsFrameOf, Holds, Landings, Reaches, Nothing, FitAll}
+use Rattle.mir_lower.specs.Does.{IsFrameOf, Holds, Landings, Reaches, Nothing}
 use Rattle.mir_lower.specs.Graph.{Shape, local_of}
 use Rattle.mir_lower.specs.Growth.{IsSound}
 use Rattle.mir_lower.specs.Runs.{Point, Entry, Exit, start_of, run_from, local_bytes, Enters, IsFault, EndsAfter, error_of, LiesApart, HasGrown, Comes}
 use Rattle.mir_lower.specs.Stops.{MakesCall, MakesSomeCall, ReachesCall, IsCut, StopsWithin, StopsFrom, without_arguments}
 use Rattle.mir_lower.proofs.Aligned.{are-aligned}
-use Rattle.mir_lower.proofs.Arguments.{names-callee, bytes-at, Spares, Shows, ArePlaced, called-places, fills}
+use Rattle.mir_lower.proofs.Arguments.{names-callee, bytes-at, ShowAll, Spares, Shows, ArePlaced, called-places, fills}
 use Rattle.mir_lower.proofs.CallLeads.{frame-of, leads-by, called-into, called-alone, entered-lacks, entered-at, goes-back, goes-astray, levels-same, levels-more}
 use Rattle.mir_lower.proofs.Covering.{Covers, covers-after, covers-on, covers-astray, put-fits}
 use Rattle.mir_lower.proofs.Holding.{cells, interval-of}
@@ -97,7 +97,7 @@ checked-callee source called checked calls =
 module _ (source : Source) (whole : Shape) (frame : Frame) (lands : Landings) (from : Point) (memory : Memory) (store : Store)
     (sound : IsSound source whole) (is : IsFrameOf whole frame) (holds : Holds whole frame store memory)
     (fuel : ℕ) (serves : Serves (suc fuel) source frame.program)
-    (call : Calling) (values : List Operand) (fit : FitAll source (map (λ (arg : MirOperand). arg.kind) call.args) whole frame values)
+    (call : Calling) (values : List (List ℕ)) (fit : ShowAll whole frame store call.args values)
     (e : ℕ) (callee : Option ℕ) (ty : Ty) (typed : mir_type frame.body call.func.kind ≡ Some ty)
     (id : FunctionId) (named : function_in ty ≡ Some id) (names : function_called source e callee ≡ Some id) (makes : MakesCall source id)
     (c : Cell) (found : local_of whole c ≡ Some call.destination.local.0)
@@ -165,7 +165,7 @@ module _ (source : Source) (whole : Shape) (frame : Frame) (lands : Landings) (f
   -- the body is entered: its cells are placed, and the arguments are copied to them; or the run stops
   enters-body : (called : Source) → source_of source.world id ≡ Some called → (body : MirBody) → DoesBelow (suc fuel) frame.program called body → (destination : Option Interval) (result : List ℕ) → Shows called memory destination result →
       ((budget : ℕ) → run_from frame memory from budget ≡ going_on budget (entered frame memory call id body destination)) →
-      StopsFor (entering_cost called) ⊎ ((start : Store) → started called result (map (operand_bytes store) values) ≡ Some start → RunsCallee called destination start)
+      StopsFor (entering_cost called) ⊎ ((start : Store) → started called result values ≡ Some start → RunsCallee called destination start)
   unfolding going_on started
   enters-body called has_body body below destination result shows leads = by_cells (called_cells frame.program.world body.locals destination memory) refl where
     way : Calls source called
@@ -177,7 +177,7 @@ module _ (source : Source) (whole : Shape) (frame : Frame) (lands : Landings) (f
     in-world : HirDatabase → Result (List Interval × Memory) MirEvalError
     in-world w = called_cells w body.locals destination memory
 
-    by_cells : (all : Result (List Interval × Memory) MirEvalError) → called_cells frame.program.world body.locals destination memory ≡ all → StopsFor (entering_cost called) ⊎ ((start : Store) → started called result (map (operand_bytes store) values) ≡ Some start → RunsCallee called destination start)
+    by_cells : (all : Result (List Interval × Memory) MirEvalError) → called_cells frame.program.world body.locals destination memory ≡ all → StopsFor (entering_cost called) ⊎ ((start : Store) → started called result values ≡ Some start → RunsCallee called destination start)
     by_cells (Err e) none =
         inl (λ cost part.
         let bytes = part.bytes in
@@ -193,8 +193,8 @@ module _ (source : Source) (whole : Shape) (frame : Frame) (lands : Landings) (f
         let inner : Frame = frame-of frame call id body all.0 in
         let places : ArePlaced called below.allotted inner memory destination result all.1 =
         called-places called aligned below.allotted below.own below.result memory body.locals below.typed destination result shows all there inner refl in
-        let given : filled called (with_cell_bytes (zeroed called) Slot result) below.params.bound (map (operand_bytes store) values) ≡ Some start =
-        sym (ap (option_and_then (λ (bound : List ℕ). filled called (with_cell_bytes (zeroed called) Slot result) bound (map (operand_bytes store) values))) below.params.binds) ∙ starts in
+        let given : filled called (with_cell_bytes (zeroed called) Slot result) below.params.bound values ≡ Some start =
+        sym (ap (option_and_then (λ (bound : List ℕ). filled called (with_cell_bytes (zeroed called) Slot result) bound values)) below.params.binds) ∙ starts in
         let full = fills source whole frame store memory holds called below.allotted below.own inner places.apart places.outside below.params.bound body.param_locals call.args values (with_cell_bytes (zeroed called) Slot result) start all.1 below.params.locals fit
         (record { holds = places.holds; sized = λ b. length-replicate (cell_size called (Binding b)) 0; kept = places.kept }) given in
         record {
@@ -329,10 +329,6 @@ module _ (source : Source) (whole : Shape) (frame : Frame) (lands : Landings) (f
     gives-astray (More cost) covers (inl stops) = inl (stops-astray cost covers stops)
     gives-astray (More cost) covers (inr enters) = inr (enters-same cost.turns (run_from frame memory from) (run_from Own into.now (Entry into.body.start_block.0)) into.same enters)
 
-  -- the bytes of the arguments
-  abbrev Given : List (List ℕ)
-  Given = map (operand_bytes store) values
-
   abbrev place : Path
   place = record { cell = c }
 
@@ -352,8 +348,8 @@ module _ (source : Source) (whole : Shape) (frame : Frame) (lands : Landings) (f
     returning-covers called None = tt
     returning-covers called (Some start) = covers-on (entering_cost called) place store (callees_at fuel called start) (meant-covers called start)
 
-    returns-started : (called : Source) → Calls source called → (cell : Interval) → slice_get frame.cells call.destination.local.0 ≡ Some cell → StopsFor (entering_cost called) ⊎ ((start : Store) → started called (store c) Given ≡ Some start → RunsCallee called (Some cell) start) →
-        (start : Option Store) → started called (store c) Given ≡ start → Returning (entered_from (callees_at fuel) false called start place store)
+    returns-started : (called : Source) → Calls source called → (cell : Interval) → slice_get frame.cells call.destination.local.0 ≡ Some cell → StopsFor (entering_cost called) ⊎ ((start : Store) → started called (store c) values ≡ Some start → RunsCallee called (Some cell) start) →
+        (start : Option Store) → started called (store c) values ≡ start → Returning (entered_from (callees_at fuel) false called start place store)
     unfolding meaning_from
     returns-started called way cell there (inl stopped) start starts = stopped-reaches (start_of next) (entering_cost called) (entered_from (callees_at fuel) false called start place store) stopped (returning-covers called start)
     returns-started called way cell there (inr runs) None starts = inr tt
@@ -361,25 +357,25 @@ module _ (source : Source) (whole : Shape) (frame : Frame) (lands : Landings) (f
         gives-back called way next target cell there start (runs start starts) (callees_at fuel called start) (meant-covers called start) (runs start starts).runs
 
     returns-told : (called : Source) → source_of source.world id ≡ Some called → StopsAnyhow ⊎ ((body : MirBody) × DoesBelow (suc fuel) frame.program called body × ((budget : ℕ) → run_from frame memory from budget ≡ going_on budget (mir_called frame memory call id body))) →
-        Returning (entered_into (callees_at fuel) false (Some called) Given place store)
-    returns-told called has_body (inl stopped) = anyhow-reaches (start_of next) (entered_into (callees_at fuel) false (Some called) Given place store) stopped
+        Returning (entered_into (callees_at fuel) false (Some called) (Some values) place store)
+    returns-told called has_body (inl stopped) = anyhow-reaches (start_of next) (entered_into (callees_at fuel) false (Some called) (Some values) place store) stopped
     returns-told called has_body (inr told) =
         let there = interval-of frame memory call.destination.local.0 (store c) (holds.shows c call.destination.local.0 found) in
         returns-started called (calls-into source called id makes has_body) there.0 there.1
         (enters-body called has_body told.0 told.1 (Some there.0) (store c) there.2
         (λ budget. told.2 budget ∙ ap (going_on budget) (called-into frame memory call id told.0 next there.0 target there.1)))
-        (started called (store c) Given) refl
+        (started called (store c) values) refl
 
-    returns-source : (o : Option Source) → source_of source.world id ≡ o → Returning (entered_into (callees_at fuel) false o Given place store)
+    returns-source : (o : Option Source) → source_of source.world id ≡ o → Returning (entered_into (callees_at fuel) false o (Some values) place store)
     returns-source None has_body = inr tt
     returns-source (Some called) has_body = returns-told called has_body (told-body called has_body)
 
   -- a call with a target: the callee's body runs, its value lies at the destination, and the target block is entered; or the run stops at
   -- the call, or in the callee
   pub call-returns : (next : ℕ) → call.target ≡ Some next →
-      Reaches source whole lands frame from (start_of next) memory (Nothing whole frame) (entered_into (callees_at fuel) false (source_called source e callee) (map (operand_bytes store) values) (record { cell = c }) store)
+      Reaches source whole lands frame from (start_of next) memory (Nothing whole frame) (entered_into (callees_at fuel) false (source_called source e callee) (Some values) (record { cell = c }) store)
   call-returns next target =
-      subst (λ (o : Option Source). Returning next target (entered_into (callees_at fuel) false o Given place store)) (sym callee-is) (returns-source next target (source_of source.world id) refl)
+      subst (λ (o : Option Source). Returning next target (entered_into (callees_at fuel) false o (Some values) place store)) (sym callee-is) (returns-source next target (source_of source.world id) refl)
 
   module _ (to : Point) (target : call.target ≡ None) where
     abbrev Straying : End (Unit {0}) → Type 0
@@ -393,8 +389,8 @@ module _ (source : Source) (whole : Shape) (frame : Frame) (lands : Landings) (f
     for-more : (called : Source) → StopsFor (entering_cost called) → StopsFor (one_level_more (entering_cost called))
     for-more called stopped cost part = let nesting = part.nesting in stopped cost (record { turns = part.turns; bytes = part.bytes; nesting = omega arith; defined = part.defined })
 
-    strays-started : (called : Source) → Calls source called → StopsFor (entering_cost called) ⊎ ((start : Store) → started called (zeroed called Slot) Given ≡ Some start → RunsCallee called None start) →
-        (start : Option Store) → started called (zeroed called Slot) Given ≡ start → Straying (entered_from (callees_at fuel) true called start place store)
+    strays-started : (called : Source) → Calls source called → StopsFor (entering_cost called) ⊎ ((start : Store) → started called (zeroed called Slot) values ≡ Some start → RunsCallee called None start) →
+        (start : Option Store) → started called (zeroed called Slot) values ≡ start → Straying (entered_from (callees_at fuel) true called start place store)
     unfolding meaning_from
     strays-started called way (inl stopped) start starts = stopped-reaches to (one_level_more (entering_cost called)) (entered_from (callees_at fuel) true called start place store) (for-more called stopped) (straying-covers called start)
     strays-started called way (inr runs) None starts = inr tt
@@ -411,22 +407,22 @@ module _ (source : Source) (whole : Shape) (frame : Frame) (lands : Landings) (f
         (λ budget. leads budget ∙ ap (going_on budget) (called-alone frame memory call id body false target levels))
 
     strays-told : (called : Source) → source_of source.world id ≡ Some called → StopsAnyhow ⊎ ((body : MirBody) × DoesBelow (suc fuel) frame.program called body × ((budget : ℕ) → run_from frame memory from budget ≡ going_on budget (mir_called frame memory call id body))) →
-        (deep : Bool) → nat_le (suc (levels_over frame.below)) frame.program.nesting ≡ deep → Straying (entered_into (callees_at fuel) true (Some called) Given place store)
-    strays-told called has_body (inl stopped) deep levels = anyhow-reaches to (entered_into (callees_at fuel) true (Some called) Given place store) stopped
+        (deep : Bool) → nat_le (suc (levels_over frame.below)) frame.program.nesting ≡ deep → Straying (entered_into (callees_at fuel) true (Some called) (Some values) place store)
+    strays-told called has_body (inl stopped) deep levels = anyhow-reaches to (entered_into (callees_at fuel) true (Some called) (Some values) place store) stopped
     strays-told called has_body (inr told) true levels =
         strays-started called (calls-into source called id makes has_body)
         (enters-body called has_body told.0 told.1 None (zeroed called Slot) refl
         (λ budget. told.2 budget ∙ ap (going_on budget) (called-alone frame memory call id told.0 true target levels)))
-        (started called (zeroed called Slot) Given) refl
+        (started called (zeroed called Slot) values) refl
     strays-told called has_body (inr told) false levels =
-        stopped-reaches to (one_level_more (entering_cost called)) (entered_into (callees_at fuel) true (Some called) Given place store) (too-deep called told.0 told.2 levels) (straying-covers called (started called (zeroed called Slot) Given))
+        stopped-reaches to (one_level_more (entering_cost called)) (entered_into (callees_at fuel) true (Some called) (Some values) place store) (too-deep called told.0 told.2 levels) (straying-covers called (started called (zeroed called Slot) values))
 
-    strays-source : (o : Option Source) → source_of source.world id ≡ o → Straying (entered_into (callees_at fuel) true o Given place store)
+    strays-source : (o : Option Source) → source_of source.world id ≡ o → Straying (entered_into (callees_at fuel) true o (Some values) place store)
     strays-source None has_body = inr tt
     strays-source (Some called) has_body = strays-told called has_body (told-body called has_body) (nat_le (suc (levels_over frame.below)) frame.program.nesting) refl
 
   -- a call without a target, whose callee must not return
   pub call-strays : (to : Point) → call.target ≡ None →
-      Reaches source whole lands frame from to memory (Nothing whole frame) (entered_into (callees_at fuel) true (source_called source e callee) (map (operand_bytes store) values) (record { cell = c }) store)
+      Reaches source whole lands frame from to memory (Nothing whole frame) (entered_into (callees_at fuel) true (source_called source e callee) (Some values) (record { cell = c }) store)
   call-strays to target =
-      subst (λ (o : Option Source). Straying to target (entered_into (callees_at fuel) true o Given place store)) (sym callee-is) (strays-source to target (source_of source.world id) refl)
+      subst (λ (o : Option Source). Straying to target (entered_into (callees_at fuel) true o (Some values) place store)) (sym callee-is) (strays-source to target (source_of source.world id) refl)

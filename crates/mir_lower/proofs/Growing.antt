@@ -61,9 +61,9 @@ append_grows blocks more =
     }
 
 -- a graph grows where its blocks do, its locals stay, and its expressions keep their locals
-pub grows_by : (old new : Shape) → BlocksGrow old.blocks new.blocks → new.bindings ≡ old.bindings → ((i : ℕ) (l : Local) → slice_get old.locals i ≡ Some l → slice_get new.locals i ≡ Some l) → ((e l : ℕ) → temp_of old e ≡ Some l → temp_of new e ≡ Some l) → ((e l : ℕ) → never_of old e ≡ Some l → never_of new e ≡ Some l) → Grows old new
+pub grows_by : (old new : Shape) → BlocksGrow old.blocks new.blocks → new.bindings ≡ old.bindings → new.projections ≡ old.projections → ((i : ℕ) (l : Local) → slice_get old.locals i ≡ Some l → slice_get new.locals i ≡ Some l) → ((e l : ℕ) → temp_of old e ≡ Some l → temp_of new e ≡ Some l) → ((e l : ℕ) → never_of old e ≡ Some l → never_of new e ≡ Some l) → Grows old new
 unfolding statement_at
-grows_by old new blocks bindings locals temps nevers =
+grows_by old new blocks bindings kept locals temps nevers =
     record {
       statements = λ b i s there. option_and_then_some (λ block. slice_get block.statements i) (slice_get old.blocks b) s there (λ block found at.
           let later = blocks.each b block found in
@@ -73,10 +73,11 @@ grows_by old new blocks bindings locals temps nevers =
       bindings = bindings;
       temps = temps;
       nevers = nevers;
+      projections = λ id elements h. subst (λ ps. projection_of ps id ≡ Some elements) (sym kept) h;
     }
 
 pub grows-refl : (s : Shape) → Grows s s
-grows-refl s = record { statements = λ b i x h. h; ended = λ b block t h is. h; locals = λ i l h. h; bindings = refl; temps = λ e l h. h; nevers = λ e l h. h }
+grows-refl s = record { statements = λ b i x h. h; ended = λ b block t h is. h; locals = λ i l h. h; bindings = refl; temps = λ e l h. h; nevers = λ e l h. h; projections = λ id elements h. h }
 
 pub grows-trans : (a b c : Shape) → Grows a b → Grows b c → Grows a c
 grows-trans a b c first second =
@@ -87,6 +88,7 @@ grows-trans a b c first second =
       bindings = second.bindings ∙ first.bindings;
       temps = λ e l h. second.temps e l (first.temps e l h);
       nevers = λ e l h. second.nevers e l (first.nevers e l h);
+      projections = λ id elements h. second.projections id elements (first.projections id elements h);
     }
 
 -- the current block of an open graph
@@ -111,7 +113,7 @@ with_statement-grows statement s opened =
     let block = current_of s opened in
     subst (λ (n : Shape). Grows s n) (sym (with_statement-is statement s block.0 block.1))
     (grows_by s (record s { blocks = slice_set s.blocks s.current (more_of statement block.0) })
-    (set_grows s.blocks s.current block.0 (more_of statement block.0) block.1 block.2 (more_grows statement block.0)) refl (λ i l h. h) (λ e l h. h) (λ e l h. h))
+    (set_grows s.blocks s.current block.0 (more_of statement block.0) block.1 block.2 (more_grows statement block.0)) refl refl (λ i l h. h) (λ e l h. h) (λ e l h. h))
 
 pub with_terminator-grows : (t : Terminator) (s : Shape) → IsOpen s → Grows s (with_terminator t s)
 unfolding temp_of never_of
@@ -119,15 +121,15 @@ with_terminator-grows t s opened =
     let block = current_of s opened in
     subst (λ (n : Shape). Grows s n) (sym (with_terminator-is t s block.0 block.1))
     (grows_by s (record s { blocks = slice_set s.blocks s.current (ended t block.0) })
-    (set_grows s.blocks s.current block.0 (ended t block.0) block.1 block.2 (ended_grows t block.0)) refl (λ i l h. h) (λ e l h. h) (λ e l h. h))
+    (set_grows s.blocks s.current block.0 (ended t block.0) block.1 block.2 (ended_grows t block.0)) refl refl (λ i l h. h) (λ e l h. h) (λ e l h. h))
 
 pub with_block-grows : (s : Shape) → Grows s (with_block s)
 unfolding with_block temp_of never_of
-with_block-grows s = grows_by s (with_block s) (append_grows s.blocks (no_statements ∷ [])) refl (λ i l h. h) (λ e l h. h) (λ e l h. h)
+with_block-grows s = grows_by s (with_block s) (append_grows s.blocks (no_statements ∷ [])) refl refl (λ i l h. h) (λ e l h. h) (λ e l h. h)
 
 pub with_scope-grows : (scope : List Cell) (s : Shape) → Grows s (with_scope scope s)
 unfolding statement_at temp_of never_of
-with_scope-grows scope s = record { statements = λ b i x h. h; ended = λ b block t h is. h; locals = λ i l h. h; bindings = refl; temps = λ e l h. h; nevers = λ e l h. h }
+with_scope-grows scope s = record { statements = λ b i x h. h; ended = λ b block t h is. h; locals = λ i l h. h; bindings = refl; temps = λ e l h. h; nevers = λ e l h. h; projections = λ id elements h. h }
 
 -- A table in which one entry is changed.
 module _ (change : Temps → Temps) (table : List Temps) (e : ℕ) where
@@ -183,7 +185,7 @@ never_of-with_temp e f ty s = ap (option_map (λ (l : LocalId). l.0)) (entry-kep
 pub with_temp-grows : (e : ℕ) (ty : Ty) (s : Shape) → temp_of s e ≡ None → Grows s (with_temp e ty s)
 unfolding with_temp
 with_temp-grows e ty s none =
-    grows_by s (with_temp e ty s) (same_blocks s.blocks) refl (λ i l h. slice_get-front s.locals (local_of_type ty ∷ []) i l h)
+    grows_by s (with_temp e ty s) (same_blocks s.blocks) refl refl (λ i l h. slice_get-front s.locals (local_of_type ty ∷ []) i l h)
     (λ f l h. temp_of-with_temp_other e f ty s (λ same. let h' : temp_of s e ≡ Some l = ap (temp_of s) (sym same) ∙ h in cc) ∙ h)
     (λ f l h. never_of-with_temp e f ty s ∙ h)
 
@@ -205,6 +207,6 @@ temp_of-with_never e f ty s = ap (option_map (λ (l : LocalId). l.0)) (entry-kep
 pub with_never-grows : (e : ℕ) (ty : Ty) (s : Shape) → never_of s e ≡ None → Grows s (with_never e ty s)
 unfolding with_never
 with_never-grows e ty s none =
-    grows_by s (with_never e ty s) (same_blocks s.blocks) refl (λ i l h. slice_get-front s.locals (local_of_type ty ∷ []) i l h)
+    grows_by s (with_never e ty s) (same_blocks s.blocks) refl refl (λ i l h. slice_get-front s.locals (local_of_type ty ∷ []) i l h)
     (λ f l h. temp_of-with_never e f ty s ∙ h)
     (λ f l h. never_of-with_never_other e f ty s (λ same. let h' : never_of s e ≡ Some l = ap (never_of s) (sym same) ∙ h in cc) ∙ h)

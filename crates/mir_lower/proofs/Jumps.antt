@@ -30,7 +30,7 @@ use Rattle.mir_lower.proofs.Sparing.{spares-trans, spares-entered, with_terminat
 -- which loops and labelled blocks stand around the code counts for nothing else
 pub with_targets-grows : (targets : List OpenTarget) (s : Shape) → Grows s (with_targets targets s)
 unfolding statement_at temp_of never_of
-with_targets-grows targets s = record { statements = λ b i x h. h; ended = λ b block t h is. h; locals = λ i l h. h; bindings = refl; temps = λ e l h. h; nevers = λ e l h. h }
+with_targets-grows targets s = record { statements = λ b i x h. h; ended = λ b block t h is. h; locals = λ i l h. h; bindings = refl; temps = λ e l h. h; nevers = λ e l h. h; projections = λ id elements h. h }
 
 pub with_targets-sound : (source : Source) (targets : List OpenTarget) (s : Shape) → IsSound source s → IsSound source (with_targets targets s)
 with_targets-sound source targets s sound = sound_by source s (with_targets targets s) refl refl refl sound

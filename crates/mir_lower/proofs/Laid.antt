@@ -35,6 +35,7 @@ opened-laid source e (Some (expr.Labelled label statements tail)) outer laid all
 opened-laid source e (Some (expr.Loop label body)) outer laid all = All-cons (λ target. IsLaidOut source (own_type source target.node)) _ outer laid all
 opened-laid source e (Some (expr.Literal l)) outer laid all = all
 opened-laid source e (Some (expr.Path name)) outer laid all = all
+opened-laid source e (Some (expr.Field base field)) outer laid all = all
 opened-laid source e (Some (expr.Strict operation operands)) outer laid all = all
 opened-laid source e (Some (expr.Logic op left right)) outer laid all = all
 opened-laid source e (Some (expr.If condition then_branch else_branch)) outer laid all = all
@@ -51,6 +52,7 @@ opened-laid source e None outer laid all = all
 pub plain-part : (source : Source) (e child : ℕ) → Contains (parts_of (node source e)) child → IsLaidOutNode source e → IsPlainWithin source e → IsPlainWithin source child
 plain-part source e child is laid plain =
     record {
+      aggregates = plain.aggregates;
       nodes = λ f evaluates. plain.nodes f (part is evaluates);
       opened = opened_in e (node source e) plain.opened;
       jumps = λ inner f evaluates. plain.jumps inner f (part_in is evaluates);

@@ -14,6 +14,7 @@ pub mod Conditions
 pub mod Covering
 pub mod Drops
 pub mod Entering
+pub mod Fields
 pub mod Forking
 pub mod Growing
 pub mod Holding
@@ -30,7 +31,9 @@ pub mod Operands
 pub mod Operations
 pub mod Parameters
 pub mod Placing
+pub mod Projecting
 pub mod Reaching
+pub mod Reading
 pub mod Ready
 pub mod Refused
 pub mod Reserving

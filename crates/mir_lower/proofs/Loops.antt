@@ -16,6 +16,7 @@ use Rattle.source_meaning.specs.Valid.{own, inside as needed_inside, sized_parts
 use Rattle.source_meaning.proofs.Marks.{loop_marks, labelled_marks}
 use Rattle.source_meaning.proofs.Parts.{sized_part_is_part, block_parts}
 use Rattle.mir_lower.specs.Branches.{HasGoneOn}
+use Rattle.mir.specs.declared.operand.Place.{Place as GraphPlace}
 use Rattle.mir_lower.specs.Does.{here, IsFrameOf, Holds, AtPoint, Landings, Lands, Reaches, Nothing, LeadsTo, FrontAll, Stands}
 use Rattle.mir_lower.specs.Graph.{Shape, OpenTarget, local_of, with_scope, with_targets}
 use Rattle.mir_lower.specs.Growth.{Grows, Spares, IsInside, IsSound, IsReady}
@@ -167,7 +168,7 @@ module _ (source : Source) (s0 s1 s2 s3 s4 : Shape) (to : ℕ) (target : OpenTar
   inner-leaves frame memory = subst (λ (p : Point). Comes frame 1 0 (Entry target.end_block) memory p memory) (sym gone.begins) (enters-block frame memory target.end_block)
 
 -- A loop: it was entered, its body lowered to a place, the scope of the turn left, and the end leads to the beginning.
-module _ (source : Source) (s0 s1 s2 s3 s4 : Shape) (e : ℕ) (label : Option LabelId) (body local : ℕ) (target : OpenTarget) (c : Cell) (form : node source e ≡ Some (expr.Loop label body)) (ready : IsReady source s0 e) (entered : IsEntered source s0 s1 target) (opened : target.opened ≡ record { node = e; label = label }) (found : local_of s0 c ≡ Some target.local) (place : LowersPlace source s1 s2 body local) (left : Idles source (with_scope s1.scope s2) s3 (drops source (marked_as_place source body))) (gone : HasGoneOn source (with_targets s0.targets s3) s4 target.begin_block target.end_block) where
+module _ (source : Source) (s0 s1 s2 s3 s4 : Shape) (e : ℕ) (label : Option LabelId) (body : ℕ) (local : GraphPlace) (target : OpenTarget) (c : Cell) (form : node source e ≡ Some (expr.Loop label body)) (ready : IsReady source s0 e) (entered : IsEntered source s0 s1 target) (opened : target.opened ≡ record { node = e; label = label }) (found : local_of s0 c ≡ Some target.local) (place : LowersPlace source s1 s2 body local) (left : Idles source (with_scope s1.scope s2) s3 (drops source (marked_as_place source body))) (gone : HasGoneOn source (with_targets s0.targets s3) s4 target.begin_block target.end_block) where
   abbrev turns : ℕ
   turns = drops source (marked_as_place source body)
 
@@ -183,8 +184,8 @@ module _ (source : Source) (s0 s1 s2 s3 s4 : Shape) (e : ℕ) (label : Option La
         let grown0 : Grows s0 whole = grows-trans s0 s4 whole (inner-grows0 source s0 s1 s2 s3 s4 target.begin_block target entered place.keeps.grows place.keeps.spares turns left gone) grows in
         let grown3 : Grows s3 whole = grows-trans s3 s4 whole (inner-grows source s0 s1 s2 s3 s4 target.begin_block target entered place.keeps.grows place.keeps.spares turns left gone) grows in
         let stands' = stands-inside source s0 s1 whole lands around e label target c ready entered opened (local_of-grows s0 whole grown0 c target.local found) stands in
-        reaches-then source whole within frame (start_of target.begin_block) (here s2) (Entry target.begin_block) memory (LeadsTo place.does.cell whole frame) (Nothing whole frame) ((level_at source fuel around').place body store) (λ _ later. Go tt later (turns_alone turns))
-        (subst (λ (p : Point). Reaches source whole within frame p (here s2) memory (LeadsTo place.does.cell whole frame) ((level_at source fuel around').place body store)) entered.begins
+        reaches-then source whole within frame (start_of target.begin_block) (here s2) (Entry target.begin_block) memory (LeadsTo place.does.at whole frame) (Nothing whole frame) ((level_at source fuel around').place body store) (λ _ later. Go tt later (turns_alone turns))
+        (subst (λ (p : Point). Reaches source whole within frame p (here s2) memory (LeadsTo place.does.at whole frame) ((level_at source fuel around').place body store)) entered.begins
         (place.does.does.reaches whole frame grown2 sound is within around' stands' fuel serves store memory holds))
         (λ path store1 memory1 claims. inr (
           memory1,

@@ -1,31 +1,34 @@
 -- Literals, paths, and other expressions as operands and as places.
 use Rattle.std.proofs.Common.{◌≡◌, ℕ, zero, suc, false, List, [], ◌∷◌, ◌++◌, Option, Some, None, refl, sym, ap, ◌∙◌, subst, append_assoc, append-nil, inr}
 use Rattle.std.specs.Prelude.{slice_get, option_map}
-use Rattle.source_meaning.specs.Core.{CoreExpr, CoreLiteral, is_literal, is_path}
+use Rattle.source_meaning.specs.Core.{CoreExpr, CoreLiteral, is_literal, is_path, is_place}
 use Rattle.source_meaning.specs.Core as expr
 use Rattle.world.specs.declared.infer.ValueNs.{ValueNs}
 use Rattle.mir.specs.declared.operand.OperandKind.{OperandKind}
 use Rattle.mir.specs.declared.operand.OperandKind.TheVariants.{Copy}
-use Rattle.mir.specs.declared.operand.Place.{Place}
+use Rattle.mir.specs.declared.ids.LocalId.{LocalId}
+use Rattle.mir.specs.declared.operand.Place.{Place as GraphPlace}
 use Rattle.mir.specs.Memory.{Memory}
 use Rattle.mir.specs.Run.{Frame, operand_bytes as mir_bytes, operand_type as mir_type}
 use Rattle.source_meaning.specs.Around.{Around, marking}
 use Rattle.source_meaning.specs.Ends.{no_cost, Go, Stuck, then_do}
 use Rattle.source_meaning.specs.Events.{marked, marked_as_operand}
 use Rattle.source_meaning.specs.Meaning.{constant_cost, level_at, literal_operand, named_place, operand_of, place_of}
-use Rattle.source_meaning.specs.Source.{Source, unadjusted, Cell, Node, Binding, Path, Store, Literally, At}
+use Rattle.source_meaning.specs.Source.{Source, unadjusted, Node, Binding, Place, whole as place_of_cell, Store, Literally, At}
 use Rattle.source_meaning.proofs.Marks.{literal_operand_marks, operand_marks, place_marks, path_marks}
 use Rattle.mir_lower.specs.Does.{Stands, here, IsFrameOf, Holds, Landings, Reaches, Nothing, LeadsTo, Fits, Does, DoesPlace}
-use Rattle.mir_lower.specs.Graph.{Shape, local_of}
+use Rattle.mir_lower.specs.Graph.{Shape, local_place}
 use Rattle.mir_lower.specs.Growth.{Grows, IsSound, IsOpen}
 use Rattle.body_forms.specs.Literals.{IsLiteral}
 use Rattle.mir_lower.specs.Lowered.{IsGiven, IsNamed, LowersInto, LowersPlace, LowersOperand, Keeps}
 use Rattle.mir_lower.specs.Runs.{run_from, local_bytes, Comes}
 use Rattle.mir_lower.proofs.Growing.{grows-refl, grows-trans}
 use Rattle.mir_lower.proofs.Laid.{lays-literal, lays-name, lays-temp}
+use Rattle.mir_lower.proofs.Projecting.{at-later}
+use Rattle.mir_lower.proofs.Reading.{place-fits}
 use Rattle.mir_lower.proofs.Reaching.{none-entered, comes-refl, reaches-then}
 use Rattle.mir_lower.proofs.Sparing.{spares-refl, spares-trans}
-use Rattle.mir_lower.proofs.Steps.{local_of-grows, reaches-from}
+use Rattle.mir_lower.proofs.Steps.{reaches-from}
 use Rattle.mir_lower.proofs.Standing.{marking-fits}
 use Rattle.mir_lower.specs.Callees.{Serves}
 use Rattle.mir_lower.proofs.Serving.{serves-less}
@@ -71,39 +74,26 @@ lowers-literal-operand source s e literal operand sound opened form is =
       laid = lays-literal source s e literal operand form is;
     }
 
--- a cell's local as an operand
-pub place-fits : (source : Source) (whole : Shape) (frame : Frame) (c : Cell) (place : Place) → IsSound source whole → IsFrameOf whole frame → local_of whole c ≡ Some place.local.0 → Fits source (Copy place) whole frame (At (record { cell = c }))
-unfolding mir_bytes mir_type local_bytes
-place-fits source whole frame c place sound is found =
-    record {
-      bytes = λ store memory holds. holds.shows c place.local.0 found;
-      ty =
-          let there = sound.allotted.typed c place.local.0 found in
-          ap (λ locals. option_map (λ l. l.ty) (slice_get locals place.local.0)) is.locals
-          ∙ ap (option_map (λ l. l.ty)) there.1
-          ∙ sym there.2;
-    }
-
-place-operand : (source : Source) (old new whole : Shape) (frame : Frame) (e : ℕ) (place : Place) → IsSound source whole → IsFrameOf whole frame → Grows new whole → DoesPlace source old new e place.local.0 → is_literal (unadjusted source e) ≡ false → (lands : Landings) (around : Around) → Stands whole old lands around → (fuel : ℕ) → Serves fuel source frame.program → (store : Store) (memory : Memory) → Holds whole frame store memory → Reaches source whole lands frame (here old) (here new) memory (Fits source (Copy place) whole frame) ((level_at source fuel around).operand e store)
+place-operand : (source : Source) (old new whole : Shape) (frame : Frame) (e : ℕ) (place : GraphPlace) → IsSound source whole → IsFrameOf whole frame → Grows new whole → DoesPlace source old new e place → is_literal (unadjusted source e) ≡ false → (lands : Landings) (around : Around) → Stands whole old lands around → (fuel : ℕ) → Serves fuel source frame.program → (store : Store) (memory : Memory) → Holds whole frame store memory → Reaches source whole lands frame (here old) (here new) memory (Fits source (Copy place) whole frame) ((level_at source fuel around).operand e store)
 unfolding level_at
 place-operand source old new whole frame e place sound is grows does form lands around stands zero serves store memory holds = inr (none-entered (run_from frame memory (here old)))
 place-operand source old new whole frame e place sound is grows does form lands around stands (suc fuel) serves store memory holds =
     subst (Reaches source whole lands frame (here old) (here new) memory (Fits source (Copy place) whole frame))
     (sym (no-literal (unadjusted source e) form))
-    (reaches-then source whole lands frame (here old) (here new) (here new) memory (LeadsTo does.cell whole frame) (Fits source (Copy place) whole frame)
-    ((level_at source fuel around).place e store) (λ path later. Go (At path) later no_cost)
+    (reaches-then source whole lands frame (here old) (here new) (here new) memory (LeadsTo does.at whole frame) (Fits source (Copy place) whole frame)
+    ((level_at source fuel around).place e store) (λ at later. Go (At at) later no_cost)
     (does.does.reaches whole frame grows sound is lands around stands fuel (serves-less fuel source frame.program serves) store memory holds)
     (λ path after middle claims. inr (
       middle,
       comes-refl frame (here new) middle,
       claims.0,
-      subst (λ (p : Path). Fits source (Copy place) whole frame (At p)) (sym claims.1) (place-fits source whole frame does.cell place sound is (local_of-grows new whole grows does.cell place.local.0 does.found)),
+      subst (λ (p : Place). Fits source (Copy place) whole frame (At p)) (sym claims.1) (place-fits source whole frame place does.at sound is serves.world (at-later new whole grows place does.at does.is)),
     ))) where
-      no-literal : (form : Option CoreExpr) → is_literal form ≡ false → operand_of source (level_at source fuel) around e form store ≡ then_do ((level_at source fuel around).place e store) (λ path later. Go (At path) later no_cost)
+      no-literal : (form : Option CoreExpr) → is_literal form ≡ false → operand_of source (level_at source fuel) around e form store ≡ then_do ((level_at source fuel around).place e store) (λ at later. Go (At at) later no_cost)
       no-literal (Some (expr.Literal literal)) is = absurd cc
       no-literal _ is = refl
 
-pub lowers-place-operand : (source : Source) (old new : Shape) (e : ℕ) (place : Place) → LowersPlace source old new e place.local.0 → is_literal (unadjusted source e) ≡ false → LowersOperand source old new e (Copy place)
+pub lowers-place-operand : (source : Source) (old new : Shape) (e : ℕ) (place : GraphPlace) → LowersPlace source old new e place → is_literal (unadjusted source e) ≡ false → LowersOperand source old new e (Copy place)
 lowers-place-operand source old new e place lowers form =
     record {
       keeps = record {
@@ -118,22 +108,23 @@ lowers-place-operand source old new e place lowers form =
     }
 
 -- an expression that is evaluated into a local of its own
-into-place : (source : Source) (from middle new whole : Shape) (frame : Frame) (e : ℕ) → is_path (unadjusted source e) ≡ false → Does source middle new e (Node e) → Grows new whole → IsSound source whole → IsFrameOf whole frame → Keeps source from middle (Node e ∷ []) → ((memory : Memory) → Comes frame 0 0 (here from) memory (here middle) memory) → (lands : Landings) (around : Around) → Stands whole from lands around → (fuel : ℕ) → Serves fuel source frame.program → (store : Store) (memory : Memory) → Holds whole frame store memory → Reaches source whole lands frame (here from) (here new) memory (LeadsTo (Node e) whole frame) ((level_at source fuel around).place e store)
+into-place : (source : Source) (from middle new whole : Shape) (frame : Frame) (e : ℕ) → is_place (unadjusted source e) ≡ false → Does source middle new e (Node e) → Grows new whole → IsSound source whole → IsFrameOf whole frame → Keeps source from middle (Node e ∷ []) → ((memory : Memory) → Comes frame 0 0 (here from) memory (here middle) memory) → (lands : Landings) (around : Around) → Stands whole from lands around → (fuel : ℕ) → Serves fuel source frame.program → (store : Store) (memory : Memory) → Holds whole frame store memory → Reaches source whole lands frame (here from) (here new) memory (LeadsTo (place_of_cell (Node e)) whole frame) ((level_at source fuel around).place e store)
 unfolding level_at
 into-place source from middle new whole frame e form does grows sound is marks live lands around stands zero serves store memory holds = inr (none-entered (run_from frame memory (here from)))
 into-place source from middle new whole frame e form does grows sound is marks live lands around stands (suc fuel) serves store memory holds =
-    subst (Reaches source whole lands frame (here from) (here new) memory (LeadsTo (Node e) whole frame))
+    subst (Reaches source whole lands frame (here from) (here new) memory (LeadsTo (place_of_cell (Node e)) whole frame))
     (sym (no-path (unadjusted source e) form))
-    (reaches-then source whole lands frame (here from) (here new) (here new) memory (Nothing whole frame) (LeadsTo (Node e) whole frame)
-    ((level_at source fuel (marking (Node e ∷ []) around)).into e (record { cell = Node e }) store) (λ _ later. Go (record { cell = Node e }) later no_cost)
+    (reaches-then source whole lands frame (here from) (here new) (here new) memory (Nothing whole frame) (LeadsTo (place_of_cell (Node e)) whole frame)
+    ((level_at source fuel (marking (Node e ∷ []) around)).into e (record { cell = Node e }) store) (λ _ later. Go (place_of_cell (Node e)) later no_cost)
     (reaches-from source whole lands frame (here from) (here middle) (here new) memory (Nothing whole frame) (live memory) ((level_at source fuel (marking (Node e ∷ []) around)).into e (record { cell = Node e }) store) (does.reaches whole frame grows sound is lands (marking (Node e ∷ []) around) (marking-fits marks around stands) fuel (serves-less fuel source frame.program serves) store memory holds))
     (λ value after later claims. inr (later, comes-refl frame (here new) later, claims.0, refl))) where
-      no-path : (form : Option CoreExpr) → is_path form ≡ false → place_of source (level_at source fuel) around e form store ≡ then_do ((level_at source fuel (marking (Node e ∷ []) around)).into e (record { cell = Node e }) store) (λ _ later. Go (record { cell = Node e }) later no_cost)
+      no-path : (form : Option CoreExpr) → is_place form ≡ false → place_of source (level_at source fuel) around e form store ≡ then_do ((level_at source fuel (marking (Node e ∷ []) around)).into e (record { cell = Node e }) store) (λ _ later. Go (place_of_cell (Node e)) later no_cost)
       no-path (Some (expr.Path name)) is = absurd cc
+      no-path (Some (expr.Field base field)) is = absurd cc
       no-path _ is = refl
 
 -- an expression that is no place goes into a local of its own
-pub lowers-temp : (source : Source) (s0 s1 s2 : Shape) (e local : ℕ) → is_path (unadjusted source e) ≡ false → IsGiven source s0 s1 (Node e) local → LowersInto source s1 s2 e (Node e) → LowersPlace source s0 s2 e local
+pub lowers-temp : (source : Source) (s0 s1 s2 : Shape) (e : ℕ) (local : LocalId) → is_place (unadjusted source e) ≡ false → IsGiven source s0 s1 (Node e) local.0 → LowersInto source s1 s2 e (Node e) → LowersPlace source s0 s2 e (local_place local)
 lowers-temp source s0 s1 s2 e local form given into =
     record {
       keeps = record {
@@ -146,28 +137,28 @@ lowers-temp source s0 s1 s2 e local form given into =
             ∙ ap (λ m. s0.scope ++ m) (sym (place_marks source e form));
       };
       does = record {
-        cell = Node e;
-        found = into.keeps.grows.temps e local given.found;
+        at = place_of_cell (Node e);
+        is = record { found = into.keeps.grows.temps e local.0 given.found; elements = refl };
         does = record {
           reaches = λ whole frame grows sound is lands around stands fuel serves store memory holds.
               into-place source s0 s1 s2 whole frame e form into.does grows sound is given.keeps
               (λ m. given.comes whole frame (grows-trans s1 s2 whole into.keeps.grows grows) is m) lands around stands fuel serves store memory holds;
         };
       };
-      laid = lays-temp source s1 s2 e local given.keeps.sound given.found into;
+      laid = lays-temp source s1 s2 e local.0 given.keeps.sound given.found into;
     }
 
 -- a path is the place that it names
-name-place : (source : Source) (whole : Shape) (frame : Frame) (s : Shape) (e local : ℕ) (name : _) (named : IsNamed source s e local) → unadjusted source e ≡ Some (expr.Path name) → (lands : Landings) (around : Around) → Stands whole s lands around → (fuel : ℕ) → Serves fuel source frame.program → (store : Store) (memory : Memory) → Holds whole frame store memory → Reaches source whole lands frame (here s) (here s) memory (LeadsTo (Binding named.binding.0) whole frame) ((level_at source fuel around).place e store)
+name-place : (source : Source) (whole : Shape) (frame : Frame) (s : Shape) (e local : ℕ) (name : _) (named : IsNamed source s e local) → unadjusted source e ≡ Some (expr.Path name) → (lands : Landings) (around : Around) → Stands whole s lands around → (fuel : ℕ) → Serves fuel source frame.program → (store : Store) (memory : Memory) → Holds whole frame store memory → Reaches source whole lands frame (here s) (here s) memory (LeadsTo (place_of_cell (Binding named.binding.0)) whole frame) ((level_at source fuel around).place e store)
 unfolding level_at
 name-place source whole frame s e local name named form lands around stands zero serves store memory holds = inr (none-entered (run_from frame memory (here s)))
 name-place source whole frame s e local name named form lands around stands (suc fuel) serves store memory holds =
-    let gives : place_of source (level_at source fuel) around e (unadjusted source e) store ≡ Go (record { cell = Binding named.binding.0 }) store no_cost =
+    let gives : place_of source (level_at source fuel) around e (unadjusted source e) store ≡ Go (place_of_cell (Binding named.binding.0)) store no_cost =
     ap (λ f. place_of source (level_at source fuel) around e f store) form ∙ ap (λ (n : Option ValueNs). named_place n store) named.named in
-    subst (Reaches source whole lands frame (here s) (here s) memory (LeadsTo (Binding named.binding.0) whole frame)) (sym gives)
+    subst (Reaches source whole lands frame (here s) (here s) memory (LeadsTo (place_of_cell (Binding named.binding.0)) whole frame)) (sym gives)
     (inr (memory, comes-refl frame (here s) memory, holds, refl))
 
-pub lowers-name : (source : Source) (s : Shape) (e local : ℕ) (name : _) → IsSound source s → IsOpen s → unadjusted source e ≡ Some (expr.Path name) → IsNamed source s e local → LowersPlace source s s e local
+pub lowers-name : (source : Source) (s : Shape) (e : ℕ) (local : LocalId) (name : _) → IsSound source s → IsOpen s → unadjusted source e ≡ Some (expr.Path name) → IsNamed source s e local.0 → LowersPlace source s s e (local_place local)
 lowers-name source s e local name sound opened form named =
     record {
       keeps = record {
@@ -178,9 +169,9 @@ lowers-name source s e local name sound opened form named =
         scope = sym (ap (λ m. s.scope ++ m) (path_marks source e (ap is_path form)) ∙ append-nil s.scope);
       };
       does = record {
-        cell = Binding named.binding.0;
-        found = named.found;
-        does = record { reaches = λ whole frame grows whole-sound frame-is lands around stands fuel serves store memory holds. name-place source whole frame s e local name named form lands around stands fuel serves store memory holds };
+        at = place_of_cell (Binding named.binding.0);
+        is = record { found = named.found; elements = refl };
+        does = record { reaches = λ whole frame grows whole-sound frame-is lands around stands fuel serves store memory holds. name-place source whole frame s e local.0 name named form lands around stands fuel serves store memory holds };
       };
-      laid = lays-name source s e local name sound form named;
+      laid = lays-name source s e local.0 name sound form named;
     }

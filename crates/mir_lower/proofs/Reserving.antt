@@ -32,7 +32,7 @@ pub record Reserves (source : Source) (old new : Shape) (block : ℕ) : Type 0 w
 
 with_reserved-grows : (s : Shape) → Grows s (with_reserved s)
 unfolding with_reserved temp_of never_of
-with_reserved-grows s = grows_by s (with_reserved s) (append_grows s.blocks (no_statements ∷ [])) refl (λ i l h. h) (λ e l h. h) (λ e l h. h)
+with_reserved-grows s = grows_by s (with_reserved s) (append_grows s.blocks (no_statements ∷ [])) refl refl (λ i l h. h) (λ e l h. h) (λ e l h. h)
 
 with_reserved-spares : (s : Shape) → Spares s (with_reserved s)
 unfolding with_reserved
@@ -124,7 +124,7 @@ with_terminator-many t s opened =
 
 with_entered-grows : (block : ℕ) (s : Shape) → Grows s (with_entered block s)
 unfolding with_entered temp_of never_of
-with_entered-grows block s = grows_by s (with_entered block s) (same_blocks s.blocks) refl (λ i l h. h) (λ e l h. h) (λ e l h. h)
+with_entered-grows block s = grows_by s (with_entered block s) (same_blocks s.blocks) refl refl (λ i l h. h) (λ e l h. h) (λ e l h. h)
 
 with_entered-sound : (source : Source) (block : ℕ) (s : Shape) → IsSound source s → IsSound source (with_entered block s)
 unfolding with_entered

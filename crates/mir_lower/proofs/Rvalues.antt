@@ -1,10 +1,10 @@
 -- What the graph's rvalues give: what the operations that they are answer.
-use Rattle.std.proofs.Common.{◌≡◌, ℕ, List, [], ◌∷◌, ◌++◌, map, flat_map, Option, Some, None, option_and_then, Result, Ok, Err, replicate, refl, sym, ap, ◌∙◌, subst}
+use Rattle.std.proofs.Common.{◌≡◌, ℕ, List, [], ◌∷◌, ◌++◌, map, flat_map, Option, Some, None, option_and_then, option_map, Result, Ok, Err, replicate, refl, sym, ap, ◌∙◌, subst}
 use Rattle.std.specs.List.{concat}
 use Rattle.numbers.specs.Aggregates.{with_part, with_parts, constructed}
 use Rattle.numbers.specs.Constants.{number_in}
 use Rattle.numbers.specs.declared.operator.Operator.{Operator}
-use Rattle.numbers.specs.Operators.{Answer, Computes as Computed, Panics, Undefined, computed, converted}
+use Rattle.numbers.specs.Operators.{Answer, Computes as Computed, Panics, Undefined, computed, converted, kind_of}
 use Rattle.types.specs.declared.ty.Const.{Const}
 use Rattle.types.specs.declared.ty.Ty.{Ty}
 use Rattle.types.specs.declared.ty.Ty.TheVariants as type
@@ -26,9 +26,10 @@ use Rattle.mir.specs.Memory.{Memory}
 use Rattle.mir.specs.Run.{Frame, aggregated, before, cast_to, laid_out as mir_laid_out, part_outside, placed_parts, read, repeats, rvalue_bytes, operated, operated_on, computed_of, answered as answer, operand_bytes as mir_bytes, operand_type as mir_type, operands_bytes}
 use Rattle.source_meaning.specs.Aggregates.{array_length, laid_out, made, repeated_for}
 use Rattle.source_meaning.specs.Core.{Operation, Negate, Invert, Keep, Convert, Combine, MakeTuple, MakeArray, Repeat}
-use Rattle.source_meaning.specs.Meaning.{Value, value_of, answered, converted_to}
+use Rattle.source_meaning.specs.Meaning.{Value, operand_kind, value_of, values_of, answered, converted_to}
+use Rattle.source_meaning.specs.Places.{operand_bytes}
 use Rattle.body_forms.specs.Form.{operation_of}
-use Rattle.source_meaning.specs.Source.{Source, own_type, Store, Operand, operand_bytes, operand_type}
+use Rattle.source_meaning.specs.Source.{Source, own_type, Store, Operand}
 use Rattle.source_meaning.proofs.Aggregates.{length_of_array}
 use Rattle.mir_lower.specs.Does.{Holds, Fits, FitAll}
 use Rattle.mir_lower.specs.Graph.{Shape}
@@ -53,11 +54,58 @@ agrees Undefined result is = tt
 abbrev pub kinds : List MirOperand → List OperandKind
 kinds operands = map (λ (operand : MirOperand). operand.kind) operands
 
+-- an operand of the graph has the bytes of a value, and its kind
+pub record Reads (frame : Frame) (memory : Memory) (x : MirOperand) (value : Value) : Type 0 where
+  pub bytes_are : mir_bytes frame memory x.kind ≡ Some value.bytes
+  pub kind_is : option_and_then kind_of (mir_type frame.body x.kind) ≡ value.kind
+
+-- operands of the graph have the bytes of values, one each
+abbrev pub ReadAll : Frame → Memory → List MirOperand → List Value → Type 0
+ReadAll frame memory [] [] = Unit {0}
+ReadAll frame memory (x ∷ operands) (value ∷ values) = Reads frame memory x value × ReadAll frame memory operands values
+ReadAll frame memory _ _ = ⊥
+
 -- an rvalue of the graph is what the operation of an expression makes of its operands' values
 abbrev pub Computes : Source → ℕ → Operation → List MirOperand → Rvalue → Type 0
 Computes source e operation operands rvalue =
-    (whole : Shape) (frame : Frame) (values : List Operand) (store : Store) (memory : Memory) → frame.program.world ≡ source.world → Holds whole frame store memory → FitAll source (kinds operands) whole frame values →
-    Agrees (answered source.world (own_type source e) operation (map (value_of source store) values)) (rvalue_bytes frame memory rvalue)
+    (frame : Frame) (values : List Value) (memory : Memory) → frame.program.world ≡ source.world → ReadAll frame memory operands values →
+    Agrees (answered source.world (own_type source e) operation values) (rvalue_bytes frame memory rvalue)
+
+-- Operands that fit those of the source have their values, where these have some.
+
+kind-of-read : (source : Source) (whole : Shape) (frame : Frame) (x : MirOperand) (value : Operand) → Fits source x.kind whole frame value → option_and_then kind_of (mir_type frame.body x.kind) ≡ operand_kind source value
+kind-of-read source whole frame x value fits = ap (option_and_then kind_of) fits.ty
+
+read-one : (source : Source) (whole : Shape) (frame : Frame) (store : Store) (memory : Memory) → Holds whole frame store memory → (x : MirOperand) (value : Operand) → Fits source x.kind whole frame value → (given : Value) → value_of source store value ≡ Some given → Reads frame memory x given
+read-one source whole frame store memory holds x value fits given is = by_bytes (operand_bytes source store value) refl is
+  where
+    by_bytes : (bytes : Option (List ℕ)) → operand_bytes source store value ≡ bytes → option_map (λ (b : List ℕ). made-value b) bytes ≡ Some given → Reads frame memory x given
+    made-value : List ℕ → Value
+    made-value b = record { kind = operand_kind source value; bytes = b }
+    by_bytes (Some bytes) are same =
+        let is-given : made-value bytes ≡ given = cc in
+        subst (Reads frame memory x) is-given
+        (record { bytes_are = fits.bytes store memory holds ∙ are; kind_is = kind-of-read source whole frame x value fits })
+    by_bytes None are same = absurd cc
+
+pub read-all : (source : Source) (whole : Shape) (frame : Frame) (store : Store) (memory : Memory) → Holds whole frame store memory → (operands : List MirOperand) (values : List Operand) → FitAll source (kinds operands) whole frame values → (given : List Value) → values_of source store values ≡ Some given → ReadAll frame memory operands given
+unfolding values_of
+read-all source whole frame store memory holds [] [] fits given is = let none : [] ≡ given = cc in subst (ReadAll frame memory []) none tt
+read-all source whole frame store memory holds [] (value ∷ values) fits given is = absurd fits
+read-all source whole frame store memory holds (x ∷ operands) [] fits given is = absurd fits
+read-all source whole frame store memory holds (x ∷ operands) (value ∷ values) fits given is = by_first (value_of source store value) refl is
+  where
+    Goal : Type 0
+    Goal = ReadAll frame memory (x ∷ operands) given
+    by_rest : (first : Value) → value_of source store value ≡ Some first → (rest : Option (List Value)) → values_of source store values ≡ rest → option_map (λ (others : List Value). first ∷ others) rest ≡ Some given → Goal
+    by_rest first first-is (Some rest) rest-is same =
+        let all : first ∷ rest ≡ given = cc in
+        subst (ReadAll frame memory (x ∷ operands)) all
+        (read-one source whole frame store memory holds x value fits.0 first first-is, read-all source whole frame store memory holds operands values fits.1 rest rest-is)
+    by_rest first first-is None rest-is same = absurd cc
+    by_first : (first : Option Value) → value_of source store value ≡ first → option_and_then (λ (v : Value). option_map (λ (others : List Value). v ∷ others) (values_of source store values)) first ≡ Some given → Goal
+    by_first (Some first) first-is same = by_rest first first-is (values_of source store values) refl same
+    by_first None first-is same = absurd cc
 
 -- An operator on one operand, and one on two.
 
@@ -66,39 +114,39 @@ unfolding computed_of answered
 one-answer world ty one.Not value = refl
 one-answer world ty one.Neg value = refl
 
-pub two-answer : (world : HirDatabase) (ty : Option Ty) (op : Operator) (left right : Value) → computed op left.kind right.kind left.bytes right.bytes ≡ answered world ty (Combine op) (left ∷ right ∷ [])
+two-answer : (world : HirDatabase) (ty : Option Ty) (op : Operator) (left right : Value) → computed op left.kind right.kind left.bytes right.bytes ≡ answered world ty (Combine op) (left ∷ right ∷ [])
 unfolding answered
 two-answer world ty op left right = refl
 
-unary-bytes : (source : Source) (whole : Shape) (frame : Frame) (op : UnOp) (value : Operand) (x : MirOperand) (store : Store) (memory : Memory) → Holds whole frame store memory → Fits source x.kind whole frame value → rvalue_bytes frame memory (Unary op x) ≡ answer (computed_of op (value_of source store value).kind (value_of source store value).bytes)
+unary-bytes : (frame : Frame) (memory : Memory) (op : UnOp) (x : MirOperand) (value : Value) → Reads frame memory x value → rvalue_bytes frame memory (Unary op x) ≡ answer (computed_of op value.kind value.bytes)
 unfolding rvalue_bytes operated_on
-unary-bytes source whole frame op value x store memory holds fits =
-    ap (λ t. operated_on op t (mir_bytes frame memory x.kind)) fits.ty
-    ∙ ap (operated_on op (operand_type source value)) (fits.bytes store memory holds)
+unary-bytes frame memory op x value reads =
+    ap (operated_on op (mir_type frame.body x.kind)) reads.bytes_are
+    ∙ ap (λ k. answer (computed_of op k value.bytes)) reads.kind_is
 
 unary-computes : (source : Source) (e : ℕ) (op : UnOp) (x : MirOperand) → Computes source e (operation_of op) (x ∷ []) (Unary op x)
-unary-computes source e op x whole frame [] store memory same holds fits = absurd fits
-unary-computes source e op x whole frame (value ∷ []) store memory same holds fits =
-    agrees (answered source.world (own_type source e) (operation_of op) (value_of source store value ∷ [])) (rvalue_bytes frame memory (Unary op x))
-    (unary-bytes source whole frame op value x store memory holds fits.0 ∙ ap answer (one-answer source.world (own_type source e) op (value_of source store value)))
-unary-computes source e op x whole frame (value ∷ more ∷ rest) store memory same holds fits = absurd fits.1
+unary-computes source e op x frame [] memory same reads = absurd reads
+unary-computes source e op x frame (value ∷ []) memory same reads =
+    agrees (answered source.world (own_type source e) (operation_of op) (value ∷ [])) (rvalue_bytes frame memory (Unary op x))
+    (unary-bytes frame memory op x value reads.0 ∙ ap answer (one-answer source.world (own_type source e) op value))
+unary-computes source e op x frame (value ∷ more ∷ rest) memory same reads = absurd reads.1
 
 -- A cast: a coercion keeps the bytes, and any other converts them to the size of its type.
 
-keep-bytes : (source : Source) (whole : Shape) (frame : Frame) (value : Operand) (x : MirOperand) (store : Store) (memory : Memory) → Holds whole frame store memory → Fits source x.kind whole frame value → rvalue_bytes frame memory (Use x) ≡ answer (Computed (operand_bytes store value))
+keep-bytes : (frame : Frame) (memory : Memory) (x : MirOperand) (value : Value) → Reads frame memory x value → rvalue_bytes frame memory (Use x) ≡ answer (Computed value.bytes)
 unfolding rvalue_bytes answer
-keep-bytes source whole frame value x store memory holds fits = ap read (fits.bytes store memory holds)
+keep-bytes frame memory x value reads = ap read reads.bytes_are
 
 keep-answer : (world : HirDatabase) (ty : Option Ty) (value : Value) → Computed value.bytes ≡ answered world ty Keep (value ∷ [])
 unfolding answered
 keep-answer world ty value = refl
 
 keep-computes : (source : Source) (e : ℕ) (x : MirOperand) → Computes source e Keep (x ∷ []) (Use x)
-keep-computes source e x whole frame [] store memory same holds fits = absurd fits
-keep-computes source e x whole frame (value ∷ []) store memory same holds fits =
-    agrees (answered source.world (own_type source e) Keep (value_of source store value ∷ [])) (rvalue_bytes frame memory (Use x))
-    (keep-bytes source whole frame value x store memory holds fits.0 ∙ ap answer (keep-answer source.world (own_type source e) (value_of source store value)))
-keep-computes source e x whole frame (value ∷ more ∷ rest) store memory same holds fits = absurd fits.1
+keep-computes source e x frame [] memory same reads = absurd reads
+keep-computes source e x frame (value ∷ []) memory same reads =
+    agrees (answered source.world (own_type source e) Keep (value ∷ [])) (rvalue_bytes frame memory (Use x))
+    (keep-bytes frame memory x value reads.0 ∙ ap answer (keep-answer source.world (own_type source e) value))
+keep-computes source e x frame (value ∷ more ∷ rest) memory same reads = absurd reads.1
 
 cast-by-size : (size : Option ℕ) (value : Value) → ◌≡◌ {A = Result (List ℕ) MirEvalError} (elim size [ Some bytes ↦ answer (converted value.kind bytes value.bytes) | None ↦ answer Undefined ]) (answer (converted_to size value))
 cast-by-size (Some size) value = refl
@@ -108,47 +156,56 @@ cast-answer : (world : HirDatabase) (ty : Ty) (value : Value) → converted_to (
 unfolding answered
 cast-answer world ty value = refl
 
-cast-bytes : (source : Source) (whole : Shape) (frame : Frame) (ty : Ty) (value : Operand) (x : MirOperand) (store : Store) (memory : Memory) → Holds whole frame store memory → Fits source x.kind whole frame value → rvalue_bytes frame memory (Cast IntToInt x ty) ≡ answer (answered source.world (Some ty) Convert (value_of source store value ∷ []))
-unfolding rvalue_bytes cast_to
-cast-bytes source whole frame ty value x store memory holds fits =
-    ap (λ t. cast_to ty t (mir_bytes frame memory x.kind)) fits.ty
-    ∙ ap (cast_to ty (operand_type source value)) (fits.bytes store memory holds)
-    ∙ cast-by-size (fixed_size ty) (value_of source store value)
-    ∙ ap answer (cast-answer source.world ty (value_of source store value))
+cast-read : (ty : Ty) (from : Option Ty) (value : Value) → option_and_then kind_of from ≡ value.kind → cast_to ty from (Some value.bytes) ≡ answer (converted_to (fixed_size ty) value)
+unfolding cast_to
+cast-read ty from value is =
+    ap (λ k. elim (fixed_size ty) [ Some size ↦ answer (converted k size value.bytes) | None ↦ answer Undefined ]) is ∙ cast-by-size (fixed_size ty) value
+
+cast-bytes : (source : Source) (frame : Frame) (memory : Memory) (ty : Ty) (x : MirOperand) (value : Value) → Reads frame memory x value → rvalue_bytes frame memory (Cast IntToInt x ty) ≡ answer (answered source.world (Some ty) Convert (value ∷ []))
+unfolding rvalue_bytes
+cast-bytes source frame memory ty x value reads =
+    ap (cast_to ty (mir_type frame.body x.kind)) reads.bytes_are
+    ∙ cast-read ty (mir_type frame.body x.kind) value reads.kind_is
+    ∙ ap answer (cast-answer source.world ty value)
 
 cast-computes : (source : Source) (e : ℕ) (ty : Ty) (x : MirOperand) → own_type source e ≡ Some ty → Computes source e Convert (x ∷ []) (Cast IntToInt x ty)
-cast-computes source e ty x typed whole frame [] store memory same holds fits = absurd fits
-cast-computes source e ty x typed whole frame (value ∷ []) store memory same holds fits =
-    agrees (answered source.world (own_type source e) Convert (value_of source store value ∷ [])) (rvalue_bytes frame memory (Cast IntToInt x ty))
-    (cast-bytes source whole frame ty value x store memory holds fits.0 ∙ ap (λ t. answer (answered source.world t Convert (value_of source store value ∷ []))) (sym typed))
-cast-computes source e ty x typed whole frame (value ∷ more ∷ rest) store memory same holds fits = absurd fits.1
+cast-computes source e ty x typed frame [] memory same reads = absurd reads
+cast-computes source e ty x typed frame (value ∷ []) memory same reads =
+    agrees (answered source.world (own_type source e) Convert (value ∷ [])) (rvalue_bytes frame memory (Cast IntToInt x ty))
+    (cast-bytes source frame memory ty x value reads.0 ∙ ap (λ t. answer (answered source.world t Convert (value ∷ []))) (sym typed))
+cast-computes source e ty x typed frame (value ∷ more ∷ rest) memory same reads = absurd reads.1
 
-pub binary-bytes : (source : Source) (whole : Shape) (frame : Frame) (op : Operator) (left right : Operand) (x y : MirOperand) (store : Store) (memory : Memory) → Holds whole frame store memory → Fits source x.kind whole frame left → Fits source y.kind whole frame right → rvalue_bytes frame memory (CheckedBinaryOp op x y) ≡ answer (computed op (value_of source store left).kind (value_of source store right).kind (operand_bytes store left) (operand_bytes store right))
+binary-bytes : (frame : Frame) (memory : Memory) (op : Operator) (x y : MirOperand) (left right : Value) → Reads frame memory x left → Reads frame memory y right → rvalue_bytes frame memory (CheckedBinaryOp op x y) ≡ answer (computed op left.kind right.kind left.bytes right.bytes)
 unfolding rvalue_bytes operated
-binary-bytes source whole frame op left right x y store memory holds fits-left fits-right =
-    ap (λ t. operated op t (mir_type frame.body y.kind) (mir_bytes frame memory x.kind) (mir_bytes frame memory y.kind)) fits-left.ty
-    ∙ ap (λ t. operated op (operand_type source left) t (mir_bytes frame memory x.kind) (mir_bytes frame memory y.kind)) fits-right.ty
-    ∙ ap (λ b. operated op (operand_type source left) (operand_type source right) b (mir_bytes frame memory y.kind)) (fits-left.bytes store memory holds)
-    ∙ ap (λ b. operated op (operand_type source left) (operand_type source right) (Some (operand_bytes store left)) b) (fits-right.bytes store memory holds)
+binary-bytes frame memory op x y left right one other =
+    let left-type = mir_type frame.body x.kind in
+    let right-type = mir_type frame.body y.kind in
+    ap (λ b. operated op left-type right-type b (mir_bytes frame memory y.kind)) one.bytes_are
+    ∙ ap (operated op left-type right-type (Some left.bytes)) other.bytes_are
+    ∙ ap (λ k. answer (computed op k (option_and_then kind_of right-type) left.bytes right.bytes)) one.kind_is
+    ∙ ap (λ k. answer (computed op left.kind k left.bytes right.bytes)) other.kind_is
+
+pub binary-agrees : (world : HirDatabase) (ty : Option Ty) (op : Operator) (x y : MirOperand) (frame : Frame) (values : List Value) (memory : Memory) → ReadAll frame memory (x ∷ y ∷ []) values → Agrees (answered world ty (Combine op) values) (rvalue_bytes frame memory (CheckedBinaryOp op x y))
+binary-agrees world ty op x y frame [] memory reads = absurd reads
+binary-agrees world ty op x y frame (left ∷ []) memory reads = absurd reads.1
+binary-agrees world ty op x y frame (left ∷ right ∷ []) memory reads =
+    agrees (answered world ty (Combine op) (left ∷ right ∷ [])) (rvalue_bytes frame memory (CheckedBinaryOp op x y))
+    (binary-bytes frame memory op x y left right reads.0 reads.1.0 ∙ ap answer (two-answer world ty op left right))
+binary-agrees world ty op x y frame (left ∷ right ∷ more ∷ rest) memory reads = absurd reads.1.1
 
 binary-computes : (source : Source) (e : ℕ) (op : Operator) (x y : MirOperand) → Computes source e (Combine op) (x ∷ y ∷ []) (CheckedBinaryOp op x y)
-binary-computes source e op x y whole frame [] store memory same holds fits = absurd fits
-binary-computes source e op x y whole frame (left ∷ []) store memory same holds fits = absurd fits.1
-binary-computes source e op x y whole frame (left ∷ right ∷ []) store memory same holds fits =
-    agrees (answered source.world (own_type source e) (Combine op) (value_of source store left ∷ value_of source store right ∷ [])) (rvalue_bytes frame memory (CheckedBinaryOp op x y))
-    (binary-bytes source whole frame op left right x y store memory holds fits.0 fits.1.0 ∙ ap answer (two-answer source.world (own_type source e) op (value_of source store left) (value_of source store right)))
-binary-computes source e op x y whole frame (left ∷ right ∷ more ∷ rest) store memory same holds fits = absurd fits.1.1
+binary-computes source e op x y frame values memory same reads = binary-agrees source.world (own_type source e) op x y frame values memory reads
 
 -- Aggregates, of any number of operands.
 
-parts-bytes : (source : Source) (whole : Shape) (frame : Frame) (store : Store) (memory : Memory) → Holds whole frame store memory → (operands : List MirOperand) (values : List Operand) → FitAll source (kinds operands) whole frame values → operands_bytes frame memory operands ≡ Some (map (λ (part : Value). part.bytes) (map (value_of source store) values))
+parts-bytes : (frame : Frame) (memory : Memory) (operands : List MirOperand) (values : List Value) → ReadAll frame memory operands values → operands_bytes frame memory operands ≡ Some (map (λ (part : Value). part.bytes) values)
 unfolding operands_bytes
-parts-bytes source whole frame store memory holds [] [] fits = refl
-parts-bytes source whole frame store memory holds [] (value ∷ values) fits = absurd fits
-parts-bytes source whole frame store memory holds (x ∷ operands) [] fits = absurd fits
-parts-bytes source whole frame store memory holds (x ∷ operands) (value ∷ values) fits =
-    ap (λ bytes. before bytes (operands_bytes frame memory operands)) (fits.0.bytes store memory holds)
-    ∙ ap (before (Some (operand_bytes store value))) (parts-bytes source whole frame store memory holds operands values fits.1)
+parts-bytes frame memory [] [] reads = refl
+parts-bytes frame memory [] (value ∷ values) reads = absurd reads
+parts-bytes frame memory (x ∷ operands) [] reads = absurd reads
+parts-bytes frame memory (x ∷ operands) (value ∷ values) reads =
+    ap (λ bytes. before bytes (operands_bytes frame memory operands)) reads.0.bytes_are
+    ∙ ap (before (Some value.bytes)) (parts-bytes frame memory operands values reads.1)
 
 -- a part that stands where the definition puts it, and those behind it
 placed-behind : (size offset : ℕ) (offsets : List ℕ) (parts : List (List ℕ)) (next : Option (List ℕ)) (done : List ℕ) → ((bytes : List ℕ) → with_parts offsets parts bytes ≡ Some done → placed_parts size offsets parts bytes ≡ Ok done) → option_and_then (with_parts offsets parts) next ≡ Some done → ◌≡◌ {A = Result (List ℕ) MirEvalError} (elim next [ Some bytes ↦ placed_parts size offsets parts bytes | None ↦ Err (part_outside size offset) ]) (Ok done)
@@ -181,11 +238,10 @@ tuple-bytes source frame memory ty operands parts same is =
     ap (aggregated frame.program.world (kind.Tuple ty)) is ∙ ap (λ world. mir_laid_out (layout_of world ty) parts) same
 
 tuple-computes : (source : Source) (e : ℕ) (ty : Ty) (operands : List MirOperand) → own_type source e ≡ Some ty → Computes source e MakeTuple operands (Aggregate (kind.Tuple ty) operands)
-tuple-computes source e ty operands typed whole frame values store memory same holds fits =
-    let all = map (value_of source store) values in
+tuple-computes source e ty operands typed frame all memory same reads =
     let parts = map (λ (part : Value). part.bytes) all in
     let answers : answered source.world (own_type source e) MakeTuple all ≡ laid_out (layout_of source.world ty) parts = ap (λ t. answered source.world t MakeTuple all) typed ∙ tuple-answer source.world ty all in
-    let runs = tuple-bytes source frame memory ty operands parts same (parts-bytes source whole frame store memory holds operands values fits) in
+    let runs = tuple-bytes source frame memory ty operands parts same (parts-bytes frame memory operands all reads) in
     subst (λ given. Agrees given (rvalue_bytes frame memory (Aggregate (kind.Tuple ty) operands))) (sym answers)
     (subst (Agrees (laid_out (layout_of source.world ty) parts)) (sym runs) (laid-agrees (layout_of source.world ty) parts))
 
@@ -202,10 +258,9 @@ joined [] = refl
 joined (value ∷ values) = ap (λ rest. value.bytes ++ rest) (joined values)
 
 array-computes : (source : Source) (e : ℕ) (element : Ty) (operands : List MirOperand) → Computes source e MakeArray operands (Aggregate (kind.Array element) operands)
-array-computes source e element operands whole frame values store memory same holds fits =
-    let all = map (value_of source store) values in
+array-computes source e element operands frame all memory same reads =
     subst (λ given. Agrees given (rvalue_bytes frame memory (Aggregate (kind.Array element) operands))) (sym (array-answer source.world (own_type source e) all))
-    (array-bytes frame memory element operands (map (λ (part : Value). part.bytes) all) (parts-bytes source whole frame store memory holds operands values fits) ∙ ap Ok (joined all))
+    (array-bytes frame memory element operands (map (λ (part : Value). part.bytes) all) (parts-bytes frame memory operands all reads) ∙ ap Ok (joined all))
 
 repeat-agrees : (count : Option ℕ) (bytes : List ℕ) → Agrees (repeated_for count bytes) (repeats count (Some bytes))
 unfolding repeats
@@ -221,15 +276,14 @@ unfolding rvalue_bytes
 repeat-bytes frame memory len x bytes is = ap (repeats (number_in len)) is
 
 repeat-computes : (source : Source) (e : ℕ) (element : Ty) (len : Const) (x : MirOperand) → own_type source e ≡ Some (type.Array element len) → Computes source e Repeat (x ∷ []) (Repeated x len)
-repeat-computes source e element len x typed whole frame [] store memory same holds fits = absurd fits
-repeat-computes source e element len x typed whole frame (value ∷ []) store memory same holds fits =
-    let given = value_of source store value in
+repeat-computes source e element len x typed frame [] memory same reads = absurd reads
+repeat-computes source e element len x typed frame (given ∷ []) memory same reads =
     let answers : answered source.world (own_type source e) Repeat (given ∷ []) ≡ repeated_for (number_in len) given.bytes =
     ap (λ t. answered source.world t Repeat (given ∷ [])) typed ∙ repeat-answer source.world (type.Array element len) given ∙ ap (λ count. repeated_for count given.bytes) (length_of_array element len) in
-    let runs = repeat-bytes frame memory len x given.bytes (fits.0.bytes store memory holds) in
+    let runs = repeat-bytes frame memory len x given.bytes reads.0.bytes_are in
     subst (λ answer. Agrees answer (rvalue_bytes frame memory (Repeated x len))) (sym answers)
     (subst (Agrees (repeated_for (number_in len) given.bytes)) (sym runs) (repeat-agrees (number_in len) given.bytes))
-repeat-computes source e element len x typed whole frame (value ∷ more ∷ rest) store memory same holds fits = absurd fits.1
+repeat-computes source e element len x typed frame (value ∷ more ∷ rest) memory same reads = absurd reads.1
 
 -- an aggregate of a kind is what the operation makes
 pub is-aggregate : (source : Source) (e : ℕ) (several : Several) (given : _) (operands : List MirOperand) → IsKindOf source e several given → IsRvalueOf source e (several_operation several) operands (Aggregate given operands)

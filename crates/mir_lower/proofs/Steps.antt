@@ -1,24 +1,26 @@
 -- One assignment: what the source writes is written to the local of its cell.
-use Rattle.std.proofs.Common.{◌≡◌, ℕ, zero, suc, ◌⊎◌, ⊎_elim, inl, inr, Bool, true, false, cond, List, length, Option, Some, Ok, Err, refl, sym, ap, ◌∙◌, subst, eqb}
+use Rattle.std.proofs.Common.{◌≡◌, ℕ, zero, suc, ◌⊎◌, ⊎_elim, inl, inr, Bool, true, false, cond, List, length, Option, Some, None, Ok, Err, refl, sym, ap, ◌∙◌, subst, eqb}
 use borrow.Author.Tests.{eqb-true}
-use Rattle.source_meaning.specs.Core.{CoreExpr}
+use Rattle.source_meaning.specs.Core.{CoreExpr, Operation}
+use Rattle.types.specs.declared.ty.Ty.{Ty}
 use Rattle.numbers.specs.Operators.{Answer, Computes, Panics, Undefined}
 use Rattle.mir.specs.declared.errors.MirEvalError.{MirEvalError}
 use Rattle.mir.specs.declared.errors.MirEvalError as error
-use Rattle.mir.specs.declared.operand.Place.{Place}
+use Rattle.mir.specs.declared.ids.LocalId.{LocalId}
+use Rattle.mir.specs.Places.{place_cell}
 use Rattle.mir.specs.declared.operand.Rvalue.{Rvalue}
 use Rattle.mir.specs.declared.span.MirSpan.{MirSpan}
 use Rattle.mir.specs.declared.statement.Statement.{Statement}
 use Rattle.mir.specs.declared.statement.StatementKind.TheVariants.{Assign}
 use Rattle.mir.specs.Memory.{Memory}
-use Rattle.mir.specs.Run.{Frame, after_statement, copied, rvalue_bytes, answered}
+use Rattle.mir.specs.Run.{Frame, after_statement, copied, read, rvalue_bytes, answered}
 use Rattle.source_meaning.specs.Around.{Around}
 use Rattle.source_meaning.specs.Ends.{no_cost, End, Go, Stuck}
-use Rattle.source_meaning.specs.Meaning.{level_at, callees_at, put, put_answer, into_of}
+use Rattle.source_meaning.specs.Meaning.{Value, answered as answered_to, answered_for, copy_to, level_at, callees_at, put, put_answer, into_of}
 use Rattle.source_meaning.specs.Source.{Source, node, Cell, Result as Slot, Node, Binding, Never, Path, Store, with_cell_bytes}
 use Rattle.source_meaning.proofs.Costs.{after-none}
 use Rattle.mir_lower.specs.Does.{Stands, here, IsFrameOf, Holds, Landings, Reaches, Performs, Nothing, DoesOwn}
-use Rattle.mir_lower.specs.Graph.{Shape, with_statement, local_of}
+use Rattle.mir_lower.specs.Graph.{Shape, with_statement, local_of, local_place}
 use Rattle.mir_lower.specs.Growth.{Grows, IsSound, IsOpen, IsPlaced}
 use Rattle.mir_lower.specs.Runs.{Point, run_from, Comes}
 use Rattle.mir_lower.proofs.Holding.{assigns, interval-of}
@@ -48,24 +50,24 @@ pub placed-later : (old new : Shape) → Grows old new → (local : ℕ) → IsP
 placed-later old new grows local placed = record { cell = placed.cell; found = local_of-grows old new grows placed.cell local placed.found }
 
 -- an assignment of bytes, or of what an operator answers
-module _ (source : Source) (s whole : Shape) (frame : Frame) (place : Place) (rvalue : Rvalue) (span : MirSpan) (opened : IsOpen s) (sound : IsSound source whole) (is : IsFrameOf whole frame) (lands : Landings) (grows : Grows (with_statement (record { kind = Assign place rvalue; span = span }) s) whole) (c : Cell) (local : local_of whole c ≡ Some place.local.0) (store : Store) (memory : Memory) (holds : Holds whole frame store memory) where
+module _ (source : Source) (s whole : Shape) (frame : Frame) (to : LocalId) (rvalue : Rvalue) (span : MirSpan) (opened : IsOpen s) (sound : IsSound source whole) (is : IsFrameOf whole frame) (lands : Landings) (grows : Grows (with_statement (record { kind = Assign (local_place to) rvalue; span = span }) s) whole) (c : Cell) (local : local_of whole c ≡ Some to.0) (store : Store) (memory : Memory) (holds : Holds whole frame store memory) where
   abbrev added : Statement
-  added = record { kind = Assign place rvalue; span = span }
+  added = record { kind = Assign (local_place to) rvalue; span = span }
 
   pub assigned-bytes : (bytes : List ℕ) → rvalue_bytes frame memory rvalue ≡ Ok bytes → Reaches source whole lands frame (here s) (here (with_statement added s)) memory (Nothing whole frame) (put store (record { cell = c }) bytes)
   assigned-bytes bytes computes =
       ⊎_elim
       (λ fits.
-      let done = assigns source whole frame sound is store memory holds c place rvalue bytes local computes fits.0 in
+      let done = assigns source whole frame sound is store memory holds c to rvalue bytes local computes fits.0 in
       subst (Reaches source whole lands frame (here s) (here (with_statement added s)) memory (Nothing whole frame)) (sym fits.1)
       (inr (done.0, comes-statement added s whole frame memory opened grows is done.0 done.1 done.3, done.2, tt)))
       (λ stuck. subst (Reaches source whole lands frame (here s) (here (with_statement added s)) memory (Nothing whole frame)) (sym stuck) (inr tt))
       (put-cases store (record { cell = c }) bytes)
 
-  faults : (e : MirEvalError) → rvalue_bytes frame memory rvalue ≡ Err e → after_statement frame memory (Assign place rvalue) ≡ Err e
-  unfolding after_statement copied
+  faults : (e : MirEvalError) → rvalue_bytes frame memory rvalue ≡ Err e → after_statement frame memory (Assign (local_place to) rvalue) ≡ Err e
+  unfolding after_statement copied place_cell
   faults e err =
-      let at = interval-of frame memory place.local.0 (store c) (holds.shows c place.local.0 local) in
+      let at = interval-of frame memory to.0 (store c) (holds.shows c to.0 local) in
       ap (λ o. copied memory o (rvalue_bytes frame memory rvalue)) at.1 ∙ ap (λ r. copied memory (Some at.0) r) err
 
   pub assigned-answer : (answer : Answer) → rvalue_bytes frame memory rvalue ≡ answered answer → Reaches source whole lands frame (here s) (here (with_statement added s)) memory (Nothing whole frame) (put_answer store (record { cell = c }) answer)
@@ -78,6 +80,16 @@ module _ (source : Source) (s whole : Shape) (frame : Frame) (place : Place) (rv
   assigned-agreeing (Computes bytes) computes = assigned-bytes bytes computes
   assigned-agreeing (Panics word) computes = inr (ends-statement added s whole frame memory opened grows is (error.Panic word) (faults (error.Panic word) computes))
   assigned-agreeing Undefined computes = inr tt
+
+  -- or of what an operation answers for values, where there are some
+  pub assigned-values : (ty : Option Ty) (operation : Operation) (values : Option (List Value)) → ((given : List Value) → values ≡ Some given → Agrees (answered_to source.world ty operation given) (rvalue_bytes frame memory rvalue)) → Reaches source whole lands frame (here s) (here (with_statement added s)) memory (Nothing whole frame) (put_answer store (record { cell = c }) (answered_for source.world ty operation values))
+  assigned-values ty operation (Some given) agrees = assigned-agreeing (answered_to source.world ty operation given) (agrees given refl)
+  assigned-values ty operation None agrees = inr tt
+
+  -- or of bytes that were read, where there are some
+  pub assigned-copy : (given : Option (List ℕ)) → rvalue_bytes frame memory rvalue ≡ read given → Reaches source whole lands frame (here s) (here (with_statement added s)) memory (Nothing whole frame) (copy_to store (record { cell = c }) given)
+  assigned-copy (Some bytes) computes = assigned-bytes bytes computes
+  assigned-copy None computes = inr tt
 
 -- what an end does from a point on, it does from one that leads there over no block
 pub reaches-from : {A : Type 0} (source : Source) (whole : Shape) (lands : Landings) (frame : Frame) (p q to : Point) (memory : Memory) (claim : A → Type 0) → Comes frame 0 0 p memory q memory → (end : End A) → Reaches source whole lands frame q to memory claim end → Reaches source whole lands frame p to memory claim end

@@ -3,7 +3,7 @@ use Rattle.std.proofs.Common.{arith, ◌≡◌, ℕ, false, List, [], ◌∷◌,
 use Rattle.std.proofs.lemmas.List.Elements.{Contains-append_cases}
 use Rattle.mir.specs.declared.operand.Operand.{Operand as MirOperand}
 use Rattle.mir.specs.declared.operand.OperandKind.{OperandKind}
-use Rattle.mir.specs.declared.operand.Place.{Place}
+use Rattle.mir.specs.declared.ids.LocalId.{LocalId}
 use Rattle.mir.specs.declared.operand.Rvalue.{Rvalue}
 use Rattle.mir.specs.declared.span.MirSpan.{MirSpan}
 use Rattle.mir.specs.Memory.{Memory}
@@ -29,11 +29,11 @@ use Rattle.mir_lower.proofs.Growing.{grows-refl, grows-trans, with_statement-gro
 use Rattle.mir_lower.proofs.Laid.{layouts-before, plain-part, one-of}
 use Rattle.mir_lower.proofs.Operations.{assignment}
 use Rattle.mir_lower.proofs.Reaching.{comes-refl, reaches-then}
-use Rattle.mir_lower.proofs.Rvalues.{kinds, rvalue-computes}
+use Rattle.mir_lower.proofs.Rvalues.{kinds, read-all, rvalue-computes}
 use Rattle.mir_lower.proofs.Sound.{with_statement-sound, with_statement-open, with_statement-scope}
 use Rattle.mir_lower.proofs.Sparing.{spares-refl, spares-trans, with_statement-spares}
 use Rattle.mir_lower.proofs.Standing.{marking-fits}
-use Rattle.mir_lower.proofs.Steps.{local_of-grows, assigned-agreeing, does-form}
+use Rattle.mir_lower.proofs.Steps.{local_of-grows, assigned-values, does-form}
 
 no-operands : (source : Source) (below : Levels) (around : Around) (store : Store) → operands_of source below around [] store ≡ Go [] store no_cost
 unfolding operands_of
@@ -94,9 +94,9 @@ lays-strict source s1 new e operation es form below grows laid plain layouts f (
     below child operand.0 operand.1 (plain-part source e child (operand_is_part source e operation es child form operand.0) laid plain) (layouts-before source s1 new grows layouts) f rest
 
 -- a strict form was lowered: its operands, and then one assignment
-pub lowers-strict : (source : Source) (s0 s1 new : Shape) (e : ℕ) (operation : Operation) (es : List ℕ) (operands : List MirOperand) (rvalue : Rvalue) (place : Place) (span : MirSpan) → IsReady source s0 e → node source e ≡ Some (Strict operation es) → LowersOperands source s0 s1 es (kinds operands) → IsRvalueOf source e operation operands rvalue → new ≡ with_statement (assignment place rvalue span) s1 → (c : Cell) → local_of s0 c ≡ Some place.local.0 → LowersOwn source s0 new e c
-lowers-strict source s0 s1 new e operation es operands rvalue place span ready form given is same c local =
-    let st = assignment place rvalue span in
+pub lowers-strict : (source : Source) (s0 s1 new : Shape) (e : ℕ) (operation : Operation) (es : List ℕ) (operands : List MirOperand) (rvalue : Rvalue) (to : LocalId) (span : MirSpan) → IsReady source s0 e → node source e ≡ Some (Strict operation es) → LowersOperands source s0 s1 es (kinds operands) → IsRvalueOf source e operation operands rvalue → new ≡ with_statement (assignment to rvalue span) s1 → (c : Cell) → local_of s0 c ≡ Some to.0 → LowersOwn source s0 new e c
+lowers-strict source s0 s1 new e operation es operands rvalue to span ready form given is same c local =
+    let st = assignment to rvalue span in
     let opened = given.keeps.«open» in
     let last : Grows s1 (with_statement st s1) = with_statement-grows st s1 opened in
     subst (λ (n : Shape). LowersOwn source s0 n e c) (sym same)
@@ -111,17 +111,18 @@ lowers-strict source s0 s1 new e operation es operands rvalue place span ready f
       does = does-form source s0 (with_statement st s1) e c (Some (Strict operation es)) form (record { reaches = reaches });
       laid = lays-strict source s1 (with_statement st s1) e operation es form given.laid last;
     }) where
-      reaches : (whole : Shape) (frame : Frame) → Grows (with_statement (assignment place rvalue span) s1) whole → IsSound source whole → IsFrameOf whole frame → (lands : Landings) (around : Around) → Stands whole s0 lands around → (fuel : ℕ) → Serves fuel source frame.program → (store : Store) (memory : Memory) → Holds whole frame store memory → Reaches source whole lands frame (here s0) (here (with_statement (assignment place rvalue span) s1)) memory (Nothing whole frame) (into_of source (level_at source fuel) (callees_at fuel) around e (Some (Strict operation es)) (record { cell = c }) store)
+      reaches : (whole : Shape) (frame : Frame) → Grows (with_statement (assignment to rvalue span) s1) whole → IsSound source whole → IsFrameOf whole frame → (lands : Landings) (around : Around) → Stands whole s0 lands around → (fuel : ℕ) → Serves fuel source frame.program → (store : Store) (memory : Memory) → Holds whole frame store memory → Reaches source whole lands frame (here s0) (here (with_statement (assignment to rvalue span) s1)) memory (Nothing whole frame) (into_of source (level_at source fuel) (callees_at fuel) around e (Some (Strict operation es)) (record { cell = c }) store)
       reaches whole frame grows sound frame-is lands around stands fuel serves store memory holds =
-          let st = assignment place rvalue span in
+          let st = assignment to rvalue span in
           let opened = given.keeps.«open» in
           let grown : Grows s1 whole = grows-trans s1 (with_statement st s1) whole (with_statement-grows st s1 opened) grows in
-          let found = local_of-grows s0 whole (grows-trans s0 s1 whole given.keeps.grows grown) c place.local.0 local in
+          let found = local_of-grows s0 whole (grows-trans s0 s1 whole given.keeps.grows grown) c to.0 local in
           reaches-then source whole lands frame (here s0) (here s1) (here (with_statement st s1)) memory (FitAll source (kinds operands) whole frame) (Nothing whole frame) (operands_of source (level_at source fuel) around es store) _
           (given.does.reaches whole frame grown sound frame-is lands around stands fuel serves store memory holds)
           (λ values store1 memory1 claims.
-          assigned-agreeing source s1 whole frame place rvalue span opened sound frame-is lands grows c found store1 memory1 claims.0 _
-          (rvalue-computes source e operation operands rvalue is whole frame values store1 memory1 serves.world claims.0 claims.1))
+          assigned-values source s1 whole frame to rvalue span opened sound frame-is lands grows c found store1 memory1 claims.0 (own_type source e) operation (values_of source store1 values)
+          (λ given have. rvalue-computes source e operation operands rvalue is frame given memory1 serves.world
+          (read-all source whole frame store1 memory1 claims.0 operands values claims.1 given have)))
 
 -- the operands of an operator on one operand, and on two
 pub lowers-one : (source : Source) (s0 s1 : Shape) (e : ℕ) (operand : OperandKind) → LowersOperand source s0 s1 e operand → LowersOperands source s0 s1 (e ∷ []) (operand ∷ [])

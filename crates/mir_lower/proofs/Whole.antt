@@ -13,6 +13,7 @@ use Rattle.mir.specs.declared.address.Interval.{Interval}
 use Rattle.mir.specs.Areas.{first_areas}
 use Rattle.mir.specs.Memory.{Memory, cell_bytes, cells_of}
 use Rattle.mir.specs.Run.{Program, Frame, Waiting, Ended, Returned, Stops, returned, resumed, after_return, going_on, entering, begun, levels_over}
+use Rattle.source_meaning.specs.Aggregates.{HasAggregates}
 use Rattle.source_meaning.specs.Around.{Around, at_root, marking}
 use Rattle.source_meaning.specs.Calls.{parameters, parameter_cells}
 use Rattle.source_meaning.specs.Ends.{Cost, cost_of, greater, turns_alone, plus, End, Go, Jumps, Break, Continue, Return, Faults, Stuck, More, after}
@@ -263,25 +264,26 @@ module _ (source : Source) (s0 s1 s2 : Shape) (span : MirSpan) (begins : here s0
       (returns-after frame is)))
 
   -- what is evaluated has types with layouts, where the locals have
-  lays-out : (locals : List Local) → locals ≡ Whole.locals → IsPlain source → ((l : ℕ) (local : Local) → slice_get locals l ≡ Some local → IsLaidOut source (Some local.ty)) → AreLaidOut source
-  lays-out locals same plain laid =
+  lays-out : (locals : List Local) → locals ≡ Whole.locals → HasAggregates source.world → IsPlain source → ((l : ℕ) (local : Local) → slice_get locals l ≡ Some local → IsLaidOut source (Some local.ty)) → AreLaidOut source
+  lays-out locals same aggregates plain laid =
       let all : HasLayouts source Whole = λ l local h. laid l local (ap (λ (ls : List Local). slice_get ls l) same ∙ h) in
       let first = slot-there source Whole whole-sound in
       let root-laid : IsLaidOut source (node_type source (root source)) =
       subst (IsLaidOut source) (sym first.2) (all 0 first.0 first.1) in
       record {
-        nodes = λ e evaluates. into.laid root-laid (record { nodes = plain.nodes; opened = []; jumps = plain.jumps; laid = All-nil (λ target. IsLaidOut source (own_type source target.node)) }) (λ l local h. all l local (first-grows.locals l local h)) e evaluates;
+        nodes = λ e evaluates. into.laid root-laid (record { aggregates = aggregates; nodes = plain.nodes; opened = []; jumps = plain.jumps; laid = All-nil (λ target. IsLaidOut source (own_type source target.node)) }) (λ l local h. all l local (first-grows.locals l local h)) e evaluates;
         bindings = λ b t h. let there = binding-there source Whole whole-sound b t h in all there.0 (local_of_type t) there.1;
       }
 
   -- the graph of a body does what the body means
-  pub whole-simulates : (body : MirBody) → AreAligned source.world → root source < length source.body.exprs → body.basic_blocks ≡ Whole.blocks → body.locals ≡ Whole.locals → body.start_block.0 ≡ 0 →
+  pub whole-simulates : (body : MirBody) → AreAligned source.world → root source < length source.body.exprs → body.basic_blocks ≡ Whole.blocks → body.locals ≡ Whole.locals → body.projection_store.projections ≡ Whole.projections → body.start_block.0 ≡ 0 →
       (bound : List ℕ) → parameters source ≡ Some bound → AreLocalsOf (local_of s0) bound body.param_locals → Simulates source body
-  whole-simulates body aligned within blocks locals start bound binds told =
+  whole-simulates body aligned within blocks locals projections start bound binds told =
       let first = slot-there source Whole whole-sound in
       let frame-of : (frame : Frame) → frame.body ≡ body → AreCellsApart frame.cells → IsFrameOf Whole frame = λ frame same apart. record {
         blocks = ap (λ (b : MirBody). b.basic_blocks) same ∙ blocks;
         locals = ap (λ (b : MirBody). b.locals) same ∙ locals;
+        projections = ap (λ (b : MirBody). b.projection_store.projections) same ∙ projections;
         apart = apart;
       } in
       let does-from : (fuel : ℕ) (store : Store) (frame : Frame) (memory : Memory) → frame.body ≡ body → Serves fuel source frame.program → AreCellsApart frame.cells → Holds Whole frame store memory →

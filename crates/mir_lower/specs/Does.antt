@@ -1,15 +1,22 @@
 -- What the code of a graph does: from a point of it to another, or to the end of the run.
-use Rattle.std.specs.Prelude.{◌≡◌, ◌⊎◌, ℕ, List, ◌∷◌, [], Option, Some, unwrap_or}
+use Rattle.std.specs.Prelude.{◌≡◌, ◌⊎◌, ℕ, List, ◌∷◌, [], map, Option, Some, unwrap_or}
+use Rattle.either.specs.declared.Either.TheVariants.{Right}
+use Rattle.mir.specs.Elements.{PlaceElem as GraphElem}
+use Rattle.mir.specs.Projections.{Projection}
+use Rattle.mir.specs.declared.operand.Place.{Place as GraphPlace}
+use Rattle.mir.specs.declared.projection.ProjectionElem.TheVariants.{Field}
 use Rattle.mir.specs.declared.operand.OperandKind.{OperandKind}
 use Rattle.mir.specs.Memory.{Memory}
 use Rattle.mir.specs.Run.{Frame, operand_bytes as mir_bytes, operand_type as mir_type}
 use Rattle.source_meaning.specs.Around.{Around, Target}
 use Rattle.source_meaning.specs.Ends.{Cost, cost_of, End, Go, Jumps, Faults, Stuck, More, Jump, Break, Continue, Return}
-use Rattle.source_meaning.specs.Meaning.{level_at, operands_of, statements_of, tail_into, bind}
-use Rattle.source_meaning.specs.Source.{Source, pattern, target, Cell, Result, Path, Store, Operand, operand_bytes, operand_type}
+use Rattle.source_meaning.specs.Meaning.{level_at, operands_of, field_place, statements_of, tail_into, bind}
+use Rattle.source_meaning.specs.Places.{operand_bytes, operand_type}
+use Rattle.source_meaning.specs.Source.{Source, pattern, target, Cell, Result, PlaceElem, Part, Place, Store, Operand}
 use Rattle.world.specs.declared.body.Statement.{Statement}
 use Rattle.types.specs.declared.ids.ExprId.{ExprId}
-use Rattle.mir_lower.specs.Graph.{Shape, OpenTarget, local_of}
+use Rattle.types.specs.declared.ids.TupleFieldId.{TupleFieldId}
+use Rattle.mir_lower.specs.Graph.{Shape, OpenTarget, elements_in, local_of}
 use Rattle.mir_lower.specs.Growth.{Grows, IsSound, count_at}
 use Rattle.mir_lower.specs.Callees.{Serves}
 use Rattle.mir_lower.specs.Stops.{StopsFrom}
@@ -19,10 +26,11 @@ use Rattle.mir_lower.specs.Runs.{Point, Within, Entry, Exit, run_from, Enters, I
 abbrev pub here : Shape → Point
 here s = Within s.current (unwrap_or (count_at s s.current) 0)
 
--- a frame of a graph that is whole: its body's blocks and locals are the graph's
+-- a frame of a graph that is whole: its body's blocks, locals and projections are the graph's
 pub record IsFrameOf (s : Shape) (frame : Frame) : Type 0 where
   pub blocks : frame.body.basic_blocks ≡ s.blocks
   pub locals : frame.body.locals ≡ s.locals
+  pub projections : frame.body.projection_store.projections ≡ s.projections
   pub apart : AreCellsApart frame.cells
 
 -- each cell's local holds the bytes that the store has there
@@ -95,13 +103,26 @@ pub record Performs (source : Source) (old new : Shape) {A : Type 0} (claim : Sh
 abbrev pub Nothing : Shape → Frame → Unit {0} → Type 0
 Nothing whole frame done = Unit {0}
 
--- the path leads to the cell
-abbrev pub LeadsTo : Cell → Shape → Frame → Path → Type 0
-LeadsTo cell whole frame path = path ≡ record { cell = cell }
+-- an element of a place of the source, as the graph has it
+abbrev pub elem_of : PlaceElem → GraphElem
+elem_of (Part field) = Field (Right field)
+
+-- and all elements of a place
+abbrev pub elements_of : List PlaceElem → Projection
+elements_of elems = map elem_of elems
+
+-- a place of the graph is one of the source: its local holds the cell's value, and the same elements lead on from there
+pub record IsAt (s : Shape) (place : GraphPlace) (at : Place) : Type 0 where
+  pub found : local_of s at.cell ≡ Some place.local.0
+  pub elements : elements_in s.projections place.projection ≡ Some (elements_of at.projection)
+
+-- the meaning gives this place
+abbrev pub LeadsTo : Place → Shape → Frame → Place → Type 0
+LeadsTo at whole frame place = place ≡ at
 
 -- an operand of the graph has the bytes of the source's operand whenever store and memory agree, and its type
 pub record Fits (source : Source) (operand : OperandKind) (whole : Shape) (frame : Frame) (value : Operand) : Type 0 where
-  pub bytes : (store : Store) (memory : Memory) → Holds whole frame store memory → mir_bytes frame memory operand ≡ Some (operand_bytes store value)
+  pub bytes : (store : Store) (memory : Memory) → Holds whole frame store memory → mir_bytes frame memory operand ≡ operand_bytes source store value
   pub ty : mir_type frame.body operand ≡ operand_type source value
 
 -- operands of the graph have the bytes and types of the source's, one each
@@ -126,22 +147,30 @@ DoesOperand source old new e operand = Performs source old new (Fits source oper
 abbrev pub DoesOperands : Source → Shape → Shape → List ℕ → List OperandKind → Type 0
 DoesOperands source old new es operands = Performs source old new (FitAll source operands) (λ around fuel store. operands_of source (level_at source fuel) around es store)
 
--- or as a place, which is that of a cell
-pub record DoesPlace (source : Source) (old new : Shape) (e local : ℕ) : Type 0 where
-  pub cell : Cell
-  pub found : local_of new cell ≡ Some local
-  pub does : Performs source old new (LeadsTo cell) (λ around fuel store. (level_at source fuel around).place e store)
+-- the code finds a place, which is the one that the meaning gives
+pub record Finds (source : Source) (old new : Shape) (place : GraphPlace) (meaning : Around → ℕ → Store → End Place) : Type 0 where
+  pub at : Place
+  pub is : IsAt new place at
+  pub does : Performs source old new (LeadsTo at) meaning
 
--- the code runs statements, evaluates a tail, or binds a pattern to a cell's value
+-- or as a place
+abbrev pub DoesPlace : Source → Shape → Shape → ℕ → GraphPlace → Type 0
+DoesPlace source old new e place = Finds source old new place (λ around fuel store. (level_at source fuel around).place e store)
+
+-- or the place of a field, by that of its base
+abbrev pub DoesField : Source → Shape → Shape → (base : ℕ) → TupleFieldId → GraphPlace → Type 0
+DoesField source old new base field place = Finds source old new place (λ around fuel store. field_place (level_at source fuel around) base field store)
+
+-- the code runs statements, evaluates a tail, or binds a pattern to a place's value
 abbrev pub DoesStatements : Source → Shape → Shape → List Statement → Type 0
 DoesStatements source old new statements = Performs source old new Nothing (λ around fuel store. statements_of source (level_at source fuel) around statements store)
 
 abbrev pub DoesTail : Source → Shape → Shape → Option ExprId → Cell → Type 0
 DoesTail source old new tail cell = Performs source old new Nothing (λ around fuel store. tail_into (level_at source fuel around) tail (record { cell = cell }) store)
 
-abbrev pub DoesBind : Source → Shape → Shape → ℕ → Cell → Type 0
-DoesBind source old new pat cell = Performs source old new Nothing (λ around fuel store. bind (pattern source pat) (record { cell = cell }) store)
+abbrev pub DoesBind : Source → Shape → Shape → ℕ → Place → Type 0
+DoesBind source old new pat at = Performs source old new Nothing (λ around fuel store. bind source (pattern source pat) at store)
 
--- the code assigns a cell's value to the name that an assignment's target is
-abbrev pub DoesAssign : Source → Shape → Shape → ℕ → Cell → Type 0
-DoesAssign source old new assigned cell = Performs source old new Nothing (λ around fuel store. bind (target source assigned) (record { cell = cell }) store)
+-- the code assigns a place's value to the name that an assignment's target is
+abbrev pub DoesAssign : Source → Shape → Shape → ℕ → Place → Type 0
+DoesAssign source old new assigned at = Performs source old new Nothing (λ around fuel store. bind source (target source assigned) at store)

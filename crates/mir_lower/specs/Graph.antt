@@ -1,12 +1,16 @@
 -- The graph that lowering builds, as data: its blocks, which of them is the current one, to which statements are added,
--- its locals, which of them holds which value, and the cells in use in all open scopes.
-use Rattle.std.specs.Prelude.{ℕ, zero, false, List, [], ◌∷◌, ◌++◌, length, replicate, map, reverse, Option, Some, None, slice_get, slice_set, option_map, option_and_then, if◌then◌else◌}
+-- its locals, which of them holds which value, the cells in use in all open scopes, and the projections of its places.
+use Rattle.std.specs.Prelude.{◌≡◌, ◌==◌, ℕ, zero, false, List, [], ◌∷◌, ◌++◌, length, replicate, map, reverse, Option, Some, None, slice_get, slice_set, option_map, option_and_then, if◌then◌else◌}
 use Rattle.types.specs.declared.ids.LabelId.{LabelId}
 use Rattle.types.specs.declared.ty.Ty.{Ty}
 use Rattle.mir.specs.declared.body.BasicBlock.{BasicBlock}
 use Rattle.mir.specs.declared.body.Local.{Local}
 use Rattle.mir.specs.declared.body.Terminator.{Terminator}
+use Rattle.mir.specs.Elements.{PlaceElem}
+use Rattle.mir.specs.Projections.{Projection, projection_of, empty_id}
 use Rattle.mir.specs.declared.ids.LocalId.{LocalId}
+use Rattle.mir.specs.declared.operand.Place.{Place}
+use Rattle.mir.specs.declared.projection.ProjectionId.{ProjectionId}
 use Rattle.mir.specs.declared.statement.Statement.{Statement}
 use Rattle.source_meaning.specs.Around.{Opened, is_meant}
 use Rattle.source_meaning.specs.Source.{Cell, Result, Node, Binding, Never}
@@ -38,6 +42,8 @@ pub record Shape : Type 0 where
   pub scope : List Cell
   -- the loops and labelled blocks around the code that is added, the innermost first
   pub targets : List OpenTarget
+  -- the projections of places, in the order of their ids
+  pub projections : List Projection
 
 -- the cell whose value a local holds
 abbrev pub cell_of : Held → Cell
@@ -54,7 +60,7 @@ abbrev pub target_of_blocks : LoopBlocks → OpenTarget
 target_of_blocks blocks =
     record {
       opened = record { node = blocks.node.0; label = blocks.label };
-      local = blocks.place.local.0;
+      local = blocks.to.0;
       begin_block = blocks.begin.0;
       end_block = blocks.end.0;
       kept = blocks.drop_scope.0;
@@ -75,6 +81,7 @@ shape graph =
       temps = graph.temps.items;
       scope = cells_of graph.scope.items;
       targets = targets_of graph.loops.items;
+      projections = graph.projections.projections;
     }
 
 abbrev pub no_statements : BasicBlock
@@ -98,6 +105,7 @@ first_shape ty nodes =
       temps = replicate nodes no_temps;
       scope = [];
       targets = [];
+      projections = [] ∷ [];
     }
 
 -- a block with one more statement
@@ -192,6 +200,25 @@ with_scope scope s = record s { scope = scope }
 -- other loops and labelled blocks around the code
 abbrev pub with_targets : List OpenTarget → Shape → Shape
 with_targets targets s = record s { targets = targets }
+
+-- all of a local, as a place
+abbrev pub local_place : LocalId → Place
+local_place local = record { local = local; projection = empty_id }
+
+-- the elements that an id stands for; the id 0 is that of none, in each store
+abbrev pub elements_in : List Projection → ProjectionId → Option Projection
+elements_in kept id = if id.0 == 0 then Some [] else projection_of kept id
+
+-- other projections
+abbrev pub with_projections : List Projection → Shape → Shape
+with_projections projections s = record s { projections = projections }
+
+-- A place within another one was made: what an element leads to from there. Each id that stood for a projection stands for it still.
+pub record IsProjected (old new : Shape) (place : Place) (elem : PlaceElem) (made : Place) : Type 0 where
+  pub rest : new ≡ with_projections new.projections old
+  pub kept : (id : ProjectionId) (elements : Projection) → projection_of old.projections id ≡ Some elements → projection_of new.projections id ≡ Some elements
+  pub local : made.local ≡ place.local
+  pub longer : (elements : Projection) → elements_in old.projections place.projection ≡ Some elements → elements_in new.projections made.projection ≡ Some (elements ++ elem ∷ [])
 
 -- the innermost of those that a jump means
 unfoldable pub meant_target : Option LabelId → List OpenTarget → Option OpenTarget

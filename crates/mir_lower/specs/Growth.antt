@@ -3,10 +3,12 @@ use Rattle.std.specs.Prelude.{◌≡◌, ◌≢◌, ◌⊎◌, ℕ, ◌<◌, ◌
 use Rattle.mir.specs.declared.body.BasicBlock.{BasicBlock}
 use Rattle.mir.specs.declared.body.Local.{Local}
 use Rattle.mir.specs.declared.body.Terminator.{Terminator}
+use Rattle.mir.specs.declared.projection.ProjectionId.{ProjectionId}
 use Rattle.mir.specs.declared.statement.Statement.{Statement}
+use Rattle.mir.specs.Projections.{Projection, projection_of}
 use Rattle.types.specs.declared.ty.Ty.{Ty}
 use Rattle.world.specs.Checked.{IsCheckedBody}
-use Rattle.source_meaning.specs.Core.{is_path}
+use Rattle.source_meaning.specs.Core.{is_place}
 use Rattle.source_meaning.specs.Source.{Source, Cell, Result, Node, Binding, cell_type, binding_type, node, root, Never, unadjusted, diverges}
 use Rattle.source_meaning.specs.Around.{Opened}
 use Rattle.source_meaning.specs.Valid.{Evaluates, EvaluatesIn, opened_in}
@@ -33,6 +35,7 @@ pub record Grows (old new : Shape) : Type 0 where
   pub bindings : new.bindings ≡ old.bindings
   pub temps : (e local : ℕ) → temp_of old e ≡ Some local → temp_of new e ≡ Some local
   pub nevers : (e local : ℕ) → never_of old e ≡ Some local → never_of new e ≡ Some local
+  pub projections : (id : ProjectionId) (elements : Projection) → projection_of old.projections id ≡ Some elements → projection_of new.projections id ≡ Some elements
 
 -- Of the blocks that stood there none is touched but the current one, the current block is the same or a new one, and the same
 -- loops and labelled blocks stand around what is added next.
@@ -49,11 +52,11 @@ IsUsed source (Node e) = Evaluates source (root source) e
 IsUsed source (Binding b) = Unit {0}
 IsUsed source (Never e) = Evaluates source (root source) e
 
--- a cell that is given a local: the result, a binding, an expression that is evaluated, is no path and isn't the body's
+-- a cell that is given a local: the result, a binding, an expression that is evaluated, is no place and isn't the body's
 -- root, whose value goes to the result, or the `!` of an expression that is evaluated
 abbrev pub IsStored : Source → Cell → Type 0
 IsStored source Result = Unit {0}
-IsStored source (Node e) = Evaluates source (root source) e × (is_path (unadjusted source e) ≡ false) × (e < root source)
+IsStored source (Node e) = Evaluates source (root source) e × (is_place (unadjusted source e) ≡ false) × (e < root source)
 IsStored source (Binding b) = Unit {0}
 IsStored source (Never e) = Evaluates source (root source) e × (diverges source e ≡ true) × (e < length source.body.exprs)
 

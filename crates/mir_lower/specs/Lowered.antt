@@ -3,6 +3,7 @@ use Rattle.std.specs.Prelude.{◌≡◌, ℕ, false, List, ◌++◌, ◌∷◌, 
 use Rattle.mir.specs.declared.body.Local.{Local}
 use Rattle.mir.specs.declared.operand.CastKind.TheVariants.{IntToInt}
 use Rattle.mir.specs.declared.operand.Operand.{Operand}
+use Rattle.mir.specs.declared.operand.Place.{Place as GraphPlace}
 use Rattle.mir.specs.declared.operand.OperandKind.{OperandKind}
 use Rattle.mir.specs.declared.operand.Rvalue.{Rvalue}
 use Rattle.mir.specs.declared.operand.Rvalue.TheVariants.{Cast}
@@ -12,17 +13,19 @@ use Rattle.source_meaning.specs.Core.{CoreExpr, is_truth}
 use Rattle.world.specs.declared.body.Statement.{Statement}
 use Rattle.types.specs.declared.ids.BindingId.{BindingId}
 use Rattle.types.specs.declared.ids.ExprId.{ExprId}
+use Rattle.types.specs.declared.ids.TupleFieldId.{TupleFieldId}
 use Rattle.world.specs.declared.infer.ValueNs.TheVariants.{LocalBinding}
 use Rattle.source_meaning.specs.Events.{marked, marked_itself, marked_as_place, marked_as_operand, marked_by_statement, marked_by_tail}
-use Rattle.source_meaning.specs.Source.{Source, Cell, node, unadjusted, own_type, node_type, named_by, pattern, target, compound_target, bound_by}
+use Rattle.source_meaning.specs.Source.{Source, Cell, Place, node, unadjusted, own_type, node_type, named_by, pattern, target, compound_target, bound_by}
 use Rattle.source_meaning.specs.Steps.{statement_parts}
+use Rattle.source_meaning.specs.Aggregates.{HasAggregates}
 use Rattle.source_meaning.specs.Around.{Opened}
 use Rattle.source_meaning.specs.Valid.{IsPlainFrom, JumpsFit, IsLaidOut, NeedsLayout, IsLaidOutNode}
 use Rattle.mir_lower.specs.Graph.{Shape, binding_local, local_of}
 use Rattle.mir_lower.specs.Growth.{Grows, Spares, IsSound, IsOpen}
 use Rattle.mir.specs.Memory.{Memory}
 use Rattle.mir.specs.Run.{Frame}
-use Rattle.mir_lower.specs.Does.{here, IsFrameOf, Does, DoesOwn, DoesOperand, DoesOperands, DoesPlace, DoesStatements, DoesTail, DoesBind, DoesAssign}
+use Rattle.mir_lower.specs.Does.{here, IsFrameOf, Does, DoesOwn, DoesOperand, DoesOperands, DoesPlace, DoesField, DoesStatements, DoesTail, DoesBind, DoesAssign}
 use Rattle.mir_lower.specs.Runs.{Comes}
 
 -- the graph is as sound as before, has what it had, and these cells more came into use in the innermost open scope
@@ -38,8 +41,9 @@ abbrev pub HasLayouts : Source → Shape → Type 0
 HasLayouts source s = (l : ℕ) (local : Local) → slice_get s.locals l ≡ Some local → IsLaidOut source (Some local.ty)
 
 -- each expression that is evaluated where one is has a plain form, each jump there has a target, and the types of the loops and
--- labelled blocks around it have layouts
+-- labelled blocks around it have layouts; the layouts of tuples have their parts inside
 pub record IsPlainWithin (source : Source) (e : ℕ) : Type 0 where
+  pub aggregates : HasAggregates source.world
   pub nodes : IsPlainFrom source e
   pub opened : List Opened
   pub jumps : JumpsFit source opened e
@@ -62,10 +66,16 @@ pub record LowersOwn (source : Source) (old new : Shape) (e : ℕ) (cell : Cell)
   pub laid : IsLaidOutNode source e → LaysOut source new e
 
 -- an expression was lowered to a place
-pub record LowersPlace (source : Source) (old new : Shape) (e local : ℕ) : Type 0 where
+pub record LowersPlace (source : Source) (old new : Shape) (e : ℕ) (place : GraphPlace) : Type 0 where
   pub keeps : Keeps source old new (marked_as_place source e)
-  pub does : DoesPlace source old new e local
+  pub does : DoesPlace source old new e place
   pub laid : LaysOut source new e
+
+-- the place of a field was lowered, by that of its base
+pub record LowersField (source : Source) (old new : Shape) (base : ℕ) (field : TupleFieldId) (place : GraphPlace) : Type 0 where
+  pub keeps : Keeps source old new (marked_as_place source base)
+  pub does : DoesField source old new base field place
+  pub laid : LaysOut source new base
 
 -- an expression was lowered to an operand
 pub record LowersOperand (source : Source) (old new : Shape) (e : ℕ) (operand : OperandKind) : Type 0 where
@@ -91,10 +101,10 @@ pub record IsNamed (source : Source) (s : Shape) (e local : ℕ) : Type 0 where
   pub named : named_by source e ≡ Some (LocalBinding binding)
   pub found : binding_local s binding.0 ≡ Some local
 
--- a pattern was bound to the value of a cell
-pub record Binds (source : Source) (old new : Shape) (pat : ℕ) (cell : Cell) : Type 0 where
+-- a pattern was bound to the value of a place
+pub record Binds (source : Source) (old new : Shape) (pat : ℕ) (at : Place) : Type 0 where
   pub keeps : Keeps source old new (bound_by (pattern source pat))
-  pub does : DoesBind source old new pat cell
+  pub does : DoesBind source old new pat at
 
 -- the target of an assignment names a binding with this local
 pub record IsTargeted (source : Source) (s : Shape) (assigned local : ℕ) : Type 0 where
@@ -108,10 +118,10 @@ pub record IsCombinedIn (source : Source) (s : Shape) (assigned local : ℕ) : T
   pub names : compound_target source assigned ≡ Some binding
   pub found : binding_local s binding.0 ≡ Some local
 
--- the value of a cell was assigned to a target: no cell is marked as in use
-pub record Assigns (source : Source) (old new : Shape) (assigned : ℕ) (cell : Cell) : Type 0 where
+-- the value of a place was assigned to a target: no cell is marked as in use
+pub record Assigns (source : Source) (old new : Shape) (assigned : ℕ) (at : Place) : Type 0 where
   pub keeps : Keeps source old new []
-  pub does : DoesAssign source old new assigned cell
+  pub does : DoesAssign source old new assigned at
 
 -- statements were lowered
 pub record LowersStatements (source : Source) (old new : Shape) (statements : List Statement) : Type 0 where

@@ -6,6 +6,7 @@ use Rattle.mir.specs.declared.body.MirBody.{MirBody}
 use Rattle.mir.specs.Memory.{Memory}
 use Rattle.mir.specs.Areas.{first_areas}
 use Rattle.mir.specs.Run.{Program, Frame, Ended, entering, begun, levels_over}
+use Rattle.source_meaning.specs.Aggregates.{HasAggregates}
 use Rattle.source_meaning.specs.Ends.{cost_of, End, Go, Jumps, Faults, Stuck, More}
 use Rattle.source_meaning.specs.Entering.{body_room, room_of}
 use Rattle.source_meaning.specs.Meaning.{meaning_from, meaning_of}
@@ -41,8 +42,8 @@ EndsAs source program fuel run =
 -- frame whose locals are placed, share no byte and hold the store's bytes, whatever callers are suspended below it, and whatever limits and answers
 -- the run goes by, where each body among these does at less fuel what its function's source means, the body runs as its meaning from that
 -- store says, or stops at a call. `runs`: so it does alone, from zeroed locals in the source's world, where that can begin. All locals together
--- take no more bytes than the source counts for its cells (`room`). Where the source is plain and each local's type has a layout, so have the
--- types of all that is evaluated (`laid_out`).
+-- take no more bytes than the source counts for its cells (`room`). Where the source is plain, each local's type has a layout, and the layouts
+-- of tuples have their parts inside, the types of all that is evaluated have layouts (`laid_out`).
 pub record Simulates (source : Source) (body : MirBody) : Type 0 where
   pub allotted : Cell → Option ℕ
   pub result : allotted Result ≡ Some 0
@@ -55,6 +56,6 @@ pub record Simulates (source : Source) (body : MirBody) : Type 0 where
   pub slot : (local : Local) × (slice_get body.locals 0 ≡ Some local) × (node_type source (root source) ≡ Some local.ty)
   pub cells : (l : ℕ) (local : Local) → slice_get body.locals l ≡ Some local → (cell : Cell) × IsUsed source cell × (cell_type source cell ≡ Some local.ty) × (allotted cell ≡ Some l)
   pub room : sum (map (λ local. room_of (layout_of source.world local.ty)) body.locals) ≤ body_room source
-  pub laid_out : IsPlain source → ((l : ℕ) (local : Local) → slice_get body.locals l ≡ Some local → IsLaidOut source (Some local.ty)) → AreLaidOut source
+  pub laid_out : HasAggregates source.world → IsPlain source → ((l : ℕ) (local : Local) → slice_get body.locals l ≡ Some local → IsLaidOut source (Some local.ty)) → AreLaidOut source
   pub runs : (fuel : ℕ) (program : Program) (start : Frame × Memory) → Serves fuel source program → begun program body ≡ Ok start →
       EndsAs source program fuel (λ budget. entering budget start.0 start.1 body.start_block.0)

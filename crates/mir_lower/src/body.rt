@@ -96,8 +96,7 @@ fn lower_body(context: &Context<'_>, owner: DefWithBodyId) -> Result<MirBody, Mi
     let mut graph = first_graph(context)?;
     let scope = graph.push_drop_scope();
     let params = lower_params(context, &mut graph)?;
-    let slot = Place { local: LocalId(0) };
-    lower_into(context, &mut graph, start, slot)?;
+    lower_into(context, &mut graph, start, LocalId(0))?;
     leave_scope(context, &mut graph, scope, start)?;
     graph.set_terminator(Terminator {
         span: MirSpan::ExprId(start),

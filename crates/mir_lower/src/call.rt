@@ -4,12 +4,12 @@ ghost use Rattle.std.specs.Prelude.{◌≡◌, ◌<◌, length, IfOk, IfSome, On
 ghost use Rattle.source_meaning.specs.Calls.{must_not_return};
 ghost use Rattle.body_forms.specs.Contexts.{source_of};
 ghost use Rattle.mir_lower.specs.Calling.{call_terminator, target_of_call};
-ghost use Rattle.mir_lower.specs.Graph.{shape, with_block, with_terminator};
+ghost use Rattle.mir_lower.specs.Graph.{shape, local_place, with_block, with_terminator};
 ghost use Rattle.mir_lower.specs.Growth.{IsOpen};
 
 use crate::graph::Graph;
 use body_forms::{Context, must_not_return};
-use mir::{BasicBlockId, MirSpan, Operand, Place, Terminator, TerminatorKind};
+use mir::{BasicBlockId, LocalId, MirSpan, Operand, Place, Terminator, TerminatorKind};
 use std::alloc::Global;
 use world::{ExprId, List, NoMemory};
 
@@ -32,18 +32,18 @@ fn end_by_call(
     e: ExprId,
     func: Operand,
     args: List<Operand>,
-    destination: Place,
+    to: LocalId,
     target: Option<BasicBlockId>,
 ) -> Result<(), NoMemory>
     requires { IsOpen (shape graph.old) }
-    ensures { OnOk result (shape graph.new ≡ with_block (with_terminator (call_terminator e func args destination target) (shape graph.old))) }
+    ensures { OnOk result (shape graph.new ≡ with_block (with_terminator (call_terminator e func args (local_place to) target) (shape graph.old))) }
 {
     graph.set_terminator(Terminator {
         span: MirSpan::ExprId(e),
         kind: TerminatorKind::Call {
             func,
             args,
-            destination,
+            destination: Place::from(to),
             target,
             cleanup: None,
             from_hir_call: true,
@@ -60,10 +60,10 @@ pub(crate) fn call(
     e: ExprId,
     func: Operand,
     args: List<Operand>,
-    destination: Place,
+    to: LocalId,
 ) -> Result<(), NoMemory>
     requires { IsOpen (shape graph.old) }
-    ensures { OnOk result ((next : _) × (next.0 ≡ length (shape graph.old).blocks) × (shape graph.new ≡ with_block (with_terminator (call_terminator e func args destination (target_of_call (must_not_return (source_of context.now) e.0) next)) (shape graph.old)))) }
+    ensures { OnOk result ((next : _) × (next.0 ≡ length (shape graph.old).blocks) × (shape graph.new ≡ with_block (with_terminator (call_terminator e func args (local_place to) (target_of_call (must_not_return (source_of context.now) e.0) next)) (shape graph.old)))) }
 {
     let count = graph.blocks.len();
     if count >= u32::MAX as usize {
@@ -71,5 +71,5 @@ pub(crate) fn call(
     }
     let next = BasicBlockId(count as u32);
     let target = target_of_call(context, e, next);
-    end_by_call(context.alloc, graph, e, func, args, destination, target)
+    end_by_call(context.alloc, graph, e, func, args, to, target)
 }

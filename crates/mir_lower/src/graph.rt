@@ -2,11 +2,15 @@
 
 ghost use Rattle.std.specs.Prelude.{◌≡◌, ◌<◌, ◌≤◌, ◌^◌, ◌∷◌, ◌++◌, ℕ, List, length, IfOk, IfSome, IfNone, OnOk, Some, None, [], slice_get};
 ghost use Rattle.std.specs.Option.{option_map};
-ghost use Rattle.mir_lower.specs.Graph.{OpenTarget, with_targets, target_of_blocks, meant_target, shape, first_shape, with_statement, with_terminator, with_block, with_reserved, with_entered, with_binding, with_temp, with_mark, temp_of, binding_local, no_statements, cell_of, with_never, never_of};
+ghost use Rattle.mir.specs.Projections.{HasId};
+ghost use Rattle.mir_lower.specs.Graph.{IsProjected, OpenTarget, with_targets, target_of_blocks, meant_target, shape, first_shape, with_statement, with_terminator, with_block, with_reserved, with_entered, with_binding, with_temp, with_mark, temp_of, binding_local, no_statements, cell_of, with_never, never_of};
 ghost use Rattle.source_meaning.specs.Around.{is_meant};
 ghost use Rattle.source_meaning.specs.Source.{Node, Never};
 
-use mir::{BasicBlock, BasicBlockId, Local, LocalId, MirBody, Place, Statement, Terminator};
+use mir::{
+    BasicBlock, BasicBlockId, Interner, Local, LocalId, MirBody, Place, PlaceElem, ProjectionStore,
+    Statement, Terminator,
+};
 use std::alloc::Global;
 use world::{BindingId, DefWithBodyId, ExprId, LabelId, List, NoMemory, Ty};
 
@@ -43,7 +47,7 @@ pub struct LoopBlocks {
     /// What follows it, and where `break` leads.
     pub end: BasicBlockId,
     /// Where its value goes.
-    pub place: Place,
+    pub to: LocalId,
     /// How many locals were in use when it was entered.
     pub drop_scope: DropScopeToken,
 }
@@ -68,6 +72,8 @@ pub struct Graph {
     pub scope: Vec<Marked>,
     /// The loops and labelled blocks that are being lowered, the outermost first.
     pub loops: Vec<LoopBlocks>,
+    /// The projections of places, each under one id.
+    pub projections: ProjectionStore,
 }
 
 fn empty_block(alloc: Global) -> BasicBlock
@@ -112,6 +118,7 @@ impl Graph {
             temps,
             scope: Vec::new(alloc),
             loops: Vec::new(alloc),
+            projections: ProjectionStore::new(alloc)?,
         })
     }
 
@@ -339,21 +346,43 @@ impl Graph {
         None
     }
 
-    /// The body with these blocks and locals, some of which are the parameters'. It takes no memory.
+    /// A place within another one: what an element leads to from there. A projection that would be the 2^32nd has no id: `NoMemory`.
+    pub fn project(&mut self, place: Place, elem: PlaceElem) -> Result<Place, NoMemory>
+        requires { HasId self.old.projections.projections place.projection }
+        ensures { IfOk result (λ made. IsProjected (shape self.old) (shape self.new) place elem made) }
+    {
+        if self.projections.count() >= u32::MAX as u64 {
+            return Err(NoMemory);
+        }
+        let projection = place.projection.project(elem, &mut self.projections)?;
+        Ok(Place {
+            local: place.local,
+            projection,
+        })
+    }
+
+    /// The body with these blocks, locals and projections; some of the locals are the parameters'. It takes no memory.
     pub fn into_body(self, owner: DefWithBodyId, params: List<LocalId>) -> MirBody
         ensures blocks { result.basic_blocks ≡ (shape self).blocks }
         ensures locals { result.locals ≡ (shape self).locals }
         ensures start { result.start_block.0 ≡ 0 }
         ensures owner { result.owner ≡ owner }
         ensures params { result.param_locals ≡ params }
+        ensures projections { result.projection_store.projections ≡ (shape self).projections }
     {
-        let Graph { blocks, locals, .. } = self;
+        let Graph {
+            blocks,
+            locals,
+            projections,
+            ..
+        } = self;
         MirBody {
             basic_blocks: List::from_vec(blocks),
             locals,
             start_block: BasicBlockId(0),
             owner,
             param_locals: params,
+            projection_store: projections,
         }
     }
 }

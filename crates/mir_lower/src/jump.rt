@@ -12,7 +12,7 @@ use crate::branch::go_on;
 use crate::graph::{DropScopeToken, Graph, LoopBlocks};
 use crate::leave::leave_marked;
 use body_forms::Context;
-use mir::{BasicBlockId, MirLowerError, MirSpan, Place, Terminator, TerminatorKind};
+use mir::{BasicBlockId, LocalId, MirLowerError, MirSpan, Terminator, TerminatorKind};
 use world::{ExprId, LabelId, NoMemory};
 
 /// Enters a loop or a labelled block: the current block leads to the one where it begins, which is opened. The block behind it
@@ -22,14 +22,14 @@ pub(crate) fn enter_loop(
     graph: &mut Graph,
     node: ExprId,
     label: Option<LabelId>,
-    place: Place,
+    to: LocalId,
 ) -> Result<LoopBlocks, NoMemory>
     requires sound { IsSound (source_of context.now) (shape graph.old) }
     requires opened { IsOpen (shape graph.old) }
     ensures entered { IfOk result (λ blocks. IsEntered (source_of context.now) (shape graph.old) (shape graph.new) (target_of_blocks blocks)) }
     ensures node { IfOk result (λ blocks. blocks.node ≡ node) }
     ensures label { IfOk result (λ blocks. blocks.label ≡ label) }
-    ensures place { IfOk result (λ blocks. blocks.place ≡ place) }
+    ensures value { IfOk result (λ blocks. blocks.to ≡ to) }
 {
     let begin = graph.reserve_block(context.alloc)?;
     let end = graph.reserve_block(context.alloc)?;
@@ -38,7 +38,7 @@ pub(crate) fn enter_loop(
         label,
         begin,
         end,
-        place,
+        to,
         drop_scope: graph.push_drop_scope(),
     };
     graph.push_loop(blocks)?;

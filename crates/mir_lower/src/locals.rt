@@ -3,12 +3,13 @@
 ghost use Rattle.std.specs.Prelude.{◌≡◌, ◌⊎◌, true, false, IfOk, IfErr, IfSome, OnOk, Some};
 ghost use Rattle.mir.specs.declared.errors.MirLowerError.TheVariants as refusal;
 ghost use Rattle.mir.specs.declared.statement.StatementKind.TheVariants.{Assign, FakeRead};
-ghost use Rattle.source_meaning.specs.Source.{Cell, Node, Binding, Never, node, unadjusted, diverges};
+ghost use Rattle.source_meaning.specs.Source.{Place as SourcePlace, Node, Binding, Never, node, unadjusted, diverges};
 ghost use Rattle.source_meaning.specs.Core as expr;
-ghost use Rattle.source_meaning.specs.Core.{is_path, local_named};
+ghost use Rattle.source_meaning.specs.Core.{is_place, local_named};
 ghost use Rattle.world.specs.declared.infer.ValueNs.TheVariants.{LocalBinding};
 ghost use Rattle.body_forms.specs.Contexts.{source_of};
-ghost use Rattle.mir_lower.specs.Graph.{shape, with_statement, local_of};
+ghost use Rattle.mir_lower.specs.Graph.{shape, local_place, with_statement, local_of};
+ghost use Rattle.mir_lower.specs.Does.{IsAt};
 ghost use Rattle.mir_lower.specs.Growth.{IsSound, IsOpen, IsReady, IsReadyPart};
 ghost use Rattle.mir_lower.specs.Lowered.{IsGiven, IsNamed, Binds, IsCombinedIn, IsTargeted, Assigns};
 ghost use Rattle.source_meaning.specs.Built.{AssignsBinding, BindsBinding, CombinesBinding, NamesBinding};
@@ -24,19 +25,19 @@ use mir::{
 };
 use world::{BindingId, ExprId, PatId, Text, TryClone, ValueNs};
 
-/// Adds an assignment.
+/// Adds an assignment to a local.
 pub(crate) fn assign(
     graph: &mut Graph,
-    place: Place,
+    to: LocalId,
     rvalue: Rvalue,
     span: MirSpan,
 ) -> Result<(), MirLowerError>
     requires { IsOpen (shape graph.old) }
-    ensures added { OnOk result (shape graph.new ≡ with_statement (record { kind = Assign place rvalue; span = span }) (shape graph.old)) }
+    ensures added { OnOk result (shape graph.new ≡ with_statement (record { kind = Assign (local_place to) rvalue; span = span }) (shape graph.old)) }
     ensures refused { IfErr result (λ error. error ≡ refusal.NoMemory) }
 {
     graph.push_statement(Statement {
-        kind: StatementKind::Assign(place, rvalue),
+        kind: StatementKind::Assign(Place::from(to), rvalue),
         span,
     })?;
     Ok(())
@@ -63,23 +64,23 @@ fn binding_named(named: ValueNs) -> Option<BindingId>
     }
 }
 
-/// The place that a path names: the local of a binding.
-pub(crate) fn place_named(
+/// The local that a path names: that of a binding.
+pub(crate) fn named_local(
     context: &Context<'_>,
     graph: &Graph,
     e: ExprId,
     name: &Text,
-) -> Result<Place, MirLowerError>
+) -> Result<LocalId, MirLowerError>
     requires sound { IsSound (source_of context.now) (shape graph.now) }
     requires path { node (source_of context.now) e.0 ≡ Some (expr.Path name.now) }
-    ensures lowered { IfOk result (λ place. IsNamed (source_of context.now) (shape graph.now) e.0 place.local.0) }
+    ensures lowered { IfOk result (λ local. IsNamed (source_of context.now) (shape graph.now) e.0 local.0) }
     ensures built { OnOk result (NamesBinding (source_of context.now) e.0) }
     ensures refused { IfErr result (RefusesNode (source_of context.now) e.0) }
 {
     match context.infer.value_res.get(&e) {
         Some(named) => match binding_named(*named) {
             Some(binding) => match graph.binding_local(binding) {
-                Some(local) => Ok(Place { local }),
+                Some(local) => Ok(local),
                 None => Err(MirLowerError::InaccessibleLocal),
             },
             None => Err(form_not_built(context.alloc)),
@@ -114,10 +115,10 @@ pub(crate) fn new_temp(
     context: &Context<'_>,
     graph: &mut Graph,
     e: ExprId,
-) -> Result<Place, MirLowerError>
+) -> Result<LocalId, MirLowerError>
     requires ready { IsReadyPart (source_of context.now) (shape graph.old) e.0 }
-    requires form { is_path (unadjusted (source_of context.now) e.0) ≡ false }
-    ensures given { IfOk result (λ place. IsGiven (source_of context.now) (shape graph.old) (shape graph.new) (Node e.0) place.local.0) }
+    requires form { is_place (unadjusted (source_of context.now) e.0) ≡ false }
+    ensures given { IfOk result (λ local. IsGiven (source_of context.now) (shape graph.old) (shape graph.new) (Node e.0) local.0) }
     ensures refused { IfErr result (λ error. error ≡ refusal.NoMemory) }
 {
     let ty = node_ty(context, e).try_clone(context.alloc)?;
@@ -126,7 +127,7 @@ pub(crate) fn new_temp(
         kind: StatementKind::StorageLive(local),
         span: MirSpan::ExprId(e),
     })?;
-    Ok(Place { local })
+    Ok(local)
 }
 
 /// Adds `StorageLive` of a local for the `!` of an expression, in the innermost open scope.
@@ -134,10 +135,10 @@ pub(crate) fn new_never(
     context: &Context<'_>,
     graph: &mut Graph,
     e: ExprId,
-) -> Result<Place, MirLowerError>
+) -> Result<LocalId, MirLowerError>
     requires ready { IsReady (source_of context.now) (shape graph.old) e.0 }
     requires adjusted { diverges (source_of context.now) e.0 ≡ true }
-    ensures given { IfOk result (λ place. IsGiven (source_of context.now) (shape graph.old) (shape graph.new) (Never e.0) place.local.0) }
+    ensures given { IfOk result (λ local. IsGiven (source_of context.now) (shape graph.old) (shape graph.new) (Never e.0) local.0) }
     ensures refused { IfErr result (λ error. error ≡ refusal.NoMemory) }
 {
     let ty = own_ty(context, e).try_clone(context.alloc)?;
@@ -146,7 +147,7 @@ pub(crate) fn new_never(
         kind: StatementKind::StorageLive(local),
         span: MirSpan::ExprId(e),
     })?;
-    Ok(Place { local })
+    Ok(local)
 }
 
 /// Notes that the value at a place was named.
@@ -171,8 +172,8 @@ pub(crate) fn bind(
 ) -> Result<(), MirLowerError>
     requires sound { IsSound (source_of context.now) (shape graph.old) }
     requires opened { IsOpen (shape graph.old) }
-    ensures lowered { OnOk result ((cell : Cell) → local_of (shape graph.old) cell ≡ Some from.local.0
-        → Binds (source_of context.now) (shape graph.old) (shape graph.new) pat.0 cell) }
+    ensures lowered { OnOk result ((at : SourcePlace) → IsAt (shape graph.old) from at
+        → Binds (source_of context.now) (shape graph.old) (shape graph.new) pat.0 at) }
     ensures built { OnOk result (BindsBinding (source_of context.now) pat.0) }
     ensures refused { IfErr result (RefusesPattern (source_of context.now) pat.0) }
 {
@@ -187,12 +188,7 @@ pub(crate) fn bind(
         kind: OperandKind::Copy(from),
         span: None,
     };
-    assign(
-        graph,
-        Place { local },
-        Rvalue::Use(operand),
-        MirSpan::PatId(pat),
-    )
+    assign(graph, local, Rvalue::Use(operand), MirSpan::PatId(pat))
 }
 
 /// The local that the target of an assignment names: that of a binding.
@@ -217,14 +213,14 @@ fn target_local(context: &Context<'_>, graph: &Graph, pat: PatId) -> Result<Loca
     }
 }
 
-/// The place that the target of a compound assignment names: the local of a binding.
-pub(crate) fn combined_place(
+/// The local that the target of a compound assignment names: that of a binding.
+pub(crate) fn combined_local(
     context: &Context<'_>,
     graph: &Graph,
     e: ExprId,
-) -> Result<Place, MirLowerError>
+) -> Result<LocalId, MirLowerError>
     requires { IsSound (source_of context.now) (shape graph.now) }
-    ensures lowered { IfOk result (λ place. IsCombinedIn (source_of context.now) (shape graph.now) e.0 place.local.0) }
+    ensures lowered { IfOk result (λ local. IsCombinedIn (source_of context.now) (shape graph.now) e.0 local.0) }
     ensures built { OnOk result (CombinesBinding (source_of context.now) e.0) }
     ensures refused { IfErr result (RefusesCombined (source_of context.now) e.0) }
 {
@@ -236,7 +232,7 @@ pub(crate) fn combined_place(
     };
     match binding_named(*named) {
         Some(binding) => match graph.binding_local(binding) {
-            Some(local) => Ok(Place { local }),
+            Some(local) => Ok(local),
             None => Err(MirLowerError::InaccessibleLocal),
         },
         None => Err(form_not_built(context.alloc)),
@@ -252,8 +248,8 @@ pub(crate) fn assign_target(
 ) -> Result<(), MirLowerError>
     requires sound { IsSound (source_of context.now) (shape graph.old) }
     requires opened { IsOpen (shape graph.old) }
-    ensures lowered { OnOk result ((cell : Cell) → local_of (shape graph.old) cell ≡ Some from.local.0
-        → Assigns (source_of context.now) (shape graph.old) (shape graph.new) pat.0 cell) }
+    ensures lowered { OnOk result ((at : SourcePlace) → IsAt (shape graph.old) from at
+        → Assigns (source_of context.now) (shape graph.old) (shape graph.new) pat.0 at) }
     ensures built { OnOk result (AssignsBinding (source_of context.now) pat.0) }
     ensures refused { IfErr result (RefusesTarget (source_of context.now) pat.0) }
 {
@@ -262,10 +258,5 @@ pub(crate) fn assign_target(
         kind: OperandKind::Copy(from),
         span: None,
     };
-    assign(
-        graph,
-        Place { local },
-        Rvalue::Use(operand),
-        MirSpan::PatId(pat),
-    )
+    assign(graph, local, Rvalue::Use(operand), MirSpan::PatId(pat))
 }

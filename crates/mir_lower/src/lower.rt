@@ -1,11 +1,11 @@
-//! Lowering expressions: as an operand, to a place, and into a place.
+//! Lowering expressions: as an operand, to a place, and into a local.
 
 ghost use Rattle.std.specs.Prelude.{◌≡◌, ◌<◌, ◌∷◌, false, length, [], IfOk, IfErr, OnOk, Some, None};
 ghost use Rattle.mir.specs.declared.errors.MirLowerError.TheVariants as refusal;
 ghost use Rattle.world.specs.Checked.{IsCheckedBody};
 ghost use Rattle.mir.specs.declared.operand.OperandKind.TheVariants.{Copy};
 ghost use Rattle.source_meaning.specs.Source.{Cell, node, unadjusted};
-ghost use Rattle.source_meaning.specs.Core.{Combine, is_path};
+ghost use Rattle.source_meaning.specs.Core.{Combine, is_place};
 ghost use Rattle.source_meaning.specs.Core as expr;
 ghost use Rattle.source_meaning.specs.Meaning.{deciding_byte};
 ghost use Rattle.source_meaning.specs.Steps.{parts_of};
@@ -16,7 +16,7 @@ ghost use Rattle.body_forms.specs.Form.{core_value};
 ghost use Rattle.mir_lower.specs.Graph.{shape, local_of};
 ghost use Rattle.mir_lower.specs.Growth.{IsPlaced, IsReady, ArePartsReady, IsReadyPart};
 ghost use Rattle.body_forms.specs.Operations.{several_operation, single_operation};
-ghost use Rattle.mir_lower.specs.Lowered.{HasStatements, LowersInto, LowersPlace, LowersOperand, LowersOperands, LowersStatements, LowersTail, IsStatementOf, LowersOwn};
+ghost use Rattle.mir_lower.specs.Lowered.{HasStatements, LowersInto, LowersField, LowersPlace, LowersOperand, LowersOperands, LowersStatements, LowersTail, IsStatementOf, LowersOwn};
 ghost use Rattle.mir_lower.specs.Built.{IsBuilt, IsBuiltThrough};
 ghost use Rattle.mir_lower.specs.Refusals.{RefusesAt};
 ghost use Rattle.std.specs.Prelude.{All, Contains, IfSome, map};
@@ -28,14 +28,19 @@ use crate::graph::Graph;
 use crate::jump::{enter_loop, jump, leave_loop, return_from, target_of_jump};
 use crate::leave::leave_scope;
 use crate::locals::{
-    assign, assign_target, bind, combined_place, fake_read, new_never, new_temp, place_named,
+    assign, assign_target, bind, combined_local, fake_read, named_local, new_never, new_temp,
 };
 use body_forms::{
-    Context, Form, LiteralValue, Several, Single, diverges, form_at, form_not_built, kind_of,
-    literal_at, lower_callee, lower_literal, made_of, method_args, path_at,
+    Context, Form, LiteralValue, PlaceForm, Several, Single, diverges, form_at, form_not_built, kind_of,
+    literal_at, lower_callee, lower_literal, made_of, method_args, place_form_at,
 };
-use mir::{BinOp, LocalId, MirLowerError, MirSpan, Operand, OperandKind, Place, Rvalue};
-use world::{ExprId, LabelId, List, LogicOp, PatId, Statement, Text, TryClone};
+use either::Either;
+use mir::{
+    BinOp, LocalId, MirLowerError, MirSpan, Operand, OperandKind, Place, PlaceElem, Rvalue,
+};
+use world::{
+    ExprId, LabelId, List, LogicOp, PatId, Statement, Text, TryClone, TupleFieldId,
+};
 
 /// A place as an operand.
 fn copied(place: Place, e: ExprId) -> Operand
@@ -63,17 +68,17 @@ fn literal_into(
     graph: &mut Graph,
     e: ExprId,
     literal: LiteralValue,
-    place: Place,
+    to: LocalId,
 ) -> Result<(), MirLowerError>
     requires ready { IsReady (source_of context.now) (shape graph.old) e.0 }
     requires form { node (source_of context.now) e.0 ≡ Some (expr.Literal (core_value literal)) }
-    ensures lowered { OnOk result ((cell : Cell) → local_of (shape graph.old) cell ≡ Some place.local.0
+    ensures lowered { OnOk result ((cell : Cell) → local_of (shape graph.old) cell ≡ Some to.0
         → LowersOwn (source_of context.now) (shape graph.old) (shape graph.new) e.0 cell) }
     ensures built { OnOk result (IsBuilt (source_of context.now) e.0) }
     ensures refused { IfErr result (RefusesAt (source_of context.now) e.0) }
 {
     let operand = lower_literal(context, e, literal)?;
-    assign(graph, place, Rvalue::Use(operand), MirSpan::ExprId(e))
+    assign(graph, to, Rvalue::Use(operand), MirSpan::ExprId(e))
 }
 
 /// The bytes of what a path names are copied.
@@ -82,20 +87,20 @@ fn name_into(
     graph: &mut Graph,
     e: ExprId,
     name: &Text,
-    place: Place,
+    to: LocalId,
 ) -> Result<(), MirLowerError>
     requires ready { IsReady (source_of context.now) (shape graph.old) e.0 }
     requires form { node (source_of context.now) e.0 ≡ Some (expr.Path name.now) }
-    ensures lowered { OnOk result ((cell : Cell) → local_of (shape graph.old) cell ≡ Some place.local.0
+    ensures lowered { OnOk result ((cell : Cell) → local_of (shape graph.old) cell ≡ Some to.0
         → LowersOwn (source_of context.now) (shape graph.old) (shape graph.new) e.0 cell) }
     ensures built { OnOk result (IsBuilt (source_of context.now) e.0) }
     ensures refused { IfErr result (RefusesAt (source_of context.now) e.0) }
 {
-    let from = place_named(context, graph, e, name)?;
+    let from = named_local(context, graph, e, name)?;
     assign(
         graph,
-        place,
-        Rvalue::Use(copied(from, e)),
+        to,
+        Rvalue::Use(copied(Place::from(from), e)),
         MirSpan::ExprId(e),
     )
 }
@@ -121,45 +126,92 @@ pub(crate) fn lower_operand(
     }
 }
 
-/// An expression to a place: what a path names, or a local of its own.
+/// An expression to a place: what a path names, a field of its base's place, or a local of its own.
 #[cycle(lower)]
 fn lower_place(context: &Context<'_>, graph: &mut Graph, e: ExprId) -> Result<Place, MirLowerError>
     requires { IsReadyPart (source_of context.now) (shape graph.old) e.0 }
-    ensures lowered { IfOk result (λ place. LowersPlace (source_of context.now) (shape graph.old) (shape graph.new) e.0 place.local.0) }
+    ensures lowered { IfOk result (λ place. LowersPlace (source_of context.now) (shape graph.old) (shape graph.new) e.0 place) }
     ensures built { OnOk result (IsBuilt (source_of context.now) e.0) }
     ensures refused { IfErr result (RefusesAt (source_of context.now) e.0) }
 {
-    match path_at(context, e) {
-        Some(name) => place_named(context, graph, e, name),
-        None => lower_temp(context, graph, e),
+    match place_form_at(context, e) {
+        PlaceForm::Path(name) => Ok(Place::from(named_local(context, graph, e, name)?)),
+        PlaceForm::Field(base, field) => lower_field(context, graph, e, base, field),
+        PlaceForm::Value => lower_temp(context, graph, e),
     }
+}
+
+/// A field's place: its base's place, with one more element.
+#[cycle(lower)]
+fn lower_field(
+    context: &Context<'_>,
+    graph: &mut Graph,
+    e: ExprId,
+    base: ExprId,
+    field: TupleFieldId,
+) -> Result<Place, MirLowerError>
+    requires ready { ArePartsReady (source_of context.now) (shape graph.old) e.0 }
+    requires form { node (source_of context.now) e.0 ≡ Some (expr.Field base.0 field) }
+    ensures lowered { IfOk result (λ place. LowersField (source_of context.now) (shape graph.old) (shape graph.new) base.0 field place) }
+    ensures built { OnOk result (IsBuilt (source_of context.now) base.0) }
+    ensures refused { IfErr result (RefusesAt (source_of context.now) e.0) }
+{
+    let place = lower_place(context, graph, base)?;
+    let place = graph.project(place, PlaceElem::Field(Either::Right(field)))?;
+    Ok(place)
+}
+
+/// A field evaluated into a local: the bytes of its place are copied.
+#[cycle(lower)]
+fn field_into(
+    context: &Context<'_>,
+    graph: &mut Graph,
+    e: ExprId,
+    base: ExprId,
+    field: TupleFieldId,
+    to: LocalId,
+) -> Result<(), MirLowerError>
+    requires ready { IsReady (source_of context.now) (shape graph.old) e.0 }
+    requires form { node (source_of context.now) e.0 ≡ Some (expr.Field base.0 field) }
+    ensures lowered { OnOk result ((cell : Cell) → local_of (shape graph.old) cell ≡ Some to.0
+        → LowersOwn (source_of context.now) (shape graph.old) (shape graph.new) e.0 cell) }
+    ensures built { OnOk result (IsBuilt (source_of context.now) e.0) }
+    ensures refused { IfErr result (RefusesAt (source_of context.now) e.0) }
+{
+    let from = lower_field(context, graph, e, base, field)?;
+    assign(
+        graph,
+        to,
+        Rvalue::Use(copied(from, e)),
+        MirSpan::ExprId(e),
+    )
 }
 
 /// An expression that is no place goes into a local of its own, which is then its place.
 #[cycle(lower)]
 fn lower_temp(context: &Context<'_>, graph: &mut Graph, e: ExprId) -> Result<Place, MirLowerError>
     requires ready { IsReadyPart (source_of context.now) (shape graph.old) e.0 }
-    requires form { is_path (unadjusted (source_of context.now) e.0) ≡ false }
-    ensures lowered { IfOk result (λ place. LowersPlace (source_of context.now) (shape graph.old) (shape graph.new) e.0 place.local.0) }
+    requires form { is_place (unadjusted (source_of context.now) e.0) ≡ false }
+    ensures lowered { IfOk result (λ place. LowersPlace (source_of context.now) (shape graph.old) (shape graph.new) e.0 place) }
     ensures built { OnOk result (IsBuilt (source_of context.now) e.0) }
     ensures refused { IfErr result (RefusesAt (source_of context.now) e.0) }
 {
-    let place = new_temp(context, graph, e)?;
-    lower_into(context, graph, e, place)?;
-    Ok(place)
+    let local = new_temp(context, graph, e)?;
+    lower_into(context, graph, e, local)?;
+    Ok(Place::from(local))
 }
 
-/// An expression evaluated into a place. What is adjusted by `NeverToAny` goes into a local of its own, and the place isn't written.
+/// An expression evaluated into a local. What is adjusted by `NeverToAny` goes into a local of its own, and the given one isn't written.
 #[cycle(lower)]
 pub(crate) fn lower_into(
     context: &Context<'_>,
     graph: &mut Graph,
     e: ExprId,
-    place: Place,
+    to: LocalId,
 ) -> Result<(), MirLowerError>
     requires ready { IsReady (source_of context.now) (shape graph.old) e.0 }
-    requires placed { IsPlaced (shape graph.old) place.local.0 }
-    ensures lowered { OnOk result ((cell : Cell) → local_of (shape graph.old) cell ≡ Some place.local.0
+    requires placed { IsPlaced (shape graph.old) to.0 }
+    ensures lowered { OnOk result ((cell : Cell) → local_of (shape graph.old) cell ≡ Some to.0
         → LowersInto (source_of context.now) (shape graph.old) (shape graph.new) e.0 cell) }
     ensures built { OnOk result (IsBuilt (source_of context.now) e.0) }
     ensures refused { IfErr result (RefusesAt (source_of context.now) e.0) }
@@ -168,38 +220,39 @@ pub(crate) fn lower_into(
         let never = new_never(context, graph, e)?;
         lower_own(context, graph, e, never)
     } else {
-        lower_own(context, graph, e, place)
+        lower_own(context, graph, e, to)
     }
 }
 
-/// An expression itself evaluated into a place, as it is before its value is adjusted.
+/// An expression itself evaluated into a local, as it is before its value is adjusted.
 #[cycle(lower)]
 fn lower_own(
     context: &Context<'_>,
     graph: &mut Graph,
     e: ExprId,
-    place: Place,
+    to: LocalId,
 ) -> Result<(), MirLowerError>
     requires ready { IsReady (source_of context.now) (shape graph.old) e.0 }
-    requires placed { IsPlaced (shape graph.old) place.local.0 }
-    ensures lowered { OnOk result ((cell : Cell) → local_of (shape graph.old) cell ≡ Some place.local.0
+    requires placed { IsPlaced (shape graph.old) to.0 }
+    ensures lowered { OnOk result ((cell : Cell) → local_of (shape graph.old) cell ≡ Some to.0
         → LowersOwn (source_of context.now) (shape graph.old) (shape graph.new) e.0 cell) }
     ensures built { OnOk result (IsBuilt (source_of context.now) e.0) }
     ensures refused { IfErr result (RefusesAt (source_of context.now) e.0) }
 {
     match form_at(context, e) {
-        Form::Literal(literal) => literal_into(context, graph, e, literal, place),
-        Form::Path(name) => name_into(context, graph, e, name, place),
+        Form::Literal(literal) => literal_into(context, graph, e, literal, to),
+        Form::Path(name) => name_into(context, graph, e, name, to),
+        Form::Field(base, field) => field_into(context, graph, e, base, field, to),
         Form::Unary(op, operand) => {
-            lower_single(context, graph, e, Single::Unary(op), operand, place)
+            lower_single(context, graph, e, Single::Unary(op), operand, to)
         }
         Form::Coercion(operand) => {
-            lower_single(context, graph, e, Single::Coercion, operand, place)
+            lower_single(context, graph, e, Single::Coercion, operand, to)
         }
-        Form::Cast(operand) => lower_single(context, graph, e, Single::Cast, operand, place),
-        Form::Repeat(operand) => lower_single(context, graph, e, Single::Repeat, operand, place),
+        Form::Cast(operand) => lower_single(context, graph, e, Single::Cast, operand, to),
+        Form::Repeat(operand) => lower_single(context, graph, e, Single::Repeat, operand, to),
         Form::Tuple(parts) => {
-            lower_aggregate(context, graph, e, Several::Tuple, parts.as_slice(), place)
+            lower_aggregate(context, graph, e, Several::Tuple, parts.as_slice(), to)
         }
         Form::Array(elements) => {
             lower_aggregate(
@@ -208,11 +261,11 @@ fn lower_own(
                 e,
                 Several::Array,
                 elements.as_slice(),
-                place,
+                to,
             )
         }
-        Form::Binary(op, lhs, rhs) => lower_binary(context, graph, e, op, lhs, rhs, place),
-        Form::Logic(op, lhs, rhs) => lower_logic(context, graph, e, op, lhs, rhs, place),
+        Form::Binary(op, lhs, rhs) => lower_binary(context, graph, e, op, lhs, rhs, to),
+        Form::Logic(op, lhs, rhs) => lower_logic(context, graph, e, op, lhs, rhs, to),
         Form::If(condition, then_branch, else_branch) => {
             lower_if(
                 context,
@@ -221,26 +274,26 @@ fn lower_own(
                 condition,
                 then_branch,
                 else_branch,
-                place,
+                to,
             )
         }
         Form::Assign(target, value) => lower_assignment(context, graph, e, target, value),
         Form::Compound(op, target, value) => {
             lower_compound(context, graph, e, op, target, value)
         }
-        Form::Block(statements, tail) => lower_block(context, graph, e, statements, tail, place),
+        Form::Block(statements, tail) => lower_block(context, graph, e, statements, tail, to),
         Form::Labelled(label, statements, tail) => {
-            lower_labelled(context, graph, e, label, statements, tail, place)
+            lower_labelled(context, graph, e, label, statements, tail, to)
         }
-        Form::Loop(label, body) => lower_loop(context, graph, e, label, body, place),
+        Form::Loop(label, body) => lower_loop(context, graph, e, label, body, to),
         Form::Break(label, value) => lower_break(context, graph, e, label, value),
         Form::Continue(label) => lower_continue(context, graph, e, label),
         Form::Return(value) => lower_return(context, graph, e, value),
         Form::Call(callee, args) => {
-            lower_call(context, graph, e, Some(callee), args.as_slice(), place)
+            lower_call(context, graph, e, Some(callee), args.as_slice(), to)
         }
         Form::MethodCall(receiver, args) => {
-            lower_method_call(context, graph, e, receiver, args.as_slice(), place)
+            lower_method_call(context, graph, e, receiver, args.as_slice(), to)
         }
         Form::Incomplete => Err(MirLowerError::IncompleteExpr),
         Form::Unbuilt => Err(form_not_built(context.alloc)),
@@ -255,18 +308,18 @@ fn lower_single(
     e: ExprId,
     single: Single,
     operand: ExprId,
-    place: Place,
+    to: LocalId,
 ) -> Result<(), MirLowerError>
     requires ready { IsReady (source_of context.now) (shape graph.old) e.0 }
     requires form { node (source_of context.now) e.0 ≡ Some (expr.Strict (single_operation single) (operand.0 ∷ [])) }
-    ensures lowered { OnOk result ((cell : Cell) → local_of (shape graph.old) cell ≡ Some place.local.0
+    ensures lowered { OnOk result ((cell : Cell) → local_of (shape graph.old) cell ≡ Some to.0
         → LowersOwn (source_of context.now) (shape graph.old) (shape graph.new) e.0 cell) }
     ensures built { OnOk result (IsBuilt (source_of context.now) e.0) }
     ensures refused { IfErr result (RefusesAt (source_of context.now) e.0) }
 {
     let value = lower_operand(context, graph, operand)?;
     let rvalue = made_of(context, e, single, value)?;
-    assign(graph, place, rvalue, MirSpan::ExprId(e))
+    assign(graph, to, rvalue, MirSpan::ExprId(e))
 }
 
 /// A tuple or an array: the operands of its parts from left to right, and then the aggregate of all.
@@ -277,11 +330,11 @@ fn lower_aggregate(
     e: ExprId,
     several: Several,
     parts: &[ExprId],
-    place: Place,
+    to: LocalId,
 ) -> Result<(), MirLowerError>
     requires ready { IsReady (source_of context.now) (shape graph.old) e.0 }
     requires form { node (source_of context.now) e.0 ≡ Some (expr.Strict (several_operation several) (expr_numbers parts.now)) }
-    ensures lowered { OnOk result ((cell : Cell) → local_of (shape graph.old) cell ≡ Some place.local.0
+    ensures lowered { OnOk result ((cell : Cell) → local_of (shape graph.old) cell ≡ Some to.0
         → LowersOwn (source_of context.now) (shape graph.old) (shape graph.new) e.0 cell) }
     ensures built { OnOk result (IsBuilt (source_of context.now) e.0) }
     ensures refused { IfErr result (RefusesAt (source_of context.now) e.0) }
@@ -290,7 +343,7 @@ fn lower_aggregate(
     let operands = lower_operands(context, graph, e, parts)?;
     assign(
         graph,
-        place,
+        to,
         Rvalue::Aggregate(kind, operands),
         MirSpan::ExprId(e),
     )
@@ -305,11 +358,11 @@ fn lower_binary(
     op: BinOp,
     lhs: ExprId,
     rhs: ExprId,
-    place: Place,
+    to: LocalId,
 ) -> Result<(), MirLowerError>
     requires ready { IsReady (source_of context.now) (shape graph.old) e.0 }
     requires form { node (source_of context.now) e.0 ≡ Some (expr.Strict (Combine op) (lhs.0 ∷ rhs.0 ∷ [])) }
-    ensures lowered { OnOk result ((cell : Cell) → local_of (shape graph.old) cell ≡ Some place.local.0
+    ensures lowered { OnOk result ((cell : Cell) → local_of (shape graph.old) cell ≡ Some to.0
         → LowersOwn (source_of context.now) (shape graph.old) (shape graph.new) e.0 cell) }
     ensures built { OnOk result (IsBuilt (source_of context.now) e.0) }
     ensures refused { IfErr result (RefusesAt (source_of context.now) e.0) }
@@ -318,7 +371,7 @@ fn lower_binary(
     let right = lower_operand(context, graph, rhs)?;
     assign(
         graph,
-        place,
+        to,
         Rvalue::CheckedBinaryOp(op, left, right),
         MirSpan::ExprId(e),
     )
@@ -333,12 +386,12 @@ fn lower_logic(
     op: LogicOp,
     lhs: ExprId,
     rhs: ExprId,
-    place: Place,
+    to: LocalId,
 ) -> Result<(), MirLowerError>
     requires ready { IsReady (source_of context.now) (shape graph.old) e.0 }
     requires form { node (source_of context.now) e.0 ≡ Some (expr.Logic op lhs.0 rhs.0) }
-    requires placed { IsPlaced (shape graph.old) place.local.0 }
-    ensures lowered { OnOk result ((cell : Cell) → local_of (shape graph.old) cell ≡ Some place.local.0
+    requires placed { IsPlaced (shape graph.old) to.0 }
+    ensures lowered { OnOk result ((cell : Cell) → local_of (shape graph.old) cell ≡ Some to.0
         → LowersOwn (source_of context.now) (shape graph.old) (shape graph.new) e.0 cell) }
     ensures built { OnOk result (IsBuilt (source_of context.now) e.0) }
     ensures refused { IfErr result (RefusesAt (source_of context.now) e.0) }
@@ -346,9 +399,9 @@ fn lower_logic(
     let left = lower_operand(context, graph, lhs)?;
     let test = left.try_clone(context.alloc)?;
     let branches = fork(context, graph, test, deciding(op), e)?;
-    assign(graph, place, Rvalue::Use(left), MirSpan::ExprId(e))?;
+    assign(graph, to, Rvalue::Use(left), MirSpan::ExprId(e))?;
     go_on(graph, branches.join, branches.other, e);
-    lower_into(context, graph, rhs, place)?;
+    lower_into(context, graph, rhs, to)?;
     go_on(graph, branches.join, branches.join, e);
     Ok(())
 }
@@ -362,21 +415,21 @@ fn lower_if(
     condition: ExprId,
     then_branch: ExprId,
     else_branch: Option<ExprId>,
-    place: Place,
+    to: LocalId,
 ) -> Result<(), MirLowerError>
     requires ready { IsReady (source_of context.now) (shape graph.old) e.0 }
     requires form { node (source_of context.now) e.0 ≡ Some (expr.If condition.0 then_branch.0 else_branch) }
-    requires placed { IsPlaced (shape graph.old) place.local.0 }
-    ensures lowered { OnOk result ((cell : Cell) → local_of (shape graph.old) cell ≡ Some place.local.0
+    requires placed { IsPlaced (shape graph.old) to.0 }
+    ensures lowered { OnOk result ((cell : Cell) → local_of (shape graph.old) cell ≡ Some to.0
         → LowersOwn (source_of context.now) (shape graph.old) (shape graph.new) e.0 cell) }
     ensures built { OnOk result (IsBuilt (source_of context.now) e.0) }
     ensures refused { IfErr result (RefusesAt (source_of context.now) e.0) }
 {
     let test = lower_operand(context, graph, condition)?;
     let branches = fork(context, graph, test, 1, e)?;
-    lower_into(context, graph, then_branch, place)?;
+    lower_into(context, graph, then_branch, to)?;
     go_on(graph, branches.join, branches.other, e);
-    lower_tail(context, graph, e, else_branch, place)?;
+    lower_tail(context, graph, e, else_branch, to)?;
     go_on(graph, branches.join, branches.join, e);
     Ok(())
 }
@@ -420,11 +473,12 @@ fn lower_compound(
     ensures refused { IfErr result (RefusesAt (source_of context.now) e.0) }
 {
     let given = lower_operand(context, graph, value)?;
-    let place = combined_place(context, graph, target)?;
+    let to = combined_local(context, graph, target)?;
+    let own = copied(Place::from(to), target);
     assign(
         graph,
-        place,
-        Rvalue::CheckedBinaryOp(op, copied(place, target), given),
+        to,
+        Rvalue::CheckedBinaryOp(op, own, given),
         MirSpan::ExprId(e),
     )
 }
@@ -437,19 +491,19 @@ fn lower_block(
     e: ExprId,
     statements: &List<Statement>,
     tail: Option<ExprId>,
-    place: Place,
+    to: LocalId,
 ) -> Result<(), MirLowerError>
     requires ready { IsReady (source_of context.now) (shape graph.old) e.0 }
     requires form { node (source_of context.now) e.0 ≡ Some (expr.Block statements.now tail) }
-    requires placed { IsPlaced (shape graph.old) place.local.0 }
-    ensures lowered { OnOk result ((cell : Cell) → local_of (shape graph.old) cell ≡ Some place.local.0
+    requires placed { IsPlaced (shape graph.old) to.0 }
+    ensures lowered { OnOk result ((cell : Cell) → local_of (shape graph.old) cell ≡ Some to.0
         → LowersOwn (source_of context.now) (shape graph.old) (shape graph.new) e.0 cell) }
     ensures built { OnOk result (IsBuilt (source_of context.now) e.0) }
     ensures refused { IfErr result (RefusesAt (source_of context.now) e.0) }
 {
     let scope = graph.push_drop_scope();
     lower_statements(context, graph, e, statements.as_slice())?;
-    lower_tail(context, graph, e, tail, place)?;
+    lower_tail(context, graph, e, tail, to)?;
     leave_scope(context, graph, scope, e)?;
     Ok(())
 }
@@ -463,20 +517,20 @@ fn lower_labelled(
     label: LabelId,
     statements: &List<Statement>,
     tail: Option<ExprId>,
-    place: Place,
+    to: LocalId,
 ) -> Result<(), MirLowerError>
     requires ready { IsReady (source_of context.now) (shape graph.old) e.0 }
     requires form { node (source_of context.now) e.0 ≡ Some (expr.Labelled label statements.now tail) }
-    requires placed { IsPlaced (shape graph.old) place.local.0 }
-    ensures lowered { OnOk result ((cell : Cell) → local_of (shape graph.old) cell ≡ Some place.local.0
+    requires placed { IsPlaced (shape graph.old) to.0 }
+    ensures lowered { OnOk result ((cell : Cell) → local_of (shape graph.old) cell ≡ Some to.0
         → LowersOwn (source_of context.now) (shape graph.old) (shape graph.new) e.0 cell) }
     ensures built { OnOk result (IsBuilt (source_of context.now) e.0) }
     ensures refused { IfErr result (RefusesAt (source_of context.now) e.0) }
 {
-    let blocks = enter_loop(context, graph, e, Some(label), place)?;
+    let blocks = enter_loop(context, graph, e, Some(label), to)?;
     let scope = graph.push_drop_scope();
     lower_statements(context, graph, e, statements.as_slice())?;
-    lower_tail(context, graph, e, tail, place)?;
+    lower_tail(context, graph, e, tail, to)?;
     leave_scope(context, graph, scope, e)?;
     leave_loop(graph, blocks, blocks.end);
     Ok(())
@@ -490,17 +544,17 @@ fn lower_loop(
     e: ExprId,
     label: Option<LabelId>,
     body: ExprId,
-    place: Place,
+    to: LocalId,
 ) -> Result<(), MirLowerError>
     requires ready { IsReady (source_of context.now) (shape graph.old) e.0 }
     requires form { node (source_of context.now) e.0 ≡ Some (expr.Loop label body.0) }
-    requires placed { IsPlaced (shape graph.old) place.local.0 }
-    ensures lowered { OnOk result ((cell : Cell) → local_of (shape graph.old) cell ≡ Some place.local.0
+    requires placed { IsPlaced (shape graph.old) to.0 }
+    ensures lowered { OnOk result ((cell : Cell) → local_of (shape graph.old) cell ≡ Some to.0
         → LowersOwn (source_of context.now) (shape graph.old) (shape graph.new) e.0 cell) }
     ensures built { OnOk result (IsBuilt (source_of context.now) e.0) }
     ensures refused { IfErr result (RefusesAt (source_of context.now) e.0) }
 {
-    let blocks = enter_loop(context, graph, e, label, place)?;
+    let blocks = enter_loop(context, graph, e, label, to)?;
     let scope = graph.push_drop_scope();
     lower_place(context, graph, body)?;
     leave_scope(context, graph, scope, e)?;
@@ -524,7 +578,7 @@ fn lower_break(
     ensures refused { IfErr result (RefusesAt (source_of context.now) e.0) }
 {
     let blocks = target_of_jump(graph, label, MirLowerError::BreakWithoutLoop)?;
-    lower_tail(context, graph, e, value, blocks.place)?;
+    lower_tail(context, graph, e, value, blocks.to)?;
     jump(context, graph, blocks.drop_scope, blocks.end, e)?;
     Ok(())
 }
@@ -561,8 +615,7 @@ fn lower_return(
     ensures built { OnOk result (IsBuilt (source_of context.now) e.0) }
     ensures refused { IfErr result (RefusesAt (source_of context.now) e.0) }
 {
-    let slot = Place { local: LocalId(0) };
-    lower_tail(context, graph, e, value, slot)?;
+    lower_tail(context, graph, e, value, LocalId(0))?;
     return_from(context, graph, e)?;
     Ok(())
 }
@@ -575,17 +628,17 @@ fn lower_method_call(
     e: ExprId,
     receiver: ExprId,
     args: &[ExprId],
-    place: Place,
+    to: LocalId,
 ) -> Result<(), MirLowerError>
     requires ready { IsReady (source_of context.now) (shape graph.old) e.0 }
     requires form { node (source_of context.now) e.0 ≡ Some (expr.Call None (receiver.0 ∷ expr_numbers args.now)) }
-    ensures lowered { OnOk result ((cell : Cell) → local_of (shape graph.old) cell ≡ Some place.local.0
+    ensures lowered { OnOk result ((cell : Cell) → local_of (shape graph.old) cell ≡ Some to.0
         → LowersOwn (source_of context.now) (shape graph.old) (shape graph.new) e.0 cell) }
     ensures built { OnOk result (IsBuilt (source_of context.now) e.0) }
     ensures refused { IfErr result (RefusesAt (source_of context.now) e.0) }
 {
     let all = method_args(context.alloc, receiver, args)?;
-    lower_call(context, graph, e, None, all.as_slice(), place)
+    lower_call(context, graph, e, None, all.as_slice(), to)
 }
 
 /// A call: the operand that names the callee, the arguments' operands from left to right, and then the call, which reads them all.
@@ -596,18 +649,18 @@ fn lower_call(
     e: ExprId,
     callee: Option<ExprId>,
     args: &[ExprId],
-    place: Place,
+    to: LocalId,
 ) -> Result<(), MirLowerError>
     requires ready { IsReady (source_of context.now) (shape graph.old) e.0 }
     requires form { node (source_of context.now) e.0 ≡ Some (expr.Call (callee_number callee) (expr_numbers args.now)) }
-    ensures lowered { OnOk result ((cell : Cell) → local_of (shape graph.old) cell ≡ Some place.local.0
+    ensures lowered { OnOk result ((cell : Cell) → local_of (shape graph.old) cell ≡ Some to.0
         → LowersOwn (source_of context.now) (shape graph.old) (shape graph.new) e.0 cell) }
     ensures built { OnOk result (IsBuilt (source_of context.now) e.0) }
     ensures refused { IfErr result (RefusesAt (source_of context.now) e.0) }
 {
     let func = lower_callee(context, e, callee)?;
     let operands = lower_operands(context, graph, e, args)?;
-    call(context, graph, e, func, operands, place)?;
+    call(context, graph, e, func, operands, to)?;
     Ok(())
 }
 
@@ -660,18 +713,18 @@ fn lower_tail(
     graph: &mut Graph,
     e: ExprId,
     tail: Option<ExprId>,
-    place: Place,
+    to: LocalId,
 ) -> Result<(), MirLowerError>
     requires ready { ArePartsReady (source_of context.now) (shape graph.old) e.0 }
     requires part { IfSome tail (λ one. Contains (parts_of (node (source_of context.now) e.0)) one.0) }
-    requires placed { IsPlaced (shape graph.old) place.local.0 }
-    ensures lowered { OnOk result ((cell : Cell) → local_of (shape graph.old) cell ≡ Some place.local.0
+    requires placed { IsPlaced (shape graph.old) to.0 }
+    ensures lowered { OnOk result ((cell : Cell) → local_of (shape graph.old) cell ≡ Some to.0
         → LowersTail (source_of context.now) (shape graph.old) (shape graph.new) tail cell) }
     ensures built { OnOk result (All (IsBuilt (source_of context.now)) (optional tail)) }
     ensures refused { IfErr result (RefusesAt (source_of context.now) e.0) }
 {
     match tail {
-        Some(tail) => lower_into(context, graph, tail, place),
+        Some(tail) => lower_into(context, graph, tail, to),
         None => Ok(()),
     }
 }

@@ -4,7 +4,7 @@ use Rattle.std.specs.BTreeMap.{is_at}
 use Rattle.std.specs.List.{list_any}
 use Rattle.std.specs.Map.{lookup}
 use Rattle.either.specs.declared.Either.{Either}
-use Rattle.either.specs.declared.Either.TheVariants.{Left, Right}
+use Rattle.either.specs.declared.Either.TheVariants.{Right}
 use Rattle.numbers.specs.declared.operator.Operator.{Operator}
 use Rattle.numbers.specs.Operators.{kind_of, of_arith, of_compare}
 use Rattle.types.specs.contracts.ids.ExprIdOrd.TheImpl as ExprIdOrd

@@ -95,7 +95,7 @@ returns c =
     let front = whole-front source s1 s2 s3 span begins begun.scope begun.targets into left body.locals locals in
     record {
       simulates = whole-simulates source s1 s2 s3 span begins begun.scope begun.targets into left body (are-aligned source.world c.requires.world) c.requires.checked.root
-          (c.into_body.ensures.blocks ∙ ap (λ (s : Shape). s.blocks) c.set_terminator.ensures) locals c.into_body.ensures.start params.bound params.binds told;
+          (c.into_body.ensures.blocks ∙ ap (λ (s : Shape). s.blocks) c.set_terminator.ensures) locals (c.into_body.ensures.projections ∙ ap (λ (s : Shape). s.projections) c.set_terminator.ensures) c.into_body.ensures.start params.bound params.binds told;
       order = record { temporaries = front.0; order = front.1 ∙ ap (λ (ls : List Local). ls ++ front.0) begun.locals };
       owner = c.into_body.ensures.owner;
       built = c.in_ok-lower_into.ensures.built;

@@ -34,7 +34,7 @@ returns-clause-entered c =
     let s0 = shape c.args.graph.now in
     let r1 = shape c.reserve_block.new.self in
     let r2 = shape c.reserve_block-2.new.self in
-    let target = target_of_blocks (record { node = c.args.node; label = c.args.label; begin = c.in_ok-begin.begin; end = c.in_ok-end.end; place = c.args.place; drop_scope = c.push_drop_scope.result }) in
+    let target = target_of_blocks (record { node = c.args.node; label = c.args.label; begin = c.in_ok-begin.begin; end = c.in_ok-end.end; to = c.args.to; drop_scope = c.push_drop_scope.result }) in
     let first = reserves source s0 r1 c.in_ok-begin.begin.0 c.requires.sound c.requires.opened c.in_ok-begin.ensures.id c.in_ok-begin.ensures.added in
     let second = reserves source r1 r2 c.in_ok-end.end.0 first.sound first.«open» c.in_ok-end.ensures.id c.in_ok-end.ensures.added in
     let noted : IsSound source (shape c.push_loop.new.self) = subst (IsSound source) (sym c.in_ok-push_loop.ensures) (with_targets-sound source (target ∷ r2.targets) r2 second.sound) in

@@ -27,6 +27,12 @@ decreases-lower_into l = 11 * l.e.0 + 7
 abbrev pub decreases-lower_own : goal.decreases-lower_own
 decreases-lower_own l = 11 * l.e.0 + 6
 
+abbrev pub decreases-field_into : goal.decreases-field_into
+decreases-field_into l = 11 * l.e.0 + 4
+
+abbrev pub decreases-lower_field : goal.decreases-lower_field
+decreases-lower_field l = 11 * l.e.0 + 3
+
 abbrev pub decreases-lower_single : goal.decreases-lower_single
 decreases-lower_single l = 11 * l.e.0 + 4
 

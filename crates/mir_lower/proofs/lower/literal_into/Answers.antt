@@ -20,7 +20,7 @@ pub returns-clause-lowered : goal.returns-clause-lowered
 returns-clause-lowered c =
     let source = source_of c.args.context.now in
     on_ok_weaker c.assign.result
-    (λ added cell local. lowers-literal source (shape c.args.graph.now) (shape c.assign.new.graph) c.args.e.0 (core_value c.args.literal) c.args.place c.in_ok-operand.operand (ExprId c.args.e) c.requires.ready c.requires.form c.in_ok-operand.ensures.lowered added cell local)
+    (λ added cell local. lowers-literal source (shape c.args.graph.now) (shape c.assign.new.graph) c.args.e.0 (core_value c.args.literal) c.args.to c.in_ok-operand.operand (ExprId c.args.e) c.requires.ready c.requires.form c.in_ok-operand.ensures.lowered added cell local)
     c.assign.ensures.added
 
 pub returns-clause-built : goal.returns-clause-built

@@ -1,0 +1,74 @@
+-- Places of the graph as it grows, and places within them.
+use Rattle.std.proofs.Common.{◌≡◌, ℕ, ◌<◌, Bool, true, false, List, [], ◌∷◌, ◌++◌, length, Option, Some, None, if◌then◌else◌, ◌==◌, refl, sym, ap, ◌∙◌, subst}
+use Rattle.std.specs.Prelude.{map}
+use Rattle.std.proofs.lemmas.List.{map-append}
+use Rattle.types.specs.declared.ids.TupleFieldId.{TupleFieldId}
+use Rattle.either.specs.declared.Either.TheVariants.{Right}
+use Rattle.mir.specs.Elements.{PlaceElem as GraphElem}
+use Rattle.mir.specs.Projections.{Projection, projection_of}
+use Rattle.mir.specs.declared.operand.Place.{Place as GraphPlace}
+use Rattle.mir.specs.declared.projection.ProjectionElem.TheVariants.{Field}
+use Rattle.mir.specs.declared.projection.ProjectionId.{ProjectionId}
+use Rattle.source_meaning.specs.Source.{Source, Place, Part, projected}
+use Rattle.mir_lower.specs.Does.{IsAt, elem_of, elements_of, here}
+use Rattle.mir_lower.specs.Graph.{Shape, IsProjected, elements_in, never_of, temp_of, with_projections}
+use Rattle.mir_lower.specs.Growth.{Grows, Spares, IsSound, IsOpen, count_at, statement_at, terminator_at}
+use Rattle.mir_lower.proofs.Sound.{sound_by}
+use Rattle.mir_lower.proofs.Sparing.{spares-same}
+use Rattle.mir_lower.proofs.Steps.{local_of-grows}
+
+-- an id that stands for elements stands for them in each store that has what this one has
+elements-later : (old new : List Projection) → ((id : ProjectionId) (elements : Projection) → projection_of old id ≡ Some elements → projection_of new id ≡ Some elements) → (id : ProjectionId) (elements : Projection) → elements_in old id ≡ Some elements → elements_in new id ≡ Some elements
+elements-later old new kept id elements is = by_test (id.0 == 0) is
+  where
+    by_test : (test : Bool) → if test then Some [] else projection_of old id ≡ Some elements → if test then Some [] else projection_of new id ≡ Some elements
+    by_test true h = h
+    by_test false h = kept id elements h
+
+-- a place of the graph is the same one of the source later
+pub at-later : (old new : Shape) → Grows old new → (place : GraphPlace) (at : Place) → IsAt old place at → IsAt new place at
+at-later old new grows place at is = record {
+  found = local_of-grows old new grows at.cell place.local.0 is.found;
+  elements = elements-later old.projections new.projections grows.projections place.projection (elements_of at.projection) is.elements;
+}
+
+-- where projections are added, all else stays
+pub projected-grows : (old new : Shape) (place : GraphPlace) (elem : GraphElem) (made : GraphPlace) → IsProjected old new place elem made → Grows old new
+unfolding statement_at temp_of never_of
+projected-grows old new place elem made is =
+    subst (λ (s : Shape). Grows old s) (sym is.rest)
+    (record {
+      statements = λ b i x h. h;
+      ended = λ b block t h ended. h;
+      locals = λ i l h. h;
+      bindings = refl;
+      temps = λ e l h. h;
+      nevers = λ e l h. h;
+      projections = is.kept;
+    })
+
+pub projected-spares : (old new : Shape) (place : GraphPlace) (elem : GraphElem) (made : GraphPlace) → IsProjected old new place elem made → Spares old new
+projected-spares old new place elem made is = subst (λ (s : Shape). Spares old s) (sym is.rest) (spares-same old (with_projections new.projections old) refl refl refl)
+
+pub projected-sound : (source : Source) (old new : Shape) (place : GraphPlace) (elem : GraphElem) (made : GraphPlace) → IsProjected old new place elem made → IsSound source old → IsSound source new
+projected-sound source old new place elem made is sound = subst (λ (s : Shape). IsSound source s) (sym is.rest) (sound_by source old (with_projections new.projections old) refl refl refl sound)
+
+pub projected-open : (old new : Shape) (place : GraphPlace) (elem : GraphElem) (made : GraphPlace) → IsProjected old new place elem made → IsOpen old → IsOpen new
+unfolding terminator_at
+projected-open old new place elem made is opened = subst (λ (s : Shape). IsOpen s) (sym is.rest) (record { there = opened.there; unended = opened.unended })
+
+pub projected-scope : (old new : Shape) (place : GraphPlace) (elem : GraphElem) (made : GraphPlace) → IsProjected old new place elem made → new.scope ≡ old.scope
+projected-scope old new place elem made is = ap (λ (s : Shape). s.scope) is.rest
+
+pub projected-here : (old new : Shape) (place : GraphPlace) (elem : GraphElem) (made : GraphPlace) → IsProjected old new place elem made → here new ≡ here old
+unfolding count_at
+projected-here old new place elem made is = ap here is.rest
+
+-- the place that was made is the one that the source's element leads to
+pub projected-at : (old new : Shape) (field : TupleFieldId) (place made : GraphPlace) → IsProjected old new place (Field (Right field)) made → (at : Place) → IsAt old place at → IsAt new made (projected (Part field) at)
+projected-at old new field place made is at same =
+    let found = local_of-grows old new (projected-grows old new place (Field (Right field)) made is) at.cell place.local.0 same.found in
+    record {
+      found = found ∙ ap (λ local. Some local.0) (sym is.local);
+      elements = is.longer (elements_of at.projection) same.elements ∙ ap Some (sym (map-append elem_of at.projection (Part field ∷ [])));
+    }
