@@ -1,5 +1,5 @@
 -- With enough fuel an evaluation ends, or enters as many blocks as one likes.
-use Rattle.std.proofs.Common.{◌≡◌, ℕ, zero, suc, ◌<◌, ◌≤◌, ◌+◌, Bool, true, false, cond, List, [], ◌∷◌, ◌++◌, length, map, slice_get, ◌==◌, if◌then◌else◌, Option, Some, None, refl, sym, subst, arith}
+use Rattle.std.proofs.Common.{◌≡◌, ℕ, zero, suc, ◌<◌, ◌≤◌, ◌+◌, Bool, true, false, cond, List, [], ◌∷◌, ◌++◌, length, slice_get, ◌==◌, if◌then◌else◌, Option, Some, None, refl, sym, subst, arith}
 use Rattle.std.specs.Prelude.{flat_map, Contains}
 use Rattle.std.proofs.lemmas.List.Elements.{Contains-append_left, Contains-append_right}
 use Rattle.world.specs.declared.body.Statement.{Statement}
@@ -413,7 +413,7 @@ own_goes_on top source below checked (suc many) (suc bound) e zero less enough a
 own_goes_on top source below checked (suc many) (suc bound) e (suc zero) less enough around path store = absurd (omega arith)
 own_goes_on top source below checked (suc many) (suc bound) e (suc (suc fuel)) less enough around path store =
     let earlier_last : (child later : ℕ) → child < bound → fuel_for top (suc many) bound ≤ later → (a : Around) (p : Path) (s : Store) → Lasts (suc many) ((level_at source later a).own child p s) =
-        λ child later child_less long a p s. own_goes_on top source below checked (suc many) bound child later child_less long a p s
+    λ child later child_less long a p s. own_goes_on top source below checked (suc many) bound child later child_less long a p s
     in
     into_lasts (suc many) source (level_at source (suc fuel)) (callees_at (suc fuel)) around e (node source e) path store refl
     (λ around' path' fewer is later.
