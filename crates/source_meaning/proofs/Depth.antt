@@ -4,11 +4,12 @@ use Rattle.std.proofs.lemmas.List.Elements.{Contains-append_left, Contains-appen
 use Rattle.std.proofs.Common.{◌≡◌, ℕ, ◌≤◌, List, [], ◌∷◌, Option, Some, sym, subst, arith}
 use Rattle.world.specs.declared.body.Statement.{Statement}
 use Rattle.types.specs.declared.ids.ExprId.{ExprId}
+use Rattle.types.specs.declared.ids.TupleFieldId.{TupleFieldId}
 use Rattle.types.specs.declared.operators.LogicOp.{LogicOp}
 use Rattle.world.specs.Checked.{IsCheckedBody}
 use Rattle.world.specs.Nodes.{optional}
 use Rattle.numbers.specs.declared.operator.Operator.{Operator}
-use Rattle.source_meaning.specs.Core.{Operation, Strict, Logic, If, Assign, Compound, Block, Call}
+use Rattle.source_meaning.specs.Core.{Operation, Field, Strict, Logic, If, Assign, Compound, Block, Call}
 use Rattle.source_meaning.specs.Source.{Source, node}
 use Rattle.source_meaning.specs.Steps.{parts_of, statement_parts}
 use Rattle.source_meaning.specs.Valid.{Evaluates, itself, part, NeedsLayout, own, inside}
@@ -30,6 +31,10 @@ evaluates_then source (part within rest) further = part within (evaluates_then s
 pub needed_is_evaluated : (source : Source) {e f : ℕ} → NeedsLayout source e f → Evaluates source e f
 needed_is_evaluated source own = itself
 needed_is_evaluated source (inside {e = e} {child = child} within rest) = part (sized_part_is_part source (node source e) child within) (needed_is_evaluated source rest)
+
+-- a field evaluates its base
+pub field_base_is_part : (source : Source) (e base : ℕ) (field : TupleFieldId) → node source e ≡ Some (Field base field) → Contains (parts_of (node source e)) base
+field_base_is_part source e base field is = subst (λ form. Contains (parts_of form) base) (sym is) (first_is_contained base [])
 
 -- a strict form evaluates its operands
 pub operand_is_part : (source : Source) (e : ℕ) (operation : Operation) (operands : List ℕ) (child : ℕ) → node source e ≡ Some (Strict operation operands) → Contains operands child → Contains (parts_of (node source e)) child

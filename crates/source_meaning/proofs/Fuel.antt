@@ -1,10 +1,11 @@
 -- More fuel changes no end.
-use Rattle.std.proofs.Common.{◌≡◌, ℕ, zero, suc, ◌≤◌, Bool, true, false, cond, List, [], ◌∷◌, map, ◌==◌, if◌then◌else◌, Option, Some, None, refl, ap, ◌∙◌, arith}
+use Rattle.std.proofs.Common.{◌≡◌, ℕ, zero, suc, ◌≤◌, Bool, true, false, cond, List, [], ◌∷◌, ◌==◌, if◌then◌else◌, Option, Some, None, refl, ap, ◌∙◌, arith}
 use Rattle.std.specs.Prelude.{flat_map}
 use Rattle.world.specs.declared.body.Statement.{Statement}
 use Rattle.world.specs.declared.body.Statement.TheVariants as statement
 use Rattle.types.specs.declared.ids.ExprId.{ExprId}
 use Rattle.types.specs.declared.ids.LabelId.{LabelId}
+use Rattle.types.specs.declared.ids.TupleFieldId.{TupleFieldId}
 use Rattle.types.specs.declared.operators.LogicOp.{LogicOp}
 use Rattle.numbers.specs.declared.operator.Operator.{Operator}
 use Rattle.source_meaning.specs.Around.{Around, Target, at_root, marking, inside, target_of}
@@ -13,8 +14,9 @@ use Rattle.source_meaning.specs.Core as expr
 use Rattle.source_meaning.specs.Core.{CoreExpr, Operation}
 use Rattle.source_meaning.specs.Ends.{Cost, turns_alone, End, Go, Jumps, Break, Continue, Return, Faults, Stuck, More, IsOver, after, then_do}
 use Rattle.source_meaning.specs.Events.{marked, marked_as_operand, marked_by_statement}
-use Rattle.source_meaning.specs.Meaning.{Levels, Callees, no_fuel, place_of, operand_of, operands_of, strict_into, is_byte, deciding_byte, decided_into, branched, logic_into, tail_into, branch_into, if_into, assign_into, compound_into, statement_of, statements_of, block_into, caught, again_into, labelled_into, turn_of, loop_into, break_to, return_into, call_returned, call_diverged, call_ended, entered_from, entered_into, into_of, level_above, level_at, returned, body_meaning, callees_at, meaning_from}
-use Rattle.source_meaning.specs.Source.{Source, Store, Path, Result, Node, Operand, operand_bytes, zeroed, node, unadjusted, never_marks, own_path, target, root}
+use Rattle.source_meaning.specs.Meaning.{Levels, Callees, no_fuel, field_place, field_into, place_of, operand_of, operands_of, strict_into, is_byte, deciding_byte, decided_into, branched, logic_into, tail_into, branch_into, if_into, assign_into, compound_into, statement_of, statements_of, block_into, caught, again_into, labelled_into, turn_of, loop_into, break_to, return_into, call_returned, call_diverged, call_ended, entered_from, entered_into, into_of, level_above, level_at, returned, body_meaning, callees_at, meaning_from}
+use Rattle.source_meaning.specs.Places.{operand_bytes, operands_bytes}
+use Rattle.source_meaning.specs.Source.{Source, Store, Path, Result, Node, Operand, zeroed, node, unadjusted, never_marks, own_path, target, root}
 
 -- what is over after a cost is over
 over_before : {A : Type 0} (cost : Cost) (end : End A) → IsOver (after cost end) → IsOver end
@@ -99,11 +101,11 @@ entered_from_agrees : (below above : Callees) → CalleesAgree below above → (
 entered_from_agrees below above agree diverging callee (Some start) path store over = call_agrees diverging path store (below callee start) (above callee start) (agree callee start) over
 entered_from_agrees below above agree diverging callee None path store over = refl
 
-entered_agrees : (below above : Callees) → CalleesAgree below above → (diverging : Bool) (callee : Option Source) (given : List (List ℕ)) (path : Path) (store : Store) →
+entered_agrees : (below above : Callees) → CalleesAgree below above → (diverging : Bool) (callee : Option Source) (given : Option (List (List ℕ))) (path : Path) (store : Store) →
     IsOver (entered_into below diverging callee given path store) → entered_into above diverging callee given path store ≡ entered_into below diverging callee given path store
-entered_agrees below above agree diverging (Some callee) given path store over =
+entered_agrees below above agree diverging (Some callee) (Some given) path store over =
     entered_from_agrees below above agree diverging callee (started callee (cond diverging (zeroed callee Result) (store path.cell)) given) path store over
-entered_agrees below above agree diverging None given path store over = refl
+entered_agrees below above agree diverging _ _ path store over = refl
 
 -- wherever the evaluations of some levels end, those of others end the same
 pub record Agrees (below above : Levels) : Type 0 where
@@ -113,8 +115,13 @@ pub record Agrees (below above : Levels) : Type 0 where
   pub own : (around : Around) (e : ℕ) (path : Path) (store : Store) → IsOver ((below around).own e path store) → (above around).own e path store ≡ (below around).own e path store
 
 module _ (source : Source) (below above : Levels) (agrees : Agrees below above) where
+  field_place_agrees : (around : Around) (base : ℕ) (field : TupleFieldId) (store : Store) → IsOver (field_place (below around) base field store) → field_place (above around) base field store ≡ field_place (below around) base field store
+  field_place_agrees around base field store over =
+      then_do_agrees ((below around).place base store) ((above around).place base store) _ _ (agrees.place around base store) (λ place later o. refl) over
+
   place_agrees : (around : Around) (e : ℕ) (form : Option CoreExpr) (store : Store) → IsOver (place_of source below around e form store) → place_of source above around e form store ≡ place_of source below around e form store
   place_agrees around e (Some (expr.Path name)) store over = refl
+  place_agrees around e (Some (expr.Field base field)) store over = field_place_agrees around base field store over
   place_agrees around e _ store over =
       let within = marking (Node e ∷ []) around in
       then_do_agrees ((below within).into e _ store) ((above within).into e _ store) _ _ (agrees.into within e _ store) (λ value later o. refl) over
@@ -159,7 +166,7 @@ module _ (source : Source) (below above : Levels) (agrees : Agrees below above) 
   logic_agrees : (around : Around) (op : LogicOp) (left right : ℕ) (path : Path) (store : Store) → IsOver (logic_into source below around op left right path store) → logic_into source above around op left right path store ≡ logic_into source below around op left right path store
   logic_agrees around op left right path store over =
       then_do_agrees ((below around).operand left store) ((above around).operand left store) _ _ (agrees.operand around left store) (λ given later o.
-      branched_agrees _ _ (decided_agrees (marking (marked_as_operand source left) around) given right (is_byte (deciding_byte op) (operand_bytes later given)) path later) o) over
+      branched_agrees _ _ (decided_agrees (marking (marked_as_operand source left) around) given right (is_byte (deciding_byte op) (operand_bytes source later given)) path later) o) over
 
   branch_agrees : (around : Around) (then_branch : ℕ) (else_branch : Option ExprId) (holds : Option Bool) (path : Path) (store : Store) → IsOver (branch_into source below around then_branch else_branch holds path store) → branch_into source above around then_branch else_branch holds path store ≡ branch_into source below around then_branch else_branch holds path store
   branch_agrees around then_branch else_branch (Some true) path store over = agrees.into around then_branch path store over
@@ -169,7 +176,11 @@ module _ (source : Source) (below above : Levels) (agrees : Agrees below above) 
   if_agrees : (around : Around) (condition then_branch : ℕ) (else_branch : Option ExprId) (path : Path) (store : Store) → IsOver (if_into source below around condition then_branch else_branch path store) → if_into source above around condition then_branch else_branch path store ≡ if_into source below around condition then_branch else_branch path store
   if_agrees around condition then_branch else_branch path store over =
       then_do_agrees ((below around).operand condition store) ((above around).operand condition store) _ _ (agrees.operand around condition store) (λ given later o.
-      branched_agrees _ _ (branch_agrees (marking (marked_as_operand source condition) around) then_branch else_branch (is_byte 1 (operand_bytes later given)) path later) o) over
+      branched_agrees _ _ (branch_agrees (marking (marked_as_operand source condition) around) then_branch else_branch (is_byte 1 (operand_bytes source later given)) path later) o) over
+
+  field_agrees : (around : Around) (base : ℕ) (field : TupleFieldId) (path : Path) (store : Store) → IsOver (field_into source (below around) base field path store) → field_into source (above around) base field path store ≡ field_into source (below around) base field path store
+  field_agrees around base field path store over =
+      then_do_agrees (field_place (below around) base field store) (field_place (above around) base field store) _ _ (field_place_agrees around base field store) (λ place later o. refl) over
 
   compound_agrees : (around : Around) (op : Operator) (assigned value : ℕ) (store : Store) → IsOver (compound_into source (below around) op assigned value store) → compound_into source (above around) op assigned value store ≡ compound_into source (below around) op assigned value store
   compound_agrees around op assigned value store over = then_do_agrees ((below around).operand value store) ((above around).operand value store) _ _ (agrees.operand around value store) (λ given later o. refl) over
@@ -212,6 +223,7 @@ module _ (source : Source) (below above : Levels) (agrees : Agrees below above) 
 
   module _ (callees others : Callees) (callees_agree : CalleesAgree callees others) where
     into_agrees : (around : Around) (e : ℕ) (form : Option CoreExpr) (path : Path) (store : Store) → IsOver (into_of source below callees around e form path store) → into_of source above others around e form path store ≡ into_of source below callees around e form path store
+    into_agrees around e (Some (expr.Field base field)) path store over = field_agrees around base field path store over
     into_agrees around e (Some (expr.Strict operation operands)) path store over = strict_agrees around e operation operands path store over
     into_agrees around e (Some (expr.Logic op left right)) path store over = logic_agrees around op left right path store over
     into_agrees around e (Some (expr.If condition then_branch else_branch)) path store over = if_agrees around condition then_branch else_branch path store over
@@ -224,7 +236,7 @@ module _ (source : Source) (below above : Levels) (agrees : Agrees below above) 
     into_agrees around e (Some (expr.Return value)) path store over = return_agrees around value store over
     into_agrees around e (Some (expr.Call callee args)) path store over =
         then_do_agrees (operands_of source below around args store) (operands_of source above around args store) _ _ (operands_agree around args store) (λ given later o.
-        entered_agrees callees others callees_agree (must_not_return source e) (source_called source e callee) (map (operand_bytes later) given) path later o) over
+        entered_agrees callees others callees_agree (must_not_return source e) (source_called source e callee) (operands_bytes source later given) path later o) over
     into_agrees around e _ path store over = refl
 
     above_agrees : Agrees (level_above source below callees) (level_above source above others)

@@ -1,11 +1,12 @@
 -- With enough fuel an evaluation ends, or enters as many blocks as one likes.
-use Rattle.std.proofs.Common.{◌≡◌, ℕ, zero, suc, ◌<◌, ◌≤◌, ◌+◌, Bool, true, false, cond, List, [], ◌∷◌, ◌++◌, length, map, slice_get, ◌==◌, if◌then◌else◌, Option, Some, None, refl, sym, subst, arith}
+use Rattle.std.proofs.Common.{◌≡◌, ℕ, zero, suc, ◌<◌, ◌≤◌, ◌+◌, Bool, true, false, cond, List, [], ◌∷◌, ◌++◌, length, slice_get, ◌==◌, if◌then◌else◌, Option, Some, None, refl, sym, subst, arith}
 use Rattle.std.specs.Prelude.{flat_map, Contains}
 use Rattle.std.proofs.lemmas.List.Elements.{Contains-append_left, Contains-append_right}
 use Rattle.world.specs.declared.body.Statement.{Statement}
 use Rattle.world.specs.declared.body.Statement.TheVariants as statement
 use Rattle.types.specs.declared.ids.BindingId.{BindingId}
 use Rattle.types.specs.declared.ids.ExprId.{ExprId}
+use Rattle.types.specs.declared.ids.TupleFieldId.{TupleFieldId}
 use Rattle.types.specs.declared.operators.LogicOp.{LogicOp}
 use Rattle.world.specs.declared.infer.ValueNs.{ValueNs}
 use Rattle.world.specs.declared.infer.ValueNs.TheVariants.{LocalBinding}
@@ -23,11 +24,14 @@ use Rattle.source_meaning.specs.Core.{CoreExpr}
 use Rattle.source_meaning.specs.Ends.{Cost, plus, turns_alone, End, Go, Jumps, Break, Continue, Return, Faults, Stuck, More, GoesOn, after, then_do}
 use Rattle.source_meaning.specs.Entering.{entering}
 use Rattle.source_meaning.specs.Events.{marked, marked_as_operand, marked_by_statement}
-use Rattle.source_meaning.specs.Meaning.{Levels, Callees, constant_cost, put, put_literal, put_answer, literal_operand, literal_bytes, named_place, named_into, bind, combine_into, place_of, operand_of, operands_of, is_byte, deciding_byte, reading_cost, decided_into, branched, logic_into, tail_into, branch_into, if_into, statement_of, statements_of, block_into, caught, again_into, turn_of, break_to, continue_to, return_into, call_returned, call_diverged, call_ended, entered_from, entered_into, into_of, level_at, returned, body_meaning, callees_at, meaning_from}
-use Rattle.source_meaning.specs.Source.{Source, Store, Path, Result, Node, Binding, Operand, Literally, operand_bytes, zeroed, node, unadjusted, never_marks, own_path, own_type, named_by, pattern, target, compound_target, root}
+use Rattle.source_meaning.specs.Meaning.{Levels, Callees, constant_cost, put, copy_to, put_literal, put_answer, literal_operand, literal_bytes, named_place, named_into, bind, combine_into, field_place, place_of, operand_of, operands_of, is_byte, deciding_byte, reading_cost, decided_into, branched, logic_into, tail_into, branch_into, if_into, statement_of, statements_of, block_into, caught, again_into, turn_of, break_to, continue_to, return_into, call_returned, call_diverged, call_ended, entered_from, entered_into, into_of, level_at, returned, body_meaning, callees_at, meaning_from}
+use Rattle.source_meaning.specs.Places.{place_bytes, operand_bytes, operands_bytes}
+use Rattle.source_meaning.specs.Source.{Source, Store, Path, Place, Result, Node, Binding, Operand, Literally, zeroed, node, unadjusted, never_marks, own_path, own_type, named_by, pattern, target, compound_target, root}
 use Rattle.source_meaning.specs.Steps.{parts_of, statement_parts}
 use Rattle.source_meaning.proofs.Calls.{called_row, above_roots, root_is_below}
 use Rattle.source_meaning.proofs.Core.{part_is_below}
+use Rattle.source_meaning.proofs.Depth.{field_base_is_part}
+use Rattle.source_meaning.proofs.Never.{unadjusted-plain}
 use Rattle.source_meaning.proofs.Parts.{first_is_contained, rest_is_contained, strict_parts, if_parts, block_parts, tail_part, call_parts}
 
 -- an end, or a lack of fuel after at least `limit` blocks
@@ -125,6 +129,10 @@ module _ (limit : ℕ) where
   unfolding put
   put_lasts store path bytes = either_lasts limit (length bytes == length (store path.cell)) (Go tt _ _) Stuck tt tt
 
+  copy_lasts : (store : Store) (path : Path) (bytes : Option (List ℕ)) → Lasts limit (copy_to store path bytes)
+  copy_lasts store path (Some bytes) = put_lasts store path bytes
+  copy_lasts store path None = tt
+
   put_literal_lasts : (source : Source) (e : ℕ) (store : Store) (path : Path) (bytes : Option (List ℕ)) → Lasts limit (put_literal source e store path bytes)
   put_literal_lasts source e store path (Some bytes) = lasts_after limit (constant_cost source e) (put store path bytes) (put_lasts store path bytes)
   put_literal_lasts source e store path None = tt
@@ -150,9 +158,9 @@ module _ (limit : ℕ) where
   named_into_lasts (Some (LocalBinding b)) path store = put_lasts store path (store (Binding b.0))
   named_into_lasts _ path store = tt
 
-  bind_lasts : (pat : Option BindingId) (path : Path) (store : Store) → Lasts limit (bind pat path store)
-  bind_lasts (Some id) path store = put_lasts store (record { cell = Binding id.0 }) (store path.cell)
-  bind_lasts None path store = tt
+  bind_lasts : (source : Source) (pat : Option BindingId) (place : Place) (store : Store) → Lasts limit (bind source pat place store)
+  bind_lasts source (Some id) place store = copy_lasts store (record { cell = Binding id.0 }) (place_bytes source store place)
+  bind_lasts source None place store = tt
 
   -- a call lasts where its callee does
   call_returned_lasts : (path : Path) (store : Store) (end : End (List ℕ)) → Lasts limit end → Lasts limit (call_returned path store end)
@@ -177,10 +185,10 @@ module _ (limit : ℕ) where
   entered_from_lasts callees diverging callee (Some start) path store lasts = call_lasts diverging path store (callees callee start) (lasts start)
   entered_from_lasts callees diverging callee None path store lasts = tt
 
-  entered_lasts : (callees : Callees) (diverging : Bool) (callee : Option Source) (given : List (List ℕ)) (path : Path) (store : Store) → ((called : Source) → callee ≡ Some called → (s : Store) → Lasts limit (callees called s)) → Lasts limit (entered_into callees diverging callee given path store)
-  entered_lasts callees diverging (Some callee) given path store lasts =
+  entered_lasts : (callees : Callees) (diverging : Bool) (callee : Option Source) (given : Option (List (List ℕ))) (path : Path) (store : Store) → ((called : Source) → callee ≡ Some called → (s : Store) → Lasts limit (callees called s)) → Lasts limit (entered_into callees diverging callee given path store)
+  entered_lasts callees diverging (Some callee) (Some given) path store lasts =
       entered_from_lasts callees diverging callee (started callee (cond diverging (zeroed callee Result) (store path.cell)) given) path store (lasts callee refl)
-  entered_lasts callees diverging None given path store lasts = tt
+  entered_lasts callees diverging _ _ path store lasts = tt
 
   -- an expression lasts, in each way that it is evaluated, whatever stands around it
   record LastsIn (levels : Levels) (e : ℕ) : Type 0 where
@@ -188,9 +196,14 @@ module _ (limit : ℕ) where
     operand : (around : Around) (store : Store) → Lasts limit ((levels around).operand e store)
     into : (around : Around) (path : Path) (store : Store) → Lasts limit ((levels around).into e path store)
 
-  place_lasts : (source : Source) (below : Levels) (around : Around) (e : ℕ) (form : Option CoreExpr) (store : Store) → ((within : Around) (path : Path) (later : Store) → Lasts limit ((below within).into e path later)) → Lasts limit (place_of source below around e form store)
-  place_lasts source below around e (Some (expr.Path name)) store over = named_place_lasts (named_by source e) store
-  place_lasts source below around e _ store over =
+  field_place_lasts : (below : Levels) (around : Around) (base : ℕ) (field : TupleFieldId) (store : Store) → Lasts limit ((below around).place base store) → Lasts limit (field_place (below around) base field store)
+  field_place_lasts below around base field store over = then_do_lasts ((below around).place base store) _ over (λ place later. tt)
+
+  place_lasts : (source : Source) (below : Levels) (around : Around) (e : ℕ) (form : Option CoreExpr) (store : Store) → ((within : Around) (path : Path) (later : Store) → Lasts limit ((below within).into e path later)) →
+      ((base : ℕ) (field : TupleFieldId) → form ≡ Some (expr.Field base field) → Lasts limit ((below around).place base store)) → Lasts limit (place_of source below around e form store)
+  place_lasts source below around e (Some (expr.Path name)) store over base_is = named_place_lasts (named_by source e) store
+  place_lasts source below around e (Some (expr.Field base field)) store over base_is = field_place_lasts below around base field store (base_is base field refl)
+  place_lasts source below around e _ store over base_is =
       let within = marking (Node e ∷ []) around in
       then_do_lasts ((below within).into e _ store) _ (over within _ store) (λ value later. tt)
 
@@ -215,7 +228,7 @@ module _ (limit : ℕ) where
     statement_lasts : (around : Around) (statement : Statement) (store : Store) → ((child : ℕ) → Contains (statement_parts statement) child → LastsIn below child) → Lasts limit (statement_of source (below around) statement store)
     statement_lasts around (statement.Let pat (Some e) None) store ends =
         let initializer_ends = ends e.0 (first_is_contained e.0 []) in
-        then_do_lasts ((below around).place e.0 store) _ (initializer_ends.place around store) (λ path later. bind_lasts (pattern source pat.0) path later)
+        then_do_lasts ((below around).place e.0 store) _ (initializer_ends.place around store) (λ place later. bind_lasts source (pattern source pat.0) place later)
     statement_lasts around (statement.Expr e has_semi) store ends =
         let expression_ends = ends e.0 (first_is_contained e.0 []) in
         then_do_lasts ((below around).place e.0 store) _ (expression_ends.place around store) (λ path later. tt)
@@ -235,7 +248,7 @@ module _ (limit : ℕ) where
     tail_lasts around None path store ends = tt
 
     decided_lasts : (around : Around) (left : Operand) (right : ℕ) (decides : Option Bool) (path : Path) (store : Store) → LastsIn below right → Lasts limit (decided_into source (below around) left right decides path store)
-    decided_lasts around left right (Some true) path store ends = lasts_after limit (reading_cost source left) _ (put_lasts store path (operand_bytes store left))
+    decided_lasts around left right (Some true) path store ends = lasts_after limit (reading_cost source left) _ (copy_lasts store path (operand_bytes source store left))
     decided_lasts around left right (Some false) path store ends = ends.into around path store
     decided_lasts around left right None path store ends = tt
 
@@ -243,7 +256,7 @@ module _ (limit : ℕ) where
     logic_lasts around op left right path store ends =
         let left_ends = ends left (first_is_contained left (right ∷ [])) in
         then_do_lasts ((below around).operand left store) _ (left_ends.operand around store) (λ given later.
-        branched_lasts _ (decided_lasts (marking (marked_as_operand source left) around) given right (is_byte (deciding_byte op) (operand_bytes later given)) path later
+        branched_lasts _ (decided_lasts (marking (marked_as_operand source left) around) given right (is_byte (deciding_byte op) (operand_bytes source later given)) path later
         (ends right (rest_is_contained left (right ∷ []) right (first_is_contained right [])))))
 
     branch_lasts : (around : Around) (then_branch : ℕ) (else_branch : Option ExprId) (holds : Option Bool) (path : Path) (store : Store) → ((child : ℕ) → Contains (then_branch ∷ optional else_branch) child → LastsIn below child) → Lasts limit (branch_into source below around then_branch else_branch holds path store)
@@ -257,7 +270,7 @@ module _ (limit : ℕ) where
     if_lasts around condition then_branch else_branch path store ends =
         let condition_ends = ends condition (first_is_contained condition (then_branch ∷ optional else_branch)) in
         then_do_lasts ((below around).operand condition store) _ (condition_ends.operand around store) (λ given later.
-        branched_lasts _ (branch_lasts (marking (marked_as_operand source condition) around) then_branch else_branch (is_byte 1 (operand_bytes later given)) path later (λ child within.
+        branched_lasts _ (branch_lasts (marking (marked_as_operand source condition) around) then_branch else_branch (is_byte 1 (operand_bytes source later given)) path later (λ child within.
         ends child (rest_is_contained condition (then_branch ∷ optional else_branch) child within))))
 
     block_lasts : (around : Around) (statements : List Statement) (tail : Option ExprId) (path : Path) (store : Store) → ((child : ℕ) → Contains (flat_map statement_parts statements ++ optional tail) child → LastsIn below child) → Lasts limit (block_into source below around statements tail path store)
@@ -290,6 +303,9 @@ module _ (limit : ℕ) where
     into_lasts : (callees : Callees) (around : Around) (e : ℕ) (form : Option CoreExpr) (path : Path) (store : Store) → node source e ≡ form → Repeats below e → ((callee : Option ℕ) (called : Source) → source_called source e callee ≡ Some called → (start : Store) → Lasts limit (callees called start)) → ((child : ℕ) → Contains (parts_of form) child → LastsIn below child) → Lasts limit (into_of source below callees around e form path store)
     into_lasts callees around e (Some (expr.Literal literal)) path store is repeats enters ends = put_literal_lasts source e store path (literal_bytes source e literal)
     into_lasts callees around e (Some (expr.Path name)) path store is repeats enters ends = named_into_lasts (named_by source e) path store
+    into_lasts callees around e (Some (expr.Field base field)) path store is repeats enters ends =
+        let base_ends = ends base (first_is_contained base []) in
+        then_do_lasts (field_place (below around) base field store) _ (field_place_lasts below around base field store (base_ends.place around store)) (λ place later. copy_lasts later path (place_bytes source later place))
     into_lasts callees around e (Some (expr.Strict operation operands)) path store is repeats enters ends =
         then_do_lasts (operands_of source below around operands store) _ (operands_lasts around operands store (λ child within.
         ends child (subst (λ parts. Contains parts child) (sym (strict_parts operation operands)) within))) (λ given later. put_answer_lasts later path _)
@@ -298,7 +314,7 @@ module _ (limit : ℕ) where
         if_lasts around condition then_branch else_branch path store (λ child within. ends child (subst (λ parts. Contains parts child) (sym (if_parts condition then_branch else_branch)) within))
     into_lasts callees around e (Some (expr.Assign assigned value)) path store is repeats enters ends =
         let value_ends = ends value (first_is_contained value []) in
-        then_do_lasts ((below around).place value store) _ (value_ends.place around store) (λ from later. bind_lasts (target source assigned) from later)
+        then_do_lasts ((below around).place value store) _ (value_ends.place around store) (λ from later. bind_lasts source (target source assigned) from later)
     into_lasts callees around e (Some (expr.Compound op assigned value)) path store is repeats enters ends =
         let value_ends = ends value (first_is_contained value []) in
         then_do_lasts ((below around).operand value store) _ (value_ends.operand around store) (λ given later. combined_lasts op (compound_target source assigned) given later)
@@ -318,7 +334,7 @@ module _ (limit : ℕ) where
     into_lasts callees around e (Some (expr.Call callee args)) path store is repeats enters ends =
         then_do_lasts (operands_of source below around args store) _ (operands_lasts around args store (λ child within.
         ends child (subst (λ parts. Contains parts child) (sym (call_parts callee args)) within))) (λ given later.
-        entered_lasts callees (must_not_return source e) (source_called source e callee) (map (operand_bytes later) given) path later (enters callee))
+        entered_lasts callees (must_not_return source e) (source_called source e callee) (operands_bytes source later given) path later (enters callee))
     into_lasts callees around e None path store is repeats enters ends = tt
 
 -- The fuel with which each expression numbered below `bound` ends, or enters at least `many` blocks, where the root of each body that a
@@ -326,7 +342,7 @@ module _ (limit : ℕ) where
 fuel_for : ℕ → ℕ → ℕ → ℕ
 fuel_for top zero bound = zero
 fuel_for top (suc many) zero = zero
-fuel_for top (suc many) (suc bound) = suc (suc (suc (fuel_for top (suc many) bound + fuel_for top many (suc bound) + fuel_for top many top)))
+fuel_for top (suc many) (suc bound) = suc (suc (bound + fuel_for top (suc many) bound + fuel_for top many (suc bound) + fuel_for top many top))
 
 -- each body of a world is checked, and its root's number is below a bound
 record AreBelow (world : HirDatabase) (top : ℕ) : Type 0 where
@@ -372,6 +388,22 @@ body_lasts : (source : Source) (start : Store) (many fuel : ℕ) → ((around : 
 body_lasts source start many fuel lasts =
     lasts_after_entering source many _ (returned_lasts source many _ (into_from_own many source fuel (root source) (first_around source) _ start (lasts _ _ start)))
 
+-- Where each expression numbered below `bound` lasts itself with enough fuel, so does each as a place: a field is the place of its base,
+-- which has a lower number, with one unit of fuel less.
+place_goes_on : (limit : ℕ) (source : Source) → IsCheckedBody source.body source.infer → (bound enough : ℕ) →
+    ((e fuel : ℕ) → e < bound → enough ≤ fuel → (around : Around) (path : Path) (store : Store) → Lasts limit ((level_at source fuel around).own e path store)) →
+    (under e fuel : ℕ) → e < under → under ≤ bound → under + enough ≤ fuel → (around : Around) (store : Store) → Lasts limit ((level_at source fuel around).place e store)
+unfolding level_at
+place_goes_on limit source checked bound enough owns zero e fuel less within long around store = absurd (omega arith)
+place_goes_on limit source checked bound enough owns (suc under) e zero less within long around store = absurd (omega arith)
+place_goes_on limit source checked bound enough owns (suc under) e (suc fuel) less within long around store =
+    place_lasts limit source (level_at source fuel) around e (unadjusted source e) store
+    (λ a p l. into_from_own limit source fuel e a p l (owns e fuel (omega arith) (omega arith) _ _ l))
+    (λ base field is.
+    let plain = unadjusted-plain source e (expr.Field base field) is in
+    let earlier = part_is_below source checked e base (field_base_is_part source e base field plain.1) in
+    place_goes_on limit source checked bound enough owns under base fuel (omega arith) (omega arith) (omega arith) around store)
+
 own_goes_on : (top : ℕ) (source : Source) → AreBelow source.world top → IsCheckedBody source.body source.infer → (many bound e fuel : ℕ) → e < bound → fuel_for top many bound ≤ fuel →
     (around : Around) (path : Path) (store : Store) → Lasts many ((level_at source fuel around).own e path store)
 unfolding level_at fuel_for
@@ -379,23 +411,25 @@ own_goes_on top source below checked zero bound e fuel less enough around path s
 own_goes_on top source below checked (suc many) zero e fuel less enough around path store = absurd (omega arith)
 own_goes_on top source below checked (suc many) (suc bound) e zero less enough around path store = absurd (omega arith)
 own_goes_on top source below checked (suc many) (suc bound) e (suc zero) less enough around path store = absurd (omega arith)
-own_goes_on top source below checked (suc many) (suc bound) e (suc (suc zero)) less enough around path store = absurd (omega arith)
-own_goes_on top source below checked (suc many) (suc bound) e (suc (suc (suc fuel))) less enough around path store =
-    into_lasts (suc many) source (level_at source (suc (suc fuel))) (callees_at (suc (suc fuel))) around e (node source e) path store refl
+own_goes_on top source below checked (suc many) (suc bound) e (suc (suc fuel)) less enough around path store =
+    let earlier_last : (child later : ℕ) → child < bound → fuel_for top (suc many) bound ≤ later → (a : Around) (p : Path) (s : Store) → Lasts (suc many) ((level_at source later a).own child p s) =
+    λ child later child_less long a p s. own_goes_on top source below checked (suc many) bound child later child_less long a p s
+    in
+    into_lasts (suc many) source (level_at source (suc fuel)) (callees_at (suc fuel)) around e (node source e) path store refl
     (λ around' path' fewer is later.
     let same : many ≡ fewer = cc in
-    subst (λ n. Lasts n ((level_at source (suc (suc fuel)) around').own e path' later)) same (own_goes_on top source below checked many (suc bound) e (suc (suc fuel)) less (omega arith) around' path' later))
+    subst (λ n. Lasts n ((level_at source (suc fuel) around').own e path' later)) same (own_goes_on top source below checked many (suc bound) e (suc fuel) less (omega arith) around' path' later))
     (λ callee called is start.
     let from = called_row source e callee called is in
-    subst (λ (s : Source). Lasts (suc many) (body_meaning s (level_at s (suc (suc fuel))) start)) from.3
-    (body_lasts (source_at source.world from.1) start many (suc (suc fuel))
-    (own_goes_on top (source_at source.world from.1) below (below.checked from.0 from.1 from.2) many top (root (source_at source.world from.1)) (suc (suc fuel)) (below.root from.0 from.1 from.2) (omega arith))))
+    subst (λ (s : Source). Lasts (suc many) (body_meaning s (level_at s (suc fuel)) start)) from.3
+    (body_lasts (source_at source.world from.1) start many (suc fuel)
+    (own_goes_on top (source_at source.world from.1) below (below.checked from.0 from.1 from.2) many top (root (source_at source.world from.1)) (suc fuel) (below.root from.0 from.1 from.2) (omega arith))))
     (λ child within.
-    let earlier = part_is_below source checked e child within in record {
-      place = λ around' later. place_lasts (suc many) source (level_at source (suc fuel)) around' child (unadjusted source child) later (λ a p l. into_from_own (suc many) source (suc fuel) child a p l (own_goes_on top source below checked (suc many) bound child (suc fuel) (omega arith) (omega arith) _ _ l));
-      operand = λ around' later. operand_lasts (suc many) source (level_at source (suc fuel)) around' child (unadjusted source child) later (λ last.
-          place_lasts (suc many) source (level_at source fuel) around' child (unadjusted source child) last (λ a p l. into_from_own (suc many) source fuel child a p l (own_goes_on top source below checked (suc many) bound child fuel (omega arith) (omega arith) _ _ l)));
-      into = λ a p l. into_from_own (suc many) source (suc (suc fuel)) child a p l (own_goes_on top source below checked (suc many) bound child (suc (suc fuel)) (omega arith) (omega arith) _ _ l);
+    let earlier = part_is_below source checked e child within in
+    let places = place_goes_on (suc many) source checked bound (fuel_for top (suc many) bound) earlier_last bound child in record {
+      place = λ around' later. places (suc fuel) (omega arith) (omega arith) (omega arith) around' later;
+      operand = λ around' later. operand_lasts (suc many) source (level_at source fuel) around' child (unadjusted source child) later (λ last. places fuel (omega arith) (omega arith) (omega arith) around' last);
+      into = λ a p l. into_from_own (suc many) source (suc fuel) child a p l (earlier_last child (suc fuel) (omega arith) (omega arith) _ _ l);
     })
 
 fewer_go_on : (many : ℕ) (end : End (List ℕ)) → Lasts (suc many) end → GoesOn many end

@@ -7,17 +7,19 @@ use Rattle.types.specs.declared.ids.BindingId.{BindingId}
 use Rattle.types.specs.declared.ids.ExprId.{ExprId}
 use Rattle.types.specs.declared.ids.LabelId.{LabelId}
 use Rattle.types.specs.declared.ids.PatId.{PatId}
+use Rattle.types.specs.declared.ids.TupleFieldId.{TupleFieldId}
 use Rattle.types.specs.declared.operators.LogicOp.{LogicOp}
 use Rattle.world.specs.declared.body.Statement.{Statement}
 use Rattle.world.specs.declared.body.Statement.TheVariants as statement
 use Rattle.world.specs.Checked.{IsCheckedBody}
 use Rattle.numbers.specs.declared.operator.Operator.{Operator}
-use Rattle.source_meaning.specs.Core.{CoreExpr, CoreLiteral, Operation, Literal, Path, Strict, Logic, If, Assign, Compound, Block, Labelled, Loop, Break, Continue, Return, Call, is_literal, is_path}
-use Rattle.source_meaning.specs.Events.{Event, Opens, Marks, Closes, place_events, operand_events, step_events, form_events, events_in, events, events_through, Scopes, after_event, scopes_after, innermost, marks_of, marked, marked_itself, marked_as_place, marked_as_operand, marked_by_statement, marked_by_tail, marked_in_block}
+use Rattle.source_meaning.specs.Core.{CoreExpr, CoreLiteral, Operation, Literal, Path, Field, Strict, Logic, If, Assign, Compound, Block, Labelled, Loop, Break, Continue, Return, Call, is_literal, is_path, is_place}
+use Rattle.source_meaning.specs.Events.{Event, Opens, Marks, Closes, own_mark, place_events, operand_events, step_events, form_events, events_in, events, events_through, Scopes, after_event, scopes_after, innermost, marks_of, marked, marked_itself, marked_as_place, marked_as_operand, marked_by_statement, marked_by_tail, marked_in_block}
 use Rattle.source_meaning.specs.Laws.{ScopesNest}
 use Rattle.source_meaning.specs.Source.{Source, Cell, Node, Binding, Never, node, unadjusted, diverges, never_marks, pattern, bound_by}
 use Rattle.source_meaning.specs.Steps.{Step, Operand, Place, Into, Bind, Open, Close, statement_steps, tail_steps, block_steps, steps_of, step_part, parts_of}
 use Rattle.source_meaning.proofs.Core.{part_is_below}
+use Rattle.source_meaning.proofs.Never.{unadjusted-plain}
 use Rattle.source_meaning.proofs.Parts.{first_is_contained}
 
 -- the scopes after events in a row
@@ -79,10 +81,17 @@ one_or_none_is_closed false cell = none_is_closed
 never_is_closed : (source : Source) (e : ℕ) → IsClosed (map Marks (never_marks source e))
 never_is_closed source e = one_or_none_is_closed (diverges source e) (Never e)
 
+-- an expression's own cell is marked, or none is
+own_mark_is_closed : (has_none : Bool) (e : ℕ) → IsClosed (own_mark has_none e)
+own_mark_is_closed true e = none_is_closed
+own_mark_is_closed false e = mark_is_closed (Node e)
+
 -- the events of each form close what they open, where those of its parts do
 module _ (source : Source) (below : ℕ → List Event) (closed : (e : ℕ) → IsClosed (below e)) where
   place_is_closed : (e : ℕ) → IsClosed (place_events source below e)
-  place_is_closed e = either_is_closed (is_path (unadjusted source e)) [] (Marks (Node e) ∷ below e) none_is_closed (append_is_closed (Marks (Node e) ∷ []) (below e) (mark_is_closed (Node e)) (closed e))
+  place_is_closed e =
+      let own = own_mark (is_place (unadjusted source e)) e in
+      either_is_closed (is_path (unadjusted source e)) [] (own ++ below e) none_is_closed (append_is_closed own (below e) (own_mark_is_closed (is_place (unadjusted source e)) e) (closed e))
 
   operand_is_closed : (e : ℕ) → IsClosed (operand_events source below e)
   operand_is_closed e = either_is_closed (is_literal (unadjusted source e)) [] (place_events source below e) none_is_closed (place_is_closed e)
@@ -143,6 +152,7 @@ module _ (source : Source) (below : ℕ → List Event) (closed : (e : ℕ) → 
   form_is_closed : (form : Option CoreExpr) → IsClosed (form_events source below form)
   form_is_closed (Some (Literal given)) = none_is_closed
   form_is_closed (Some (Path name)) = none_is_closed
+  form_is_closed (Some (Field base field)) = assign_is_closed base
   form_is_closed (Some (Strict operation operands)) = operands_are_closed operands
   form_is_closed (Some (Logic op left right)) = logic_is_closed left right
   form_is_closed (Some (If condition then_branch else_branch)) = if_is_closed condition then_branch else_branch
@@ -186,8 +196,8 @@ step_events_same source below other (first ∷ rest) same =
     (step_events_same source below other rest (λ child within. same child (Contains-append_right (step_part first) (flat_map step_part rest) child within)))
   where
     step_same : (one : Step) → ((child : ℕ) → Contains (step_part one) child → below child ≡ other child) → step_events source below one ≡ step_events source other one
-    step_same (Operand e) same = ap (λ inside. cond (is_literal (unadjusted source e)) [] (cond (is_path (unadjusted source e)) [] (Marks (Node e) ∷ inside))) (same e (first_is_contained e []))
-    step_same (Place e) same = ap (λ inside. cond (is_path (unadjusted source e)) [] (Marks (Node e) ∷ inside)) (same e (first_is_contained e []))
+    step_same (Operand e) same = ap (λ inside. cond (is_literal (unadjusted source e)) [] (cond (is_path (unadjusted source e)) [] (own_mark (is_place (unadjusted source e)) e ++ inside))) (same e (first_is_contained e []))
+    step_same (Place e) same = ap (λ inside. cond (is_path (unadjusted source e)) [] (own_mark (is_place (unadjusted source e)) e ++ inside)) (same e (first_is_contained e []))
     step_same (Into e) same = same e (first_is_contained e [])
     step_same (Bind pat) same = refl
     step_same Open same = refl
@@ -252,16 +262,29 @@ statements_mark source (first ∷ rest) =
     ∙ marks-append (events_through source (statement_steps first)) (events_through source (flat_map statement_steps rest)) (statement_is_closed source (events source) (events_are_closed source) first) (statements_are_closed source (events source) (events_are_closed source) rest)
     ∙ ap (λ cells. marks_of (events_through source (statement_steps first)) ++ cells) (statements_mark source rest)
 
-pub place_marks : (source : Source) (e : ℕ) → is_path (unadjusted source e) ≡ false → marked_as_place source e ≡ Node e ∷ marked source e
-unfolding marked_as_place marked
+-- what is no place is no path
+no_path : (form : Option CoreExpr) → is_place form ≡ false → is_path form ≡ false
+no_path (Some (Path name)) is = is
+no_path (Some (Field base field)) is = refl
+no_path _ is = refl
+
+-- an expression that is no path marks its own cell, where it has one, and what it is made of
+no_path_marks : (source : Source) (e : ℕ) (has_none : Bool) → is_path (unadjusted source e) ≡ false → is_place (unadjusted source e) ≡ has_none → marked_as_place source e ≡ marks_of (own_mark has_none e ++ events source e)
+unfolding marked_as_place
+no_path_marks source e has_none path is =
+    ap (λ test. marks_of (cond test [] (own_mark (is_place (unadjusted source e)) e ++ events source e))) path
+    ∙ ap (λ test. marks_of (own_mark test e ++ events source e)) is
+
+pub place_marks : (source : Source) (e : ℕ) → is_place (unadjusted source e) ≡ false → marked_as_place source e ≡ Node e ∷ marked source e
+unfolding marked
 place_marks source e is =
-    ap (λ test. marks_of (cond test [] (Marks (Node e) ∷ events source e))) is
+    no_path_marks source e false (no_path (unadjusted source e) is) is
     ∙ marks-append (Marks (Node e) ∷ []) (events source e) (mark_is_closed (Node e)) (events_are_closed source e)
     ∙ ap (λ cells. cells ++ marks_of (events source e)) (one_mark (Node e))
 
 pub path_marks : (source : Source) (e : ℕ) → is_path (unadjusted source e) ≡ true → marked_as_place source e ≡ []
 unfolding marked_as_place
-path_marks source e is = ap (λ test. marks_of (cond test [] (Marks (Node e) ∷ events source e))) is ∙ no_marks
+path_marks source e is = ap (λ test. marks_of (cond test [] (own_mark (is_place (unadjusted source e)) e ++ events source e))) is ∙ no_marks
 
 pub literal_operand_marks : (source : Source) (e : ℕ) → is_literal (unadjusted source e) ≡ true → marked_as_operand source e ≡ []
 unfolding marked_as_operand
@@ -290,6 +313,20 @@ module _ (source : Source) (checked : IsCheckedBody source.body source.infer) (e
 
   pub name_marks : (name : List ℕ) → node source e ≡ Some (Path name) → marked_itself source e ≡ []
   name_marks name is = form_marks (Some (Path name)) is ∙ no_marks
+
+  -- a field evaluated into a path marks what its base does as a place
+  pub part_marks : (base : ℕ) (field : TupleFieldId) → node source e ≡ Some (Field base field) → marked_itself source e ≡ marked_as_place source base
+  unfolding marked_as_place
+  part_marks base field is = form_marks (Some (Field base field)) is ∙ ap marks_of (append-nil (place_events source (events source) base))
+
+  -- and so does a field as a place
+  pub field_marks : (base : ℕ) (field : TupleFieldId) → unadjusted source e ≡ Some (Field base field) → marked_as_place source e ≡ marked_as_place source base
+  unfolding marked
+  field_marks base field is =
+      let plain = unadjusted-plain source e (Field base field) is in
+      no_path_marks source e true (ap is_path is) (ap is_place is)
+      ∙ itself_marks ∙ ap (λ test. cond test (Never e ∷ []) [] ++ marked_itself source e) plain.0
+      ∙ part_marks base field plain.1
 
   pub strict_marks : (operation : Operation) (operands : List ℕ) → node source e ≡ Some (Strict operation operands) → marked_itself source e ≡ flat_map (marked_as_operand source) operands
   strict_marks operation operands is = form_marks (Some (Strict operation operands)) is ∙ operands_mark source operands
