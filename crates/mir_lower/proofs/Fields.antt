@@ -2,8 +2,6 @@
 use Rattle.std.proofs.Common.{◌≡◌, ℕ, ◌<◌, zero, suc, Bool, true, false, List, [], ◌∷◌, ◌++◌, length, map, Contains, Option, Some, None, option_and_then, inr, refl, sym, ap, ◌∙◌, subst, arith}
 use Rattle.std.specs.Prelude.{slice_get}
 use Rattle.std.proofs.lemmas.List.{map-append}
-use Rattle.either.specs.declared.Either.TheVariants.{Right}
-use Rattle.types.specs.declared.ids.TupleFieldId.{TupleFieldId}
 use Rattle.types.specs.declared.ty.Ty.{Ty}
 use Rattle.types.specs.declared.ty.Ty.TheVariants.{Tuple}
 use Rattle.world.specs.declared.layout.Layout.{Layout}
@@ -13,7 +11,6 @@ use Rattle.mir.specs.declared.operand.Operand.{Operand as MirOperand}
 use Rattle.mir.specs.declared.operand.OperandKind.TheVariants.{Copy}
 use Rattle.mir.specs.declared.operand.Place.{Place as GraphPlace}
 use Rattle.mir.specs.declared.operand.Rvalue.TheVariants.{Use}
-use Rattle.mir.specs.declared.projection.ProjectionElem.TheVariants.{Field}
 use Rattle.mir.specs.declared.span.MirSpan.{MirSpan}
 use Rattle.mir.specs.declared.ids.LocalId.{LocalId}
 use Rattle.mir.specs.Memory.{Memory}
@@ -51,21 +48,21 @@ use Rattle.mir_lower.proofs.Sparing.{spares-trans, with_statement-spares}
 use Rattle.mir_lower.proofs.Steps.{local_of-grows, assigned-copy, does-form}
 
 -- the base is a part
-pub base-part : (source : Source) (e base : ℕ) (field : TupleFieldId) → node source e ≡ Some (expr.Field base field) → Contains (parts_of (node source e)) base
+pub base-part : (source : Source) (e base : ℕ) (field : ℕ) → node source e ≡ Some (expr.Field base field) → Contains (parts_of (node source e)) base
 base-part source e base field form = field_base_is_part source e base field form
 
 -- the place of a field, by its base's place and one more element
-pub finds-field : (source : Source) (s0 s1 s2 : Shape) (base : ℕ) (field : TupleFieldId) (place made : GraphPlace) → LowersPlace source s0 s1 base place → IsProjected s1 s2 place (Field (Right field)) made → LowersField source s0 s2 base field made
+pub finds-field : (source : Source) (s0 s1 s2 : Shape) (base : ℕ) (field : ℕ) (place made : GraphPlace) → LowersPlace source s0 s1 base place → IsProjected s1 s2 place (elem_of (Part field)) made → LowersField source s0 s2 base field made
 finds-field source s0 s1 s2 base field place made lowered is =
-    let more : Grows s1 s2 = projected-grows s1 s2 place (Field (Right field)) made is in
+    let more : Grows s1 s2 = projected-grows s1 s2 place (elem_of (Part field)) made is in
     let at = projected (Part field) lowered.does.at in
     record {
       keeps = record {
         grows = grows-trans s0 s1 s2 lowered.keeps.grows more;
-        spares = spares-trans s0 s1 s2 lowered.keeps.spares (projected-spares s1 s2 place (Field (Right field)) made is);
-        sound = projected-sound source s1 s2 place (Field (Right field)) made is lowered.keeps.sound;
-        «open» = projected-open s1 s2 place (Field (Right field)) made is lowered.keeps.«open»;
-        scope = projected-scope s1 s2 place (Field (Right field)) made is ∙ lowered.keeps.scope;
+        spares = spares-trans s0 s1 s2 lowered.keeps.spares (projected-spares s1 s2 place (elem_of (Part field)) made is);
+        sound = projected-sound source s1 s2 place (elem_of (Part field)) made is lowered.keeps.sound;
+        «open» = projected-open s1 s2 place (elem_of (Part field)) made is lowered.keeps.«open»;
+        scope = projected-scope s1 s2 place (elem_of (Part field)) made is ∙ lowered.keeps.scope;
       };
       does = record {
         at = at;
@@ -73,7 +70,7 @@ finds-field source s0 s1 s2 base field place made lowered is =
         does = record {
           reaches = λ whole frame grows sound frame-is lands around stands fuel serves store memory holds.
               let from = lowered.does.does.reaches whole frame (grows-trans s1 s2 whole more grows) sound frame-is lands around stands fuel serves store memory holds in
-              subst (λ to. Reaches source whole lands frame (here s0) to memory (LeadsTo at whole frame) (field_place (level_at source fuel around) base field store)) (sym (projected-here s1 s2 place (Field (Right field)) made is))
+              subst (λ to. Reaches source whole lands frame (here s0) to memory (LeadsTo at whole frame) (field_place (level_at source fuel around) base field store)) (sym (projected-here s1 s2 place (elem_of (Part field)) made is))
               (reaches-then source whole lands frame (here s0) (here s1) (here s1) memory (LeadsTo lowered.does.at whole frame) (LeadsTo at whole frame) ((level_at source fuel around).place base store) (λ found later. Go (projected (Part field) found) later no_cost)
               from
               (λ found store1 memory1 claims. inr (memory1, comes-refl frame (here s1) memory1, claims.0, ap (projected (Part field)) claims.1)));
@@ -83,16 +80,16 @@ finds-field source s0 s1 s2 base field place made lowered is =
     }
 
 -- the part of a tuple with a layout has one
-part-laid : (source : Source) (base : ℕ) (field : TupleFieldId) (ty : Ty) → HasAggregates source.world → IsPlainField source base field ty → IsLaidOut source (node_type source base) → IsLaidOut source (Some ty)
+part-laid : (source : Source) (base : ℕ) (field : ℕ) (ty : Ty) → HasAggregates source.world → IsPlainField source base field ty → IsLaidOut source (node_type source base) → IsLaidOut source (Some ty)
 part-laid source base field ty aggregates plain laid =
     let found : layout_of source.world (Tuple plain.parts) ≡ Some laid.layout = ap (option_and_then (layout_of source.world)) (sym plain.base_has) ∙ laid.found in
     let parts = aggregates.tuples plain.parts laid.layout found in
-    let below : field.index < length laid.layout.offsets = subst (λ n. field.index < n) (sym parts.count) (slice_get_below plain.parts field.index ty plain.part_has) in
-    let offset = slice_get_in laid.layout.offsets field.index below in
-    let there = parts.inside field.index offset.0 ty plain.part_has offset.1 in
+    let below : field < length laid.layout.offsets = subst (λ n. field < n) (sym parts.count) (slice_get_below plain.parts field ty plain.part_has) in
+    let offset = slice_get_in laid.layout.offsets field below in
+    let there = parts.inside field offset.0 ty plain.part_has offset.1 in
     record { layout = there.layout; found = there.has }
 
-lays-base : (source : Source) (s : Shape) (e base : ℕ) (field : TupleFieldId) → node source e ≡ Some (expr.Field base field) → LaysOut source s base → IsLaidOutNode source e → LaysOut source s e
+lays-base : (source : Source) (s : Shape) (e base : ℕ) (field : ℕ) → node source e ≡ Some (expr.Field base field) → LaysOut source s base → IsLaidOutNode source e → LaysOut source s e
 lays-base source s e base field form below laid plain layouts f own = laid
 lays-base source s e base field form below laid plain layouts f (inside {child = child} within rest) =
     let same : base ≡ child = one-of base child (subst (λ n. Contains (sized_parts source n) child) form within) in
@@ -100,7 +97,7 @@ lays-base source s e base field form below laid plain layouts f (inside {child =
     below (subst (IsPlainWithin source) (sym same) part) layouts f (subst (λ x. NeedsLayout source x f) (sym same) rest)
 
 -- the base stands where the field does
-base-within : (source : Source) (e base : ℕ) (field : TupleFieldId) → node source e ≡ Some (expr.Field base field) → IsPlainWithin source e → IsPlainWithin source base
+base-within : (source : Source) (e base : ℕ) (field : ℕ) → node source e ≡ Some (expr.Field base field) → IsPlainWithin source e → IsPlainWithin source base
 base-within source e base field form plain =
     let is = base-part source e base field form in
     let same : opened_in e (node source e) plain.opened ≡ plain.opened = ap (λ n. opened_in e n plain.opened) form in
@@ -113,7 +110,7 @@ base-within source e base field form plain =
     }
 
 -- a field that is a place has its part's type, whose layout comes with the base's
-lays-field : (source : Source) (s : Shape) (e base : ℕ) (field : TupleFieldId) → unadjusted source e ≡ Some (expr.Field base field) → LaysOut source s base → LaysOut source s e
+lays-field : (source : Source) (s : Shape) (e base : ℕ) (field : ℕ) → unadjusted source e ≡ Some (expr.Field base field) → LaysOut source s base → LaysOut source s e
 lays-field source s e base field form below plain layouts = by_node (plain.nodes e itself)
   where
     is : node source e ≡ Some (expr.Field base field)
@@ -127,14 +124,14 @@ lays-field source s e base field form below plain layouts = by_node (plain.nodes
         lays-base source s e base field is below laid plain layouts
 
 -- a field is the place of the part
-field-place : (source : Source) (s0 s1 whole : Shape) (frame : Frame) (e base : ℕ) (field : TupleFieldId) (place : GraphPlace) → unadjusted source e ≡ Some (expr.Field base field) → (finds : DoesField source s0 s1 base field place) → Grows s1 whole → IsSound source whole → IsFrameOf whole frame → (lands : Landings) (around : Around) → Stands whole s0 lands around → (fuel : ℕ) → Serves fuel source frame.program → (store : Store) (memory : Memory) → Holds whole frame store memory → Reaches source whole lands frame (here s0) (here s1) memory (LeadsTo finds.at whole frame) ((level_at source fuel around).place e store)
+field-place : (source : Source) (s0 s1 whole : Shape) (frame : Frame) (e base : ℕ) (field : ℕ) (place : GraphPlace) → unadjusted source e ≡ Some (expr.Field base field) → (finds : DoesField source s0 s1 base field place) → Grows s1 whole → IsSound source whole → IsFrameOf whole frame → (lands : Landings) (around : Around) → Stands whole s0 lands around → (fuel : ℕ) → Serves fuel source frame.program → (store : Store) (memory : Memory) → Holds whole frame store memory → Reaches source whole lands frame (here s0) (here s1) memory (LeadsTo finds.at whole frame) ((level_at source fuel around).place e store)
 unfolding level_at
 field-place source s0 s1 whole frame e base field place form finds grows sound is lands around stands zero serves store memory holds = inr (none-entered (run_from frame memory (here s0)))
 field-place source s0 s1 whole frame e base field place form finds grows sound is lands around stands (suc fuel) serves store memory holds =
     subst (Reaches source whole lands frame (here s0) (here s1) memory (LeadsTo finds.at whole frame)) (sym (ap (λ f. place_of source (level_at source fuel) around e f store) form))
     (finds.does.reaches whole frame grows sound is lands around stands fuel (serves-less fuel source frame.program serves) store memory holds)
 
-pub lowers-field : (source : Source) (s0 s1 : Shape) (e base : ℕ) (field : TupleFieldId) (place : GraphPlace) → IsReady source s0 e → unadjusted source e ≡ Some (expr.Field base field) → LowersField source s0 s1 base field place → LowersPlace source s0 s1 e place
+pub lowers-field : (source : Source) (s0 s1 : Shape) (e base : ℕ) (field : ℕ) (place : GraphPlace) → IsReady source s0 e → unadjusted source e ≡ Some (expr.Field base field) → LowersField source s0 s1 base field place → LowersPlace source s0 s1 e place
 lowers-field source s0 s1 e base field place ready form lowered =
     record {
       keeps = subst (λ (m : List Cell). Keeps source s0 s1 m) (sym (field_marks source ready.checked e ready.within base field form)) lowered.keeps;
@@ -147,7 +144,7 @@ lowers-field source s0 s1 e base field place ready form lowered =
     }
 
 -- a field's bytes are copied
-pub lowers-field-into : (source : Source) (s0 s1 new : Shape) (e base : ℕ) (field : TupleFieldId) (to : LocalId) (from : GraphPlace) (operand : MirOperand) (span : MirSpan) → IsReady source s0 e → node source e ≡ Some (expr.Field base field) → LowersField source s0 s1 base field from → operand.kind ≡ Copy from →
+pub lowers-field-into : (source : Source) (s0 s1 new : Shape) (e base : ℕ) (field : ℕ) (to : LocalId) (from : GraphPlace) (operand : MirOperand) (span : MirSpan) → IsReady source s0 e → node source e ≡ Some (expr.Field base field) → LowersField source s0 s1 base field from → operand.kind ≡ Copy from →
     new ≡ with_statement (assignment to (Use operand) span) s1 → (c : Cell) → local_of s0 c ≡ Some to.0 → LowersOwn source s0 new e c
 lowers-field-into source s0 s1 new e base field to from operand span ready form lowered copies same c local =
     let st = assignment to (Use operand) span in

@@ -2,12 +2,9 @@
 use Rattle.std.proofs.Common.{◌≡◌, ℕ, ◌<◌, Bool, true, false, List, [], ◌∷◌, ◌++◌, length, Option, Some, None, if◌then◌else◌, ◌==◌, refl, sym, ap, ◌∙◌, subst}
 use Rattle.std.specs.Prelude.{map}
 use Rattle.std.proofs.lemmas.List.{map-append}
-use Rattle.types.specs.declared.ids.TupleFieldId.{TupleFieldId}
-use Rattle.either.specs.declared.Either.TheVariants.{Right}
 use Rattle.mir.specs.Elements.{PlaceElem as GraphElem}
 use Rattle.mir.specs.Projections.{Projection, projection_of}
 use Rattle.mir.specs.declared.operand.Place.{Place as GraphPlace}
-use Rattle.mir.specs.declared.projection.ProjectionElem.TheVariants.{Field}
 use Rattle.mir.specs.declared.projection.ProjectionId.{ProjectionId}
 use Rattle.source_meaning.specs.Source.{Source, Place, Part, projected}
 use Rattle.mir_lower.specs.Does.{IsAt, elem_of, elements_of, here}
@@ -65,9 +62,9 @@ unfolding count_at
 projected-here old new place elem made is = ap here is.rest
 
 -- the place that was made is the one that the source's element leads to
-pub projected-at : (old new : Shape) (field : TupleFieldId) (place made : GraphPlace) → IsProjected old new place (Field (Right field)) made → (at : Place) → IsAt old place at → IsAt new made (projected (Part field) at)
+pub projected-at : (old new : Shape) (field : ℕ) (place made : GraphPlace) → IsProjected old new place (elem_of (Part field)) made → (at : Place) → IsAt old place at → IsAt new made (projected (Part field) at)
 projected-at old new field place made is at same =
-    let found = local_of-grows old new (projected-grows old new place (Field (Right field)) made is) at.cell place.local.0 same.found in
+    let found = local_of-grows old new (projected-grows old new place (elem_of (Part field)) made is) at.cell place.local.0 same.found in
     record {
       found = found ∙ ap (λ local. Some local.0) (sym is.local);
       elements = is.longer (elements_of at.projection) same.elements ∙ ap Some (sym (map-append elem_of at.projection (Part field ∷ [])));

@@ -13,7 +13,6 @@ use Rattle.source_meaning.specs.Core.{CoreExpr, is_truth}
 use Rattle.world.specs.declared.body.Statement.{Statement}
 use Rattle.types.specs.declared.ids.BindingId.{BindingId}
 use Rattle.types.specs.declared.ids.ExprId.{ExprId}
-use Rattle.types.specs.declared.ids.TupleFieldId.{TupleFieldId}
 use Rattle.world.specs.declared.infer.ValueNs.TheVariants.{LocalBinding}
 use Rattle.source_meaning.specs.Events.{marked, marked_itself, marked_as_place, marked_as_operand, marked_by_statement, marked_by_tail}
 use Rattle.source_meaning.specs.Source.{Source, Cell, Place, node, unadjusted, own_type, node_type, named_by, pattern, target, compound_target, bound_by}
@@ -71,10 +70,10 @@ pub record LowersPlace (source : Source) (old new : Shape) (e : ℕ) (place : Gr
   pub does : DoesPlace source old new e place
   pub laid : LaysOut source new e
 
--- the place of a field was lowered, by that of its base
-pub record LowersField (source : Source) (old new : Shape) (base : ℕ) (field : TupleFieldId) (place : GraphPlace) : Type 0 where
+-- the place of a field was lowered, by that of its base; only what the base marks is marked
+pub record LowersField (source : Source) (old new : Shape) (base index : ℕ) (place : GraphPlace) : Type 0 where
   pub keeps : Keeps source old new (marked_as_place source base)
-  pub does : DoesField source old new base field place
+  pub does : DoesField source old new base index place
   pub laid : LaysOut source new base
 
 -- an expression was lowered to an operand

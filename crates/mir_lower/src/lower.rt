@@ -136,7 +136,7 @@ fn lower_place(context: &Context<'_>, graph: &mut Graph, e: ExprId) -> Result<Pl
 {
     match place_form_at(context, e) {
         PlaceForm::Path(name) => Ok(Place::from(named_local(context, graph, e, name)?)),
-        PlaceForm::Field(base, field) => lower_field(context, graph, e, base, field),
+        PlaceForm::Field(base, index) => lower_field(context, graph, e, base, index),
         PlaceForm::Value => lower_temp(context, graph, e),
     }
 }
@@ -148,16 +148,20 @@ fn lower_field(
     graph: &mut Graph,
     e: ExprId,
     base: ExprId,
-    field: TupleFieldId,
+    index: u32,
 ) -> Result<Place, MirLowerError>
     requires ready { ArePartsReady (source_of context.now) (shape graph.old) e.0 }
-    requires form { node (source_of context.now) e.0 ≡ Some (expr.Field base.0 field) }
-    ensures lowered { IfOk result (λ place. LowersField (source_of context.now) (shape graph.old) (shape graph.new) base.0 field place) }
+    requires form { node (source_of context.now) e.0 ≡ Some (expr.Field base.0 index) }
+    ensures lowered { IfOk result (λ place. LowersField (source_of context.now) (shape graph.old) (shape graph.new) base.0 index place) }
     ensures built { OnOk result (IsBuilt (source_of context.now) base.0) }
     ensures refused { IfErr result (RefusesAt (source_of context.now) e.0) }
 {
     let place = lower_place(context, graph, base)?;
-    let place = graph.project(place, PlaceElem::Field(Either::Right(field)))?;
+    let part = TupleFieldId {
+        tuple: u32::MAX,
+        index,
+    };
+    let place = graph.project(place, PlaceElem::Field(Either::Right(part)))?;
     Ok(place)
 }
 
@@ -168,17 +172,17 @@ fn field_into(
     graph: &mut Graph,
     e: ExprId,
     base: ExprId,
-    field: TupleFieldId,
+    index: u32,
     to: LocalId,
 ) -> Result<(), MirLowerError>
     requires ready { IsReady (source_of context.now) (shape graph.old) e.0 }
-    requires form { node (source_of context.now) e.0 ≡ Some (expr.Field base.0 field) }
+    requires form { node (source_of context.now) e.0 ≡ Some (expr.Field base.0 index) }
     ensures lowered { OnOk result ((cell : Cell) → local_of (shape graph.old) cell ≡ Some to.0
         → LowersOwn (source_of context.now) (shape graph.old) (shape graph.new) e.0 cell) }
     ensures built { OnOk result (IsBuilt (source_of context.now) e.0) }
     ensures refused { IfErr result (RefusesAt (source_of context.now) e.0) }
 {
-    let from = lower_field(context, graph, e, base, field)?;
+    let from = lower_field(context, graph, e, base, index)?;
     assign(
         graph,
         to,
@@ -242,7 +246,7 @@ fn lower_own(
     match form_at(context, e) {
         Form::Literal(literal) => literal_into(context, graph, e, literal, to),
         Form::Path(name) => name_into(context, graph, e, name, to),
-        Form::Field(base, field) => field_into(context, graph, e, base, field, to),
+        Form::Field(base, index) => field_into(context, graph, e, base, index, to),
         Form::Unary(op, operand) => {
             lower_single(context, graph, e, Single::Unary(op), operand, to)
         }

@@ -4,7 +4,6 @@ use Rattle.std.proofs.lemmas.List.Elements.{Contains-append_left, Contains-appen
 use Rattle.std.proofs.Common.{◌≡◌, ℕ, ◌≤◌, List, [], ◌∷◌, Option, Some, sym, subst, arith}
 use Rattle.world.specs.declared.body.Statement.{Statement}
 use Rattle.types.specs.declared.ids.ExprId.{ExprId}
-use Rattle.types.specs.declared.ids.TupleFieldId.{TupleFieldId}
 use Rattle.types.specs.declared.operators.LogicOp.{LogicOp}
 use Rattle.world.specs.Checked.{IsCheckedBody}
 use Rattle.world.specs.Nodes.{optional}
@@ -33,7 +32,7 @@ needed_is_evaluated source own = itself
 needed_is_evaluated source (inside {e = e} {child = child} within rest) = part (sized_part_is_part source (node source e) child within) (needed_is_evaluated source rest)
 
 -- a field evaluates its base
-pub field_base_is_part : (source : Source) (e base : ℕ) (field : TupleFieldId) → node source e ≡ Some (Field base field) → Contains (parts_of (node source e)) base
+pub field_base_is_part : (source : Source) (e base : ℕ) (field : ℕ) → node source e ≡ Some (Field base field) → Contains (parts_of (node source e)) base
 field_base_is_part source e base field is = subst (λ form. Contains (parts_of form) base) (sym is) (first_is_contained base [])
 
 -- a strict form evaluates its operands

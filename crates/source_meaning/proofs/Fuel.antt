@@ -5,7 +5,6 @@ use Rattle.world.specs.declared.body.Statement.{Statement}
 use Rattle.world.specs.declared.body.Statement.TheVariants as statement
 use Rattle.types.specs.declared.ids.ExprId.{ExprId}
 use Rattle.types.specs.declared.ids.LabelId.{LabelId}
-use Rattle.types.specs.declared.ids.TupleFieldId.{TupleFieldId}
 use Rattle.types.specs.declared.operators.LogicOp.{LogicOp}
 use Rattle.numbers.specs.declared.operator.Operator.{Operator}
 use Rattle.source_meaning.specs.Around.{Around, Target, at_root, marking, inside, target_of}
@@ -115,7 +114,7 @@ pub record Agrees (below above : Levels) : Type 0 where
   pub own : (around : Around) (e : ℕ) (path : Path) (store : Store) → IsOver ((below around).own e path store) → (above around).own e path store ≡ (below around).own e path store
 
 module _ (source : Source) (below above : Levels) (agrees : Agrees below above) where
-  field_place_agrees : (around : Around) (base : ℕ) (field : TupleFieldId) (store : Store) → IsOver (field_place (below around) base field store) → field_place (above around) base field store ≡ field_place (below around) base field store
+  field_place_agrees : (around : Around) (base : ℕ) (field : ℕ) (store : Store) → IsOver (field_place (below around) base field store) → field_place (above around) base field store ≡ field_place (below around) base field store
   field_place_agrees around base field store over =
       then_do_agrees ((below around).place base store) ((above around).place base store) _ _ (agrees.place around base store) (λ place later o. refl) over
 
@@ -178,7 +177,7 @@ module _ (source : Source) (below above : Levels) (agrees : Agrees below above) 
       then_do_agrees ((below around).operand condition store) ((above around).operand condition store) _ _ (agrees.operand around condition store) (λ given later o.
       branched_agrees _ _ (branch_agrees (marking (marked_as_operand source condition) around) then_branch else_branch (is_byte 1 (operand_bytes source later given)) path later) o) over
 
-  field_agrees : (around : Around) (base : ℕ) (field : TupleFieldId) (path : Path) (store : Store) → IsOver (field_into source (below around) base field path store) → field_into source (above around) base field path store ≡ field_into source (below around) base field path store
+  field_agrees : (around : Around) (base : ℕ) (field : ℕ) (path : Path) (store : Store) → IsOver (field_into source (below around) base field path store) → field_into source (above around) base field path store ≡ field_into source (below around) base field path store
   field_agrees around base field path store over =
       then_do_agrees (field_place (below around) base field store) (field_place (above around) base field store) _ _ (field_place_agrees around base field store) (λ place later o. refl) over
 

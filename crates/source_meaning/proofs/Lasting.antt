@@ -6,7 +6,6 @@ use Rattle.world.specs.declared.body.Statement.{Statement}
 use Rattle.world.specs.declared.body.Statement.TheVariants as statement
 use Rattle.types.specs.declared.ids.BindingId.{BindingId}
 use Rattle.types.specs.declared.ids.ExprId.{ExprId}
-use Rattle.types.specs.declared.ids.TupleFieldId.{TupleFieldId}
 use Rattle.types.specs.declared.operators.LogicOp.{LogicOp}
 use Rattle.world.specs.declared.infer.ValueNs.{ValueNs}
 use Rattle.world.specs.declared.infer.ValueNs.TheVariants.{LocalBinding}
@@ -196,11 +195,11 @@ module _ (limit : ℕ) where
     operand : (around : Around) (store : Store) → Lasts limit ((levels around).operand e store)
     into : (around : Around) (path : Path) (store : Store) → Lasts limit ((levels around).into e path store)
 
-  field_place_lasts : (below : Levels) (around : Around) (base : ℕ) (field : TupleFieldId) (store : Store) → Lasts limit ((below around).place base store) → Lasts limit (field_place (below around) base field store)
+  field_place_lasts : (below : Levels) (around : Around) (base : ℕ) (field : ℕ) (store : Store) → Lasts limit ((below around).place base store) → Lasts limit (field_place (below around) base field store)
   field_place_lasts below around base field store over = then_do_lasts ((below around).place base store) _ over (λ place later. tt)
 
   place_lasts : (source : Source) (below : Levels) (around : Around) (e : ℕ) (form : Option CoreExpr) (store : Store) → ((within : Around) (path : Path) (later : Store) → Lasts limit ((below within).into e path later)) →
-      ((base : ℕ) (field : TupleFieldId) → form ≡ Some (expr.Field base field) → Lasts limit ((below around).place base store)) → Lasts limit (place_of source below around e form store)
+      ((base : ℕ) (field : ℕ) → form ≡ Some (expr.Field base field) → Lasts limit ((below around).place base store)) → Lasts limit (place_of source below around e form store)
   place_lasts source below around e (Some (expr.Path name)) store over base_is = named_place_lasts (named_by source e) store
   place_lasts source below around e (Some (expr.Field base field)) store over base_is = field_place_lasts below around base field store (base_is base field refl)
   place_lasts source below around e _ store over base_is =

@@ -7,7 +7,6 @@ use Rattle.types.specs.declared.ids.BindingId.{BindingId}
 use Rattle.types.specs.declared.ids.ExprId.{ExprId}
 use Rattle.types.specs.declared.ids.LabelId.{LabelId}
 use Rattle.types.specs.declared.ids.PatId.{PatId}
-use Rattle.types.specs.declared.ids.TupleFieldId.{TupleFieldId}
 use Rattle.types.specs.declared.operators.LogicOp.{LogicOp}
 use Rattle.world.specs.declared.body.Statement.{Statement}
 use Rattle.world.specs.declared.body.Statement.TheVariants as statement
@@ -315,12 +314,12 @@ module _ (source : Source) (checked : IsCheckedBody source.body source.infer) (e
   name_marks name is = form_marks (Some (Path name)) is ∙ no_marks
 
   -- a field evaluated into a path marks what its base does as a place
-  pub part_marks : (base : ℕ) (field : TupleFieldId) → node source e ≡ Some (Field base field) → marked_itself source e ≡ marked_as_place source base
+  pub part_marks : (base : ℕ) (field : ℕ) → node source e ≡ Some (Field base field) → marked_itself source e ≡ marked_as_place source base
   unfolding marked_as_place
   part_marks base field is = form_marks (Some (Field base field)) is ∙ ap marks_of (append-nil (place_events source (events source) base))
 
   -- and so does a field as a place
-  pub field_marks : (base : ℕ) (field : TupleFieldId) → unadjusted source e ≡ Some (Field base field) → marked_as_place source e ≡ marked_as_place source base
+  pub field_marks : (base : ℕ) (field : ℕ) → unadjusted source e ≡ Some (Field base field) → marked_as_place source e ≡ marked_as_place source base
   unfolding marked
   field_marks base field is =
       let plain = unadjusted-plain source e (Field base field) is in

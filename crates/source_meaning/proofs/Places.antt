@@ -2,7 +2,6 @@
 -- when the operation runs.
 use Rattle.std.proofs.Common.{⊎_elim, ◌⊎◌, inl, ◌≡◌, ℕ, ◌+◌, ◌≤◌, ◌==◌, Bool, List, [], ◌∷◌, ◌++◌, length, take, drop, slice_get, get_or, if◌then◌else◌, Option, Some, None, unwrap_or, option_map, option_and_then, refl, sym, ap, ◌∙◌, subst, rules, arith, le-leb, length-drop, length-take-le}
 use Rattle.std.proofs.lemmas.Option.{slice_get_within, slice_get-get_or}
-use Rattle.types.specs.declared.ids.TupleFieldId.{TupleFieldId}
 use Rattle.types.specs.declared.ty.Const.TheFolds.{the_lemmas}
 use Rattle.types.specs.declared.ty.Ty.{Ty, Bool as BoolTy}
 use Rattle.types.specs.declared.ty.Ty.TheVariants.{Tuple}
@@ -22,7 +21,7 @@ use Rattle.source_meaning.proofs.Operators.{IsLengthOf}
 use Rattle.source_meaning.proofs.Values.{size_at, IsValueOf, AreValues, number_is_long}
 
 -- the type of a part of a tuple
-pub part-type : (field : TupleFieldId) (parts : List Ty) → elem_type (Part field) (Tuple parts) ≡ slice_get parts field.index
+pub part-type : (field : ℕ) (parts : List Ty) → elem_type (Part field) (Tuple parts) ≡ slice_get parts field
 part-type field parts = search (the_lemmas, rules)
 
 -- the type behind one element more
@@ -104,16 +103,16 @@ module _ (source : Source) where
   whole_is_place cell ty is laid = record { typed = is; laid = laid; offset = 0; begins = refl; ends = let same = ap (size_at source) is in omega (arith, same) }
 
   -- a part of a tuple is a place, and has the part's type
-  pub part_is_place : HasAggregates source.world → (place : Place) (parts : List Ty) (field : TupleFieldId) (ty : Ty) → IsPlaceOf source place (Some (Tuple parts)) → slice_get parts field.index ≡ Some ty → IsPlaceOf source (projected (Part field) place) (Some ty)
+  pub part_is_place : HasAggregates source.world → (place : Place) (parts : List Ty) (field : ℕ) (ty : Ty) → IsPlaceOf source place (Some (Tuple parts)) → slice_get parts field ≡ Some ty → IsPlaceOf source (projected (Part field) place) (Some ty)
   unfolding place_type
   part_is_place aggregates place parts field ty fits has =
       let layout = fits.laid.layout in
       let found : layout_of source.world (Tuple parts) ≡ Some layout = fits.laid.found in
       let inside = aggregates.tuples parts layout found in
-      let within = slice_get_within parts field.index ty has in
-      let behind = get_or layout.offsets field.index 0 in
-      let there : slice_get layout.offsets field.index ≡ Some behind = slice_get-get_or layout.offsets field.index 0 (omega (arith, within, inside.count)) in
-      let part = inside.inside field.index behind ty has there in
+      let within = slice_get_within parts field ty has in
+      let behind = get_or layout.offsets field 0 in
+      let there : slice_get layout.offsets field ≡ Some behind = slice_get-get_or layout.offsets field 0 (omega (arith, within, inside.count)) in
+      let part = inside.inside field behind ty has there in
       let size : size_at source (Some (Tuple parts)) ≡ layout.size = ap (λ given. unwrap_or (option_map (λ l. l.size) given) 0) found in
       let size' : size_at source (Some ty) ≡ part.layout.size = ap (λ given. unwrap_or (option_map (λ l. l.size) given) 0) part.has in
       let whole_type = cell_type source place.cell in
@@ -124,7 +123,7 @@ module _ (source : Source) where
         begins = offset_behind-more source.world place.projection (Part field) whole_type
             ∙ ap (λ given. added given (option_and_then (elem_offset source.world (Part field)) (type_behind place.projection whole_type))) fits.begins
             ∙ ap (λ given. added (Some fits.offset) (option_and_then (elem_offset source.world (Part field)) given)) fits.typed
-            ∙ ap (λ given. added (Some fits.offset) (option_and_then (λ l. slice_get l.offsets field.index) given)) found
+            ∙ ap (λ given. added (Some fits.offset) (option_and_then (λ l. slice_get l.offsets field) given)) found
             ∙ ap (added (Some fits.offset)) there;
         ends = omega (arith, fits.ends, part.ends, size, size');
       }

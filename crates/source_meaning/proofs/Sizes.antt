@@ -8,7 +8,6 @@ use Rattle.world.specs.declared.body.Statement.{Statement}
 use Rattle.world.specs.declared.body.Statement.TheVariants as statement
 use Rattle.types.specs.declared.ids.ExprId.{ExprId}
 use Rattle.types.specs.declared.ids.LabelId.{LabelId}
-use Rattle.types.specs.declared.ids.TupleFieldId.{TupleFieldId}
 use Rattle.types.specs.declared.operators.LogicOp.{LogicOp}
 use Rattle.types.specs.declared.ty.Ty.{Ty, Bool as BoolTy, Int as IntType, Uint as UintType}
 use Rattle.world.specs.Checked.{IsChecked, IsCheckedBody}
@@ -328,7 +327,7 @@ module _ (source : Source) (checked : IsChecked source.world) where
 
   module _ (aggregates : HasAggregates source.world) (below : Levels) (sound : (outer : List Opened) (around : Around) → Stands outer around → IsSoundLevel outer around.targets (below around)) where
     -- a field is a part of its base's place, and has its own type
-    field_is_sound : (outer : List Opened) (around : Around) (stands : Stands outer around) (e base : ℕ) (field : TupleFieldId) (store : Store) → node source e ≡ Some (expr.Field base field) → IsFine source outer e → IsSized source store →
+    field_is_sound : (outer : List Opened) (around : Around) (stands : Stands outer around) (e base : ℕ) (field : ℕ) (store : Store) → node source e ≡ Some (expr.Field base field) → IsFine source outer e → IsSized source store →
         IsSound source around.targets (λ place. IsPlaceOf source place (own_type source e)) (field_place (below around) base field store)
     field_is_sound outer around stands e base field store is fine sized =
         let plain = fine.plain e itself in

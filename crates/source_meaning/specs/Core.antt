@@ -69,7 +69,7 @@ pub data Operation : Type 0 where
 pub data CoreExpr : Type 0 where
   Literal : CoreLiteral → CoreExpr
   Path : (name : List ℕ) → CoreExpr
-  Field : (base : ℕ) → (field : TupleFieldId) → CoreExpr
+  Field : (base index : ℕ) → CoreExpr
   Strict : Operation → (operands : List ℕ) → CoreExpr
   Logic : LogicOp → (left right : ℕ) → CoreExpr
   If : (condition then_branch : ℕ) → (else_branch : Option ExprId) → CoreExpr
@@ -117,9 +117,10 @@ binary_form lhs rhs (binary.Assignment op) = compound_form lhs rhs op
 abbrev pub unary_form : ℕ → Option Operation → Option CoreExpr
 unary_form e operation = option_map (λ op. Strict op (e ∷ [])) operation
 
--- a field, by what inference resolved it to: so far one of a tuple, and none of a struct, a variant or a union
+-- a field, by what inference resolved it to: so far a part of a tuple, by its index, and none of a struct, a variant or a union. The name
+-- that is written isn't looked at.
 abbrev pub field_form : ℕ → Option (Either FieldId TupleFieldId) → Option CoreExpr
-field_form base (Some (Right field)) = Some (Field base field)
+field_form base (Some (Right field)) = Some (Field base field.index)
 field_form base _ = None
 
 -- The form of an expression, where it is one with a meaning. A path is not resolved to an item that a trait or an impl has,
@@ -275,7 +276,7 @@ abbrev pub is_path : Option CoreExpr → Bool
 is_path (Some (Path name)) = true
 is_path _ = false
 
--- whether an expression is a place as it stands, which has no cell of its own: a path, or a field
+-- whether an expression whose value isn't adjusted names a place, and so is given no temporary: a path, or a field
 abbrev pub is_place : Option CoreExpr → Bool
 is_place (Some (Path name)) = true
 is_place (Some (Field base field)) = true

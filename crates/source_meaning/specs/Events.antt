@@ -14,12 +14,12 @@ pub data Event : Type 0 where
   Marks : (cell : Cell) → Event
   Closes : Event
 
--- the mark of an expression's own cell, which a place has not
+-- the mark of an expression's own cell; an expression that names a place has none
 abbrev pub own_mark : (has_none : Bool) → ℕ → List Event
 own_mark has_none e = cond has_none [] (Marks (Node e) ∷ [])
 
--- An expression that is evaluated to a place and is none itself has its own cell marked, before what it is made of. A field is its base's
--- place, and a literal as an operand has no cell.
+-- An expression that is evaluated to a place and is none itself has its own cell marked, before what it is made of. A field
+-- as a place marks what its base marks as a place, and a literal as an operand has no cell.
 abbrev pub place_events : Source → (ℕ → List Event) → ℕ → List Event
 place_events source below e = cond (is_path (unadjusted source e)) [] (own_mark (is_place (unadjusted source e)) e ++ below e)
 

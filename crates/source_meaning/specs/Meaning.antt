@@ -4,7 +4,6 @@ use Rattle.std.specs.Prelude.{◌≡◌, ℕ, zero, suc, pos, Bool, true, false,
 use Rattle.types.specs.declared.ids.BindingId.{BindingId}
 use Rattle.types.specs.declared.ids.ExprId.{ExprId}
 use Rattle.types.specs.declared.ids.LabelId.{LabelId}
-use Rattle.types.specs.declared.ids.TupleFieldId.{TupleFieldId}
 use Rattle.types.specs.declared.ty.Ty.{Ty}
 use Rattle.types.specs.declared.operators.LogicOp.{LogicOp}
 use Rattle.types.specs.declared.operators.LogicOp.TheVariants as logic
@@ -135,15 +134,15 @@ abbrev pub named_place : Option ValueNs → Store → End Place
 named_place (Some (LocalBinding b)) store = Go (whole (Binding b.0)) store no_cost
 named_place _ store = Stuck
 
--- a field is its base's place, and the step to the part
-abbrev pub field_place : Level → (base : ℕ) → TupleFieldId → Store → End Place
-field_place below base field store = then_do (below.place base store) (λ place later. Go (projected (Part field) place) later no_cost)
+-- the place of a field: that of its base, with one more element
+abbrev pub field_place : Level → (base index : ℕ) → Store → End Place
+field_place below base index store = then_do (below.place base store) (λ place later. Go (projected (Part index) place) later no_cost)
 
 -- a path is the place that it names; an expression that is no place goes into a cell of its own, which is then its
 -- place
 abbrev pub place_of : Source → Levels → Around → ℕ → Option CoreExpr → Store → End Place
 place_of source below around e (Some (expr.Path name)) store = named_place (named_by source e) store
-place_of source below around e (Some (expr.Field base field)) store = field_place (below around) base field store
+place_of source below around e (Some (expr.Field base index)) store = field_place (below around) base index store
 place_of source below around e _ store =
     then_do ((below (marking (Node e ∷ []) around)).into e (record { cell = Node e }) store) (λ _ later. Go (whole (Node e)) later no_cost)
 
@@ -226,10 +225,10 @@ abbrev pub named_into : Option ValueNs → Path → Store → End (Unit {0})
 named_into (Some (LocalBinding b)) path store = put store path (store (Binding b.0))
 named_into _ path store = Stuck
 
--- a field's bytes, after its base's place
-abbrev pub field_into : Source → Level → (base : ℕ) → TupleFieldId → Path → Store → End (Unit {0})
-field_into source below base field path store =
-    then_do (field_place below base field store) (λ place later. copy_to later path (place_bytes source later place))
+-- the base of a field is evaluated to a place, and then the bytes of the part are copied
+abbrev pub field_into : Source → Level → (base index : ℕ) → Path → Store → End (Unit {0})
+field_into source below base index path store =
+    then_do (field_place below base index store) (λ place later. copy_to later path (place_bytes source later place))
 
 -- a name is bound, or assigned: the bytes of a place go into the binding's cell
 abbrev pub bind : Source → Option BindingId → Place → Store → End (Unit {0})
@@ -377,7 +376,7 @@ call_into source below callees around e callee args path store =
 abbrev pub into_of : Source → Levels → Callees → Around → ℕ → Option CoreExpr → Path → Store → End (Unit {0})
 into_of source below callees around e (Some (expr.Literal l)) path store = put_literal source e store path (literal_bytes source e l)
 into_of source below callees around e (Some (expr.Path name)) path store = named_into (named_by source e) path store
-into_of source below callees around e (Some (expr.Field base field)) path store = field_into source (below around) base field path store
+into_of source below callees around e (Some (expr.Field base index)) path store = field_into source (below around) base index path store
 into_of source below callees around e (Some (expr.Strict operation operands)) path store = strict_into source below around e operation operands path store
 into_of source below callees around e (Some (expr.Logic op left right)) path store = logic_into source below around op left right path store
 into_of source below callees around e (Some (expr.If condition then_branch else_branch)) path store = if_into source below around condition then_branch else_branch path store

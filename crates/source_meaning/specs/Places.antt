@@ -1,6 +1,6 @@
--- Places: which bytes of a cell one is, and of which type.
+-- Places: which bytes of a cell one is, and of which type. What lies behind elements is what they lead to, from a value on, where the first
+-- one is applied first.
 use Rattle.std.specs.Prelude.{ℕ, ◌+◌, List, [], ◌∷◌, length, take, drop, Option, Some, None, option_and_then, option_map, slice_get, if◌then◌else◌, nat_le}
-use Rattle.types.specs.declared.ids.TupleFieldId.{TupleFieldId}
 use Rattle.types.specs.declared.ty.ComplexMemoryMap.{ComplexMemoryMap}
 use Rattle.types.specs.declared.ty.Const.{Const}
 use Rattle.types.specs.declared.ty.GenericArg.{GenericArg}
@@ -19,20 +19,20 @@ use Rattle.source_meaning.specs.Source.{Source, Store, cell_type, PlaceElem, Par
 abbrev TyLayer : Type 0
 TyLayer = Ty-F Const GenericArg MemoryMap Ty ComplexMemoryMap GenericArgs TraitRef UnevaluatedConst ValueConst
 
--- the type of a part of a tuple
-abbrev part_at : TupleFieldId → TyLayer → Option Ty
-part_at field (layer.Tuple parts) = slice_get parts field.index
-part_at field _ = None
+-- the type of the part of a tuple at an index
+abbrev part_at : (index : ℕ) → TyLayer → Option Ty
+part_at index (layer.Tuple parts) = slice_get parts index
+part_at index _ = None
 
 -- the type that an element leads to from a value of a type
 abbrev pub elem_type : PlaceElem → Ty → Option Ty
-elem_type (Part field) ty = part_at field (out-Ty ty)
+elem_type (Part index) ty = part_at index (out-Ty ty)
 
--- how far behind the value's first byte that begins: as the layout of the value's type says
+-- how many bytes behind the first byte of a value of a type that part begins: the offset that the layout of the type has for it
 abbrev pub elem_offset : HirDatabase → PlaceElem → Ty → Option ℕ
-elem_offset world (Part field) ty = option_and_then (λ layout. slice_get layout.offsets field.index) (layout_of world ty)
+elem_offset world (Part index) ty = option_and_then (λ layout. slice_get layout.offsets index) (layout_of world ty)
 
--- the type of what elements lead to, one after another
+-- the type of what lies behind elements, from a value of a type
 unfoldable pub type_behind : List PlaceElem → Option Ty → Option Ty
 type_behind [] ty = ty
 type_behind (elem ∷ rest) ty = type_behind rest (option_and_then (elem_type elem) ty)
@@ -42,7 +42,7 @@ abbrev pub added : Option ℕ → Option ℕ → Option ℕ
 added (Some first) (Some second) = Some (first + second)
 added _ _ = None
 
--- how far behind the value's first byte it begins
+-- how many bytes behind the value's first byte that begins: the sum of the elements' offsets, each in the type before it
 unfoldable pub offset_behind : HirDatabase → List PlaceElem → Option Ty → Option ℕ
 offset_behind world [] ty = Some 0
 offset_behind world (elem ∷ rest) ty = added (option_and_then (elem_offset world elem) ty) (offset_behind world rest (option_and_then (elem_type elem) ty))
@@ -51,8 +51,8 @@ offset_behind world (elem ∷ rest) ty = added (option_and_then (elem_offset wor
 abbrev pub part_of : (offset size : ℕ) → List ℕ → Option (List ℕ)
 part_of offset size bytes = if nat_le (offset + size) (length bytes) then Some (take size (drop offset bytes)) else None
 
--- What elements lead to in a value of a type: as many bytes as the type there has, from where it begins. Without elements it is all of the
--- value.
+-- The bytes behind elements, of a value of a type: as many as the layout of the type behind the elements has, from the elements' offset on.
+-- Without elements they are all bytes of the value.
 unfoldable pub bytes_behind : HirDatabase → List PlaceElem → Option Ty → List ℕ → Option (List ℕ)
 bytes_behind world [] ty bytes = Some bytes
 bytes_behind world (elem ∷ rest) ty bytes =

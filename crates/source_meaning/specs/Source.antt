@@ -11,7 +11,6 @@ use Rattle.world.specs.declared.infer.ValueNs.{ValueNs}
 use Rattle.world.specs.declared.layout.Layout.{Layout}
 use Rattle.types.specs.declared.ty.Ty.{Ty}
 use Rattle.types.specs.declared.ids.BindingId.{BindingId}
-use Rattle.types.specs.declared.ids.TupleFieldId.{TupleFieldId}
 use Rattle.world.specs.Lookups.{layout_of, type_of, expr_of, is_copy}
 use Rattle.source_meaning.specs.Core.{CoreExpr, cast_operation, core_of, field_named, is_adjusted_otherwise, is_adjusted_twice, named_path, type_after, is_adjusted_pattern, is_dereferenced_pattern, path_of, pattern_names_item, local_named, name_of, names_item, never_target}
 
@@ -142,13 +141,13 @@ is_dropped source cell = is_dropped_type source (cell_type source cell)
 abbrev pub drops : Source → List Cell → ℕ
 drops source cells = length (filter (is_dropped source) cells)
 
--- where a value is written: a cell
+-- where a value is written: to all of a cell
 pub record Path : Type 0 where
   pub cell : Cell
 
--- one step from a value into it: to a part of a tuple
+-- one step from a value into it: to the part of a tuple at an index
 pub data PlaceElem : Type 0 where
-  Part : (field : TupleFieldId) → PlaceElem
+  Part : (index : ℕ) → PlaceElem
 
 -- Where a value is read: a cell, or what elements lead to in it, the first one applied first. Places are read late: when an operation
 -- runs.

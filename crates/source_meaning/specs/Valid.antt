@@ -6,7 +6,6 @@ use Rattle.types.specs.declared.ids.BindingId.{BindingId}
 use Rattle.types.specs.declared.ids.ExprId.{ExprId}
 use Rattle.types.specs.declared.ids.FunctionId.{FunctionId}
 use Rattle.types.specs.declared.ids.LabelId.{LabelId}
-use Rattle.types.specs.declared.ids.TupleFieldId.{TupleFieldId}
 use Rattle.world.specs.declared.infer.ValueNs.TheVariants.{LocalBinding}
 use Rattle.world.specs.declared.items.FunctionRow.{FunctionRow}
 use Rattle.world.specs.declared.layout.Layout.{Layout}
@@ -199,11 +198,11 @@ pub record IsPlainPath (source : Source) (e : ℕ) (ty : Ty) : Type 0 where
   pub named : named_by source e ≡ Some (LocalBinding binding)
   pub binding_has : binding_type source binding.0 ≡ Some ty
 
--- a field is the part of its base that inference resolved it to, and has that part's type; the base is a tuple
-pub record IsPlainField (source : Source) (base : ℕ) (field : TupleFieldId) (ty : Ty) : Type 0 where
+-- the base of a field is a tuple that has a part at the index which inference resolved the field to, and the field has that part's type
+pub record IsPlainField (source : Source) (base index : ℕ) (ty : Ty) : Type 0 where
   pub parts : List Ty
   pub base_has : node_type source base ≡ Some (TupleTy parts)
-  pub part_has : slice_get parts field.index ≡ Some ty
+  pub part_has : slice_get parts field ≡ Some ty
 
 -- the value of a `return`, where there is one, has the type of the body's result
 pub record HasPlainReturn (source : Source) (value : Option ExprId) : Type 0 where
