@@ -2,13 +2,16 @@
 use Rattle.std.proofs.Common.{◌≡◌, ℕ, Bool, true, false, List, Option, Some, None, option_and_then, ⊎_elim, refl, sym, ap, ◌∙◌, subst}
 use Rattle.std.proofs.lemmas.Bool.{false≢true}
 use Rattle.std.proofs.lemmas.List.Elements.{All-contains}
+use Rattle.either.specs.declared.Either.{Either}
 use Rattle.source_meaning.specs.Built.{AssignsBinding, CombinesBinding, CallsFunction, is_direct, IsBuiltStatement, IsBuiltForm}
 use Rattle.source_meaning.specs.Core.{CoreExpr, Operation, Negate, Invert, Keep, Convert, Combine, MakeTuple, MakeArray, Repeat, core_of, local_named}
 use Rattle.source_meaning.specs.Core as expr
 use Rattle.source_meaning.specs.Source.{Source, node, target_path, pattern_named_by, compound_path, named_by, binding_type}
 use Rattle.types.specs.declared.ids.BindingId.{BindingId}
 use Rattle.types.specs.declared.ids.ExprId.{ExprId}
+use Rattle.types.specs.declared.ids.FieldId.{FieldId}
 use Rattle.types.specs.declared.ids.FunctionId.{FunctionId}
+use Rattle.types.specs.declared.ids.TupleFieldId.{TupleFieldId}
 use Rattle.world.specs.declared.body.Statement.{Statement}
 use Rattle.world.specs.declared.body.Statement.TheVariants as statement
 use Rattle.world.specs.declared.expr.Expr.{Expr}
@@ -19,15 +22,15 @@ use Rattle.world.specs.Lookups.{function_row}
 use Rattle.body_forms.specs.Refusals.{IsIncomplete, LacksPart, IsUnbuiltForm, IsUnbuiltStatement, IsUnbuiltTarget, IsUnbuiltOperand, IsUnbuiltCall, IsUnbuilt, LetBindsNone, LacksLocal, IsNoArray, IsUnresolved}
 use Rattle.body_forms.proofs.Forms.{node-plain}
 
-incomplete-core : (item : Bool) (casts : ExprId → Option Operation) (e : Expr) → IsIncomplete e → core_of item casts e ≡ None
-incomplete-core item casts whole.Missing lacks = refl
-incomplete-core item casts (whole.BinaryOp lhs rhs None) lacks = refl
-incomplete-core item casts (whole.BinaryOp lhs rhs (Some op)) lacks = absurd lacks
-incomplete-core item casts _ lacks = absurd lacks
+incomplete-core : (item : Bool) (casts : ExprId → Option Operation) (field : Option (Either FieldId TupleFieldId)) (e : Expr) → IsIncomplete e → core_of item casts field e ≡ None
+incomplete-core item casts field whole.Missing lacks = refl
+incomplete-core item casts field (whole.BinaryOp lhs rhs None) lacks = refl
+incomplete-core item casts field (whole.BinaryOp lhs rhs (Some op)) lacks = absurd lacks
+incomplete-core item casts field _ lacks = absurd lacks
 
 -- an incomplete expression has no form with a meaning
 incomplete-node : (source : Source) (e : ℕ) → LacksPart source e → node source e ≡ None
-incomplete-node source e lacks = node-plain source e lacks.expr lacks.plain lacks.stands ∙ incomplete-core _ _ lacks.expr lacks.lacks
+incomplete-node source e lacks = node-plain source e lacks.expr lacks.plain lacks.stands ∙ incomplete-core _ _ _ lacks.expr lacks.lacks
 
 -- an incomplete expression is no unbuilt form
 pub incomplete-is-no-unbuilt : (source : Source) (e : ℕ) → LacksPart source e → IsUnbuiltForm source e → ⊥
@@ -80,6 +83,7 @@ built-is-no-unbuilt source e (Some (expr.Path name)) built unbuilt =
     let same : LocalBinding built.binding ≡ unbuilt.0 = cc in
     let none = ap local_named same ∙ unbuilt.2 in
     absurd cc
+built-is-no-unbuilt source e (Some (expr.Field base field)) built unbuilt = unbuilt
 built-is-no-unbuilt source e (Some (expr.Strict operation operands)) built unbuilt = unbuilt
 built-is-no-unbuilt source e (Some (expr.Logic op left right)) built unbuilt = unbuilt
 built-is-no-unbuilt source e (Some (expr.If condition then_branch else_branch)) built unbuilt = unbuilt
@@ -127,6 +131,7 @@ built-has-local source e (Some (expr.Continue label)) built lacks = lacks
 built-has-local source e (Some (expr.Return value)) built lacks = lacks
 built-has-local source e (Some (expr.Call callee args)) built lacks = lacks
 built-has-local source e (Some (expr.Literal l)) built lacks = lacks
+built-has-local source e (Some (expr.Field base field)) built lacks = lacks
 built-has-local source e (Some (expr.Strict operation operands)) built lacks = lacks
 built-has-local source e (Some (expr.Logic op left right)) built lacks = lacks
 built-has-local source e (Some (expr.If condition then_branch else_branch)) built lacks = lacks
@@ -144,6 +149,7 @@ built-is-resolved source e (Some (expr.Compound op assigned value)) name built u
     let none = ap (option_and_then local_named) (sym unresolved.1) ∙ names.1 in
     absurd cc
 built-is-resolved source e (Some (expr.Literal l)) name built unresolved = unresolved
+built-is-resolved source e (Some (expr.Field base field)) name built unresolved = unresolved
 built-is-resolved source e (Some (expr.Strict operation operands)) name built unresolved = unresolved
 built-is-resolved source e (Some (expr.Logic op left right)) name built unresolved = unresolved
 built-is-resolved source e (Some (expr.If condition then_branch else_branch)) name built unresolved = unresolved
@@ -168,6 +174,7 @@ built-has-array source e (Some (expr.Strict (Combine op) operands)) text built n
 built-has-array source e (Some (expr.Strict MakeTuple operands)) text built none = none
 built-has-array source e (Some (expr.Literal l)) text built none = none
 built-has-array source e (Some (expr.Path name)) text built none = none
+built-has-array source e (Some (expr.Field base field)) text built none = none
 built-has-array source e (Some (expr.Logic op left right)) text built none = none
 built-has-array source e (Some (expr.If condition then_branch else_branch)) text built none = none
 built-has-array source e (Some (expr.Assign assigned value)) text built none = none

@@ -1,8 +1,11 @@
 -- The form of an expression, by its variant and by how its value is adjusted.
 use Rattle.std.proofs.Common.{◌≡◌, ℕ, Bool, true, false, ◌&&◌, cond, if◌then◌else◌, Option, Some, None, option_and_then, refl, ap, ◌∙◌, inl, inr}
-use Rattle.source_meaning.specs.Core.{Operation, Keep, Convert, cast_operation, core_of, is_adjusted_otherwise, is_coercion, is_number_type, is_literal, is_path, names_item, value_type}
+use Rattle.either.specs.declared.Either.{Either}
+use Rattle.source_meaning.specs.Core.{Operation, Keep, Convert, cast_operation, core_of, field_named, is_adjusted_otherwise, is_coercion, is_number_type, is_literal, is_place, names_item, value_type}
 use Rattle.source_meaning.specs.Source.{Source, diverges, node, unadjusted}
 use Rattle.types.specs.declared.ids.ExprId.{ExprId}
+use Rattle.types.specs.declared.ids.FieldId.{FieldId}
+use Rattle.types.specs.declared.ids.TupleFieldId.{TupleFieldId}
 use Rattle.world.specs.declared.expr.Expr.{Expr}
 use Rattle.world.specs.declared.expr.Expr.TheVariants as whole
 use Rattle.world.specs.declared.infer.InferenceResult.{InferenceResult}
@@ -12,47 +15,48 @@ use Rattle.body_forms.specs.declared.form.Form.TheVariants as form
 use Rattle.body_forms.specs.Form.{IsFormOf, IsCauseAt, HasForm, core_form}
 
 -- an expression of none of the forms that have a meaning
-pub otherwise : (item : Bool) (casts : ExprId → Option Operation) (e : Expr) → ((l : _) → e ≡ whole.Literal l → ⊥) → ((name : _) → e ≡ whole.Path name → ⊥) → ((operand : _) (op : _) → e ≡ whole.UnaryOp operand op → ⊥) → ((operand : _) → e ≡ whole.Cast operand → ⊥) → ((lhs : _) (rhs : _) (op : _) → e ≡ whole.BinaryOp lhs rhs op → ⊥) → ((condition : _) (then_branch : _) (else_branch : _) → e ≡ whole.If condition then_branch else_branch → ⊥) → ((target : _) (value : _) → e ≡ whole.Assignment target value → ⊥) → ((statements : _) (tail : _) (label : _) → e ≡ whole.Block statements tail label → ⊥) → ((body : _) (label : _) → e ≡ whole.Loop body label → ⊥) → ((value : _) (label : _) → e ≡ whole.Break value label → ⊥) → ((label : _) → e ≡ whole.Continue label → ⊥) → ((value : _) → e ≡ whole.Return value → ⊥) → ((callee : _) (args : _) → e ≡ whole.Call callee args → ⊥) → ((receiver : _) (args : _) (name : _) → e ≡ whole.MethodCall receiver args name → ⊥) → ((parts : _) → e ≡ whole.Tuple parts → ⊥) → ((elements : _) → e ≡ whole.Array elements → ⊥) → ((initializer : _) → e ≡ whole.Repeat initializer → ⊥) → (e ≡ whole.Missing → ⊥) → IsFormOf item casts e form.Unbuilt
-otherwise item casts (whole.Literal l) literal path unary cast binary either assigned block loop break continue return call method tuple array repeat missing = absurd (literal l refl)
-otherwise item casts (whole.Path name) literal path unary cast binary either assigned block loop break continue return call method tuple array repeat missing = absurd (path name refl)
-otherwise item casts (whole.UnaryOp operand op) literal path unary cast binary either assigned block loop break continue return call method tuple array repeat missing = absurd (unary operand op refl)
-otherwise item casts (whole.Cast operand) literal path unary cast binary either assigned block loop break continue return call method tuple array repeat missing = absurd (cast operand refl)
-otherwise item casts (whole.BinaryOp lhs rhs op) literal path unary cast binary either assigned block loop break continue return call method tuple array repeat missing = absurd (binary lhs rhs op refl)
-otherwise item casts (whole.If condition then_branch else_branch) literal path unary cast binary either assigned block loop break continue return call method tuple array repeat missing = absurd (either condition then_branch else_branch refl)
-otherwise item casts (whole.Assignment target value) literal path unary cast binary either assigned block loop break continue return call method tuple array repeat missing = absurd (assigned target value refl)
-otherwise item casts (whole.Block statements tail label) literal path unary cast binary either assigned block loop break continue return call method tuple array repeat missing = absurd (block statements tail label refl)
-otherwise item casts (whole.Loop body label) literal path unary cast binary either assigned block loop break continue return call method tuple array repeat missing = absurd (loop body label refl)
-otherwise item casts (whole.Break value label) literal path unary cast binary either assigned block loop break continue return call method tuple array repeat missing = absurd (break value label refl)
-otherwise item casts (whole.Continue label) literal path unary cast binary either assigned block loop break continue return call method tuple array repeat missing = absurd (continue label refl)
-otherwise item casts (whole.Return value) literal path unary cast binary either assigned block loop break continue return call method tuple array repeat missing = absurd (return value refl)
-otherwise item casts (whole.Call callee args) literal path unary cast binary either assigned block loop break continue return call method tuple array repeat missing = absurd (call callee args refl)
-otherwise item casts (whole.MethodCall receiver args name) literal path unary cast binary either assigned block loop break continue return call method tuple array repeat missing = absurd (method receiver args name refl)
-otherwise item casts (whole.Tuple parts) literal path unary cast binary either assigned block loop break continue return call method tuple array repeat missing = absurd (tuple parts refl)
-otherwise item casts (whole.Array elements) literal path unary cast binary either assigned block loop break continue return call method tuple array repeat missing = absurd (array elements refl)
-otherwise item casts (whole.Repeat initializer) literal path unary cast binary either assigned block loop break continue return call method tuple array repeat missing = absurd (repeat initializer refl)
-otherwise item casts whole.Missing literal path unary cast binary either assigned block loop break continue return call method tuple array repeat missing = absurd (missing refl)
-otherwise item casts _ literal path unary cast binary either assigned block loop break continue return call method tuple array repeat missing = record { core = refl; cause = λ lacks. lacks }
+pub otherwise : (item : Bool) (casts : ExprId → Option Operation) (field : Option (Either FieldId TupleFieldId)) (e : Expr) → ((l : _) → e ≡ whole.Literal l → ⊥) → ((name : _) → e ≡ whole.Path name → ⊥) → ((base : _) (name : _) → e ≡ whole.Field base name → ⊥) → ((operand : _) (op : _) → e ≡ whole.UnaryOp operand op → ⊥) → ((operand : _) → e ≡ whole.Cast operand → ⊥) → ((lhs : _) (rhs : _) (op : _) → e ≡ whole.BinaryOp lhs rhs op → ⊥) → ((condition : _) (then_branch : _) (else_branch : _) → e ≡ whole.If condition then_branch else_branch → ⊥) → ((target : _) (value : _) → e ≡ whole.Assignment target value → ⊥) → ((statements : _) (tail : _) (label : _) → e ≡ whole.Block statements tail label → ⊥) → ((body : _) (label : _) → e ≡ whole.Loop body label → ⊥) → ((value : _) (label : _) → e ≡ whole.Break value label → ⊥) → ((label : _) → e ≡ whole.Continue label → ⊥) → ((value : _) → e ≡ whole.Return value → ⊥) → ((callee : _) (args : _) → e ≡ whole.Call callee args → ⊥) → ((receiver : _) (args : _) (name : _) → e ≡ whole.MethodCall receiver args name → ⊥) → ((parts : _) → e ≡ whole.Tuple parts → ⊥) → ((elements : _) → e ≡ whole.Array elements → ⊥) → ((initializer : _) → e ≡ whole.Repeat initializer → ⊥) → (e ≡ whole.Missing → ⊥) → IsFormOf item casts field e form.Unbuilt
+otherwise item casts field (whole.Literal l) literal path part unary cast binary either assigned block loop break continue return call method tuple array repeat missing = absurd (literal l refl)
+otherwise item casts field (whole.Path name) literal path part unary cast binary either assigned block loop break continue return call method tuple array repeat missing = absurd (path name refl)
+otherwise item casts field (whole.Field base name) literal path part unary cast binary either assigned block loop break continue return call method tuple array repeat missing = absurd (part base name refl)
+otherwise item casts field (whole.UnaryOp operand op) literal path part unary cast binary either assigned block loop break continue return call method tuple array repeat missing = absurd (unary operand op refl)
+otherwise item casts field (whole.Cast operand) literal path part unary cast binary either assigned block loop break continue return call method tuple array repeat missing = absurd (cast operand refl)
+otherwise item casts field (whole.BinaryOp lhs rhs op) literal path part unary cast binary either assigned block loop break continue return call method tuple array repeat missing = absurd (binary lhs rhs op refl)
+otherwise item casts field (whole.If condition then_branch else_branch) literal path part unary cast binary either assigned block loop break continue return call method tuple array repeat missing = absurd (either condition then_branch else_branch refl)
+otherwise item casts field (whole.Assignment target value) literal path part unary cast binary either assigned block loop break continue return call method tuple array repeat missing = absurd (assigned target value refl)
+otherwise item casts field (whole.Block statements tail label) literal path part unary cast binary either assigned block loop break continue return call method tuple array repeat missing = absurd (block statements tail label refl)
+otherwise item casts field (whole.Loop body label) literal path part unary cast binary either assigned block loop break continue return call method tuple array repeat missing = absurd (loop body label refl)
+otherwise item casts field (whole.Break value label) literal path part unary cast binary either assigned block loop break continue return call method tuple array repeat missing = absurd (break value label refl)
+otherwise item casts field (whole.Continue label) literal path part unary cast binary either assigned block loop break continue return call method tuple array repeat missing = absurd (continue label refl)
+otherwise item casts field (whole.Return value) literal path part unary cast binary either assigned block loop break continue return call method tuple array repeat missing = absurd (return value refl)
+otherwise item casts field (whole.Call callee args) literal path part unary cast binary either assigned block loop break continue return call method tuple array repeat missing = absurd (call callee args refl)
+otherwise item casts field (whole.MethodCall receiver args name) literal path part unary cast binary either assigned block loop break continue return call method tuple array repeat missing = absurd (method receiver args name refl)
+otherwise item casts field (whole.Tuple parts) literal path part unary cast binary either assigned block loop break continue return call method tuple array repeat missing = absurd (tuple parts refl)
+otherwise item casts field (whole.Array elements) literal path part unary cast binary either assigned block loop break continue return call method tuple array repeat missing = absurd (array elements refl)
+otherwise item casts field (whole.Repeat initializer) literal path part unary cast binary either assigned block loop break continue return call method tuple array repeat missing = absurd (repeat initializer refl)
+otherwise item casts field whole.Missing literal path part unary cast binary either assigned block loop break continue return call method tuple array repeat missing = absurd (missing refl)
+otherwise item casts field _ literal path part unary cast binary either assigned block loop break continue return call method tuple array repeat missing = record { core = refl; cause = λ lacks. lacks }
 
 node-adjusted : (source : Source) (e : ℕ) → is_adjusted_otherwise source.infer (record { 0 = e }) ≡ true → node source e ≡ None
 unfolding node
-node-adjusted source e is = ap (λ adjusted. if adjusted then None else option_and_then (core_of (names_item source.infer (record { 0 = e })) (cast_operation source.infer (record { 0 = e }))) (expr_of source.body e)) is
+node-adjusted source e is = ap (λ adjusted. if adjusted then None else option_and_then (core_of (names_item source.infer (record { 0 = e })) (cast_operation source.infer (record { 0 = e })) (field_named source.infer (record { 0 = e }))) (expr_of source.body e)) is
 
-pub node-plain : (source : Source) (e : ℕ) (given : Expr) → is_adjusted_otherwise source.infer (record { 0 = e }) ≡ false → expr_of source.body e ≡ Some given → node source e ≡ core_of (names_item source.infer (record { 0 = e })) (cast_operation source.infer (record { 0 = e })) given
+pub node-plain : (source : Source) (e : ℕ) (given : Expr) → is_adjusted_otherwise source.infer (record { 0 = e }) ≡ false → expr_of source.body e ≡ Some given → node source e ≡ core_of (names_item source.infer (record { 0 = e })) (cast_operation source.infer (record { 0 = e })) (field_named source.infer (record { 0 = e })) given
 unfolding node
 node-plain source e given is there =
-    ap (λ adjusted. if adjusted then None else option_and_then (core_of (names_item source.infer (record { 0 = e })) (cast_operation source.infer (record { 0 = e }))) (expr_of source.body e)) is
-    ∙ ap (option_and_then (core_of (names_item source.infer (record { 0 = e })) (cast_operation source.infer (record { 0 = e })))) there
+    ap (λ adjusted. if adjusted then None else option_and_then (core_of (names_item source.infer (record { 0 = e })) (cast_operation source.infer (record { 0 = e })) (field_named source.infer (record { 0 = e }))) (expr_of source.body e)) is
+    ∙ ap (option_and_then (core_of (names_item source.infer (record { 0 = e })) (cast_operation source.infer (record { 0 = e })) (field_named source.infer (record { 0 = e })))) there
 
 -- an expression whose value is adjusted otherwise than by `NeverToAny` isn't built
 pub form-adjusted : (source : Source) (e : ℕ) → is_adjusted_otherwise source.infer (record { 0 = e }) ≡ true → HasForm source e form.Unbuilt
 form-adjusted source e is = record { core = node-adjusted source e is; cause = inl is }
 
 -- any other has the form of its variant
-pub form-plain : (source : Source) (e : ℕ) (given : Expr) (f : Form) → is_adjusted_otherwise source.infer (record { 0 = e }) ≡ false → expr_of source.body e ≡ Some given → IsFormOf (names_item source.infer (record { 0 = e })) (cast_operation source.infer (record { 0 = e })) given f → HasForm source e f
+pub form-plain : (source : Source) (e : ℕ) (given : Expr) (f : Form) → is_adjusted_otherwise source.infer (record { 0 = e }) ≡ false → expr_of source.body e ≡ Some given → IsFormOf (names_item source.infer (record { 0 = e })) (cast_operation source.infer (record { 0 = e })) (field_named source.infer (record { 0 = e })) given f → HasForm source e f
 form-plain source e given f is there of =
     record { core = node-plain source e given is there ∙ of.core; cause = by-form f of }
   where
-    by-form : (f : Form) → IsFormOf (names_item source.infer (record { 0 = e })) (cast_operation source.infer (record { 0 = e })) given f → IsCauseAt source e f
+    by-form : (f : Form) → IsFormOf (names_item source.infer (record { 0 = e })) (cast_operation source.infer (record { 0 = e })) (field_named source.infer (record { 0 = e })) given f → IsCauseAt source e f
     by-form form.Incomplete of = record { expr = given; stands = there; plain = is; lacks = of.cause }
     by-form form.Unbuilt of = inr (record { expr = given; stands = there; no_form = of.core; complete = of.cause })
     by-form _ of = tt
@@ -61,7 +65,7 @@ form-plain source e given f is there of =
 pub unadjusted-none : (source : Source) (e : ℕ) → diverges source e ≡ true → unadjusted source e ≡ None
 unadjusted-none source e is = ap (λ (test : Bool). cond test None (node source e)) is
 
--- a form that is no literal's, and one that is no path's
+-- a form that is no literal's, and one that is no place's
 no-literal-form : (f : Form) → ((l : _) → f ≡ form.Literal l → ⊥) → is_literal (core_form f) ≡ false
 no-literal-form (form.Literal l) differ = absurd (differ l refl)
 no-literal-form _ differ = refl
@@ -69,12 +73,13 @@ no-literal-form _ differ = refl
 pub no-literal : (source : Source) (e : ℕ) (f : Form) → HasForm source e f → ((l : _) → f ≡ form.Literal l → ⊥) → is_literal (node source e) ≡ false
 no-literal source e f has differ = ap is_literal has.core ∙ no-literal-form f differ
 
-no-path-form : (f : Form) → ((name : _) → f ≡ form.Path name → ⊥) → is_path (core_form f) ≡ false
-no-path-form (form.Path name) differ = absurd (differ name refl)
-no-path-form _ differ = refl
+no-place-form : (f : Form) → ((name : _) → f ≡ form.Path name → ⊥) → ((base : _) (field : _) → f ≡ form.Field base field → ⊥) → is_place (core_form f) ≡ false
+no-place-form (form.Path name) path part = absurd (path name refl)
+no-place-form (form.Field base field) path part = absurd (part base field refl)
+no-place-form _ path part = refl
 
-pub no-path : (source : Source) (e : ℕ) (f : Form) → HasForm source e f → ((name : _) → f ≡ form.Path name → ⊥) → is_path (node source e) ≡ false
-no-path source e f has differ = ap is_path has.core ∙ no-path-form f differ
+pub no-place : (source : Source) (e : ℕ) (f : Form) → HasForm source e f → ((name : _) → f ≡ form.Path name → ⊥) → ((base : _) (field : _) → f ≡ form.Field base field → ⊥) → is_place (node source e) ≡ false
+no-place source e f has path part = ap is_place has.core ∙ no-place-form f path part
 
 -- what a cast computes
 pub cast-keeps : (infer : InferenceResult) (cast operand : ExprId) → is_coercion infer operand ≡ true → cast_operation infer cast operand ≡ Some Keep

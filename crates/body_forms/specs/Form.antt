@@ -1,15 +1,20 @@
 -- The form of an expression, as far as forms have a meaning.
-use Rattle.std.specs.Prelude.{◌≡◌, ℕ, Bool, [], ◌∷◌, Option, Some, None, pos}
-use Rattle.source_meaning.specs.Core.{CoreExpr, CoreLiteral, Truth, Number, Character, Operation, Negate, Invert, Keep, Convert, Combine, MakeTuple, MakeArray, Repeat, core_of}
+use Rattle.std.specs.Prelude.{◌≡◌, ℕ, Bool, false, [], ◌∷◌, Option, Some, None, pos}
+use Rattle.either.specs.declared.Either.{Either}
+use Rattle.source_meaning.specs.Core.{CoreExpr, CoreLiteral, Truth, Number, Character, Operation, Negate, Invert, Keep, Convert, Combine, MakeTuple, MakeArray, Repeat, core_of, is_place}
 use Rattle.source_meaning.specs.Core as expr
-use Rattle.source_meaning.specs.Source.{Source, node}
+use Rattle.source_meaning.specs.Source.{Source, node, unadjusted}
 use Rattle.types.specs.declared.ids.ExprId.{ExprId}
+use Rattle.types.specs.declared.ids.FieldId.{FieldId}
+use Rattle.types.specs.declared.ids.TupleFieldId.{TupleFieldId}
 use Rattle.world.specs.Nodes.{expr_numbers}
 use Rattle.world.specs.declared.expr.Expr.{Expr}
 use Rattle.mir.specs.declared.operand.UnOp.{UnOp}
 use Rattle.mir.specs.declared.operand.UnOp.TheVariants as one
 use Rattle.body_forms.specs.declared.form.Form.{Form}
 use Rattle.body_forms.specs.declared.form.Form.TheVariants as form
+use Rattle.body_forms.specs.declared.form.PlaceForm.{PlaceForm}
+use Rattle.body_forms.specs.declared.form.PlaceForm.TheVariants as place
 use Rattle.body_forms.specs.declared.literal.LiteralValue.{LiteralValue}
 use Rattle.body_forms.specs.declared.literal.LiteralValue.TheVariants as literal
 use Rattle.body_forms.specs.Refusals.{IsIncomplete, LacksPart, IsUnbuiltForm}
@@ -34,6 +39,7 @@ no_casts operand = None
 abbrev pub core_form : Form → Option CoreExpr
 core_form (form.Literal value) = Some (expr.Literal (core_value value))
 core_form (form.Path name) = Some (expr.Path name.now)
+core_form (form.Field base field) = Some (expr.Field base.0 field)
 core_form (form.Unary op e) = Some (expr.Strict (operation_of op) (e.0 ∷ []))
 core_form (form.Coercion e) = Some (expr.Strict Keep (e.0 ∷ []))
 core_form (form.Cast e) = Some (expr.Strict Convert (e.0 ∷ []))
@@ -62,9 +68,10 @@ IsCause e form.Incomplete = IsIncomplete e
 IsCause e form.Unbuilt = IsIncomplete e → ⊥
 IsCause e _ = Unit {0}
 
--- the form of an expression whose value isn't adjusted, by whether its path is resolved to an item, and by what casts compute
-pub record IsFormOf (names_item : Bool) (casts : ExprId → Option Operation) (e : Expr) (f : Form) : Type 0 where
-  pub core : core_of names_item casts e ≡ core_form f
+-- the form of an expression whose value isn't adjusted, by whether its path is resolved to an item, by what casts compute, and by what a
+-- field is resolved to
+pub record IsFormOf (names_item : Bool) (casts : ExprId → Option Operation) (field : Option (Either FieldId TupleFieldId)) (e : Expr) (f : Form) : Type 0 where
+  pub core : core_of names_item casts field e ≡ core_form f
   pub cause : IsCause e f
 
 -- why an expression of a source has no form with a meaning
@@ -77,3 +84,9 @@ IsCauseAt source e _ = Unit {0}
 pub record HasForm (source : Source) (e : ℕ) (f : Form) : Type 0 where
   pub core : node source e ≡ core_form f
   pub cause : IsCauseAt source e f
+
+-- what an expression of a source is for those that use its place; an adjusted one is a value
+abbrev pub IsPlaceForm : Source → ℕ → PlaceForm → Type 0
+IsPlaceForm source e (place.Path name) = unadjusted source e ≡ Some (expr.Path name.now)
+IsPlaceForm source e (place.Field base field) = unadjusted source e ≡ Some (expr.Field base.0 field)
+IsPlaceForm source e place.Value = is_place (unadjusted source e) ≡ false

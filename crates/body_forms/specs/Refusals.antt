@@ -5,7 +5,7 @@ use Rattle.world.specs.Lookups.{expr_of, function_row}
 use Rattle.types.specs.declared.ids.FunctionId.{FunctionId}
 use Rattle.source_meaning.specs.Built.{HasArrayType, is_direct}
 use Rattle.source_meaning.specs.Calls.{function_called}
-use Rattle.source_meaning.specs.Core.{CoreExpr, Number, Character, MakeArray, Repeat, cast_operation, core_of, is_adjusted_otherwise, names_item}
+use Rattle.source_meaning.specs.Core.{CoreExpr, Number, Character, MakeArray, Repeat, cast_operation, core_of, field_named, is_adjusted_otherwise, names_item}
 use Rattle.source_meaning.specs.Core as expr
 use Rattle.source_meaning.specs.Core.{local_named}
 use Rattle.world.specs.declared.expr.Expr.{Expr}
@@ -48,13 +48,13 @@ pub record LacksPart (source : Source) (e : ℕ) : Type 0 where
 pub record IsUnbuiltExpr (source : Source) (e : ℕ) : Type 0 where
   pub expr : Expr
   pub stands : expr_of source.body e ≡ Some expr
-  pub no_form : core_of (names_item source.infer (record { 0 = e })) (cast_operation source.infer (record { 0 = e })) expr ≡ None
+  pub no_form : core_of (names_item source.infer (record { 0 = e })) (cast_operation source.infer (record { 0 = e })) (field_named source.infer (record { 0 = e })) expr ≡ None
   pub complete : IsIncomplete expr → ⊥
 
 -- An expression of a form that isn't built yet, whatever its parts are: one that is adjusted otherwise than by `NeverToAny`
 -- alone, whatever its form is, and one to which `core_of` gives no form, other than an incomplete one: `*`, a literal that is neither
 -- a truth value nor a whole number nor a character, a cast from or to another type than an integer, `bool` or `char`, a path to an
--- associated item or a variant, a closure, a `match` and so on.
+-- associated item or a variant, a field of a struct, a variant or a union, or one that isn't resolved, a closure, a `match` and so on.
 abbrev pub IsUnbuiltForm : Source → ℕ → Type 0
 IsUnbuiltForm source e = (is_adjusted_otherwise source.infer (record { 0 = e }) ≡ true) ⊎ IsUnbuiltExpr source e
 
@@ -91,6 +91,7 @@ IsUnbuiltCall source e callee =
 abbrev pub IsUnbuilt : Source → ℕ → Option CoreExpr → Type 0
 IsUnbuilt source e (Some (expr.Literal l)) = ⊥
 IsUnbuilt source e (Some (expr.Path name)) = NamesNoBinding source e
+IsUnbuilt source e (Some (expr.Field base field)) = ⊥
 IsUnbuilt source e (Some (expr.Strict operation operands)) = ⊥
 IsUnbuilt source e (Some (expr.Logic op left right)) = ⊥
 IsUnbuilt source e (Some (expr.If condition then_branch else_branch)) = ⊥

@@ -1,22 +1,23 @@
 //! The form of an expression, as far as forms have a meaning.
 
-ghost use Rattle.std.specs.Prelude.{◌≡◌, ◌<◌, false, length, Some, IfSome, IfNone};
+ghost use Rattle.std.specs.Prelude.{◌≡◌, ◌<◌, ℕ, List, false, length, Some, None, IfSome, IfNone};
 ghost use Rattle.std.specs.Option.{option_and_then, option_copied};
-ghost use Rattle.source_meaning.specs.Core.{are_many, are_other_steps, cast_operation, is_adjusted_otherwise, is_adjusted_twice, is_adjusted_pattern, is_by_reference, is_dereferenced_pattern, is_positive, is_literal, is_path, name_of, named_path, names_item, path_of, pattern_names_item};
+ghost use Rattle.source_meaning.specs.Core.{are_many, are_other_steps, cast_operation, field_named, is_adjusted_otherwise, is_adjusted_twice, is_adjusted_pattern, is_by_reference, is_dereferenced_pattern, is_positive, is_literal, name_of, named_path, names_item, path_of, pattern_names_item};
 ghost use Rattle.source_meaning.specs.Core as expr;
 ghost use Rattle.source_meaning.specs.Source.{compound_path, pattern, target_path, unadjusted};
 ghost use Rattle.world.specs.declared.expr.Expr.TheVariants as whole;
 ghost use Rattle.world.specs.Lookups.{expr_of};
 ghost use Rattle.body_forms.specs.Contexts.{source_of};
-ghost use Rattle.body_forms.specs.Form.{IsFormOf, HasForm, core_value, no_casts};
+ghost use Rattle.body_forms.specs.Form.{IsFormOf, IsPlaceForm, HasForm, core_value, no_casts};
 
 use crate::context::Context;
 use crate::inferred::{diverges, is_coercion, is_conversion, step_target};
 use crate::literal::LiteralValue;
+use either::Either;
 use mir::{BinOp, UnOp};
 use world::{
-    Adjustment, BinaryOp, BindingId, BindingMode, Expr, ExprId, LabelId, List, Literal, LogicOp,
-    Pat, PatId, Statement, Text, UnaryOp,
+    Adjustment, BinaryOp, BindingId, BindingMode, Expr, ExprId, FieldId, LabelId, List, Literal,
+    LogicOp, Pat, PatId, Statement, Text, TupleFieldId, UnaryOp,
 };
 
 /// What lowering does with an expression. Its variants are the forms that have a meaning, and two for the others.
@@ -24,6 +25,8 @@ use world::{
 pub enum Form<'a> {
     Literal(LiteralValue),
     Path(&'a Text),
+    /// A part of a tuple.
+    Field(ExprId, TupleFieldId),
     Unary(UnOp, ExprId),
     /// A cast that is a coercion.
     Coercion(ExprId),
@@ -53,7 +56,7 @@ pub enum Form<'a> {
 }
 
 fn literal_form<'a>(literal: &Literal) -> Form<'a>
-    ensures { IsFormOf false no_casts (whole.Literal literal.now) result }
+    ensures { IsFormOf false no_casts None (whole.Literal literal.now) result }
 {
     match literal {
         Literal::Bool(test) => Form::Literal(LiteralValue::Truth(*test)),
@@ -65,7 +68,7 @@ fn literal_form<'a>(literal: &Literal) -> Form<'a>
 }
 
 fn unary_form<'a>(e: ExprId, op: UnaryOp) -> Form<'a>
-    ensures { IsFormOf false no_casts (whole.UnaryOp e op) result }
+    ensures { IsFormOf false no_casts None (whole.UnaryOp e op) result }
 {
     match op {
         UnaryOp::Neg => Form::Unary(UnOp::Neg, e),
@@ -75,7 +78,7 @@ fn unary_form<'a>(e: ExprId, op: UnaryOp) -> Form<'a>
 }
 
 fn binary_form<'a>(lhs: ExprId, rhs: ExprId, op: Option<BinaryOp>) -> Form<'a>
-    ensures { IsFormOf false no_casts (whole.BinaryOp lhs rhs op) result }
+    ensures { IsFormOf false no_casts None (whole.BinaryOp lhs rhs op) result }
 {
     match op {
         Some(BinaryOp::ArithOp(op)) => Form::Binary(BinOp::from(op), lhs, rhs),
@@ -89,12 +92,22 @@ fn binary_form<'a>(lhs: ExprId, rhs: ExprId, op: Option<BinaryOp>) -> Form<'a>
 
 /// The form of a path, which is resolved to an item or not.
 fn path_form<'a>(names_item: bool, name: &'a Text) -> Form<'a>
-    ensures { IsFormOf names_item no_casts (whole.Path name.now) result }
+    ensures { IsFormOf names_item no_casts None (whole.Path name.now) result }
 {
     if names_item {
         Form::Unbuilt
     } else {
         Form::Path(name)
+    }
+}
+
+/// The form of a field of a base, by what it is resolved to: a part of a tuple is built so far.
+fn field_form<'a>(base: ExprId, named: Option<&Either<FieldId, TupleFieldId>>) -> Form<'a>
+    ensures { (name : List ℕ) → IsFormOf false no_casts (option_copied named.entry) (whole.Field base name) result }
+{
+    match named {
+        Some(Either::Right(field)) => Form::Field(base, *field),
+        _ => Form::Unbuilt,
     }
 }
 
@@ -104,7 +117,7 @@ fn block_form<'a>(
     tail: Option<ExprId>,
     label: Option<LabelId>,
 ) -> Form<'a>
-    ensures { IsFormOf false no_casts (whole.Block statements.now tail label) result }
+    ensures { IsFormOf false no_casts None (whole.Block statements.now tail label) result }
 {
     match label {
         None => Form::Block(statements, tail),
@@ -114,7 +127,7 @@ fn block_form<'a>(
 
 /// The form of a cast: it is a coercion, or one between integers, `bool` and `char`.
 fn cast_form<'a>(context: &Context<'_>, cast: ExprId, operand: ExprId) -> Form<'a>
-    ensures { IsFormOf false (cast_operation context.now.infer.now cast) (whole.Cast operand) result }
+    ensures { IsFormOf false (cast_operation context.now.infer.now cast) None (whole.Cast operand) result }
 {
     if is_coercion(context, operand) {
         Form::Coercion(operand)
@@ -127,11 +140,12 @@ fn cast_form<'a>(context: &Context<'_>, cast: ExprId, operand: ExprId) -> Form<'
 
 /// The form of an expression, as it is before its value is adjusted.
 fn form_of<'a>(context: &Context<'a>, e: ExprId, expr: &'a Expr) -> Form<'a>
-    ensures { IsFormOf (names_item context.now.infer.now e) (cast_operation context.now.infer.now e) expr.now result }
+    ensures { IsFormOf (names_item context.now.infer.now e) (cast_operation context.now.infer.now e) (field_named context.now.infer.now e) expr.now result }
 {
     match expr {
         Expr::Literal(literal) => literal_form(literal),
         Expr::Path(name) => path_form(names_item(context, e), name),
+        Expr::Field { expr, .. } => field_form(*expr, field_named(context, e)),
         Expr::UnaryOp { expr, op } => unary_form(*expr, *op),
         Expr::Cast { expr } => cast_form(context, e, *expr),
         Expr::BinaryOp { lhs, rhs, op } => binary_form(*lhs, *rhs, *op),
@@ -190,6 +204,13 @@ fn names_item(context: &Context<'_>, e: ExprId) -> bool
     context.infer.assoc_res.get(&e).is_some() || context.infer.variant_res.get(&e).is_some()
 }
 
+/// What a field is resolved to, where it is.
+fn field_named<'a>(context: &Context<'a>, e: ExprId) -> Option<&'a Either<FieldId, TupleFieldId>>
+    ensures { option_copied result ≡ field_named context.now.infer.now e }
+{
+    context.infer.field_res.get(&e)
+}
+
 /// An expression of the body.
 fn expr_at<'a>(context: &Context<'a>, e: ExprId) -> &'a Expr
     requires { e.0 < length context.now.body.now.exprs }
@@ -225,18 +246,28 @@ pub fn literal_at(context: &Context<'_>, e: ExprId) -> Option<LiteralValue>
     }
 }
 
-/// The path that an expression is for those that use its value, where it is one.
-pub fn path_at<'a>(context: &Context<'a>, e: ExprId) -> Option<&'a Text>
+/// What an expression is for those that use its place: a path or a part of a tuple, and else a value, whose place is a local
+/// of its own. What is adjusted is a value.
+#[derive(Clone, Copy)]
+pub enum PlaceForm<'a> {
+    Path(&'a Text),
+    /// A part of a tuple: its base, and which part.
+    Field(ExprId, TupleFieldId),
+    Value,
+}
+
+/// What an expression is for those that use its place.
+pub fn place_form_at<'a>(context: &Context<'a>, e: ExprId) -> PlaceForm<'a>
     requires { e.0 < length context.now.body.now.exprs }
-    ensures some { IfSome result (λ name. unadjusted (source_of context.now) e.0 ≡ Some (expr.Path name.now)) }
-    ensures none { IfNone result (is_path (unadjusted (source_of context.now) e.0) ≡ false) }
+    ensures { IsPlaceForm (source_of context.now) e.0 result }
 {
     if diverges(context, e) {
-        return None;
+        return PlaceForm::Value;
     }
     match form_at(context, e) {
-        Form::Path(name) => Some(name),
-        _ => None,
+        Form::Path(name) => PlaceForm::Path(name),
+        Form::Field(base, field) => PlaceForm::Field(base, field),
+        _ => PlaceForm::Value,
     }
 }
 
