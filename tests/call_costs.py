@@ -257,7 +257,7 @@ class Reading:
         found = row["infer"]
         self.rows = {
             name: dict(map(tuple_of, found.get(name, [])))
-            for name in ("expr_adjustments", "value_res", "assoc_res", "variant_res", "pat_value_res", "pat_assoc_res",
+            for name in ("expr_adjustments", "value_res", "assoc_res", "variant_res", "field_res", "pat_value_res", "pat_assoc_res",
                          "pat_variant_res", "pat_adjustments", "binding_modes")
         }
         self.rows["diverging"] = set(found.get("diverging", []))
@@ -338,7 +338,7 @@ class Reading:
         return variant(self.exprs[e])[0] == name and self.never_target(e) is None
 
     def place(self, e):
-        if self.is_a(e, "Path"):
+        if self.is_a(e, "Path") or self.is_a(e, "Field"):
             return self.own(e)
         self.temp(("node", e))
         return self.into(e)
@@ -381,6 +381,11 @@ class Reading:
         if e in self.rows["assoc_res"] or e in self.rows["variant_res"]:
             raise Refusal(NOT_BUILT)
         self.named(self.rows["value_res"], e, part)
+
+    def own_field(self, e, part):
+        if "Right" not in self.rows["field_res"].get(e, {}):
+            raise Refusal(NOT_BUILT)
+        self.place(part["expr"])
 
     def own_unaryop(self, e, part):
         if part["op"] == "Deref":
@@ -568,6 +573,16 @@ class Frame:
     places: dict = field(default_factory=dict)
 
 
+@dataclass
+class Part:
+    """A part of a tuple at a place: how far behind it the part begins, how many bytes it has, and its type."""
+
+    base: object
+    start: int
+    size: int
+    ty: object
+
+
 class Run:
     """Evaluates one goal."""
 
@@ -709,29 +724,56 @@ class Run:
         return low_bytes(self.layouts[key(frame.body.infer["expr_types"][e])]["size"], number)
 
     def place(self, frame, e):
-        """The cell that an expression is evaluated to."""
-        name, _ = self.form(frame, e)
+        """The place that an expression is evaluated to: a cell, or a part of a tuple, as `Part`."""
+        name, part = self.form(frame, e)
         if name == "Path" and not self.is_adjusted(frame, e):
             return ("binding", frame.body.rows["value_res"][e]["LocalBinding"])
+        if name == "Field" and not self.is_adjusted(frame, e):
+            return self.part_of(frame, e, part)
         self.into(frame, e, ("node", e))
         return ("node", e)
 
+    def part_of(self, frame, e, part):
+        """A part of a tuple: its base's place, and which of its bytes."""
+        base = self.place(frame, part["expr"])
+        whole, number = self.place_type(frame, base), frame.body.rows["field_res"][e]["Right"]["index"]
+        name, types = variant(whole)
+        if name != "Tuple" or number >= len(types):
+            raise Unknown("a part that a type lacks")
+        layouts = [self.layouts.get(key(ty)) for ty in (whole, types[number])]
+        if None in layouts or number >= len(layouts[0].get("offsets", [])):
+            raise Unknown("a part of a place without a layout")
+        start, size = layouts[0]["offsets"][number], layouts[1]["size"]
+        if start + size > layouts[0]["size"]:
+            raise Unknown("a part that ends behind its tuple")
+        return Part(base, start, size, types[number])
+
+    def place_type(self, frame, place):
+        """The type of a place."""
+        return place.ty if isinstance(place, Part) else self.type_of(frame.body, place)
+
     def operand(self, frame, e):
-        """What an operation reads: bytes, or a cell."""
+        """What an operation reads: bytes, or a place."""
         if self.form(frame, e)[0] == "Literal" and not self.is_adjusted(frame, e):
             return self.literal(frame, e)
         return self.place(frame, e)
 
     def value(self, frame, operand):
+        """The bytes of an operand now."""
+        if isinstance(operand, Part):
+            return self.value(frame, operand.base)[operand.start : operand.start + operand.size]
         return operand if isinstance(operand, bytes) else frame.cells[operand]
 
     def operand_type(self, frame, e):
-        """The type of an operand: a binding's, where it is one."""
-        name, _ = self.form(frame, e)
+        """The type of an operand: a binding's, or that of a part of a tuple, where it is one."""
+        name, part = self.form(frame, e)
         if self.is_adjusted(frame, e):
             return frame.body.rows["expr_adjustments"][e][0]["target"]
         if name == "Path":
             return frame.body.infer["binding_types"][frame.body.rows["value_res"][e]["LocalBinding"]]
+        if name == "Field":
+            _, types = variant(self.operand_type(frame, part["expr"]))
+            return types[frame.body.rows["field_res"][e]["Right"]["index"]]
         return frame.body.infer["expr_types"][e]
 
     def into(self, frame, e, cell):
@@ -751,6 +793,9 @@ class Run:
 
     def own_path(self, frame, e, part, cell):
         self.put(frame, cell, frame.cells[("binding", frame.body.rows["value_res"][e]["LocalBinding"])])
+
+    def own_field(self, frame, e, part, cell):
+        self.put(frame, cell, self.value(frame, self.part_of(frame, e, part)))
 
     def own_unaryop(self, frame, e, part, cell):
         given = self.value(frame, self.operand(frame, part["expr"]))
@@ -862,7 +907,7 @@ class Run:
     def own_assignment(self, frame, e, part, cell):
         given = self.place(frame, part["value"])
         target = frame.body.rows["pat_value_res"][part["target"]]["LocalBinding"]
-        self.put(frame, ("binding", target), frame.cells[given])
+        self.put(frame, ("binding", target), self.value(frame, given))
 
     def own_block(self, frame, e, part, cell):
         if part.get("label") is None:
@@ -890,7 +935,7 @@ class Run:
             else:
                 given = self.place(frame, inside["initializer"])
                 binding = frame.body.body["pats"][inside["pat"]]["Bind"]["id"]
-                self.put(frame, ("binding", binding), frame.cells[given])
+                self.put(frame, ("binding", binding), self.value(frame, given))
         if part.get("tail") is not None:
             self.into(frame, part["tail"], cell)
         self.enter(frame, frame.body.drops[e])

@@ -164,7 +164,7 @@ class Draft:
         self.expr_types, self.pat_types, self.binding_types = [], [], []
         self.value_res, self.pat_value_res, self.binding_modes = [], [], []
         self.labels, self.targets, self.endless = [], [], []
-        self.casts, self.borrowed = [], []
+        self.casts, self.borrowed, self.fields = [], [], []
         self.scopes = [{}]
 
     def add(self, node, ty):
@@ -226,8 +226,27 @@ class Draft:
         return self.add({"Repeat": {"initializer": self.expr(operand, element)}}, ty)
 
     def field(self, operand, name, ty):
-        """A field, of any type, of a value of any type."""
-        return self.add({"Field": {"expr": self.expr(operand, Unknown()), "name": name}}, ty)
+        """A field. One of a tuple is resolved to that part. Any other one isn't resolved, and is of any type."""
+        base = Unknown()
+        inside = self.expr(operand, base)
+        found = known(base)
+        types = parts_of(found) if isinstance(found, tuple) and found[0] == "tuple" else ()
+        if not name.isdigit() or int(name) >= len(types):
+            return self.add({"Field": {"expr": inside, "name": name}}, ty)
+        same(ty, types[int(name)])
+        place = self.add({"Field": {"expr": inside, "name": name}}, ty)
+        self.fields.append((place, found, int(name)))
+        return place
+
+    def field_res(self):
+        """What the fields of tuples are resolved to. Tuples of one type have one number."""
+        tuples, made = [], []
+        for place, base, index in self.fields:
+            ty = settled(base)
+            if ty not in tuples:
+                tuples.append(ty)
+            made.append([place, {"Right": {"tuple": tuples.index(ty), "index": index}}])
+        return made
 
     def index(self, base, index, ty):
         """An element, of any type, of a value of any type."""
@@ -430,7 +449,8 @@ class Draft:
         types = {kind: [settled(ty) for ty in getattr(self, kind)] for kind in kinds}
         nodes = filled(exprs=self.exprs, pats=self.pats, bindings=self.bindings, labels=self.labels, params=self.params,
                        self_param=self.self_param)
-        names = {"value_res": self.value_res, "method_res": self.method_res, "pat_value_res": self.pat_value_res}
+        names = {"value_res": self.value_res, "field_res": self.field_res(), "method_res": self.method_res,
+                 "pat_value_res": self.pat_value_res}
         modes = {"binding_modes": self.binding_modes, "diverging": self.diverging}
         modes["coercion_casts"] = self.coercions()
         found = filled(**types, expr_adjustments=self.adjustments(), **names, **modes, copy_types=copy_types)
