@@ -25,8 +25,8 @@ use world::{
 pub enum Form<'a> {
     Literal(LiteralValue),
     Path(&'a Text),
-    /// A part of a tuple.
-    Field(ExprId, TupleFieldId),
+    /// A part of a tuple: its base, and the part's index.
+    Field(ExprId, u32),
     Unary(UnOp, ExprId),
     /// A cast that is a coercion.
     Coercion(ExprId),
@@ -106,7 +106,7 @@ fn field_form<'a>(base: ExprId, named: Option<&Either<FieldId, TupleFieldId>>) -
     ensures { (name : List ℕ) → IsFormOf false no_casts (option_copied named.entry) (whole.Field base name) result }
 {
     match named {
-        Some(Either::Right(field)) => Form::Field(base, *field),
+        Some(Either::Right(field)) => Form::Field(base, field.index),
         _ => Form::Unbuilt,
     }
 }
@@ -251,8 +251,8 @@ pub fn literal_at(context: &Context<'_>, e: ExprId) -> Option<LiteralValue>
 #[derive(Clone, Copy)]
 pub enum PlaceForm<'a> {
     Path(&'a Text),
-    /// A part of a tuple: its base, and which part.
-    Field(ExprId, TupleFieldId),
+    /// A part of a tuple: its base, and the part's index.
+    Field(ExprId, u32),
     Value,
 }
 
@@ -266,7 +266,7 @@ pub fn place_form_at<'a>(context: &Context<'a>, e: ExprId) -> PlaceForm<'a>
     }
     match form_at(context, e) {
         Form::Path(name) => PlaceForm::Path(name),
-        Form::Field(base, field) => PlaceForm::Field(base, field),
+        Form::Field(base, index) => PlaceForm::Field(base, index),
         _ => PlaceForm::Value,
     }
 }

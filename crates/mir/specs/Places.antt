@@ -52,7 +52,7 @@ unfoldable pub cell_behind : HirDatabase → Projection → Option Ty → Interv
 cell_behind world [] ty cell = Some cell
 cell_behind world (elem ∷ rest) ty cell =
     option_and_then (λ offset. option_and_then (part_of_cell cell offset)
-            (option_map (λ layout. layout.size) (option_and_then (layout_of world) (type_behind (elem ∷ rest) ty))))
+    (option_map (λ layout. layout.size) (option_and_then (layout_of world) (type_behind (elem ∷ rest) ty))))
     (offset_behind world (elem ∷ rest) ty)
 
 -- the type of a body's local

@@ -158,9 +158,7 @@ impl MirBody {
                 target,
                 unwind,
             } => {
-                self.has_place(*place)
-                    && self.has_block(*target)
-                    && self.has_block_if_any(*unwind)
+                self.has_place(*place) && self.has_block(*target) && self.has_block_if_any(*unwind)
             }
             TerminatorKind::Call {
                 func,

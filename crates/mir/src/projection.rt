@@ -1,7 +1,7 @@
 //! Projections: the ways from a place to a place within it, or behind it.
 
-use either::Either;
 use crate::LocalId;
+use either::Either;
 use std::alloc::Global;
 use world::{FieldId, NoMemory, TryClone, TupleFieldId, Ty};
 

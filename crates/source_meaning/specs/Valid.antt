@@ -202,7 +202,7 @@ pub record IsPlainPath (source : Source) (e : ℕ) (ty : Ty) : Type 0 where
 pub record IsPlainField (source : Source) (base index : ℕ) (ty : Ty) : Type 0 where
   pub parts : List Ty
   pub base_has : node_type source base ≡ Some (TupleTy parts)
-  pub part_has : slice_get parts field ≡ Some ty
+  pub part_has : slice_get parts index ≡ Some ty
 
 -- the value of a `return`, where there is one, has the type of the body's result
 pub record HasPlainReturn (source : Source) (value : Option ExprId) : Type 0 where
@@ -246,7 +246,7 @@ pub record IsPlainCall (source : Source) (e : ℕ) (callee : Option ℕ) (args :
 abbrev pub HasPlainForm : Source → ℕ → Option CoreExpr → Ty → Type 0
 HasPlainForm source e (Some (expr.Literal l)) ty = IsPlainLiteral l ty
 HasPlainForm source e (Some (expr.Path name)) ty = IsPlainPath source e ty
-HasPlainForm source e (Some (expr.Field base field)) ty = IsPlainField source base field ty
+HasPlainForm source e (Some (expr.Field base index)) ty = IsPlainField source base index ty
 HasPlainForm source e (Some (expr.Strict operation operands)) ty = IsPlainStrict source operation operands ty
 HasPlainForm source e (Some (expr.Logic op left right)) ty = IsPlainLogic source left right ty
 HasPlainForm source e (Some (expr.If condition then_branch else_branch)) ty = IsPlainIf source condition then_branch else_branch ty
