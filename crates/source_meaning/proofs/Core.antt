@@ -49,7 +49,7 @@ binary_part lhs rhs (binary.Assignment None) core is child within = absurd cc
 
 -- a field evaluates its base
 field_part : (base : ℕ) (field : Option (Either FieldId TupleFieldId)) (core : CoreExpr) → field_form base field ≡ Some core → (child : ℕ) → Contains (parts_of (Some core)) child → Contains (base ∷ []) child
-field_part base (Some (Right field)) core is child within = let same : core ≡ Field base field = cc in subst (λ c. Contains (parts_of (Some c)) child) same within
+field_part base (Some (Right field)) core is child within = let same : core ≡ Field base field.index = cc in subst (λ c. Contains (parts_of (Some c)) child) same within
 field_part base (Some (Left field)) core is child within = absurd cc
 field_part base None core is child within = absurd cc
 
