@@ -1,2 +1,4 @@
+pub mod Interning
 pub mod Queries
 mod Targets
+pub mod WholePlaces

@@ -2,7 +2,14 @@ pub mod Addresses
 pub mod Answers
 pub mod Areas
 pub mod Closed
+pub mod Elements
 pub mod Errors
 pub mod Memory
+pub mod Places
+pub mod ProjectedTypes
+pub mod ProjectionCodes
+pub mod ProjectionIds
+pub mod Projections
 pub mod Run
 pub mod Switches
+pub mod WholePlaces

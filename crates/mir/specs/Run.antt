@@ -62,6 +62,7 @@ use Rattle.mir.specs.declared.statement.StatementKind.TheVariants.{Assign, FakeR
 use Rattle.mir.specs.declared.address.Interval.{Interval}
 use Rattle.mir.specs.Areas.{first_areas, with_bytes}
 use Rattle.mir.specs.Memory.{Memory, cell_bytes, cell_before, cells_of}
+use Rattle.mir.specs.Places.{place_cell, place_type}
 
 -- What a run goes by: its world, how deep calls may nest, how many bytes cells may take, and the answers that it was told, at most one
 -- to each query.
@@ -115,15 +116,15 @@ constant_bytes konst = layer_bytes (out-Const konst)
 
 -- the bytes that an operand has now
 unfoldable pub operand_bytes : Frame → Memory → OperandKind → Option (List ℕ)
-operand_bytes frame memory (Copy place) = option_and_then (cell_bytes memory) (slice_get frame.cells place.local.0)
+operand_bytes frame memory (Copy place) = option_and_then (cell_bytes memory) (place_cell frame.program.world frame.body frame.cells place)
 operand_bytes frame memory (Constant konst ty) = constant_bytes konst
 
 -- the type of an operand
 unfoldable pub operand_type : MirBody → OperandKind → Option Ty
-operand_type body (Copy place) = option_map (λ local. local.ty) (slice_get body.locals place.local.0)
+operand_type body (Copy place) = place_type body place
 operand_type body (Constant konst ty) = Some ty
 
--- a read outside the memory, or of a local that the body lacks
+-- a read outside the memory, or of a place that the body lacks
 abbrev pub bad_read : MirEvalError
 bad_read = error.UndefinedBehavior (codes "out of bound memory read")
 
@@ -228,7 +229,7 @@ copied memory None bytes = Err bad_write
 
 -- the memory after a statement
 unfoldable pub after_statement : Frame → Memory → StatementKind → Result Memory MirEvalError
-after_statement frame memory (Assign place rvalue) = copied memory (slice_get frame.cells place.local.0) (rvalue_bytes frame memory rvalue)
+after_statement frame memory (Assign place rvalue) = copied memory (place_cell frame.program.world frame.body frame.cells place) (rvalue_bytes frame memory rvalue)
 after_statement frame memory (FakeRead place) = Ok memory
 after_statement frame memory (StorageLive local) = Ok memory
 after_statement frame memory (StorageDead local) = Ok memory
@@ -351,7 +352,7 @@ entered frame memory call id body destination =
 unfoldable pub called : Frame → Memory → Calling → FunctionId → MirBody → Next
 called frame memory call id body =
     elim call.target [
-      | Some block ↦ elim (slice_get frame.cells call.destination.local.0) [
+      | Some block ↦ elim (place_cell frame.program.world frame.body frame.cells call.destination) [
         | Some cell ↦ entered frame memory call id body (Some cell)
         | None ↦ faults frame bad_write
       ]

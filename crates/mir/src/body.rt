@@ -1,6 +1,8 @@
 //! Bodies as graphs of basic blocks.
 
-use crate::{BasicBlockId, LocalId, MirSpan, Operand, Place, Statement, SwitchTargets};
+use crate::{
+    BasicBlockId, LocalId, MirSpan, Operand, Place, ProjectionStore, Statement, SwitchTargets,
+};
 use world::{DefWithBodyId, List, Ty};
 
 /// A local variable of a body.
@@ -86,6 +88,8 @@ impl Drop for BasicBlock {
 /// A lowered body.
 #[derive(PartialEq, Eq)]
 pub struct MirBody {
+    /// The projections of its places, each under one id.
+    pub projection_store: ProjectionStore,
     pub basic_blocks: List<BasicBlock>,
     /// Local 0 is the return slot.
     pub locals: List<Local>,
@@ -98,6 +102,7 @@ pub struct MirBody {
 impl Drop for MirBody {
     fn drop(self) {
         let MirBody {
+            projection_store: _projection_store,
             basic_blocks: _basic_blocks,
             locals: _locals,
             start_block: _start_block,

@@ -2,18 +2,19 @@
 
 ghost use Rattle.std.specs.Prelude.{◌↔◌, IsTrue, IfSome};
 ghost use Rattle.std.specs.List.{All};
-ghost use Rattle.mir.specs.Closed.{HasLocal, HasBlock, IsClosedOperand, IsClosedRvalue, IsClosedStatement, IsClosedTerminator, IsClosedBlock, IsClosed};
+ghost use Rattle.mir.specs.Closed.{HasLocal, HasPlace, HasBlock, IsClosedOperand, IsClosedRvalue, IsClosedStatement, IsClosedTerminator, IsClosedBlock, IsClosed};
 
 use crate::{
-    BasicBlock, BasicBlockId, LocalId, MirBody, Operand, OperandKind, Rvalue, Statement,
-    StatementKind, Terminator, TerminatorKind,
+    BasicBlock, BasicBlockId, Interner, LocalId, MirBody, Operand, OperandKind, Place, Rvalue,
+    Statement, StatementKind, Terminator, TerminatorKind,
 };
 
 impl MirBody {
     /// Whether the body has a local 0, which is the return place as the chapter on MIR of the rustc
     /// dev guide says, and each block and each local that something in it names: its start block,
     /// the targets of each terminator, the block in which unwinding from a drop or a call goes on, the
-    /// local of each place and of each storage statement, and the locals of its parameters.
+    /// local of each place and of each storage statement, and the locals of its parameters. The
+    /// projection of each place has to be one of the body's store.
     pub fn is_closed(&self) -> bool
         ensures { IsTrue result ↔ IsClosed self.now }
     {
@@ -28,6 +29,13 @@ impl MirBody {
         ensures { IsTrue result ↔ HasLocal self.now local }
     {
         (local.0 as u64) < self.locals.len()
+    }
+
+    /// Whether the place's local is one of the body's, and its projection one of the store's.
+    fn has_place(&self, place: Place) -> bool
+        ensures { IsTrue result ↔ HasPlace self.now place }
+    {
+        self.has_local(place.local) && self.projection_store.has(place.projection)
     }
 
     /// Whether each of the locals is one of the body's.
@@ -71,17 +79,17 @@ impl MirBody {
         true
     }
 
-    /// Whether the body has the local that the operand reads, where it reads one.
+    /// Whether the body has the place that the operand reads, where it reads one.
     fn is_operand_closed(&self, operand: &Operand) -> bool
         ensures { IsTrue result ↔ IsClosedOperand self.now operand.now.kind }
     {
         match &operand.kind {
-            OperandKind::Copy(place) => self.has_local(place.local),
+            OperandKind::Copy(place) => self.has_place(*place),
             OperandKind::Constant { .. } => true,
         }
     }
 
-    /// Whether the body has each local that one of the operands reads.
+    /// Whether the body has each place that one of the operands reads.
     fn are_operands_closed(&self, operands: &[Operand]) -> bool
         ensures { IsTrue result ↔ All (λ operand. IsClosedOperand self.now operand.kind) operands.now }
     {
@@ -93,7 +101,7 @@ impl MirBody {
         true
     }
 
-    /// Whether the body has each local that is read to compute the value.
+    /// Whether the body has each place that is read to compute the value.
     fn is_rvalue_closed(&self, rvalue: &Rvalue) -> bool
         ensures { IsTrue result ↔ IsClosedRvalue self.now rvalue.now }
     {
@@ -109,21 +117,21 @@ impl MirBody {
         }
     }
 
-    /// Whether the body has each local that the statement names.
+    /// Whether the body has each place and each local that the statement names.
     fn is_statement_closed(&self, statement: &Statement) -> bool
         ensures { IsTrue result ↔ IsClosedStatement self.now statement.now.kind }
     {
         match &statement.kind {
             StatementKind::Assign(place, rvalue) => {
-                self.has_local(place.local) && self.is_rvalue_closed(rvalue)
+                self.has_place(*place) && self.is_rvalue_closed(rvalue)
             }
-            StatementKind::FakeRead(place) => self.has_local(place.local),
+            StatementKind::FakeRead(place) => self.has_place(*place),
             StatementKind::StorageLive(local) => self.has_local(*local),
             StatementKind::StorageDead(local) => self.has_local(*local),
         }
     }
 
-    /// Whether the body has each local that one of the statements names.
+    /// Whether the body has each place and each local that one of the statements names.
     fn are_statements_closed(&self, statements: &[Statement]) -> bool
         ensures { IsTrue result ↔ All (λ statement. IsClosedStatement self.now statement.kind) statements.now }
     {
@@ -135,7 +143,7 @@ impl MirBody {
         true
     }
 
-    /// Whether the body has each local that the terminator names, and each block that it leads to.
+    /// Whether the body has each place that the terminator names, and each block that it leads to.
     fn is_terminator_closed(&self, terminator: &Terminator) -> bool
         ensures { IsTrue result ↔ IsClosedTerminator self.now terminator.now.kind }
     {
@@ -150,9 +158,7 @@ impl MirBody {
                 target,
                 unwind,
             } => {
-                self.has_local(place.local)
-                    && self.has_block(*target)
-                    && self.has_block_if_any(*unwind)
+                self.has_place(*place) && self.has_block(*target) && self.has_block_if_any(*unwind)
             }
             TerminatorKind::Call {
                 func,
@@ -164,14 +170,14 @@ impl MirBody {
             } => {
                 self.is_operand_closed(func)
                     && self.are_operands_closed(args.as_slice())
-                    && self.has_local(destination.local)
+                    && self.has_place(*destination)
                     && self.has_block_if_any(*target)
                     && self.has_block_if_any(*cleanup)
             }
         }
     }
 
-    /// Whether the body has each local and each block that the block names.
+    /// Whether the body has each place, local and block that the block names.
     fn is_block_closed(&self, block: &BasicBlock) -> bool
         ensures { IsTrue result ↔ IsClosedBlock self.now block.now }
     {
@@ -182,7 +188,7 @@ impl MirBody {
         is_end_closed && self.are_statements_closed(block.statements.as_slice())
     }
 
-    /// Whether the body has each local and each block that one of the blocks names.
+    /// Whether the body has each place, local and block that one of the blocks names.
     fn are_blocks_closed(&self, blocks: &[BasicBlock]) -> bool
         ensures { IsTrue result ↔ All (IsClosedBlock self.now) blocks.now }
     {

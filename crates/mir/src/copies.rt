@@ -291,10 +291,12 @@ impl TryClone for Local {
 
 impl TryClone for MirBody {
     fn try_clone(&self, alloc: Global) -> Result<MirBody, NoMemory> {
+        let projection_store = self.projection_store.try_clone(alloc)?;
         let basic_blocks = self.basic_blocks.try_clone(alloc)?;
         let locals = self.locals.try_clone(alloc)?;
         let param_locals = self.param_locals.try_clone(alloc)?;
         Ok(MirBody {
+            projection_store,
             basic_blocks,
             locals,
             start_block: self.start_block,

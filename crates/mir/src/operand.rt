@@ -1,21 +1,26 @@
 //! What statements read and compute.
 
-use crate::{BinOp, LocalId, MirSpan};
+use crate::{BinOp, LocalId, MirSpan, ProjectionId};
 use world::{Const, List, Ty};
 
-/// Where a value lies: a local.
+/// Where a value lies: a local, or a part of it, or what it leads to, by the projection. The store of the body has the projection.
 #[derive(Clone, Copy, PartialEq, Eq, Hash)]
 pub struct Place {
     pub local: LocalId,
+    pub projection: ProjectionId,
 }
 
 impl From<LocalId> for Place {
     ghost use Rattle.std.specs.Prelude.{◌≡◌};
+    ghost use Rattle.mir.specs.Projections.{empty_id};
 
-    ghost from_gives = { λ local place. place.local ≡ local };
+    ghost from_gives = { λ local place. place ≡ record { local = local; projection = empty_id } };
 
     fn from(local: LocalId) -> Place {
-        Place { local }
+        Place {
+            local,
+            projection: ProjectionId::EMPTY,
+        }
     }
 }
 

@@ -1,0 +1,25 @@
+-- A place with the empty projection is the whole local.
+use Rattle.std.proofs.Common.{◌≡◌, ℕ, List, [], Option, Some, slice_get, ap}
+use Rattle.std.specs.Prelude.{◌==◌, if◌then◌else◌}
+use Rattle.types.specs.declared.ty.Ty.{Ty}
+use Rattle.world.specs.declared.database.HirDatabase.{HirDatabase}
+use Rattle.mir.specs.declared.address.Interval.{Interval}
+use Rattle.mir.specs.declared.body.MirBody.{MirBody}
+use Rattle.mir.specs.declared.operand.Place.{Place}
+use Rattle.mir.specs.declared.projection.ProjectionId.{ProjectionId}
+use Rattle.mir.specs.Places.{cell_at, local_type, place_cell, place_type, type_at, type_behind}
+use Rattle.mir.specs.Projections.{Projection, empty_id, projection_of}
+
+-- the elements of a projection, by its id
+abbrev elements_by : MirBody → ProjectionId → Option Projection
+elements_by body id = if id.0 == 0 then Some [] else projection_of body.projection_store.projections id
+
+-- its value lies in the local's cell
+pub whole-cell : (world : HirDatabase) (body : MirBody) (cells : List Interval) (place : Place) → place.projection ≡ empty_id → place_cell world body cells place ≡ slice_get cells place.local.0
+unfolding place_cell
+whole-cell world body cells place is = ap (λ (id : ProjectionId). cell_at world body cells place (elements_by body id)) is
+
+-- its type is the local's
+pub whole-type : (body : MirBody) (place : Place) → place.projection ≡ empty_id → place_type body place ≡ local_type body place.local
+unfolding place_type type_behind
+whole-type body place is = ap (λ (id : ProjectionId). type_at body place (elements_by body id)) is

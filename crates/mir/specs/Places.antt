@@ -1,0 +1,80 @@
+-- Places: which bytes of a local's cell one is, and of which type.
+use Rattle.std.specs.Prelude.{ℕ, ◌+◌, ◌==◌, if◌then◌else◌, nat_le, List, [], ◌∷◌, Option, Some, None, slice_get, option_map, option_and_then}
+use Rattle.either.specs.declared.Either.TheVariants.{Right}
+use Rattle.types.specs.declared.ty.Ty.{Ty}
+use Rattle.world.specs.declared.database.HirDatabase.{HirDatabase}
+use Rattle.world.specs.Lookups.{layout_of}
+use Rattle.mir.specs.declared.address.Interval.{Interval}
+use Rattle.mir.specs.declared.body.MirBody.{MirBody}
+use Rattle.mir.specs.declared.ids.LocalId.{LocalId}
+use Rattle.mir.specs.declared.operand.Place.{Place}
+use Rattle.mir.specs.declared.projection.ProjectionElem.TheVariants.{Field}
+use Rattle.mir.specs.Addresses.{moved}
+use Rattle.mir.specs.Elements.{PlaceElem}
+use Rattle.mir.specs.ProjectedTypes.{part_type}
+use Rattle.mir.specs.Projections.{Projection, projection_of}
+
+-- The elements of a place's projection. The id 0 is that of the empty one, in each store.
+abbrev pub elements_of : MirBody → Place → Option Projection
+elements_of body place = if place.projection.0 == 0 then Some [] else projection_of body.projection_store.projections place.projection
+
+-- The type that an element leads to from a value of a type. So far a run goes into parts of tuples alone.
+abbrev pub elem_type : PlaceElem → Ty → Option Ty
+elem_type (Field (Right field)) ty = part_type field ty
+elem_type _ ty = None
+
+-- how far behind the value's first byte what an element leads to begins, as the layout of the value's type says
+abbrev pub elem_offset : HirDatabase → PlaceElem → Ty → Option ℕ
+elem_offset world (Field (Right field)) ty = option_and_then (λ layout. slice_get layout.offsets field.index) (layout_of world ty)
+elem_offset world _ ty = None
+
+-- the type of what elements lead to, one after another
+unfoldable pub type_behind : Projection → Option Ty → Option Ty
+type_behind [] ty = ty
+type_behind (elem ∷ rest) ty = type_behind rest (option_and_then (elem_type elem) ty)
+
+-- the sum of two numbers, where there are both
+abbrev pub added : Option ℕ → Option ℕ → Option ℕ
+added (Some one) (Some other) = Some (one + other)
+added _ _ = None
+
+-- how far behind the value's first byte what elements lead to begins
+unfoldable pub offset_behind : HirDatabase → Projection → Option Ty → Option ℕ
+offset_behind world [] ty = Some 0
+offset_behind world (elem ∷ rest) ty = added (option_and_then (elem_offset world elem) ty) (offset_behind world rest (option_and_then (elem_type elem) ty))
+
+-- so many bytes of a cell from an offset on, where the cell has as many
+abbrev pub part_of_cell : Interval → (offset size : ℕ) → Option Interval
+part_of_cell cell offset size = if nat_le (offset + size) cell.size then Some (record { addr = moved cell.addr offset; size = size }) else None
+
+-- where a place's value lies, in the cell of its local: all of it, or what elements lead to
+unfoldable pub cell_behind : HirDatabase → Projection → Option Ty → Interval → Option Interval
+cell_behind world [] ty cell = Some cell
+cell_behind world (elem ∷ rest) ty cell =
+    option_and_then (λ offset. option_and_then (part_of_cell cell offset)
+    (option_map (λ layout. layout.size) (option_and_then (layout_of world) (type_behind (elem ∷ rest) ty))))
+    (offset_behind world (elem ∷ rest) ty)
+
+-- the type of a body's local
+abbrev pub local_type : MirBody → LocalId → Option Ty
+local_type body local = option_map (λ l. l.ty) (slice_get body.locals local.0)
+
+-- where the value lies that elements of a place lead to, in the cell of the place's local: the whole cell, where there is no element
+abbrev pub cell_at : HirDatabase → MirBody → List Interval → Place → Option Projection → Option Interval
+cell_at world body cells place (Some []) = slice_get cells place.local.0
+cell_at world body cells place (Some (elem ∷ rest)) =
+    option_and_then (cell_behind world (elem ∷ rest) (local_type body place.local)) (slice_get cells place.local.0)
+cell_at world body cells place None = None
+
+-- where a place's value lies
+unfoldable pub place_cell : HirDatabase → MirBody → List Interval → Place → Option Interval
+place_cell world body cells place = cell_at world body cells place (elements_of body place)
+
+-- the type of the value that elements of a place lead to
+abbrev pub type_at : MirBody → Place → Option Projection → Option Ty
+type_at body place (Some elements) = type_behind elements (local_type body place.local)
+type_at body place None = None
+
+-- the type of a place's value
+unfoldable pub place_type : MirBody → Place → Option Ty
+place_type body place = type_at body place (elements_of body place)
