@@ -30,6 +30,7 @@ use Rattle.mir_lower.specs.Built.{IsBuilt}
 use Rattle.mir_lower.specs.Callees.{Serves}
 use Rattle.mir_lower.specs.Calling.{call_terminator, call_of, target_of_call, HasCalled}
 use Rattle.mir_lower.specs.Does.{Stands, here, IsFrameOf, Holds, Landings, Reaches, Nothing, FitAll}
+use Rattle.mir.specs.WholePlaces.{whole_place}
 use Rattle.mir_lower.specs.Graph.{Shape, with_block, with_terminator, local_of, ended}
 use Rattle.mir_lower.specs.Growth.{Grows, Spares, IsSound, IsOpen, IsReady}
 use Rattle.mir_lower.specs.Lowered.{LaysOut, LowersOwn, LowersOperand, LowersOperands}
@@ -95,17 +96,17 @@ built-arguments source (first ∷ rest) all =
     (built-arguments source rest (All-tail (λ (arg : ExprId). IsBuilt source arg.0) first rest all))
 
 -- what the terminator of a call does
-call-leads : (frame : Frame) (memory : Memory) (e : ExprId) (func : MirOperand) (args : List MirOperand) (to : LocalId) (target : Option BasicBlockId) → terminated frame memory (Some (call_terminator e func args (local_place to) target)) ≡ calls frame memory (call_of e func args (local_place to) target)
+call-leads : (frame : Frame) (memory : Memory) (e : ExprId) (func : MirOperand) (args : List MirOperand) (to : LocalId) (target : Option BasicBlockId) → terminated frame memory (Some (call_terminator e func args (whole_place to) target)) ≡ calls frame memory (call_of e func args (whole_place to) target)
 unfolding terminated
 call-leads frame memory e func args to target = refl
 
 -- ending the current block by a call, and opening the next
-pub has-called : (source : Source) (s new : Shape) (e : ExprId) (func : MirOperand) (args : List MirOperand) (to : LocalId) (target : Option BasicBlockId) → IsSound source s → IsOpen s → new ≡ with_block (with_terminator (call_terminator e func args (local_place to) target) s) → HasCalled source s new (call_of e func args (local_place to) target) (length s.blocks)
+pub has-called : (source : Source) (s new : Shape) (e : ExprId) (func : MirOperand) (args : List MirOperand) (to : LocalId) (target : Option BasicBlockId) → IsSound source s → IsOpen s → new ≡ with_block (with_terminator (call_terminator e func args (whole_place to) target) s) → HasCalled source s new (call_of e func args (whole_place to) target) (length s.blocks)
 has-called source s new e func args to target sound opened same =
-    let t : Terminator = call_terminator e func args (local_place to) target in
+    let t : Terminator = call_terminator e func args (whole_place to) target in
     let b = current_of s opened in
     let many : length (with_terminator t s).blocks ≡ length s.blocks = ap (λ (n : Shape). length n.blocks) (with_terminator-is t s b.0 b.1) ∙ length-set s.blocks s.current (ended t b.0) in
-    subst (λ (n : Shape). HasCalled source s n (call_of e func args (local_place to) target) (length s.blocks)) (sym same)
+    subst (λ (n : Shape). HasCalled source s n (call_of e func args (whole_place to) target) (length s.blocks)) (sym same)
     (record {
       grows = grows-trans s (with_terminator t s) (with_block (with_terminator t s)) (with_terminator-grows t s opened) (with_block-grows (with_terminator t s));
       spares = spares-trans s (with_terminator t s) (with_block (with_terminator t s)) (with_terminator-spares t s opened) (with_block-spares (with_terminator t s));
@@ -137,7 +138,7 @@ enters-nothing callees diverging None path store = refl
 -- a call was lowered: its arguments, and then the call
 pub lowers-call : (source : Source) (s0 s1 new : Shape) (e : ExprId) (callee : Option ℕ) (es : List ℕ) (func : MirOperand) (args : List MirOperand) (to : LocalId) (next : BasicBlockId) → IsReady source s0 e.0 → node source e.0 ≡ Some (expr.Call callee es) →
     LowersOperands source s0 s1 es (map (λ (arg : MirOperand). arg.kind) args) → IsCalleeOperand source e.0 callee func.kind → CallsFunction source e.0 callee → next.0 ≡ length s1.blocks →
-    HasCalled source s1 new (call_of e func args (local_place to) (target_of_call (must_not_return source e.0) next)) (length s1.blocks) → (c : Cell) → local_of s0 c ≡ Some to.0 → LowersOwn source s0 new e.0 c
+    HasCalled source s1 new (call_of e func args (whole_place to) (target_of_call (must_not_return source e.0) next)) (length s1.blocks) → (c : Cell) → local_of s0 c ≡ Some to.0 → LowersOwn source s0 new e.0 c
 lowers-call source s0 s1 new e callee es func args to next ready form given is built at called c local =
     record {
       keeps = record {
@@ -158,17 +159,17 @@ lowers-call source s0 s1 new e callee es func args to next ready form given is b
           ShowAll whole frame store args values → (marked : Bool) → must_not_return source e.0 ≡ marked →
           Reaches source whole lands frame (here s1) (here new) memory (Nothing whole frame) (entered_into (callees_at fuel) marked (source_called source e.0 callee) (Some values) (record { cell = c }) store)
       by-mark whole frame grows sound frame-is lands fuel serves values store memory holds fit true mark =
-          let call : Calling = call_of e func args (local_place to) (target_of_call true next) in
+          let call : Calling = call_of e func args (whole_place to) (target_of_call true next) in
           let found = local_of-grows s0 whole (grows-trans s0 s1 whole given.keeps.grows (grows-trans s1 new whole called.grows grows)) c to.0 local in
           call-strays source whole frame lands (here s1) memory store sound frame-is holds fuel serves call values fit e.0 callee is.ty (callee-type frame func.kind source e.0 callee is) built.id (is.names ∙ built.names) built.names makes c found
-          (λ budget. called.does whole frame grows frame-is memory budget ∙ ap (λ (m : Bool). going_on budget (calls frame memory (call_of e func args (local_place to) (target_of_call m next)))) mark)
+          (λ budget. called.does whole frame grows frame-is memory budget ∙ ap (λ (m : Bool). going_on budget (calls frame memory (call_of e func args (whole_place to) (target_of_call m next)))) mark)
           (here new) refl
       by-mark whole frame grows sound frame-is lands fuel serves values store memory holds fit false mark =
-          let call : Calling = call_of e func args (local_place to) (target_of_call false next) in
+          let call : Calling = call_of e func args (whole_place to) (target_of_call false next) in
           let found = local_of-grows s0 whole (grows-trans s0 s1 whole given.keeps.grows (grows-trans s1 new whole called.grows grows)) c to.0 local in
           subst (λ (p : Point). Reaches source whole lands frame (here s1) p memory (Nothing whole frame) (entered_into (callees_at fuel) false (source_called source e.0 callee) (Some values) (record { cell = c }) store)) (ap start_of at ∙ sym called.begins)
           (call-returns source whole frame lands (here s1) memory store sound frame-is holds fuel serves call values fit e.0 callee is.ty (callee-type frame func.kind source e.0 callee is) built.id (is.names ∙ built.names) built.names makes c found
-          (λ budget. called.does whole frame grows frame-is memory budget ∙ ap (λ (m : Bool). going_on budget (calls frame memory (call_of e func args (local_place to) (target_of_call m next)))) mark)
+          (λ budget. called.does whole frame grows frame-is memory budget ∙ ap (λ (m : Bool). going_on budget (calls frame memory (call_of e func args (whole_place to) (target_of_call m next)))) mark)
           next.0 refl)
 
       -- by whether each argument has bytes

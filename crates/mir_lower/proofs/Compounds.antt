@@ -27,7 +27,8 @@ use Rattle.source_meaning.proofs.Parts.{sized_operand}
 use Rattle.body_forms.specs.Refusals.{IsUnbuilt, IsUnresolved, LacksLocal}
 use Rattle.mir_lower.specs.Callees.{Serves}
 use Rattle.mir_lower.specs.Does.{Stands, here, IsFrameOf, Holds, Landings, Reaches, Nothing, Fits}
-use Rattle.mir_lower.specs.Graph.{Shape, with_statement, local_place}
+use Rattle.mir.specs.WholePlaces.{whole_place}
+use Rattle.mir_lower.specs.Graph.{Shape, with_statement}
 use Rattle.mir_lower.specs.Growth.{Grows, IsSound, IsReady}
 use Rattle.mir_lower.specs.Lowered.{IsCombinedIn, LaysOut, LowersOwn, LowersOperand}
 use Rattle.mir_lower.specs.Refusals.{RefusesAt, RefusesCombined}
@@ -65,7 +66,7 @@ lays-compound source s1 new e op assigned value form below grows laid plain layo
     one-value child within = one-of value child within
 
 -- a compound assignment was lowered: its value, and then one assignment
-pub lowers-compound : (source : Source) (s0 s1 new : Shape) (e : ℕ) (op : Operator) (assigned value : ℕ) (left right : MirOperand) (to : LocalId) (span : MirSpan) (c : Cell) → IsReady source s0 e → node source e ≡ Some (expr.Compound op assigned value) → LowersOperand source s0 s1 value right.kind → IsCombinedIn source s1 assigned to.0 → left.kind ≡ Copy (local_place to) →
+pub lowers-compound : (source : Source) (s0 s1 new : Shape) (e : ℕ) (op : Operator) (assigned value : ℕ) (left right : MirOperand) (to : LocalId) (span : MirSpan) (c : Cell) → IsReady source s0 e → node source e ≡ Some (expr.Compound op assigned value) → LowersOperand source s0 s1 value right.kind → IsCombinedIn source s1 assigned to.0 → left.kind ≡ Copy (whole_place to) →
     new ≡ with_statement (assignment to (CheckedBinaryOp op left right) span) s1 → LowersOwn source s0 new e c
 lowers-compound source s0 s1 new e op assigned value left right to span c ready form given named copies same =
     let st = assignment to (CheckedBinaryOp op left right) span in
@@ -97,7 +98,7 @@ lowers-compound source s0 s1 new e op assigned value left right to span c ready 
           subst (λ (target : Option BindingId). Reaches source whole lands frame (here s1) (here (with_statement st s1)) memory1 (Nothing whole frame) (combine_into source op target v store1)) (sym named.names)
           (assigned-values source s1 whole frame to (CheckedBinaryOp op left right) span opened sound frame-is lands grows b found store1 memory1 claims.0 None (Combine op) (values_of source store1 (At (place_of_cell b) ∷ v ∷ []))
           (λ given have.
-          let own = subst (λ kind. Fits source kind whole frame (At (place_of_cell b))) (sym copies) (place-fits source whole frame (local_place to) (place_of_cell b) sound frame-is serves.world (local-at whole to b found)) in
+          let own = subst (λ kind. Fits source kind whole frame (At (place_of_cell b))) (sym copies) (place-fits source whole frame (whole_place to) (place_of_cell b) sound frame-is serves.world (local-at whole to b found)) in
           binary-agrees source.world None op left right frame given memory1
           (read-all source whole frame store1 memory1 claims.0 (left ∷ right ∷ []) (At (place_of_cell b) ∷ v ∷ []) (own, (claims.1, tt)) given have))))
 

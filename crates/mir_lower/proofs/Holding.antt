@@ -14,7 +14,8 @@ use Rattle.mir.specs.Memory.{Memory, cell_bytes}
 use Rattle.mir.specs.Run.{Frame, after_statement, copied, rvalue_bytes, bad_write}
 use Rattle.source_meaning.specs.Source.{Source, Cell, Result as Slot, Node, Binding, Never, Store, same_cell, with_cell_bytes}
 use Rattle.mir_lower.specs.Does.{IsFrameOf, Holds}
-use Rattle.mir_lower.specs.Graph.{Shape, local_of, local_place}
+use Rattle.mir.specs.WholePlaces.{whole_place}
+use Rattle.mir_lower.specs.Graph.{Shape, local_of}
 use Rattle.mir_lower.specs.Growth.{IsSound}
 use Rattle.mir_lower.specs.Runs.{local_bytes, KeepsOthers}
 use Rattle.mir_lower.proofs.Stack.{length-cell_bytes, can_write, read-written, read-apart}
@@ -71,7 +72,7 @@ others-stay s frame is memory later l k cell bytes old differ found written size
 
 -- as many bytes as a cell holds can be assigned to its local; memory then holds the store with them, and else is as it was
 pub assigns : (source : Source) (s : Shape) (frame : Frame) → IsSound source s → IsFrameOf s frame → (store : Store) (memory : Memory) → Holds s frame store memory → (c : Cell) (to : LocalId) (rvalue : Rvalue) (bytes : List ℕ) → local_of s c ≡ Some to.0 → rvalue_bytes frame memory rvalue ≡ Ok bytes → length bytes ≡ length (store c) →
-    (later : Memory) × (after_statement frame memory (Assign (local_place to) rvalue) ≡ Ok later) × Holds s frame (with_cell_bytes store c bytes) later × KeepsOthers frame memory later
+    (later : Memory) × (after_statement frame memory (Assign (whole_place to) rvalue) ≡ Ok later) × Holds s frame (with_cell_bytes store c bytes) later × KeepsOthers frame memory later
 unfolding after_statement copied place_cell
 assigns source s frame sound is store memory holds c to rvalue bytes local computed long =
     let at = interval-of frame memory to.0 (store c) (holds.shows c to.0 local) in

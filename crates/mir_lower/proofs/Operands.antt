@@ -17,7 +17,8 @@ use Rattle.source_meaning.specs.Meaning.{constant_cost, level_at, literal_operan
 use Rattle.source_meaning.specs.Source.{Source, unadjusted, Node, Binding, Place, whole as place_of_cell, Store, Literally, At}
 use Rattle.source_meaning.proofs.Marks.{literal_operand_marks, operand_marks, place_marks, path_marks}
 use Rattle.mir_lower.specs.Does.{Stands, here, IsFrameOf, Holds, Landings, Reaches, Nothing, LeadsTo, Fits, Does, DoesPlace}
-use Rattle.mir_lower.specs.Graph.{Shape, local_place}
+use Rattle.mir.specs.WholePlaces.{whole_place}
+use Rattle.mir_lower.specs.Graph.{Shape}
 use Rattle.mir_lower.specs.Growth.{Grows, IsSound, IsOpen}
 use Rattle.body_forms.specs.Literals.{IsLiteral}
 use Rattle.mir_lower.specs.Lowered.{IsGiven, IsNamed, LowersInto, LowersPlace, LowersOperand, Keeps}
@@ -124,7 +125,7 @@ into-place source from middle new whole frame e form does grows sound is marks l
       no-path _ is = refl
 
 -- an expression that is no place goes into a local of its own
-pub lowers-temp : (source : Source) (s0 s1 s2 : Shape) (e : ℕ) (local : LocalId) → is_place (unadjusted source e) ≡ false → IsGiven source s0 s1 (Node e) local.0 → LowersInto source s1 s2 e (Node e) → LowersPlace source s0 s2 e (local_place local)
+pub lowers-temp : (source : Source) (s0 s1 s2 : Shape) (e : ℕ) (local : LocalId) → is_place (unadjusted source e) ≡ false → IsGiven source s0 s1 (Node e) local.0 → LowersInto source s1 s2 e (Node e) → LowersPlace source s0 s2 e (whole_place local)
 lowers-temp source s0 s1 s2 e local form given into =
     record {
       keeps = record {
@@ -158,7 +159,7 @@ name-place source whole frame s e local name named form lands around stands (suc
     subst (Reaches source whole lands frame (here s) (here s) memory (LeadsTo (place_of_cell (Binding named.binding.0)) whole frame)) (sym gives)
     (inr (memory, comes-refl frame (here s) memory, holds, refl))
 
-pub lowers-name : (source : Source) (s : Shape) (e : ℕ) (local : LocalId) (name : _) → IsSound source s → IsOpen s → unadjusted source e ≡ Some (expr.Path name) → IsNamed source s e local.0 → LowersPlace source s s e (local_place local)
+pub lowers-name : (source : Source) (s : Shape) (e : ℕ) (local : LocalId) (name : _) → IsSound source s → IsOpen s → unadjusted source e ≡ Some (expr.Path name) → IsNamed source s e local.0 → LowersPlace source s s e (whole_place local)
 lowers-name source s e local name sound opened form named =
     record {
       keeps = record {

@@ -21,7 +21,8 @@ use Rattle.source_meaning.specs.Places.{place_bytes, bytes_behind}
 use Rattle.source_meaning.specs.Source.{Source, node, Cell, Binding, Place as SourcePlace, whole as place_of_cell, Store}
 use Rattle.source_meaning.proofs.Marks.{literal_marks, name_marks}
 use Rattle.mir_lower.specs.Does.{Stands, here, IsAt, IsFrameOf, Holds, Landings, Reaches, Nothing}
-use Rattle.mir_lower.specs.Graph.{Shape, with_statement, local_of, local_place}
+use Rattle.mir.specs.WholePlaces.{whole_place}
+use Rattle.mir_lower.specs.Graph.{Shape, with_statement, local_of}
 use Rattle.mir_lower.specs.Growth.{Grows, IsSound, IsOpen, IsReady}
 use Rattle.body_forms.specs.Literals.{IsLiteral}
 use Rattle.mir_lower.specs.Lowered.{Keeps, IsNamed, LowersOwn}
@@ -36,7 +37,7 @@ use Rattle.mir_lower.proofs.Steps.{local_of-grows, assigned-bytes, does-form}
 use Rattle.mir_lower.specs.Callees.{Serves}
 
 abbrev pub assignment : LocalId → Rvalue → MirSpan → Statement
-assignment to rvalue span = record { kind = Assign (local_place to) rvalue; span = span }
+assignment to rvalue span = record { kind = Assign (whole_place to) rvalue; span = span }
 
 -- one assignment keeps the graph, and gives no cells
 pub keeps-assigned : (source : Source) (s : Shape) (statement : Statement) → IsSound source s → IsOpen s → Keeps source s (with_statement statement s) []
@@ -72,7 +73,7 @@ unfolding place_bytes bytes_behind
 whole-bytes source store c = refl
 
 -- a local that holds a cell's value is that cell, as a place
-pub local-at : (s : Shape) (local : LocalId) (c : Cell) → local_of s c ≡ Some local.0 → IsAt s (local_place local) (place_of_cell c)
+pub local-at : (s : Shape) (local : LocalId) (c : Cell) → local_of s c ≡ Some local.0 → IsAt s (whole_place local) (place_of_cell c)
 local-at s local c found = record { found = found; elements = refl }
 
 -- a literal is assigned
@@ -92,7 +93,7 @@ lowers-literal source s new e l to operand span ready form is same c local =
           (assigned-bytes source s whole frame to (Use operand) span ready.«open» sound frame-is lands grows c (local-later s whole _ ready.«open» grows c to.0 local) store memory holds is.bytes (literal-computes source whole frame e l operand is store memory holds)))
 
 -- what a path names is copied
-pub lowers-named : (source : Source) (s new : Shape) (e : ℕ) (name : _) (to from : LocalId) (operand : MirOperand) (span : MirSpan) → IsReady source s e → node source e ≡ Some (expr.Path name) → IsNamed source s e from.0 → operand.kind ≡ Copy (local_place from) → new ≡ with_statement (assignment to (Use operand) span) s → (c : Cell) → local_of s c ≡ Some to.0 → LowersOwn source s new e c
+pub lowers-named : (source : Source) (s new : Shape) (e : ℕ) (name : _) (to from : LocalId) (operand : MirOperand) (span : MirSpan) → IsReady source s e → node source e ≡ Some (expr.Path name) → IsNamed source s e from.0 → operand.kind ≡ Copy (whole_place from) → new ≡ with_statement (assignment to (Use operand) span) s → (c : Cell) → local_of s c ≡ Some to.0 → LowersOwn source s new e c
 lowers-named source s new e name to from operand span ready form named copies same c local =
     let st = assignment to (Use operand) span in
     subst (λ (n : Shape). LowersOwn source s n e c) (sym same)
@@ -105,6 +106,6 @@ lowers-named source s new e name to from operand span ready form named copies sa
       reaches whole frame grows sound frame-is lands around stands fuel serves store memory holds =
           subst (λ (n : Option ValueNs). Reaches source whole lands frame (here s) (here (with_statement (assignment to (Use operand) span) s)) memory (Nothing whole frame) (named_into n (record { cell = c }) store)) (sym named.named)
           (assigned-bytes source s whole frame to (Use operand) span ready.«open» sound frame-is lands grows c (local-later s whole _ ready.«open» grows c to.0 local) store memory holds (store (Binding named.binding.0))
-          (copy-computes source whole frame (local_place from) (place_of_cell (Binding named.binding.0)) operand copies sound frame-is serves.world
+          (copy-computes source whole frame (whole_place from) (place_of_cell (Binding named.binding.0)) operand copies sound frame-is serves.world
           (local-at whole from (Binding named.binding.0) (local-later s whole _ ready.«open» grows (Binding named.binding.0) from.0 named.found)) store memory holds
           ∙ ap read (whole-bytes source store (Binding named.binding.0))))

@@ -20,7 +20,8 @@ use Rattle.source_meaning.specs.Meaning.{Value, answered as answered_to, answere
 use Rattle.source_meaning.specs.Source.{Source, node, Cell, Result as Slot, Node, Binding, Never, Path, Store, with_cell_bytes}
 use Rattle.source_meaning.proofs.Costs.{after-none}
 use Rattle.mir_lower.specs.Does.{Stands, here, IsFrameOf, Holds, Landings, Reaches, Performs, Nothing, DoesOwn}
-use Rattle.mir_lower.specs.Graph.{Shape, with_statement, local_of, local_place}
+use Rattle.mir.specs.WholePlaces.{whole_place}
+use Rattle.mir_lower.specs.Graph.{Shape, with_statement, local_of}
 use Rattle.mir_lower.specs.Growth.{Grows, IsSound, IsOpen, IsPlaced}
 use Rattle.mir_lower.specs.Runs.{Point, run_from, Comes}
 use Rattle.mir_lower.proofs.Holding.{assigns, interval-of}
@@ -50,9 +51,9 @@ pub placed-later : (old new : Shape) → Grows old new → (local : ℕ) → IsP
 placed-later old new grows local placed = record { cell = placed.cell; found = local_of-grows old new grows placed.cell local placed.found }
 
 -- an assignment of bytes, or of what an operator answers
-module _ (source : Source) (s whole : Shape) (frame : Frame) (to : LocalId) (rvalue : Rvalue) (span : MirSpan) (opened : IsOpen s) (sound : IsSound source whole) (is : IsFrameOf whole frame) (lands : Landings) (grows : Grows (with_statement (record { kind = Assign (local_place to) rvalue; span = span }) s) whole) (c : Cell) (local : local_of whole c ≡ Some to.0) (store : Store) (memory : Memory) (holds : Holds whole frame store memory) where
+module _ (source : Source) (s whole : Shape) (frame : Frame) (to : LocalId) (rvalue : Rvalue) (span : MirSpan) (opened : IsOpen s) (sound : IsSound source whole) (is : IsFrameOf whole frame) (lands : Landings) (grows : Grows (with_statement (record { kind = Assign (whole_place to) rvalue; span = span }) s) whole) (c : Cell) (local : local_of whole c ≡ Some to.0) (store : Store) (memory : Memory) (holds : Holds whole frame store memory) where
   abbrev added : Statement
-  added = record { kind = Assign (local_place to) rvalue; span = span }
+  added = record { kind = Assign (whole_place to) rvalue; span = span }
 
   pub assigned-bytes : (bytes : List ℕ) → rvalue_bytes frame memory rvalue ≡ Ok bytes → Reaches source whole lands frame (here s) (here (with_statement added s)) memory (Nothing whole frame) (put store (record { cell = c }) bytes)
   assigned-bytes bytes computes =
@@ -64,7 +65,7 @@ module _ (source : Source) (s whole : Shape) (frame : Frame) (to : LocalId) (rva
       (λ stuck. subst (Reaches source whole lands frame (here s) (here (with_statement added s)) memory (Nothing whole frame)) (sym stuck) (inr tt))
       (put-cases store (record { cell = c }) bytes)
 
-  faults : (e : MirEvalError) → rvalue_bytes frame memory rvalue ≡ Err e → after_statement frame memory (Assign (local_place to) rvalue) ≡ Err e
+  faults : (e : MirEvalError) → rvalue_bytes frame memory rvalue ≡ Err e → after_statement frame memory (Assign (whole_place to) rvalue) ≡ Err e
   unfolding after_statement copied place_cell
   faults e err =
       let at = interval-of frame memory to.0 (store c) (holds.shows c to.0 local) in

@@ -7,7 +7,7 @@ use Rattle.mir.specs.declared.body.BasicBlock.{BasicBlock}
 use Rattle.mir.specs.declared.body.Local.{Local}
 use Rattle.mir.specs.declared.body.Terminator.{Terminator}
 use Rattle.mir.specs.Elements.{PlaceElem}
-use Rattle.mir.specs.Projections.{Projection, projection_of, empty_id}
+use Rattle.mir.specs.Projections.{Projection, projection_of}
 use Rattle.mir.specs.declared.ids.LocalId.{LocalId}
 use Rattle.mir.specs.declared.operand.Place.{Place}
 use Rattle.mir.specs.declared.projection.ProjectionId.{ProjectionId}
@@ -201,11 +201,7 @@ with_scope scope s = record s { scope = scope }
 abbrev pub with_targets : List OpenTarget → Shape → Shape
 with_targets targets s = record s { targets = targets }
 
--- all of a local, as a place
-abbrev pub local_place : LocalId → Place
-local_place local = record { local = local; projection = empty_id }
-
--- the elements that an id stands for; the id 0 is that of none, in each store
+-- the elements that an id stands for; the id 0 stands for the empty projection, in each store
 abbrev pub elements_in : List Projection → ProjectionId → Option Projection
 elements_in kept id = if id.0 == 0 then Some [] else projection_of kept id
 

@@ -4,7 +4,8 @@ ghost use Rattle.std.specs.Prelude.{◌≡◌, ◌<◌, length, IfOk, IfSome, On
 ghost use Rattle.source_meaning.specs.Calls.{must_not_return};
 ghost use Rattle.body_forms.specs.Contexts.{source_of};
 ghost use Rattle.mir_lower.specs.Calling.{call_terminator, target_of_call};
-ghost use Rattle.mir_lower.specs.Graph.{shape, local_place, with_block, with_terminator};
+ghost use Rattle.mir.specs.WholePlaces.{whole_place};
+ghost use Rattle.mir_lower.specs.Graph.{shape, with_block, with_terminator};
 ghost use Rattle.mir_lower.specs.Growth.{IsOpen};
 
 use crate::graph::Graph;
@@ -36,7 +37,7 @@ fn end_by_call(
     target: Option<BasicBlockId>,
 ) -> Result<(), NoMemory>
     requires { IsOpen (shape graph.old) }
-    ensures { OnOk result (shape graph.new ≡ with_block (with_terminator (call_terminator e func args (local_place to) target) (shape graph.old))) }
+    ensures { OnOk result (shape graph.new ≡ with_block (with_terminator (call_terminator e func args (whole_place to) target) (shape graph.old))) }
 {
     graph.set_terminator(Terminator {
         span: MirSpan::ExprId(e),
@@ -63,7 +64,7 @@ pub(crate) fn call(
     to: LocalId,
 ) -> Result<(), NoMemory>
     requires { IsOpen (shape graph.old) }
-    ensures { OnOk result ((next : _) × (next.0 ≡ length (shape graph.old).blocks) × (shape graph.new ≡ with_block (with_terminator (call_terminator e func args (local_place to) (target_of_call (must_not_return (source_of context.now) e.0) next)) (shape graph.old)))) }
+    ensures { OnOk result ((next : _) × (next.0 ≡ length (shape graph.old).blocks) × (shape graph.new ≡ with_block (with_terminator (call_terminator e func args (whole_place to) (target_of_call (must_not_return (source_of context.now) e.0) next)) (shape graph.old)))) }
 {
     let count = graph.blocks.len();
     if count >= u32::MAX as usize {

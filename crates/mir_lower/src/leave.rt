@@ -6,7 +6,8 @@ ghost use Rattle.mir.specs.declared.body.TerminatorKind.TheVariants.{Drop as Dro
 ghost use Rattle.std.specs.Option.{option_copied};
 ghost use Rattle.source_meaning.specs.Source.{cell_type, is_dropped, drops};
 ghost use Rattle.body_forms.specs.Contexts.{source_of};
-ghost use Rattle.mir_lower.specs.Graph.{shape, local_place, with_statement, with_block, with_terminator, with_scope, cell_of};
+ghost use Rattle.mir.specs.WholePlaces.{whole_place};
+ghost use Rattle.mir_lower.specs.Graph.{shape, with_statement, with_block, with_terminator, with_scope, cell_of};
 ghost use Rattle.mir_lower.specs.Growth.{IsSound, IsOpen};
 ghost use Rattle.mir_lower.specs.Leaving.{Idles, one_if};
 
@@ -43,7 +44,7 @@ fn is_dropped(context: &Context<'_>, held: Held) -> bool
 fn drop_local(alloc: Global, graph: &mut Graph, local: LocalId, at: ExprId) -> Result<(), NoMemory>
     requires { IsOpen (shape graph.old) }
     ensures { OnOk result ((target : _) × (target.0 ≡ length (shape graph.old).blocks)
-        × (shape graph.new ≡ with_block (with_terminator (record { span = MirSpan.ExprId at; kind = Dropping (local_place local) target None }) (shape graph.old)))) }
+        × (shape graph.new ≡ with_block (with_terminator (record { span = MirSpan.ExprId at; kind = Dropping (whole_place local) target None }) (shape graph.old)))) }
 {
     let count = graph.blocks.len();
     if count >= u32::MAX as usize {

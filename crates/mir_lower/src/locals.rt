@@ -8,7 +8,8 @@ ghost use Rattle.source_meaning.specs.Core as expr;
 ghost use Rattle.source_meaning.specs.Core.{is_place, local_named};
 ghost use Rattle.world.specs.declared.infer.ValueNs.TheVariants.{LocalBinding};
 ghost use Rattle.body_forms.specs.Contexts.{source_of};
-ghost use Rattle.mir_lower.specs.Graph.{shape, local_place, with_statement, local_of};
+ghost use Rattle.mir.specs.WholePlaces.{whole_place};
+ghost use Rattle.mir_lower.specs.Graph.{shape, with_statement, local_of};
 ghost use Rattle.mir_lower.specs.Does.{IsAt};
 ghost use Rattle.mir_lower.specs.Growth.{IsSound, IsOpen, IsReady, IsReadyPart};
 ghost use Rattle.mir_lower.specs.Lowered.{IsGiven, IsNamed, Binds, IsCombinedIn, IsTargeted, Assigns};
@@ -33,7 +34,7 @@ pub(crate) fn assign(
     span: MirSpan,
 ) -> Result<(), MirLowerError>
     requires { IsOpen (shape graph.old) }
-    ensures added { OnOk result (shape graph.new ≡ with_statement (record { kind = Assign (local_place to) rvalue; span = span }) (shape graph.old)) }
+    ensures added { OnOk result (shape graph.new ≡ with_statement (record { kind = Assign (whole_place to) rvalue; span = span }) (shape graph.old)) }
     ensures refused { IfErr result (λ error. error ≡ refusal.NoMemory) }
 {
     graph.push_statement(Statement {

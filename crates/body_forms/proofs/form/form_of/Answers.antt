@@ -1,6 +1,18 @@
--- The other variants have no form with a meaning.
+-- A field's form is by what it is resolved to. The other variants have no form with a meaning.
+use Rattle.std.proofs.Common.{sym, ap, ◌∙◌, subst}
+use Rattle.source_meaning.specs.Core.{cast_operation, field_form, field_named, names_item}
+use Rattle.world.specs.declared.expr.Expr.{Expr}
+use Rattle.body_forms.specs.Form.{IsFormOf}
 use Rattle.body_forms.proofs.Forms.{otherwise}
 use Rattle.body_forms.proofs.form.form_of.Goals as goal
+
+pub returns-in-Field : goal.returns-in-Field
+returns-in-Field c =
+    let infer = c.args.context.now.infer.now in
+    let e = c.args.e in
+    let given = c.field_form.ensures c.in-Field.name in
+    subst (λ (x : Expr). IsFormOf (names_item infer e) (cast_operation infer e) (field_named infer e) x c.field_form.result) (sym c.in-Field.is)
+    (record { core = ap (field_form c.in-Field.expr.0) (sym c.field_named.ensures) ∙ given.core; cause = given.cause })
 
 pub returns-in_default : goal.returns-in_default
 returns-in_default c =

@@ -4,7 +4,8 @@ use Rattle.std.proofs.lemmas.Result.{on_ok_weaker}
 use Rattle.mir.specs.declared.span.MirSpan.TheVariants.{ExprId}
 use Rattle.std.specs.Prelude.{None}
 use Rattle.body_forms.specs.Contexts.{source_of}
-use Rattle.mir_lower.specs.Graph.{shape, local_place}
+use Rattle.mir.specs.WholePlaces.{whole_place}
+use Rattle.mir_lower.specs.Graph.{shape}
 use Rattle.mir_lower.specs.Leaving.{Idles, one_if}
 use Rattle.mir_lower.proofs.Leaving.{idles-drop, idles-refl}
 use Rattle.mir_lower.proofs.leave.drop_if_needed.Goals as goal
@@ -14,7 +15,7 @@ returns-then-needed c =
     let source = source_of c.args.context.now in
     on_ok_weaker c.drop_local.result
     (λ h. subst (λ (b : Bool). Idles source (shape c.args.graph.now) (shape c.drop_local.new.graph) (one_if b)) (sym c.if-needed.true ∙ c.is_dropped-needed.ensures)
-    (idles-drop source (shape c.args.graph.now) (shape c.drop_local.new.graph) (local_place c.args.marked.local) h.0 None (ExprId c.args.at) c.requires.sound c.requires.opened h.1 h.2))
+    (idles-drop source (shape c.args.graph.now) (shape c.drop_local.new.graph) (whole_place c.args.marked.local) h.0 None (ExprId c.args.at) c.requires.sound c.requires.opened h.1 h.2))
     c.drop_local.ensures
 
 pub returns-else-needed : goal.returns-else-needed
