@@ -118,19 +118,22 @@ unfolding operands_bytes
 shows-all source whole caller store [] [] fit given is = let none : [] ≡ given = cc in subst (ShowAll whole caller store []) none tt
 shows-all source whole caller store [] (value ∷ values) fit given is = absurd fit
 shows-all source whole caller store (arg ∷ args) [] fit given is = absurd fit
-shows-all source whole caller store (arg ∷ args) (value ∷ values) fit given is = by_first (operand_bytes source store value) refl is
+shows-all source whole caller store (arg ∷ args) (value ∷ values) fit given is =
+    by_first (λ rest rest-is. shows-all source whole caller store args values fit.1 rest rest-is) (operand_bytes source store value) refl is
   where
     Goal : Type 0
     Goal = ShowAll whole caller store (arg ∷ args) given
-    by_rest : (bytes : List ℕ) → operand_bytes source store value ≡ Some bytes → (rest : Option (List (List ℕ))) → operands_bytes source store values ≡ rest → option_map (λ (others : List (List ℕ)). bytes ∷ others) rest ≡ Some given → Goal
-    by_rest bytes bytes-are (Some rest) rest-is same =
+
+    by_rest : ((rest : List (List ℕ)) → operands_bytes source store values ≡ Some rest → ShowAll whole caller store args rest) → (bytes : List ℕ) → operand_bytes source store value ≡ Some bytes → (rest : Option (List (List ℕ))) → operands_bytes source store values ≡ rest → option_map (λ (others : List (List ℕ)). bytes ∷ others) rest ≡ Some given → Goal
+    by_rest others bytes bytes-are (Some rest) rest-is same =
         let all : bytes ∷ rest ≡ given = cc in
         subst (ShowAll whole caller store (arg ∷ args)) all
-        ((λ memory holds. fit.0.bytes store memory holds ∙ bytes-are), shows-all source whole caller store args values fit.1 rest rest-is)
-    by_rest bytes bytes-are None rest-is same = absurd cc
-    by_first : (first : Option (List ℕ)) → operand_bytes source store value ≡ first → option_and_then (λ (bytes : List ℕ). option_map (λ (others : List (List ℕ)). bytes ∷ others) (operands_bytes source store values)) first ≡ Some given → Goal
-    by_first (Some bytes) bytes-are same = by_rest bytes bytes-are (operands_bytes source store values) refl same
-    by_first None bytes-are same = absurd cc
+        ((λ memory holds. fit.0.bytes store memory holds ∙ bytes-are), others rest rest-is)
+    by_rest others bytes bytes-are None rest-is same = absurd cc
+
+    by_first : ((rest : List (List ℕ)) → operands_bytes source store values ≡ Some rest → ShowAll whole caller store args rest) → (first : Option (List ℕ)) → operand_bytes source store value ≡ first → option_and_then (λ (bytes : List ℕ). option_map (λ (others : List (List ℕ)). bytes ∷ others) (operands_bytes source store values)) first ≡ Some given → Goal
+    by_first others (Some bytes) bytes-are same = by_rest others bytes bytes-are (operands_bytes source store values) refl same
+    by_first others None bytes-are same = absurd cc
 
 -- a test that is passed where something comes of it
 passed : {A : Type 0} (m n : ℕ) (next : Option A) (x : A) (b : Bool) → eqb m n ≡ b → cond b next None ≡ Some x → (m ≡ n) × (next ≡ Some x)

@@ -52,6 +52,9 @@ built-path source e name is named = built-node source e (Some (expr.Path name)) 
 pub one-built : (source : Source) (e : ℕ) → IsBuilt source e → All (IsBuilt source) (e ∷ [])
 one-built source e built = All-cons (IsBuilt source) e [] built (All-nil (IsBuilt source))
 
+pub built-field : (source : Source) (e base index : ℕ) → node source e ≡ Some (expr.Field base index) → IsBuilt source base → IsBuilt source e
+built-field source e base index is built = built-node source e (Some (expr.Field base index)) is tt (one-built source base built)
+
 pub built-strict : (source : Source) (e : ℕ) (operation : Operation) (operands : List ℕ) → node source e ≡ Some (expr.Strict operation operands) → IsBuiltStrict source e operation → All (IsBuilt source) operands → IsBuilt source e
 built-strict source e operation operands is own built =
     built-node source e (Some (expr.Strict operation operands)) is own (subst (All (IsBuilt source)) (sym (strict_parts operation operands)) built)

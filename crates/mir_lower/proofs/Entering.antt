@@ -7,6 +7,7 @@ use Rattle.types.specs.declared.ids.FunctionId.{FunctionId}
 use Rattle.types.specs.declared.ty.Ty.{Ty}
 use Rattle.world.specs.Checked.{IsChecked, IsCheckedBody}
 use Rattle.world.specs.declared.database.HirDatabase.{HirDatabase}
+use Rattle.mir.specs.Projections.{empty_id}
 use Rattle.mir.specs.Answers.{answer_to}
 use Rattle.mir.specs.Areas.{taken}
 use Rattle.mir.specs.declared.address.Interval.{Interval}
@@ -100,7 +101,7 @@ module _ (source : Source) (whole : Shape) (frame : Frame) (lands : Landings) (f
     (call : Calling) (values : List (List ℕ)) (fit : ShowAll whole frame store call.args values)
     (e : ℕ) (callee : Option ℕ) (ty : Ty) (typed : mir_type frame.body call.func.kind ≡ Some ty)
     (id : FunctionId) (named : function_in ty ≡ Some id) (names : function_called source e callee ≡ Some id) (makes : MakesCall source id)
-    (c : Cell) (found : local_of whole c ≡ Some call.destination.local.0)
+    (c : Cell) (is-whole : call.destination.projection ≡ empty_id) (found : local_of whole c ≡ Some call.destination.local.0)
     (at : (budget : ℕ) → run_from frame memory from budget ≡ going_on budget (calls frame memory call)) where
   -- the run stops at the call, whatever is counted
   abbrev StopsAnyhow : Type 0
@@ -363,7 +364,7 @@ module _ (source : Source) (whole : Shape) (frame : Frame) (lands : Landings) (f
         let there = interval-of frame memory call.destination.local.0 (store c) (holds.shows c call.destination.local.0 found) in
         returns-started called (calls-into source called id makes has_body) there.0 there.1
         (enters-body called has_body told.0 told.1 (Some there.0) (store c) there.2
-        (λ budget. told.2 budget ∙ ap (going_on budget) (called-into frame memory call id told.0 next there.0 target there.1)))
+        (λ budget. told.2 budget ∙ ap (going_on budget) (called-into frame memory call id told.0 next there.0 target is-whole there.1)))
         (started called (store c) values) refl
 
     returns-source : (o : Option Source) → source_of source.world id ≡ o → Returning (entered_into (callees_at fuel) false o (Some values) place store)

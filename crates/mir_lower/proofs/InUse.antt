@@ -8,7 +8,7 @@ use Rattle.mir.specs.declared.statement.Statement.{Statement}
 use Rattle.mir.specs.declared.statement.StatementKind.TheVariants.{StorageLive}
 use Rattle.mir.specs.Memory.{Memory}
 use Rattle.mir.specs.Run.{Frame, after_statement}
-use Rattle.source_meaning.specs.Core.{is_path}
+use Rattle.source_meaning.specs.Core.{is_place}
 use Rattle.source_meaning.specs.Source.{Source, Cell, Node, Never, unadjusted, diverges, own_type, node_type, binding_type}
 use Rattle.mir_lower.specs.Does.{here}
 use Rattle.mir_lower.specs.Graph.{Shape, binding_local, with_statement, with_temp, with_never, with_mark, temp_of, never_of, local_of}
@@ -49,7 +49,7 @@ same-here-temp : (e : ℕ) (ty : Ty) (s : Shape) → here (with_temp e ty s) ≡
 unfolding count_at with_temp
 same-here-temp e ty s = refl
 
-marks-temp : (source : Source) (s : Shape) (e : ℕ) (ty : Ty) → IsReadyPart source s e → is_path (unadjusted source e) ≡ false → e < length s.temps → node_type source e ≡ Some ty → temp_of s e ≡ None → IsMarked source s (with_mark (Node e) (with_temp e ty s)) (Node e) (length s.locals)
+marks-temp : (source : Source) (s : Shape) (e : ℕ) (ty : Ty) → IsReadyPart source s e → is_place (unadjusted source e) ≡ false → e < length s.temps → node_type source e ≡ Some ty → temp_of s e ≡ None → IsMarked source s (with_mark (Node e) (with_temp e ty s)) (Node e) (length s.locals)
 marks-temp source s e ty part form within has none =
     let ready = part.ready in
     let next = marks-cell source (with_temp e ty s) (Node e) (length s.locals) (with_temp-sound source e ty s within has (ready.reached, form, part.below) none ready.sound) (with_temp-open e ty s ready.«open») (temp_of-with_temp_same e ty s within) in
@@ -64,7 +64,7 @@ marks-temp source s e ty part form within has none =
     }
 
 -- the local that an expression has, or is given
-pub marks-expression : (source : Source) (s new : Shape) (e local : ℕ) (ty : Ty) → IsReadyPart source s e → is_path (unadjusted source e) ≡ false → node_type source e ≡ Some ty → ((l : ℕ) → temp_of s e ≡ Some l → (local ≡ l) × (new ≡ with_mark (Node e) s)) → (temp_of s e ≡ None → (local ≡ length s.locals) × (new ≡ with_mark (Node e) (with_temp e ty s))) → IsMarked source s new (Node e) local
+pub marks-expression : (source : Source) (s new : Shape) (e local : ℕ) (ty : Ty) → IsReadyPart source s e → is_place (unadjusted source e) ≡ false → node_type source e ≡ Some ty → ((l : ℕ) → temp_of s e ≡ Some l → (local ≡ l) × (new ≡ with_mark (Node e) s)) → (temp_of s e ≡ None → (local ≡ length s.locals) × (new ≡ with_mark (Node e) (with_temp e ty s))) → IsMarked source s new (Node e) local
 marks-expression source s new e local ty part form has old fresh = by-temp (temp_of s e) refl where
   by-temp : (t : Option ℕ) → temp_of s e ≡ t → IsMarked source s new (Node e) local
   by-temp (Some l) found =

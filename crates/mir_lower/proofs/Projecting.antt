@@ -2,14 +2,16 @@
 use Rattle.std.proofs.Common.{◌≡◌, ℕ, ◌<◌, Bool, true, false, List, [], ◌∷◌, ◌++◌, length, Option, Some, None, if◌then◌else◌, ◌==◌, refl, sym, ap, ◌∙◌, subst}
 use Rattle.std.specs.Prelude.{map}
 use Rattle.std.proofs.lemmas.List.{map-append}
+use borrow.Author.Tests.{eqb-true}
 use Rattle.mir.specs.Elements.{PlaceElem as GraphElem}
-use Rattle.mir.specs.Projections.{Projection, projection_of}
+use Rattle.mir.specs.Projections.{AreInterned, HasId, Projection, projection_of}
 use Rattle.mir.specs.declared.operand.Place.{Place as GraphPlace}
 use Rattle.mir.specs.declared.projection.ProjectionId.{ProjectionId}
 use Rattle.source_meaning.specs.Source.{Source, Place, Part, projected}
 use Rattle.mir_lower.specs.Does.{IsAt, elem_of, elements_of, here}
 use Rattle.mir_lower.specs.Graph.{Shape, IsProjected, elements_in, never_of, temp_of, with_projections}
 use Rattle.mir_lower.specs.Growth.{Grows, Spares, IsSound, IsOpen, count_at, statement_at, terminator_at}
+use Rattle.mir_lower.proofs.Lists.{slice_get_below}
 use Rattle.mir_lower.proofs.Sound.{sound_by}
 use Rattle.mir_lower.proofs.Sparing.{spares-same}
 use Rattle.mir_lower.proofs.Steps.{local_of-grows}
@@ -69,3 +71,11 @@ projected-at old new field place made is at same =
       found = found ∙ ap (λ local. Some local.0) (sym is.local);
       elements = is.longer (elements_of at.projection) same.elements ∙ ap Some (sym (map-append elem_of at.projection (Part field ∷ [])));
     }
+
+-- a place of the graph has a projection that the graph has
+pub place-known : (s : Shape) → AreInterned s.projections → (place : GraphPlace) (at : Place) → IsAt s place at → HasId s.projections place.projection
+place-known s interned place at is = by_test (place.projection.0 == 0) refl is.elements
+  where
+    by_test : (test : Bool) → place.projection.0 == 0 ≡ test → if test then Some [] else projection_of s.projections place.projection ≡ Some (elements_of at.projection) → HasId s.projections place.projection
+    by_test true none h = subst (λ n. n < length s.projections) (sym (eqb-true place.projection.0 0 none)) (slice_get_below s.projections 0 [] interned.empty)
+    by_test false some h = slice_get_below s.projections place.projection.0 (elements_of at.projection) h

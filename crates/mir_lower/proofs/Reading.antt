@@ -5,8 +5,16 @@ use Rattle.std.proofs.Math.Seq.{take-take}
 use Rattle.std.proofs.lemmas.Bool.{cases_eq}
 use Rattle.std.proofs.lemmas.List.{drop-drop, drop-take}
 use borrow.Author.Tests.{le-leb, leb-true}
-use Rattle.types.specs.declared.ty.Ty.{Ty}
-use Rattle.types.specs.declared.ty.Ty.TheVariants.{Tuple}
+use Rattle.types.specs.declared.ty.ComplexMemoryMap.{ComplexMemoryMap}
+use Rattle.types.specs.declared.ty.Const.{Const}
+use Rattle.types.specs.declared.ty.Const.TheOpen as layer
+use Rattle.types.specs.declared.ty.GenericArg.{GenericArg}
+use Rattle.types.specs.declared.ty.GenericArgs.{GenericArgs}
+use Rattle.types.specs.declared.ty.MemoryMap.{MemoryMap}
+use Rattle.types.specs.declared.ty.TraitRef.{TraitRef}
+use Rattle.types.specs.declared.ty.Ty.{Ty, Ty-F, out-Ty}
+use Rattle.types.specs.declared.ty.UnevaluatedConst.{UnevaluatedConst}
+use Rattle.types.specs.declared.ty.ValueConst.{ValueConst}
 use Rattle.world.specs.declared.database.HirDatabase.{HirDatabase}
 use Rattle.world.specs.declared.layout.Layout.{Layout}
 use Rattle.world.specs.Lookups.{layout_of}
@@ -37,12 +45,19 @@ use Rattle.mir_lower.proofs.Stack.{length-cell_bytes}
 
 -- Elements lead to the same types, as far from the value's first byte.
 
+-- a type's variant
+abbrev TyLayer : Type 0
+TyLayer = Ty-F Const GenericArg MemoryMap Ty ComplexMemoryMap GenericArgs TraitRef UnevaluatedConst ValueConst
+
+by_layer : (index : ℕ) (ty : Ty) (one : TyLayer) → out-Ty ty ≡ one → graph.elem_type (elem_of (Part index)) ty ≡ source_place.elem_type (Part index) ty
+by_layer index ty (layer.Tuple parts) is = rw (is) refl
+by_layer index ty _ is = rw (is) refl
+
 same_elem-type : (elem : PlaceElem) (ty : Ty) → graph.elem_type (elem_of elem) ty ≡ source_place.elem_type elem ty
-same_elem-type (Part field) (Tuple parts) = refl
-same_elem-type (Part field) _ = refl
+same_elem-type (Part index) ty = by_layer index ty (out-Ty ty) refl
 
 same_elem-offset : (world : HirDatabase) (elem : PlaceElem) (ty : Ty) → graph.elem_offset world (elem_of elem) ty ≡ source_place.elem_offset world elem ty
-same_elem-offset world (Part field) ty = refl
+same_elem-offset world (Part index) ty = refl
 
 next-type : (elem : PlaceElem) (ty : Option Ty) → option_and_then (graph.elem_type (elem_of elem)) ty ≡ option_and_then (source_place.elem_type elem) ty
 next-type elem (Some ty) = same_elem-type elem ty
@@ -127,12 +142,12 @@ spot-read memory cell bytes found (Some count) (Some at) = cell-part memory cell
 spot-read memory cell bytes found None (Some at) = refl
 spot-read memory cell bytes found size None = refl
 
-size_at : HirDatabase → Option Ty → Option ℕ
+abbrev size_at : HirDatabase → Option Ty → Option ℕ
 size_at world ty = option_map (λ (layout : Layout). layout.size) (option_and_then (layout_of world) ty)
 
 -- what elements lead to in a cell has the bytes that they lead to in the cell's bytes
 behind-read : (world : HirDatabase) (memory : Memory) (cell : Interval) (bytes : List ℕ) → cell_bytes memory cell ≡ Some bytes → (elems : List PlaceElem) (ty : Option Ty) → option_and_then (cell_bytes memory) (cell_behind world (elements_of elems) ty cell) ≡ bytes_behind world elems ty bytes
-unfolding cell_behind bytes_behind
+unfolding cell_behind bytes_behind graph.type_behind source_place.type_behind
 behind-read world memory cell bytes found [] ty = found
 behind-read world memory cell bytes found (elem ∷ rest) ty =
     ap (λ t. option_and_then (cell_bytes memory) (option_and_then (λ at. option_and_then (part_of_cell cell at) (size_at world t)) (graph.offset_behind world (elements_of (elem ∷ rest)) ty))) (same-type (elem ∷ rest) ty)

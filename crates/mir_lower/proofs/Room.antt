@@ -7,7 +7,7 @@ use Rattle.std.proofs.lemmas.List.Sums.{sum-map, sum_by-cons}
 use Rattle.types.specs.declared.ty.Ty.{Ty}
 use Rattle.world.specs.Lookups.{layout_of}
 use Rattle.mir.specs.declared.body.Local.{Local}
-use Rattle.source_meaning.specs.Core.{is_path}
+use Rattle.source_meaning.specs.Core.{is_place}
 use Rattle.source_meaning.specs.Entering.{below, body_room, cell_room, has_cell, room_of}
 use Rattle.source_meaning.specs.Source.{Source, Cell, Result, Node, Binding, Never, cell_type, unadjusted, root, same_cell}
 use Rattle.mir_lower.specs.Graph.{Shape, local_of}
@@ -182,7 +182,7 @@ module _ (source : Source) where
   place-own (Never e) (Never f) one other same = same
 
   root-has-cell : has_cell source (root source) ≡ true
-  root-has-cell = ap (λ b. not (is_path (unadjusted source (root source))) || b) (itself (root source)) ∙ or-true (not (is_path (unadjusted source (root source)))) where
+  root-has-cell = ap (λ b. not (is_place (unadjusted source (root source))) || b) (itself (root source)) ∙ or-true (not (is_place (unadjusted source (root source)))) where
     itself : (n : ℕ) → (n == n) ≡ true
     itself n = grind (arith, nat_tests)
 

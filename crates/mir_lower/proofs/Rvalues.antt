@@ -79,9 +79,10 @@ kind-of-read source whole frame x value fits = ap (option_and_then kind_of) fits
 read-one : (source : Source) (whole : Shape) (frame : Frame) (store : Store) (memory : Memory) → Holds whole frame store memory → (x : MirOperand) (value : Operand) → Fits source x.kind whole frame value → (given : Value) → value_of source store value ≡ Some given → Reads frame memory x given
 read-one source whole frame store memory holds x value fits given is = by_bytes (operand_bytes source store value) refl is
   where
-    by_bytes : (bytes : Option (List ℕ)) → operand_bytes source store value ≡ bytes → option_map (λ (b : List ℕ). made-value b) bytes ≡ Some given → Reads frame memory x given
     made-value : List ℕ → Value
     made-value b = record { kind = operand_kind source value; bytes = b }
+
+    by_bytes : (bytes : Option (List ℕ)) → operand_bytes source store value ≡ bytes → option_map (λ (b : List ℕ). made-value b) bytes ≡ Some given → Reads frame memory x given
     by_bytes (Some bytes) are same =
         let is-given : made-value bytes ≡ given = cc in
         subst (Reads frame memory x) is-given
@@ -93,19 +94,22 @@ unfolding values_of
 read-all source whole frame store memory holds [] [] fits given is = let none : [] ≡ given = cc in subst (ReadAll frame memory []) none tt
 read-all source whole frame store memory holds [] (value ∷ values) fits given is = absurd fits
 read-all source whole frame store memory holds (x ∷ operands) [] fits given is = absurd fits
-read-all source whole frame store memory holds (x ∷ operands) (value ∷ values) fits given is = by_first (value_of source store value) refl is
+read-all source whole frame store memory holds (x ∷ operands) (value ∷ values) fits given is =
+    by_first (λ rest rest-is. read-all source whole frame store memory holds operands values fits.1 rest rest-is) (value_of source store value) refl is
   where
     Goal : Type 0
     Goal = ReadAll frame memory (x ∷ operands) given
-    by_rest : (first : Value) → value_of source store value ≡ Some first → (rest : Option (List Value)) → values_of source store values ≡ rest → option_map (λ (others : List Value). first ∷ others) rest ≡ Some given → Goal
-    by_rest first first-is (Some rest) rest-is same =
+
+    by_rest : ((rest : List Value) → values_of source store values ≡ Some rest → ReadAll frame memory operands rest) → (first : Value) → value_of source store value ≡ Some first → (rest : Option (List Value)) → values_of source store values ≡ rest → option_map (λ (others : List Value). first ∷ others) rest ≡ Some given → Goal
+    by_rest others first first-is (Some rest) rest-is same =
         let all : first ∷ rest ≡ given = cc in
         subst (ReadAll frame memory (x ∷ operands)) all
-        (read-one source whole frame store memory holds x value fits.0 first first-is, read-all source whole frame store memory holds operands values fits.1 rest rest-is)
-    by_rest first first-is None rest-is same = absurd cc
-    by_first : (first : Option Value) → value_of source store value ≡ first → option_and_then (λ (v : Value). option_map (λ (others : List Value). v ∷ others) (values_of source store values)) first ≡ Some given → Goal
-    by_first (Some first) first-is same = by_rest first first-is (values_of source store values) refl same
-    by_first None first-is same = absurd cc
+        (read-one source whole frame store memory holds x value fits.0 first first-is, others rest rest-is)
+    by_rest others first first-is None rest-is same = absurd cc
+
+    by_first : ((rest : List Value) → values_of source store values ≡ Some rest → ReadAll frame memory operands rest) → (first : Option Value) → value_of source store value ≡ first → option_and_then (λ (v : Value). option_map (λ (others : List Value). v ∷ others) (values_of source store values)) first ≡ Some given → Goal
+    by_first others (Some first) first-is same = by_rest others first first-is (values_of source store values) refl same
+    by_first others None first-is same = absurd cc
 
 -- An operator on one operand, and one on two.
 

@@ -5,26 +5,29 @@ use Rattle.std.proofs.lemmas.Result.{IfOk-weaker, on_ok_weaker, IfErr-weaker}
 use Rattle.mir.specs.declared.errors.MirLowerError.TheVariants as refusal
 use Rattle.mir.specs.declared.span.MirSpan.TheVariants.{ExprId}
 use Rattle.source_meaning.specs.Events.{marked_as_place, marked_in_block}
-use Rattle.source_meaning.specs.Source.{Result, Node, Never, node}
+use Rattle.source_meaning.specs.Source.{Result, Node, Never, node, unadjusted}
 use Rattle.source_meaning.proofs.Never.{unadjusted-plain}
 use Rattle.body_forms.specs.Callees.{callee_number}
 use Rattle.body_forms.specs.Contexts.{source_of}
 use Rattle.mir_lower.specs.Graph.{shape, target_of_blocks}
 use Rattle.mir_lower.specs.Growth.{Grows, IsPlaced, IsInside}
 use Rattle.source_meaning.specs.Valid.{opened_in}
-use Rattle.mir_lower.specs.Lowered.{HasStatements, LowersOperand, LowersOperands, LowersStatements, LowersTail}
+use Rattle.mir_lower.specs.Lowered.{HasStatements, LowersPlace, LowersOperand, LowersOperands, LowersStatements, LowersTail}
 use Rattle.mir.specs.declared.operand.Operand.{Operand}
 use Rattle.mir.specs.declared.operand.OperandKind.{OperandKind}
+use Rattle.mir.specs.declared.operand.OperandKind.TheVariants.{Copy}
+use Rattle.mir.specs.declared.operand.Place.{Place}
 use Rattle.mir.specs.declared.operand.Rvalue.TheVariants.{Aggregate, CheckedBinaryOp, Use}
+use Rattle.source_meaning.specs.Core as expr
 use Rattle.source_meaning.specs.Core.{Combine}
-use Rattle.body_forms.specs.Form.{core_value}
+use Rattle.body_forms.specs.Form.{IsPlaceForm, core_value}
 use Rattle.world.specs.declared.body.Statement.{Statement}
 use Rattle.mir_lower.specs.Refusals.{RefusesAt}
 use Rattle.std.specs.Prelude.{All, Contains, IfSome, ℕ}
 use Rattle.std.proofs.lemmas.List.Elements.{All-nil, All-more, Contains-get_or}
 use Rattle.world.specs.Nodes.{optional}
 use Rattle.mir_lower.specs.Built.{IsBuilt, IsBuiltThrough}
-use Rattle.mir_lower.proofs.Building.{built-return, has-target, built-labelled, built-loop, built-break, built-literal, built-path, built-strict, built-call, built-logic, built-if, built-assign, built-compound, built-block, one-built, two-built}
+use Rattle.mir_lower.proofs.Building.{built-field, built-return, has-target, built-labelled, built-loop, built-break, built-literal, built-path, built-strict, built-call, built-logic, built-if, built-assign, built-compound, built-block, one-built, two-built}
 use Rattle.mir_lower.proofs.Adjusting.{lowers-undiverted, lowers-diverted}
 use Rattle.mir_lower.proofs.Assignments.{value-part, lowers-assign}
 use Rattle.mir_lower.proofs.Calls.{Collects, argument-in, arguments-from, built-arguments, collects-none, collects-more, collects-all, has-called, lowers-call}
@@ -33,6 +36,8 @@ use Rattle.world.specs.Nodes.{expr_numbers}
 use Rattle.mir_lower.proofs.Compounds.{combined-part, lowers-compound, refuses-combined}
 use Rattle.mir_lower.proofs.Blocks.{idles-read, lowers-none, lowers-more, lowers-let, lowers-expr-statement, lowers-tail, lowers-no-tail, block-inner, lowers-block}
 use Rattle.mir_lower.proofs.Drops.{opened-within, scope-left}
+use Rattle.mir_lower.proofs.Fields.{base-part, finds-field, lowers-field, lowers-field-into}
+use Rattle.mir_lower.proofs.Projecting.{place-known}
 use Rattle.mir_lower.proofs.Operands.{lowers-literal-operand, lowers-place-operand, lowers-temp, lowers-name}
 use Rattle.mir_lower.proofs.Rvalues.{is-aggregate}
 use Rattle.mir_lower.proofs.Strict.{lowers-strict, lowers-one, lowers-two, first-part, second-part}
@@ -53,7 +58,7 @@ use Rattle.source_meaning.specs.Meaning.{deciding_byte}
 use Rattle.source_meaning.specs.Steps.{parts_of}
 use Rattle.mir_lower.proofs.lower.+lower.Goals as goal
 
--- an operand, a place, and a local
+-- an operand, and a place
 
 pub lower_operand-returns-in-Some-clause-lowered : goal.lower_operand-returns-in-Some-clause-lowered
 lower_operand-returns-in-Some-clause-lowered t c =
@@ -81,31 +86,119 @@ lower_operand-returns-in_ok-place-in-None t c =
       refused = tt;
     }
 
-pub lower_place-returns-in-Some-clause-lowered : goal.lower_place-returns-in-Some-clause-lowered
-lower_place-returns-in-Some-clause-lowered t c =
-    IfOk-weaker c.place_named.result _ _
-    (λ place named. lowers-name (source_of c.args.context.now) (shape c.args.graph.now) c.args.e.0 place.local.0 c.in-Some.name.now c.requires.ready.sound c.requires.ready.«open» c.in-Some.ensures.some named)
-    c.place_named.ensures.lowered
+pub lower_place-returns-in_err-named_local-in-Path-clause-refused : goal.lower_place-returns-in_err-named_local-in-Path-clause-refused
+lower_place-returns-in_err-named_local-in-Path-clause-refused t c =
+    let source = source_of c.args.context.now in
+    refused-exit (RefusesAt source c.args.e.0) _ c.from_residual.result c.from_residual.ensures.1
+    (λ error same. subst (RefusesAt source c.args.e.0) (sym same) (refuses-here source c.args.e.0 _ c.in_err-named_local-in-Path.ensures.refused))
 
-pub lower_place-returns-in-Some-clause-built : goal.lower_place-returns-in-Some-clause-built
-lower_place-returns-in-Some-clause-built t c =
-    on_ok_weaker c.place_named.result (λ named. built-path (source_of c.args.context.now) c.args.e.0 c.in-Some.name.now (unadjusted-plain (source_of c.args.context.now) c.args.e.0 _ c.in-Some.ensures.some).1 named) c.place_named.ensures.built
+pub lower_place-returns-in_ok-named_local-in-Path-clause-lowered : goal.lower_place-returns-in_ok-named_local-in-Path-clause-lowered
+lower_place-returns-in_ok-named_local-in-Path-clause-lowered t c =
+    let source = source_of c.args.context.now in
+    let form : unadjusted source c.args.e.0 ≡ Some (expr.Path c.in-Path.name.now) = subst (IsPlaceForm source c.args.e.0) c.in-Path.is c.place_form_at.ensures in
+    subst (λ (place : Place). LowersPlace source (shape c.args.graph.now) (shape c.args.graph.now) c.args.e.0 place) (sym c.from.ensures)
+    (lowers-name source (shape c.args.graph.now) c.args.e.0 c.in_ok-named_local-in-Path.field-0 c.in-Path.name.now c.requires.ready.sound c.requires.ready.«open» form c.in_ok-named_local-in-Path.ensures.lowered)
 
-pub lower_place-returns-in-Some-clause-refused : goal.lower_place-returns-in-Some-clause-refused
-lower_place-returns-in-Some-clause-refused t c =
-    IfErr-weaker c.place_named.result _ _ (λ error refused. refuses-here (source_of c.args.context.now) c.args.e.0 error refused) c.place_named.ensures.refused
+pub lower_place-returns-in_ok-named_local-in-Path-clause-built : goal.lower_place-returns-in_ok-named_local-in-Path-clause-built
+lower_place-returns-in_ok-named_local-in-Path-clause-built t c =
+    let source = source_of c.args.context.now in
+    let form : unadjusted source c.args.e.0 ≡ Some (expr.Path c.in-Path.name.now) = subst (IsPlaceForm source c.args.e.0) c.in-Path.is c.place_form_at.ensures in
+    built-path source c.args.e.0 c.in-Path.name.now (unadjusted-plain source c.args.e.0 _ form).1 c.in_ok-named_local-in-Path.ensures.built
+
+pub lower_place-lower_field-requires : goal.lower_place-lower_field-requires
+lower_place-lower_field-requires t c =
+    let source = source_of c.args.context.now in
+    let form : unadjusted source c.args.e.0 ≡ Some (expr.Field c.in-Field.base.0 c.in-Field.index) = subst (IsPlaceForm source c.args.e.0) c.in-Field.is c.place_form_at.ensures in
+    let node-is = (unadjusted-plain source c.args.e.0 _ form).1 in
+    (omega arith, parts-ready source (shape c.args.graph.now) c.args.e.0 (λ outer. ap (λ n. opened_in c.args.e.0 n outer) node-is) c.requires.ready, node-is)
+
+pub lower_place-returns-in-Field-clause-lowered : goal.lower_place-returns-in-Field-clause-lowered
+lower_place-returns-in-Field-clause-lowered t c =
+    let source = source_of c.args.context.now in
+    let form : unadjusted source c.args.e.0 ≡ Some (expr.Field c.in-Field.base.0 c.in-Field.index) = subst (IsPlaceForm source c.args.e.0) c.in-Field.is c.place_form_at.ensures in
+    IfOk-weaker c.lower_field.result _ _
+    (λ place lowered. lowers-field source (shape c.args.graph.now) (shape c.lower_field.new.graph) c.args.e.0 c.in-Field.base.0 c.in-Field.index place c.requires.ready form lowered)
+    c.lower_field.ensures.lowered
+
+pub lower_place-returns-in-Field-clause-built : goal.lower_place-returns-in-Field-clause-built
+lower_place-returns-in-Field-clause-built t c =
+    let source = source_of c.args.context.now in
+    let form : unadjusted source c.args.e.0 ≡ Some (expr.Field c.in-Field.base.0 c.in-Field.index) = subst (IsPlaceForm source c.args.e.0) c.in-Field.is c.place_form_at.ensures in
+    on_ok_weaker c.lower_field.result (λ built. built-field source c.args.e.0 c.in-Field.base.0 c.in-Field.index (unadjusted-plain source c.args.e.0 _ form).1 built) c.lower_field.ensures.built
+
+-- the place of a field
+
+pub lower_field-lower_place-requires : goal.lower_field-lower_place-requires
+lower_field-lower_place-requires t c =
+    let source = source_of c.args.context.now in
+    let is = base-part source c.args.e.0 c.args.base.0 c.args.index c.requires.form in
+    let below = part-below source c.args.e.0 c.args.base.0 c.requires.ready.checked is in
+    (omega (arith, below), part-ready source (shape c.args.graph.now) c.args.e.0 c.args.base.0 c.requires.ready is)
+
+pub lower_field-returns-in_err-place-clause-refused : goal.lower_field-returns-in_err-place-clause-refused
+lower_field-returns-in_err-place-clause-refused t c =
+    let source = source_of c.args.context.now in
+    refused-exit (RefusesAt source c.args.e.0) _ c.from_residual.result c.from_residual.ensures.1
+    (λ error same. subst (RefusesAt source c.args.e.0) (sym same) (refuses-part source c.args.e.0 c.args.base.0 _ (base-part source c.args.e.0 c.args.base.0 c.args.index c.requires.form) c.in_err-place.ensures.refused))
+
+pub lower_field-project-requires : goal.lower_field-project-requires
+lower_field-project-requires t c = place-known (shape c.lower_place.new.graph) c.lower_place.new.graph.projections.law c.in_ok-place.place c.in_ok-place.ensures.lowered.does.at c.in_ok-place.ensures.lowered.does.is
+
+pub lower_field-returns-in_err-place-2-clause-refused : goal.lower_field-returns-in_err-place-2-clause-refused
+lower_field-returns-in_err-place-2-clause-refused t c =
+    refused-exit (RefusesAt (source_of c.args.context.now) c.args.e.0) _ c.from_residual-in_err-place-2.result c.from_residual-in_err-place-2.ensures.1
+    (λ error none. refuses-no-memory (source_of c.args.context.now) c.args.e.0 error none)
+
+pub lower_field-returns-clause-lowered : goal.lower_field-returns-clause-lowered
+lower_field-returns-clause-lowered t c =
+    let source = source_of c.args.context.now in
+    finds-field source (shape c.args.graph.now) (shape c.lower_place.new.graph) (shape c.project.new.self) c.args.base.0 c.args.index c.in_ok-place.place c.in_ok-place-2.place c.in_ok-place.ensures.lowered c.in_ok-place-2.ensures
+
+-- a field's bytes
+
+pub field_into-lower_field-requires : goal.field_into-lower_field-requires
+field_into-lower_field-requires t c =
+    let source = source_of c.args.context.now in
+    (omega arith, parts-ready source (shape c.args.graph.now) c.args.e.0 (λ outer. ap (λ n. opened_in c.args.e.0 n outer) c.requires.form) c.requires.ready, c.requires.form)
+
+pub field_into-returns-clause-lowered : goal.field_into-returns-clause-lowered
+field_into-returns-clause-lowered t c =
+    let source = source_of c.args.context.now in
+    on_ok_weaker c.assign.result
+    (λ added cell local. lowers-field-into source (shape c.args.graph.now) (shape c.lower_field.new.graph) (shape c.assign.new.graph) c.args.e.0 c.args.base.0 c.args.index c.args.to c.in_ok-from.from c.copied.result (ExprId c.args.e) c.requires.ready c.requires.form c.in_ok-from.ensures.lowered c.copied.ensures added cell local)
+    c.assign.ensures.added
+
+pub field_into-returns-clause-built : goal.field_into-returns-clause-built
+field_into-returns-clause-built t c =
+    on_ok_weaker c.assign.result (λ added. built-field (source_of c.args.context.now) c.args.e.0 c.args.base.0 c.args.index c.requires.form c.in_ok-from.ensures.built) c.assign.ensures.added
+
+pub field_into-returns-clause-refused : goal.field_into-returns-clause-refused
+field_into-returns-clause-refused t c =
+    IfErr-weaker c.assign.result _ _ (λ error none. refuses-no-memory (source_of c.args.context.now) c.args.e.0 error none) c.assign.ensures.refused
 
 pub lower_temp-returns-in_err-local-clause-refused : goal.lower_temp-returns-in_err-local-clause-refused
 lower_temp-returns-in_err-local-clause-refused t c =
     refused-exit (RefusesAt (source_of c.args.context.now) c.args.e.0) _ c.from_residual.result c.from_residual.ensures.1
     (λ error same. subst (RefusesAt (source_of c.args.context.now) c.args.e.0) (sym same) (refuses-no-memory (source_of c.args.context.now) c.args.e.0 _ c.in_err-local.ensures.refused))
 
+pub lower_temp-lower_into-requires : goal.lower_temp-lower_into-requires
+lower_temp-lower_into-requires t c =
+    let given = c.in_ok-local.ensures.given in (
+      omega arith,
+      (
+        ready-in (source_of c.args.context.now) (shape c.args.graph.now) (shape c.new_temp.new.graph) c.args.e.0 c.requires.ready.ready given.keeps.spares.targets given.keeps.grows given.keeps.sound given.keeps.«open»,
+        record { cell = Node c.args.e.0; found = given.found },
+      ),
+    )
+
 pub lower_temp-returns-clause-lowered : goal.lower_temp-returns-clause-lowered
 lower_temp-returns-clause-lowered t c =
-    lowers-temp (source_of c.args.context.now) (shape c.args.graph.now) (shape c.new_temp.new.graph) (shape c.lower_into.new.graph) c.args.e.0 c.in_ok-local.local c.requires.form c.in_ok-local.ensures.given
-    (c.in_ok-lower_into.ensures.lowered (Node c.args.e.0) c.in_ok-local.ensures.given.found)
+    let source = source_of c.args.context.now in
+    subst (λ (place : Place). LowersPlace source (shape c.args.graph.now) (shape c.lower_into.new.graph) c.args.e.0 place) (sym c.from.ensures)
+    (lowers-temp source (shape c.args.graph.now) (shape c.new_temp.new.graph) (shape c.lower_into.new.graph) c.args.e.0 c.in_ok-local.local c.requires.form c.in_ok-local.ensures.given
+    (c.in_ok-lower_into.ensures.lowered (Node c.args.e.0) c.in_ok-local.ensures.given.found))
 
--- an expression into a place
+-- an expression into a local
 
 pub lower_into-returns-in_err-never-clause-refused : goal.lower_into-returns-in_err-never-clause-refused
 lower_into-returns-in_err-never-clause-refused t c =
