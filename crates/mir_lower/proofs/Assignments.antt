@@ -7,7 +7,8 @@ use Rattle.world.specs.declared.infer.ValueNs.TheVariants.{LocalBinding}
 use Rattle.types.specs.declared.ids.BindingId.{BindingId}
 use Rattle.mir.specs.declared.operand.Operand.{Operand as MirOperand}
 use Rattle.mir.specs.declared.operand.OperandKind.TheVariants.{Copy}
-use Rattle.mir.specs.declared.operand.Place.{Place}
+use Rattle.mir.specs.declared.ids.LocalId.{LocalId}
+use Rattle.mir.specs.WholePlaces.{whole_place}
 use Rattle.mir.specs.declared.operand.Rvalue.TheVariants.{Use}
 use Rattle.mir.specs.declared.span.MirSpan.{MirSpan}
 use Rattle.source_meaning.specs.Meaning.{level_at, bind}
@@ -41,7 +42,7 @@ names-target source p name named binding path found is =
     ∙ ap (option_and_then local_named) (sym found ∙ ap Some is)
 
 -- the value of a cell is assigned to a target
-pub assigns-target : (source : Source) (s new : Shape) (assigned : ℕ) (place from : Place) (operand : MirOperand) (span : MirSpan) → IsSound source s → IsOpen s → IsTargeted source s assigned place.local.0 → operand.kind ≡ Copy from → new ≡ with_statement (assignment place (Use operand) span) s → (c : Cell) → local_of s c ≡ Some from.local.0 → Assigns source s new assigned c
+pub assigns-target : (source : Source) (s new : Shape) (assigned : ℕ) (place from : LocalId) (operand : MirOperand) (span : MirSpan) → IsSound source s → IsOpen s → IsTargeted source s assigned place.0 → operand.kind ≡ Copy (whole_place from) → new ≡ with_statement (assignment place (Use operand) span) s → (c : Cell) → local_of s c ≡ Some from.0 → Assigns source s new assigned c
 assigns-target source s new assigned place from operand span sound opened targeted copies same c found =
     let st = assignment place (Use operand) span in
     let b = Binding targeted.binding.0 in
@@ -50,8 +51,8 @@ assigns-target source s new assigned place from operand span sound opened target
       keeps = keeps-assigned source s st sound opened;
       does = record {
         reaches = λ whole frame grows whole-sound is lands around stands fuel serves store memory holds.
-            let to = local-later s whole st opened grows b place.local.0 targeted.found in
-            let at = local-later s whole st opened grows c from.local.0 found in
+            let to = local-later s whole st opened grows b place.0 targeted.found in
+            let at = local-later s whole st opened grows c from.0 found in
             subst (λ (p : Option BindingId). Reaches source whole lands frame (here s) (here (with_statement st s)) memory (Nothing whole frame) (bind p (record { cell = c }) store)) (sym targeted.names)
             (assigned-bytes source s whole frame place (Use operand) span opened whole-sound is lands grows b to store memory holds (store c)
             (name-computes source whole frame c from operand copies whole-sound is at store memory holds));

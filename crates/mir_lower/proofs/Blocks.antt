@@ -11,12 +11,14 @@ use Rattle.types.specs.declared.ids.PatId.{PatId}
 use Rattle.world.specs.Nodes.{optional}
 use Rattle.mir.specs.declared.operand.Operand.{Operand as MirOperand}
 use Rattle.mir.specs.declared.operand.OperandKind.TheVariants.{Copy}
+use Rattle.mir.specs.declared.ids.LocalId.{LocalId}
 use Rattle.mir.specs.declared.operand.Place.{Place}
 use Rattle.mir.specs.declared.operand.Rvalue.TheVariants.{Use}
 use Rattle.mir.specs.declared.span.MirSpan.{MirSpan}
 use Rattle.mir.specs.declared.statement.Statement.{Statement as MirStatement}
 use Rattle.mir.specs.declared.statement.StatementKind.TheVariants.{FakeRead}
 use Rattle.mir.specs.Memory.{Memory}
+use Rattle.mir.specs.WholePlaces.{whole_place}
 use Rattle.mir.specs.Run.{Frame, after_statement}
 use Rattle.source_meaning.specs.Around.{Around, marking}
 use Rattle.source_meaning.specs.Ends.{no_cost, End, Go, then_do}
@@ -52,9 +54,9 @@ read-does-nothing : (frame : Frame) (memory : Memory) (place : Place) → after_
 unfolding after_statement
 read-does-nothing frame memory place = refl
 
-pub idles-read : (source : Source) (s new : Shape) (place : Place) (span : MirSpan) → IsSound source s → IsOpen s → new ≡ with_statement (record { kind = FakeRead place; span = span }) s → Idles source s new 0
+pub idles-read : (source : Source) (s new : Shape) (place : LocalId) (span : MirSpan) → IsSound source s → IsOpen s → new ≡ with_statement (record { kind = FakeRead (whole_place place); span = span }) s → Idles source s new 0
 idles-read source s new place span sound opened same =
-    let st : MirStatement = record { kind = FakeRead place; span = span } in
+    let st : MirStatement = record { kind = FakeRead (whole_place place); span = span } in
     subst (λ (n : Shape). Idles source s n 0) (sym same)
     (record {
       grows = with_statement-grows st s opened;
@@ -62,11 +64,11 @@ idles-read source s new place span sound opened same =
       sound = with_statement-sound source st s opened sound;
       «open» = with_statement-open st s opened;
       scope = with_statement-scope st s opened;
-      comes = λ whole frame grows is memory. comes-statement st s whole frame memory opened grows is memory (read-does-nothing frame memory place) (keeps-refl frame memory);
+      comes = λ whole frame grows is memory. comes-statement st s whole frame memory opened grows is memory (read-does-nothing frame memory (whole_place place)) (keeps-refl frame memory);
     })
 
 -- a name is bound to the value of a cell
-pub binds-name : (source : Source) (s0 s1 new : Shape) (pat : PatId) (id : BindingId) (place from : Place) (operand : MirOperand) (span : MirSpan) → pattern source pat.0 ≡ Some id → IsGiven source s0 s1 (Binding id.0) place.local.0 → operand.kind ≡ Copy from → new ≡ with_statement (assignment place (Use operand) span) s1 → (c : Cell) → local_of s0 c ≡ Some from.local.0 → Binds source s0 new pat.0 c
+pub binds-name : (source : Source) (s0 s1 new : Shape) (pat : PatId) (id : BindingId) (place from : LocalId) (operand : MirOperand) (span : MirSpan) → pattern source pat.0 ≡ Some id → IsGiven source s0 s1 (Binding id.0) place.0 → operand.kind ≡ Copy (whole_place from) → new ≡ with_statement (assignment place (Use operand) span) s1 → (c : Cell) → local_of s0 c ≡ Some from.0 → Binds source s0 new pat.0 c
 binds-name source s0 s1 new pat id place from operand span binds given copies same c found =
     let st = assignment place (Use operand) span in
     let opened = given.keeps.«open» in
@@ -83,8 +85,8 @@ binds-name source s0 s1 new pat id place from operand span binds given copies sa
       does = record {
         reaches = λ whole frame grows sound is lands around stands fuel serves store memory holds.
             let grown : Grows s1 whole = grows-trans s1 (with_statement st s1) whole last grows in
-            let to = local_of-grows s1 whole grown (Binding id.0) place.local.0 given.found in
-            let at = local_of-grows s0 whole (grows-trans s0 s1 whole given.keeps.grows grown) c from.local.0 found in
+            let to = local_of-grows s1 whole grown (Binding id.0) place.0 given.found in
+            let at = local_of-grows s0 whole (grows-trans s0 s1 whole given.keeps.grows grown) c from.0 found in
             subst (λ (p : Option BindingId). Reaches source whole lands frame (here s0) (here (with_statement st s1)) memory (Nothing whole frame) (bind p (record { cell = c }) store)) (sym binds)
             (reaches-from source whole lands frame (here s0) (here s1) (here (with_statement st s1)) memory (Nothing whole frame) (given.comes whole frame grown is memory) (put store (record { cell = Binding id.0 }) (store c))
             (assigned-bytes source s1 whole frame place (Use operand) span opened sound is lands grows (Binding id.0) to store memory holds (store c)

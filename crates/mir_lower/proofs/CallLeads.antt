@@ -10,6 +10,9 @@ use Rattle.mir.specs.declared.body.MirBody.{MirBody}
 use Rattle.mir.specs.declared.errors.MirEvalError.{MirEvalError}
 use Rattle.mir.specs.declared.errors.MirEvalError as error
 use Rattle.mir.specs.Memory.{Memory}
+use Rattle.mir.specs.Places.{place_cell}
+use Rattle.mir.specs.Projections.{empty_id}
+use Rattle.mir.proofs.WholePlaces.{whole-cell}
 use Rattle.mir.specs.Run.{Frame, Waiting, Calling, GoesTo, Faulted, operand_type as mir_type, function_in as mir_function_in, filled as mir_filled, body_query, bad_write, trail_of, faults, levels_over, waiting, called_cells, called as mir_called, called_by, calls, entered, resumed, after_return, going_on}
 use Rattle.mir_lower.specs.Runs.{Entry, Exit, run_from}
 use Rattle.mir_lower.specs.Stops.{without_arguments}
@@ -29,23 +32,24 @@ module _ (frame : Frame) (memory : Memory) (call : Calling) (id : FunctionId) wh
       ]) (ap (option_and_then mir_function_in) typed ∙ names)
 
   module _ (body : MirBody) where
-    pub called-into : (next : ℕ) (cell : Interval) → call.target ≡ Some next → slice_get frame.cells call.destination.local.0 ≡ Some cell → mir_called frame memory call id body ≡ entered frame memory call id body (Some cell)
+    pub called-into : (next : ℕ) (cell : Interval) → call.target ≡ Some next → call.destination.projection ≡ empty_id → slice_get frame.cells call.destination.local.0 ≡ Some cell → mir_called frame memory call id body ≡ entered frame memory call id body (Some cell)
     unfolding mir_called
-    called-into next cell target there =
+    called-into next cell target is-whole there =
         ap (λ (o : Option ℕ). elim o [
-          | Some block ↦ elim (slice_get frame.cells call.destination.local.0) [
+          | Some block ↦ elim (place_cell frame.program.world frame.body frame.cells call.destination) [
             | Some cell ↦ entered frame memory call id body (Some cell)
             | None ↦ faults frame bad_write
           ]
           | None ↦ if nat_le (suc (levels_over frame.below)) frame.program.nesting then entered frame memory call id body None else faults frame error.StackOverflow
         ]) target
-        ∙ ap (λ (o : Option Interval). elim o [ Some cell ↦ entered frame memory call id body (Some cell) | None ↦ faults frame bad_write ]) there
+        ∙ ap (λ (o : Option Interval). elim o [ Some cell ↦ entered frame memory call id body (Some cell) | None ↦ faults frame bad_write ])
+        (whole-cell frame.program.world frame.body frame.cells call.destination is-whole ∙ there)
 
     pub called-alone : (deep : Bool) → call.target ≡ None → nat_le (suc (levels_over frame.below)) frame.program.nesting ≡ deep → mir_called frame memory call id body ≡ cond deep (entered frame memory call id body None) (faults frame error.StackOverflow)
     unfolding mir_called
     called-alone deep target levels =
         ap (λ (o : Option ℕ). elim o [
-          | Some block ↦ elim (slice_get frame.cells call.destination.local.0) [
+          | Some block ↦ elim (place_cell frame.program.world frame.body frame.cells call.destination) [
             | Some cell ↦ entered frame memory call id body (Some cell)
             | None ↦ faults frame bad_write
           ]

@@ -8,8 +8,10 @@ use Rattle.mir.specs.declared.body.Terminator.{Terminator}
 use Rattle.mir.specs.declared.ids.BasicBlockId.{BasicBlockId}
 use Rattle.mir.specs.declared.operand.Operand.{Operand as MirOperand}
 use Rattle.mir.specs.declared.operand.OperandKind.{OperandKind}
+use Rattle.mir.specs.declared.ids.LocalId.{LocalId}
 use Rattle.mir.specs.declared.operand.Place.{Place}
 use Rattle.mir.specs.Memory.{Memory}
+use Rattle.mir.specs.WholePlaces.{whole_place}
 use Rattle.mir.specs.Run.{Frame, Calling, calls, going_on, terminated, operand_type as mir_type}
 use Rattle.body_forms.specs.Callees.{IsCalleeOperand}
 use Rattle.source_meaning.specs.Around.{Around}
@@ -127,9 +129,9 @@ unfolding mir_type
 callee-type frame operand source e callee is = ap (mir_type frame.body) is.is
 
 -- a call was lowered: its arguments, and then the call
-pub lowers-call : (source : Source) (s0 s1 new : Shape) (e : ExprId) (callee : Option ℕ) (es : List ℕ) (func : MirOperand) (args : List MirOperand) (place : Place) (next : BasicBlockId) → IsReady source s0 e.0 → node source e.0 ≡ Some (expr.Call callee es) →
+pub lowers-call : (source : Source) (s0 s1 new : Shape) (e : ExprId) (callee : Option ℕ) (es : List ℕ) (func : MirOperand) (args : List MirOperand) (place : LocalId) (next : BasicBlockId) → IsReady source s0 e.0 → node source e.0 ≡ Some (expr.Call callee es) →
     LowersOperands source s0 s1 es (map (λ (arg : MirOperand). arg.kind) args) → IsCalleeOperand source e.0 callee func.kind → CallsFunction source e.0 callee → next.0 ≡ length s1.blocks →
-    HasCalled source s1 new (call_of e func args place (target_of_call (must_not_return source e.0) next)) (length s1.blocks) → (c : Cell) → local_of s0 c ≡ Some place.local.0 → LowersOwn source s0 new e.0 c
+    HasCalled source s1 new (call_of e func args (whole_place place) (target_of_call (must_not_return source e.0) next)) (length s1.blocks) → (c : Cell) → local_of s0 c ≡ Some place.0 → LowersOwn source s0 new e.0 c
 lowers-call source s0 s1 new e callee es func args place next ready form given is built at called c local =
     record {
       keeps = record {
@@ -150,17 +152,17 @@ lowers-call source s0 s1 new e callee es func args place next ready form given i
           FitAll source (map (λ (arg : MirOperand). arg.kind) args) whole frame values → (marked : Bool) → must_not_return source e.0 ≡ marked →
           Reaches source whole lands frame (here s1) (here new) memory (Nothing whole frame) (entered_into (callees_at fuel) marked (source_called source e.0 callee) (map (operand_bytes store) values) (record { cell = c }) store)
       by-mark whole frame grows sound frame-is lands fuel serves values store memory holds fit true mark =
-          let call : Calling = call_of e func args place (target_of_call true next) in
-          let found = local_of-grows s0 whole (grows-trans s0 s1 whole given.keeps.grows (grows-trans s1 new whole called.grows grows)) c place.local.0 local in
-          call-strays source whole frame lands (here s1) memory store sound frame-is holds fuel serves call values fit e.0 callee is.ty (callee-type frame func.kind source e.0 callee is) built.id (is.names ∙ built.names) built.names makes c found
-          (λ budget. called.does whole frame grows frame-is memory budget ∙ ap (λ (m : Bool). going_on budget (calls frame memory (call_of e func args place (target_of_call m next)))) mark)
+          let call : Calling = call_of e func args (whole_place place) (target_of_call true next) in
+          let found = local_of-grows s0 whole (grows-trans s0 s1 whole given.keeps.grows (grows-trans s1 new whole called.grows grows)) c place.0 local in
+          call-strays source whole frame lands (here s1) memory store sound frame-is holds fuel serves call values fit e.0 callee is.ty (callee-type frame func.kind source e.0 callee is) built.id (is.names ∙ built.names) built.names makes c refl found
+          (λ budget. called.does whole frame grows frame-is memory budget ∙ ap (λ (m : Bool). going_on budget (calls frame memory (call_of e func args (whole_place place) (target_of_call m next)))) mark)
           (here new) refl
       by-mark whole frame grows sound frame-is lands fuel serves values store memory holds fit false mark =
-          let call : Calling = call_of e func args place (target_of_call false next) in
-          let found = local_of-grows s0 whole (grows-trans s0 s1 whole given.keeps.grows (grows-trans s1 new whole called.grows grows)) c place.local.0 local in
+          let call : Calling = call_of e func args (whole_place place) (target_of_call false next) in
+          let found = local_of-grows s0 whole (grows-trans s0 s1 whole given.keeps.grows (grows-trans s1 new whole called.grows grows)) c place.0 local in
           subst (λ (p : Point). Reaches source whole lands frame (here s1) p memory (Nothing whole frame) (entered_into (callees_at fuel) false (source_called source e.0 callee) (map (operand_bytes store) values) (record { cell = c }) store)) (ap start_of at ∙ sym called.begins)
-          (call-returns source whole frame lands (here s1) memory store sound frame-is holds fuel serves call values fit e.0 callee is.ty (callee-type frame func.kind source e.0 callee is) built.id (is.names ∙ built.names) built.names makes c found
-          (λ budget. called.does whole frame grows frame-is memory budget ∙ ap (λ (m : Bool). going_on budget (calls frame memory (call_of e func args place (target_of_call m next)))) mark)
+          (call-returns source whole frame lands (here s1) memory store sound frame-is holds fuel serves call values fit e.0 callee is.ty (callee-type frame func.kind source e.0 callee is) built.id (is.names ∙ built.names) built.names makes c refl found
+          (λ budget. called.does whole frame grows frame-is memory budget ∙ ap (λ (m : Bool). going_on budget (calls frame memory (call_of e func args (whole_place place) (target_of_call m next)))) mark)
           next.0 refl)
 
       reaches : (whole : Shape) (frame : Frame) → Grows new whole → IsSound source whole → IsFrameOf whole frame → (lands : Landings) (around : Around) → Stands whole s0 lands around → (fuel : ℕ) → Serves (suc fuel) source frame.program → (store : Store) (memory : Memory) → Holds whole frame store memory →

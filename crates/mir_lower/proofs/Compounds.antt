@@ -9,10 +9,11 @@ use Rattle.mir.specs.declared.errors.MirLowerError.{MirLowerError}
 use Rattle.mir.specs.declared.errors.MirLowerError.TheVariants as refusal
 use Rattle.mir.specs.declared.operand.Operand.{Operand as MirOperand}
 use Rattle.mir.specs.declared.operand.OperandKind.TheVariants.{Copy}
-use Rattle.mir.specs.declared.operand.Place.{Place}
+use Rattle.mir.specs.declared.ids.LocalId.{LocalId}
 use Rattle.mir.specs.declared.operand.Rvalue.TheVariants.{CheckedBinaryOp}
 use Rattle.mir.specs.declared.span.MirSpan.{MirSpan}
 use Rattle.mir.specs.Memory.{Memory}
+use Rattle.mir.specs.WholePlaces.{whole_place}
 use Rattle.mir.specs.Run.{Frame, answered as answer}
 use Rattle.source_meaning.specs.Around.{Around}
 use Rattle.source_meaning.specs.Core.{CoreExpr, is_truth, local_named}
@@ -65,7 +66,7 @@ lays-compound source s1 new e op assigned value form below grows laid plain layo
     one-value child within = one-of value child within
 
 -- a compound assignment was lowered: its value, and then one assignment
-pub lowers-compound : (source : Source) (s0 s1 new : Shape) (e : ℕ) (op : Operator) (assigned value : ℕ) (left right : MirOperand) (place : Place) (span : MirSpan) (c : Cell) → IsReady source s0 e → node source e ≡ Some (expr.Compound op assigned value) → LowersOperand source s0 s1 value right.kind → IsCombinedIn source s1 assigned place.local.0 → left.kind ≡ Copy place →
+pub lowers-compound : (source : Source) (s0 s1 new : Shape) (e : ℕ) (op : Operator) (assigned value : ℕ) (left right : MirOperand) (place : LocalId) (span : MirSpan) (c : Cell) → IsReady source s0 e → node source e ≡ Some (expr.Compound op assigned value) → LowersOperand source s0 s1 value right.kind → IsCombinedIn source s1 assigned place.0 → left.kind ≡ Copy (whole_place place) →
     new ≡ with_statement (assignment place (CheckedBinaryOp op left right) span) s1 → LowersOwn source s0 new e c
 lowers-compound source s0 s1 new e op assigned value left right place span c ready form given named copies same =
     let st = assignment place (CheckedBinaryOp op left right) span in
@@ -90,7 +91,7 @@ lowers-compound source s0 s1 new e op assigned value left right place span c rea
           let opened = given.keeps.«open» in
           let grown : Grows s1 whole = grows-trans s1 (with_statement st s1) whole (with_statement-grows st s1 opened) grows in
           let b = Binding named.binding.0 in
-          let found = local_of-grows s1 whole grown b place.local.0 named.found in
+          let found = local_of-grows s1 whole grown b place.0 named.found in
           reaches-then source whole lands frame (here s0) (here s1) (here (with_statement st s1)) memory (Fits source right.kind whole frame) (Nothing whole frame) ((level_at source fuel around).operand value store) _
           (given.does.reaches whole frame grown sound frame-is lands around stands fuel serves store memory holds)
           (λ v store1 memory1 claims.

@@ -7,7 +7,7 @@ use Rattle.types.specs.declared.ids.ExprId.{ExprId}
 use Rattle.types.specs.declared.operators.LogicOp.{LogicOp}
 use Rattle.mir.specs.declared.operand.Operand.{Operand as MirOperand}
 use Rattle.mir.specs.declared.operand.OperandKind.{OperandKind}
-use Rattle.mir.specs.declared.operand.Place.{Place}
+use Rattle.mir.specs.declared.ids.LocalId.{LocalId}
 use Rattle.mir.specs.declared.operand.Rvalue.TheVariants.{Use}
 use Rattle.mir.specs.declared.span.MirSpan.{MirSpan}
 use Rattle.mir.specs.Memory.{Memory}
@@ -122,11 +122,11 @@ reading-enters-none source (Literally ty bytes) = refl
 reading-enters-none source (At path) = refl
 
 -- the left operand that decides is written
-module _ (source : Source) (s new : Shape) (operand : MirOperand) (place : Place) (span : MirSpan) (opened : IsOpen s) (same : new ≡ with_statement (assignment place (Use operand) span) s) where
+module _ (source : Source) (s new : Shape) (operand : MirOperand) (place : LocalId) (span : MirSpan) (opened : IsOpen s) (same : new ≡ with_statement (assignment place (Use operand) span) s) where
   pub keeps-decided : IsSound source s → Keeps source s new []
   keeps-decided sound = subst (λ (n : Shape). Keeps source s n []) (sym same) (keeps-assigned source s (assignment place (Use operand) span) sound opened)
 
-  reaches-decided : (whole : Shape) (lands : Landings) (frame : Frame) (c : Cell) (given : Operand) (store : Store) (memory : Memory) → Grows new whole → IsSound source whole → IsFrameOf whole frame → local_of whole c ≡ Some place.local.0 → Holds whole frame store memory → Fits source operand.kind whole frame given → Reaches source whole lands frame (here s) (here new) memory (Nothing whole frame) (after (reading_cost source given) (put store (record { cell = c }) (operand_bytes store given)))
+  reaches-decided : (whole : Shape) (lands : Landings) (frame : Frame) (c : Cell) (given : Operand) (store : Store) (memory : Memory) → Grows new whole → IsSound source whole → IsFrameOf whole frame → local_of whole c ≡ Some place.0 → Holds whole frame store memory → Fits source operand.kind whole frame given → Reaches source whole lands frame (here s) (here new) memory (Nothing whole frame) (after (reading_cost source given) (put store (record { cell = c }) (operand_bytes store given)))
   reaches-decided whole lands frame c given store memory grows sound is local holds fits =
       let grown = subst (λ (n : Shape). Grows n whole) same grows in
       let reads : Comes frame (reading_cost source given).turns (reading_cost source given).bytes (here s) memory (here s) memory =
@@ -135,7 +135,7 @@ module _ (source : Source) (s new : Shape) (operand : MirOperand) (place : Place
       (reaches-after source whole lands frame (here s) (here s) (here (with_statement (assignment place (Use operand) span) s)) memory memory (Nothing whole frame) (reading_cost source given) reads (put store (record { cell = c }) (operand_bytes store given))
       (assigned-bytes source s whole frame place (Use operand) span opened sound is lands grown c local store memory holds (operand_bytes store given) (decided-computes source whole frame operand given store memory holds fits)))
 
-module _ (source : Source) (s0 s1 s2 s3 s4 s5 s6 : Shape) (e : ℕ) (op : LogicOp) (left right : ℕ) (operand : MirOperand) (place : Place) (span : MirSpan) (other join : ℕ) (c : Cell) (form : node source e ≡ Some (expr.Logic op left right)) (tested : LowersOperand source s0 s1 left operand.kind) (same : s3 ≡ with_statement (assignment place (Use operand) span) s2) (second : LowersInto source s4 s5 right c) (parts : IsBranched source s0 s1 s2 s3 s4 s5 s6 operand.kind (deciding_byte op) other join (marked_as_operand source left) [] (marked source right)) where
+module _ (source : Source) (s0 s1 s2 s3 s4 s5 s6 : Shape) (e : ℕ) (op : LogicOp) (left right : ℕ) (operand : MirOperand) (place : LocalId) (span : MirSpan) (other join : ℕ) (c : Cell) (form : node source e ≡ Some (expr.Logic op left right)) (tested : LowersOperand source s0 s1 left operand.kind) (same : s3 ≡ with_statement (assignment place (Use operand) span) s2) (second : LowersInto source s4 s5 right c) (parts : IsBranched source s0 s1 s2 s3 s4 s5 s6 operand.kind (deciding_byte op) other join (marked_as_operand source left) [] (marked source right)) where
   lays-logic : IsLaidOutNode source e → LaysOut source s6 e
   lays-logic laid plain layouts f own = laid
   lays-logic laid plain layouts f (inside {child = child} within rest) =
@@ -148,7 +148,7 @@ module _ (source : Source) (s0 s1 s2 s3 s4 s5 s6 : Shape) (e : ℕ) (op : LogicO
       (Contains-append_cases (sized_part source (step.Operand left)) (right ∷ []) child (subst (λ n. Contains (sized_parts source n) child) form within))
 
   -- `&&` or `||` was lowered: the left operand, a test of it, the assignment of it where it decides, and the right operand
-  pub lowers-logic : IsReady source s0 e → local_of s0 c ≡ Some place.local.0 → LowersOwn source s0 s6 e c
+  pub lowers-logic : IsReady source s0 e → local_of s0 c ≡ Some place.0 → LowersOwn source s0 s6 e c
   lowers-logic ready local =
       record {
         keeps = subst (λ (m : List Cell). Keeps source s0 s6 m) (sym (logic_marks source ready.checked e ready.within op left right form)) (branched-keeps parts);
@@ -158,7 +158,7 @@ module _ (source : Source) (s0 s1 s2 s3 s4 s5 s6 : Shape) (e : ℕ) (op : LogicO
               let grown3 : Grows s3 whole = grows-trans s3 s6 whole (grows3 parts) grows in
               let grown5 : Grows s5 whole = grows-trans s5 s6 whole (grows5 parts) grows in
               let grown1 : Grows s1 whole = grows-trans s1 s6 whole (grows1 parts) grows in
-              let found = local_of-grows s0 whole (grows-trans s0 s1 whole tested.keeps.grows grown1) c place.local.0 local in
+              let found = local_of-grows s0 whole (grows-trans s0 s1 whole tested.keeps.grows grown1) c place.0 local in
               let around1 : Around = marking (marked_as_operand source left) around in
               let stands1 : Stands whole s4 lands around1 = stands-in (parts.one_ended.scope ∙ parts.one.scope ∙ append-nil s2.scope ∙ parts.forked.scope) (parts.one_ended.targets ∙ parts.one.spares.targets ∙ parts.forked.spares.targets) (marking-fits parts.test around stands) in
               reaches-then source whole lands frame (here s0) (here s1) (here s6) memory (Fits source operand.kind whole frame) (Nothing whole frame) ((below around).operand left store) _

@@ -17,6 +17,7 @@ use Rattle.mir.specs.declared.errors.MirEvalError.{MirEvalError}
 use Rattle.mir.specs.declared.errors.MirEvalError as error
 use Rattle.mir.specs.declared.operand.Operand.{Operand as MirOperand}
 use Rattle.mir.specs.Memory.{Memory, cell_bytes}
+use Rattle.mir.specs.Projections.{empty_id}
 use Rattle.mir.specs.Run.{Program, Frame, Calling, Ending, Faulted, Asked, Ended, operand_type as mir_type, body_query, trail_of, levels_over, entry_of, callee_error, called_cells, called as mir_called, called_by, calls, entered, going_on}
 use Rattle.source_meaning.specs.Around.{at_root, marking}
 use Rattle.source_meaning.specs.Calls.{function_called, function_in, source_of, source_called, parameter_cells, filled, started}
@@ -100,7 +101,7 @@ module _ (source : Source) (whole : Shape) (frame : Frame) (lands : Landings) (f
     (call : Calling) (values : List Operand) (fit : FitAll source (map (λ (arg : MirOperand). arg.kind) call.args) whole frame values)
     (e : ℕ) (callee : Option ℕ) (ty : Ty) (typed : mir_type frame.body call.func.kind ≡ Some ty)
     (id : FunctionId) (named : function_in ty ≡ Some id) (names : function_called source e callee ≡ Some id) (makes : MakesCall source id)
-    (c : Cell) (found : local_of whole c ≡ Some call.destination.local.0)
+    (c : Cell) (is-whole : call.destination.projection ≡ empty_id) (found : local_of whole c ≡ Some call.destination.local.0)
     (at : (budget : ℕ) → run_from frame memory from budget ≡ going_on budget (calls frame memory call)) where
   -- the run stops at the call, whatever is counted
   abbrev StopsAnyhow : Type 0
@@ -367,7 +368,7 @@ module _ (source : Source) (whole : Shape) (frame : Frame) (lands : Landings) (f
         let there = interval-of frame memory call.destination.local.0 (store c) (holds.shows c call.destination.local.0 found) in
         returns-started called (calls-into source called id makes has_body) there.0 there.1
         (enters-body called has_body told.0 told.1 (Some there.0) (store c) there.2
-        (λ budget. told.2 budget ∙ ap (going_on budget) (called-into frame memory call id told.0 next there.0 target there.1)))
+        (λ budget. told.2 budget ∙ ap (going_on budget) (called-into frame memory call id told.0 next there.0 target is-whole there.1)))
         (started called (store c) Given) refl
 
     returns-source : (o : Option Source) → source_of source.world id ≡ o → Returning (entered_into (callees_at fuel) false o Given place store)

@@ -4,12 +4,14 @@ use Rattle.std.specs.Prelude.{slice_get, option_and_then}
 use Rattle.std.proofs.lemmas.Bool.{cases_eq}
 use Rattle.std.proofs.lemmas.Bool.Decides.{nat_tests}
 use Rattle.std.proofs.lemmas.Option.{option_and_then_some}
-use Rattle.mir.specs.declared.operand.Place.{Place}
+use Rattle.mir.specs.declared.ids.LocalId.{LocalId}
 use Rattle.mir.specs.declared.operand.Rvalue.{Rvalue}
 use Rattle.mir.specs.declared.statement.StatementKind.TheVariants.{Assign}
 use Rattle.mir.specs.declared.address.Interval.{Interval}
 use Rattle.mir.specs.Areas.{with_bytes}
 use Rattle.mir.specs.Memory.{Memory, cell_bytes}
+use Rattle.mir.specs.Places.{place_cell}
+use Rattle.mir.specs.WholePlaces.{whole_place}
 use Rattle.mir.specs.Run.{Frame, after_statement, copied, rvalue_bytes, bad_write}
 use Rattle.source_meaning.specs.Source.{Source, Cell, Result as Slot, Node, Binding, Never, Store, same_cell, with_cell_bytes}
 use Rattle.mir_lower.specs.Does.{IsFrameOf, Holds}
@@ -69,11 +71,11 @@ others-stay s frame is memory later l k cell bytes old differ found written size
     ∙ read-apart memory later cell other.0 bytes old written size (is.apart l k cell other.0 differ found other.1) other.2
 
 -- as many bytes as a cell holds can be assigned to its local; memory then holds the store with them, and else is as it was
-pub assigns : (source : Source) (s : Shape) (frame : Frame) → IsSound source s → IsFrameOf s frame → (store : Store) (memory : Memory) → Holds s frame store memory → (c : Cell) (place : Place) (rvalue : Rvalue) (bytes : List ℕ) → local_of s c ≡ Some place.local.0 → rvalue_bytes frame memory rvalue ≡ Ok bytes → length bytes ≡ length (store c) →
-    (later : Memory) × (after_statement frame memory (Assign place rvalue) ≡ Ok later) × Holds s frame (with_cell_bytes store c bytes) later × KeepsOthers frame memory later
-unfolding after_statement copied
+pub assigns : (source : Source) (s : Shape) (frame : Frame) → IsSound source s → IsFrameOf s frame → (store : Store) (memory : Memory) → Holds s frame store memory → (c : Cell) (place : LocalId) (rvalue : Rvalue) (bytes : List ℕ) → local_of s c ≡ Some place.0 → rvalue_bytes frame memory rvalue ≡ Ok bytes → length bytes ≡ length (store c) →
+    (later : Memory) × (after_statement frame memory (Assign (whole_place place) rvalue) ≡ Ok later) × Holds s frame (with_cell_bytes store c bytes) later × KeepsOthers frame memory later
+unfolding after_statement copied place_cell
 assigns source s frame sound is store memory holds c place rvalue bytes local computed long =
-    let at = interval-of frame memory place.local.0 (store c) (holds.shows c place.local.0 local) in
+    let at = interval-of frame memory place.0 (store c) (holds.shows c place.0 local) in
     let can = can_write memory at.0 (store c) bytes at.2 long in
     let size : length bytes ≡ at.0.size = long ∙ length-cell_bytes memory at.0 (store c) at.2 in (
       can.0,
@@ -82,14 +84,14 @@ assigns source s frame sound is store memory holds c place rvalue bytes local co
           ∙ ap (λ (o : Option Memory). elim o [ Some after ↦ Ok after | None ↦ Err bad_write ]) can.1,
       record {
         shows = λ d k h. ⊎_elim
-            (λ one. let same : place.local.0 ≡ k = (let h' : local_of s c ≡ Some k = ap (local_of s) one.0 ∙ h in cc) in
+            (λ one. let same : place.0 ≡ k = (let h' : local_of s c ≡ Some k = ap (local_of s) one.0 ∙ h in cc) in
             ap (local_bytes frame can.0) (sym same)
-            ∙ local_bytes-at frame can.0 place.local.0 at.0 at.1
+            ∙ local_bytes-at frame can.0 place.0 at.0 at.1
             ∙ read-written memory can.0 at.0 bytes can.1 size
             ∙ ap (λ b. Some (cond b bytes (store d))) (sym one.1))
-            (λ two. others-stay s frame is memory can.0 place.local.0 k at.0 bytes (store d) (λ same. two.0 (sound.allotted.own c d place.local.0 local (h ∙ ap Some (sym same)))) at.1 can.1 size (holds.shows d k h)
+            (λ two. others-stay s frame is memory can.0 place.0 k at.0 bytes (store d) (λ same. two.0 (sound.allotted.own c d place.0 local (h ∙ ap Some (sym same)))) at.1 can.1 size (holds.shows d k h)
             ∙ ap (λ b. Some (cond b bytes (store d))) (sym two.1))
             (cells c d);
       },
-      λ interval old apart found. read-apart memory can.0 at.0 interval bytes old can.1 size (apart place.local.0 at.0 at.1) found,
+      λ interval old apart found. read-apart memory can.0 at.0 interval bytes old can.1 size (apart place.0 at.0 at.1) found,
     )

@@ -6,8 +6,10 @@ use Rattle.source_meaning.specs.Core as expr
 use Rattle.world.specs.declared.infer.ValueNs.{ValueNs}
 use Rattle.mir.specs.declared.operand.OperandKind.{OperandKind}
 use Rattle.mir.specs.declared.operand.OperandKind.TheVariants.{Copy}
-use Rattle.mir.specs.declared.operand.Place.{Place}
+use Rattle.mir.specs.declared.ids.LocalId.{LocalId}
 use Rattle.mir.specs.Memory.{Memory}
+use Rattle.mir.specs.Places.{place_cell, place_type, type_behind}
+use Rattle.mir.specs.WholePlaces.{whole_place}
 use Rattle.mir.specs.Run.{Frame, operand_bytes as mir_bytes, operand_type as mir_type}
 use Rattle.source_meaning.specs.Around.{Around, marking}
 use Rattle.source_meaning.specs.Ends.{no_cost, Go, Stuck, then_do}
@@ -72,38 +74,38 @@ lowers-literal-operand source s e literal operand sound opened form is =
     }
 
 -- a cell's local as an operand
-pub place-fits : (source : Source) (whole : Shape) (frame : Frame) (c : Cell) (place : Place) → IsSound source whole → IsFrameOf whole frame → local_of whole c ≡ Some place.local.0 → Fits source (Copy place) whole frame (At (record { cell = c }))
-unfolding mir_bytes mir_type local_bytes
+pub place-fits : (source : Source) (whole : Shape) (frame : Frame) (c : Cell) (place : LocalId) → IsSound source whole → IsFrameOf whole frame → local_of whole c ≡ Some place.0 → Fits source (Copy (whole_place place)) whole frame (At (record { cell = c }))
+unfolding mir_bytes mir_type local_bytes place_cell place_type type_behind
 place-fits source whole frame c place sound is found =
     record {
-      bytes = λ store memory holds. holds.shows c place.local.0 found;
+      bytes = λ store memory holds. holds.shows c place.0 found;
       ty =
-          let there = sound.allotted.typed c place.local.0 found in
-          ap (λ locals. option_map (λ l. l.ty) (slice_get locals place.local.0)) is.locals
+          let there = sound.allotted.typed c place.0 found in
+          ap (λ locals. option_map (λ l. l.ty) (slice_get locals place.0)) is.locals
           ∙ ap (option_map (λ l. l.ty)) there.1
           ∙ sym there.2;
     }
 
-place-operand : (source : Source) (old new whole : Shape) (frame : Frame) (e : ℕ) (place : Place) → IsSound source whole → IsFrameOf whole frame → Grows new whole → DoesPlace source old new e place.local.0 → is_literal (unadjusted source e) ≡ false → (lands : Landings) (around : Around) → Stands whole old lands around → (fuel : ℕ) → Serves fuel source frame.program → (store : Store) (memory : Memory) → Holds whole frame store memory → Reaches source whole lands frame (here old) (here new) memory (Fits source (Copy place) whole frame) ((level_at source fuel around).operand e store)
+place-operand : (source : Source) (old new whole : Shape) (frame : Frame) (e : ℕ) (place : LocalId) → IsSound source whole → IsFrameOf whole frame → Grows new whole → DoesPlace source old new e place.0 → is_literal (unadjusted source e) ≡ false → (lands : Landings) (around : Around) → Stands whole old lands around → (fuel : ℕ) → Serves fuel source frame.program → (store : Store) (memory : Memory) → Holds whole frame store memory → Reaches source whole lands frame (here old) (here new) memory (Fits source (Copy (whole_place place)) whole frame) ((level_at source fuel around).operand e store)
 unfolding level_at
 place-operand source old new whole frame e place sound is grows does form lands around stands zero serves store memory holds = inr (none-entered (run_from frame memory (here old)))
 place-operand source old new whole frame e place sound is grows does form lands around stands (suc fuel) serves store memory holds =
-    subst (Reaches source whole lands frame (here old) (here new) memory (Fits source (Copy place) whole frame))
+    subst (Reaches source whole lands frame (here old) (here new) memory (Fits source (Copy (whole_place place)) whole frame))
     (sym (no-literal (unadjusted source e) form))
-    (reaches-then source whole lands frame (here old) (here new) (here new) memory (LeadsTo does.cell whole frame) (Fits source (Copy place) whole frame)
+    (reaches-then source whole lands frame (here old) (here new) (here new) memory (LeadsTo does.cell whole frame) (Fits source (Copy (whole_place place)) whole frame)
     ((level_at source fuel around).place e store) (λ path later. Go (At path) later no_cost)
     (does.does.reaches whole frame grows sound is lands around stands fuel (serves-less fuel source frame.program serves) store memory holds)
     (λ path after middle claims. inr (
       middle,
       comes-refl frame (here new) middle,
       claims.0,
-      subst (λ (p : Path). Fits source (Copy place) whole frame (At p)) (sym claims.1) (place-fits source whole frame does.cell place sound is (local_of-grows new whole grows does.cell place.local.0 does.found)),
+      subst (λ (p : Path). Fits source (Copy (whole_place place)) whole frame (At p)) (sym claims.1) (place-fits source whole frame does.cell place sound is (local_of-grows new whole grows does.cell place.0 does.found)),
     ))) where
       no-literal : (form : Option CoreExpr) → is_literal form ≡ false → operand_of source (level_at source fuel) around e form store ≡ then_do ((level_at source fuel around).place e store) (λ path later. Go (At path) later no_cost)
       no-literal (Some (expr.Literal literal)) is = absurd cc
       no-literal _ is = refl
 
-pub lowers-place-operand : (source : Source) (old new : Shape) (e : ℕ) (place : Place) → LowersPlace source old new e place.local.0 → is_literal (unadjusted source e) ≡ false → LowersOperand source old new e (Copy place)
+pub lowers-place-operand : (source : Source) (old new : Shape) (e : ℕ) (place : LocalId) → LowersPlace source old new e place.0 → is_literal (unadjusted source e) ≡ false → LowersOperand source old new e (Copy (whole_place place))
 lowers-place-operand source old new e place lowers form =
     record {
       keeps = record {

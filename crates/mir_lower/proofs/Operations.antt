@@ -5,13 +5,14 @@ use Rattle.source_meaning.specs.Core as expr
 use Rattle.world.specs.declared.infer.ValueNs.{ValueNs}
 use Rattle.mir.specs.declared.operand.Operand.{Operand as MirOperand}
 use Rattle.mir.specs.declared.operand.OperandKind.TheVariants.{Copy}
-use Rattle.mir.specs.declared.operand.Place.{Place}
+use Rattle.mir.specs.declared.ids.LocalId.{LocalId}
 use Rattle.mir.specs.declared.operand.Rvalue.{Rvalue}
 use Rattle.mir.specs.declared.operand.Rvalue.TheVariants.{Use}
 use Rattle.mir.specs.declared.span.MirSpan.{MirSpan}
 use Rattle.mir.specs.declared.statement.Statement.{Statement}
 use Rattle.mir.specs.declared.statement.StatementKind.TheVariants.{Assign}
 use Rattle.mir.specs.Memory.{Memory}
+use Rattle.mir.specs.WholePlaces.{whole_place}
 use Rattle.mir.specs.Run.{Frame, rvalue_bytes, operand_bytes as mir_bytes, read}
 use Rattle.source_meaning.specs.Around.{Around}
 use Rattle.source_meaning.specs.Events.{marked_itself}
@@ -32,8 +33,8 @@ use Rattle.mir_lower.proofs.Sparing.{with_statement-spares}
 use Rattle.mir_lower.proofs.Steps.{local_of-grows, assigned-bytes, does-form}
 use Rattle.mir_lower.specs.Callees.{Serves}
 
-abbrev pub assignment : Place → Rvalue → MirSpan → Statement
-assignment place rvalue span = record { kind = Assign place rvalue; span = span }
+abbrev pub assignment : LocalId → Rvalue → MirSpan → Statement
+assignment place rvalue span = record { kind = Assign (whole_place place) rvalue; span = span }
 
 -- one assignment keeps the graph, and gives no cells
 pub keeps-assigned : (source : Source) (s : Shape) (statement : Statement) → IsSound source s → IsOpen s → Keeps source s (with_statement statement s) []
@@ -57,13 +58,13 @@ literal-computes : (source : Source) (whole : Shape) (frame : Frame) (e : ℕ) (
 unfolding rvalue_bytes
 literal-computes source whole frame e l operand is store memory holds = ap read ((literal-fits source whole frame e l operand.kind is).bytes store memory holds)
 
-pub name-computes : (source : Source) (whole : Shape) (frame : Frame) (c : Cell) (from : Place) (operand : MirOperand) → operand.kind ≡ Copy from → IsSound source whole → IsFrameOf whole frame → local_of whole c ≡ Some from.local.0 → (store : Store) (memory : Memory) → Holds whole frame store memory → rvalue_bytes frame memory (Use operand) ≡ Ok (store c)
+pub name-computes : (source : Source) (whole : Shape) (frame : Frame) (c : Cell) (from : LocalId) (operand : MirOperand) → operand.kind ≡ Copy (whole_place from) → IsSound source whole → IsFrameOf whole frame → local_of whole c ≡ Some from.0 → (store : Store) (memory : Memory) → Holds whole frame store memory → rvalue_bytes frame memory (Use operand) ≡ Ok (store c)
 unfolding rvalue_bytes
 name-computes source whole frame c from operand copies sound frame-is found store memory holds =
     ap (λ k. read (mir_bytes frame memory k)) copies ∙ ap read ((place-fits source whole frame c from sound frame-is found).bytes store memory holds)
 
 -- a literal is assigned
-pub lowers-literal : (source : Source) (s new : Shape) (e : ℕ) (l : CoreLiteral) (place : Place) (operand : MirOperand) (span : MirSpan) → IsReady source s e → node source e ≡ Some (expr.Literal l) → IsLiteral source e l operand.kind → new ≡ with_statement (assignment place (Use operand) span) s → (c : Cell) → local_of s c ≡ Some place.local.0 → LowersOwn source s new e c
+pub lowers-literal : (source : Source) (s new : Shape) (e : ℕ) (l : CoreLiteral) (place : LocalId) (operand : MirOperand) (span : MirSpan) → IsReady source s e → node source e ≡ Some (expr.Literal l) → IsLiteral source e l operand.kind → new ≡ with_statement (assignment place (Use operand) span) s → (c : Cell) → local_of s c ≡ Some place.0 → LowersOwn source s new e c
 lowers-literal source s new e l place operand span ready form is same c local =
     let st = assignment place (Use operand) span in
     subst (λ (n : Shape). LowersOwn source s n e c) (sym same)
@@ -76,10 +77,10 @@ lowers-literal source s new e l place operand span ready form is same c local =
       reaches whole frame grows sound frame-is lands around stands fuel serves store memory holds =
           subst (λ (bytes : Option (List ℕ)). Reaches source whole lands frame (here s) (here (with_statement (assignment place (Use operand) span) s)) memory (Nothing whole frame) (put_literal source e store (record { cell = c }) bytes)) (sym is.has_bytes)
           (reaches-after source whole lands frame (here s) (here s) (here (with_statement (assignment place (Use operand) span) s)) memory memory (Nothing whole frame) (constant_cost source e) (comes-refl frame (here s) memory) (put store (record { cell = c }) is.bytes)
-          (assigned-bytes source s whole frame place (Use operand) span ready.«open» sound frame-is lands grows c (local-later s whole _ ready.«open» grows c place.local.0 local) store memory holds is.bytes (literal-computes source whole frame e l operand is store memory holds)))
+          (assigned-bytes source s whole frame place (Use operand) span ready.«open» sound frame-is lands grows c (local-later s whole _ ready.«open» grows c place.0 local) store memory holds is.bytes (literal-computes source whole frame e l operand is store memory holds)))
 
 -- what a path names is copied
-pub lowers-named : (source : Source) (s new : Shape) (e : ℕ) (name : _) (place from : Place) (operand : MirOperand) (span : MirSpan) → IsReady source s e → node source e ≡ Some (expr.Path name) → IsNamed source s e from.local.0 → operand.kind ≡ Copy from → new ≡ with_statement (assignment place (Use operand) span) s → (c : Cell) → local_of s c ≡ Some place.local.0 → LowersOwn source s new e c
+pub lowers-named : (source : Source) (s new : Shape) (e : ℕ) (name : _) (place from : LocalId) (operand : MirOperand) (span : MirSpan) → IsReady source s e → node source e ≡ Some (expr.Path name) → IsNamed source s e from.0 → operand.kind ≡ Copy (whole_place from) → new ≡ with_statement (assignment place (Use operand) span) s → (c : Cell) → local_of s c ≡ Some place.0 → LowersOwn source s new e c
 lowers-named source s new e name place from operand span ready form named copies same c local =
     let st = assignment place (Use operand) span in
     subst (λ (n : Shape). LowersOwn source s n e c) (sym same)
@@ -91,5 +92,5 @@ lowers-named source s new e name place from operand span ready form named copies
       reaches : (whole : Shape) (frame : Frame) → Grows (with_statement (assignment place (Use operand) span) s) whole → IsSound source whole → IsFrameOf whole frame → (lands : Landings) (around : Around) → Stands whole s lands around → (fuel : ℕ) → Serves fuel source frame.program → (store : Store) (memory : Memory) → Holds whole frame store memory → Reaches source whole lands frame (here s) (here (with_statement (assignment place (Use operand) span) s)) memory (Nothing whole frame) (into_of source (level_at source fuel) (callees_at fuel) around e (Some (expr.Path name)) (record { cell = c }) store)
       reaches whole frame grows sound frame-is lands around stands fuel serves store memory holds =
           subst (λ (n : Option ValueNs). Reaches source whole lands frame (here s) (here (with_statement (assignment place (Use operand) span) s)) memory (Nothing whole frame) (named_into n (record { cell = c }) store)) (sym named.named)
-          (assigned-bytes source s whole frame place (Use operand) span ready.«open» sound frame-is lands grows c (local-later s whole _ ready.«open» grows c place.local.0 local) store memory holds (store (Binding named.binding.0))
-          (name-computes source whole frame (Binding named.binding.0) from operand copies sound frame-is (local-later s whole _ ready.«open» grows (Binding named.binding.0) from.local.0 named.found) store memory holds))
+          (assigned-bytes source s whole frame place (Use operand) span ready.«open» sound frame-is lands grows c (local-later s whole _ ready.«open» grows c place.0 local) store memory holds (store (Binding named.binding.0))
+          (name-computes source whole frame (Binding named.binding.0) from operand copies sound frame-is (local-later s whole _ ready.«open» grows (Binding named.binding.0) from.0 named.found) store memory holds))

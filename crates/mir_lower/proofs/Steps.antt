@@ -5,12 +5,14 @@ use Rattle.source_meaning.specs.Core.{CoreExpr}
 use Rattle.numbers.specs.Operators.{Answer, Computes, Panics, Undefined}
 use Rattle.mir.specs.declared.errors.MirEvalError.{MirEvalError}
 use Rattle.mir.specs.declared.errors.MirEvalError as error
-use Rattle.mir.specs.declared.operand.Place.{Place}
+use Rattle.mir.specs.declared.ids.LocalId.{LocalId}
 use Rattle.mir.specs.declared.operand.Rvalue.{Rvalue}
 use Rattle.mir.specs.declared.span.MirSpan.{MirSpan}
 use Rattle.mir.specs.declared.statement.Statement.{Statement}
 use Rattle.mir.specs.declared.statement.StatementKind.TheVariants.{Assign}
 use Rattle.mir.specs.Memory.{Memory}
+use Rattle.mir.specs.Places.{place_cell}
+use Rattle.mir.specs.WholePlaces.{whole_place}
 use Rattle.mir.specs.Run.{Frame, after_statement, copied, rvalue_bytes, answered}
 use Rattle.source_meaning.specs.Around.{Around}
 use Rattle.source_meaning.specs.Ends.{no_cost, End, Go, Stuck}
@@ -48,9 +50,9 @@ pub placed-later : (old new : Shape) → Grows old new → (local : ℕ) → IsP
 placed-later old new grows local placed = record { cell = placed.cell; found = local_of-grows old new grows placed.cell local placed.found }
 
 -- an assignment of bytes, or of what an operator answers
-module _ (source : Source) (s whole : Shape) (frame : Frame) (place : Place) (rvalue : Rvalue) (span : MirSpan) (opened : IsOpen s) (sound : IsSound source whole) (is : IsFrameOf whole frame) (lands : Landings) (grows : Grows (with_statement (record { kind = Assign place rvalue; span = span }) s) whole) (c : Cell) (local : local_of whole c ≡ Some place.local.0) (store : Store) (memory : Memory) (holds : Holds whole frame store memory) where
+module _ (source : Source) (s whole : Shape) (frame : Frame) (place : LocalId) (rvalue : Rvalue) (span : MirSpan) (opened : IsOpen s) (sound : IsSound source whole) (is : IsFrameOf whole frame) (lands : Landings) (grows : Grows (with_statement (record { kind = Assign (whole_place place) rvalue; span = span }) s) whole) (c : Cell) (local : local_of whole c ≡ Some place.0) (store : Store) (memory : Memory) (holds : Holds whole frame store memory) where
   abbrev added : Statement
-  added = record { kind = Assign place rvalue; span = span }
+  added = record { kind = Assign (whole_place place) rvalue; span = span }
 
   pub assigned-bytes : (bytes : List ℕ) → rvalue_bytes frame memory rvalue ≡ Ok bytes → Reaches source whole lands frame (here s) (here (with_statement added s)) memory (Nothing whole frame) (put store (record { cell = c }) bytes)
   assigned-bytes bytes computes =
@@ -62,10 +64,10 @@ module _ (source : Source) (s whole : Shape) (frame : Frame) (place : Place) (rv
       (λ stuck. subst (Reaches source whole lands frame (here s) (here (with_statement added s)) memory (Nothing whole frame)) (sym stuck) (inr tt))
       (put-cases store (record { cell = c }) bytes)
 
-  faults : (e : MirEvalError) → rvalue_bytes frame memory rvalue ≡ Err e → after_statement frame memory (Assign place rvalue) ≡ Err e
-  unfolding after_statement copied
+  faults : (e : MirEvalError) → rvalue_bytes frame memory rvalue ≡ Err e → after_statement frame memory (Assign (whole_place place) rvalue) ≡ Err e
+  unfolding after_statement copied place_cell
   faults e err =
-      let at = interval-of frame memory place.local.0 (store c) (holds.shows c place.local.0 local) in
+      let at = interval-of frame memory place.0 (store c) (holds.shows c place.0 local) in
       ap (λ o. copied memory o (rvalue_bytes frame memory rvalue)) at.1 ∙ ap (λ r. copied memory (Some at.0) r) err
 
   pub assigned-answer : (answer : Answer) → rvalue_bytes frame memory rvalue ≡ answered answer → Reaches source whole lands frame (here s) (here (with_statement added s)) memory (Nothing whole frame) (put_answer store (record { cell = c }) answer)

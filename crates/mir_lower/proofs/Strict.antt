@@ -3,7 +3,7 @@ use Rattle.std.proofs.Common.{arith, ◌≡◌, ℕ, false, List, [], ◌∷◌,
 use Rattle.std.proofs.lemmas.List.Elements.{Contains-append_cases}
 use Rattle.mir.specs.declared.operand.Operand.{Operand as MirOperand}
 use Rattle.mir.specs.declared.operand.OperandKind.{OperandKind}
-use Rattle.mir.specs.declared.operand.Place.{Place}
+use Rattle.mir.specs.declared.ids.LocalId.{LocalId}
 use Rattle.mir.specs.declared.operand.Rvalue.{Rvalue}
 use Rattle.mir.specs.declared.span.MirSpan.{MirSpan}
 use Rattle.mir.specs.Memory.{Memory}
@@ -94,7 +94,7 @@ lays-strict source s1 new e operation es form below grows laid plain layouts f (
     below child operand.0 operand.1 (plain-part source e child (operand_is_part source e operation es child form operand.0) laid plain) (layouts-before source s1 new grows layouts) f rest
 
 -- a strict form was lowered: its operands, and then one assignment
-pub lowers-strict : (source : Source) (s0 s1 new : Shape) (e : ℕ) (operation : Operation) (es : List ℕ) (operands : List MirOperand) (rvalue : Rvalue) (place : Place) (span : MirSpan) → IsReady source s0 e → node source e ≡ Some (Strict operation es) → LowersOperands source s0 s1 es (kinds operands) → IsRvalueOf source e operation operands rvalue → new ≡ with_statement (assignment place rvalue span) s1 → (c : Cell) → local_of s0 c ≡ Some place.local.0 → LowersOwn source s0 new e c
+pub lowers-strict : (source : Source) (s0 s1 new : Shape) (e : ℕ) (operation : Operation) (es : List ℕ) (operands : List MirOperand) (rvalue : Rvalue) (place : LocalId) (span : MirSpan) → IsReady source s0 e → node source e ≡ Some (Strict operation es) → LowersOperands source s0 s1 es (kinds operands) → IsRvalueOf source e operation operands rvalue → new ≡ with_statement (assignment place rvalue span) s1 → (c : Cell) → local_of s0 c ≡ Some place.0 → LowersOwn source s0 new e c
 lowers-strict source s0 s1 new e operation es operands rvalue place span ready form given is same c local =
     let st = assignment place rvalue span in
     let opened = given.keeps.«open» in
@@ -116,7 +116,7 @@ lowers-strict source s0 s1 new e operation es operands rvalue place span ready f
           let st = assignment place rvalue span in
           let opened = given.keeps.«open» in
           let grown : Grows s1 whole = grows-trans s1 (with_statement st s1) whole (with_statement-grows st s1 opened) grows in
-          let found = local_of-grows s0 whole (grows-trans s0 s1 whole given.keeps.grows grown) c place.local.0 local in
+          let found = local_of-grows s0 whole (grows-trans s0 s1 whole given.keeps.grows grown) c place.0 local in
           reaches-then source whole lands frame (here s0) (here s1) (here (with_statement st s1)) memory (FitAll source (kinds operands) whole frame) (Nothing whole frame) (operands_of source (level_at source fuel) around es store) _
           (given.does.reaches whole frame grown sound frame-is lands around stands fuel serves store memory holds)
           (λ values store1 memory1 claims.

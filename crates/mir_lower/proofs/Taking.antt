@@ -24,6 +24,7 @@ use Rattle.mir.specs.declared.statement.StatementKind.{StatementKind}
 use Rattle.mir.specs.declared.statement.StatementKind.TheVariants.{Assign, FakeRead, StorageLive, StorageDead}
 use Rattle.mir.specs.Errors.{layout_error_of}
 use Rattle.mir.specs.Memory.{Memory, cell_before, cell_size_of, cells_of, pushed, size_before, sizes_of}
+use Rattle.mir.specs.Places.{place_cell}
 use Rattle.mir.specs.Run.{Frame, after_statement, bad_write, called_cells, copied, filled, operand_bytes, read, rvalue_bytes}
 use Rattle.mir_mem.proofs.Writing.{writes_keep_lengths}
 use Rattle.source_meaning.specs.Entering.{room_of}
@@ -55,7 +56,7 @@ same-memory memory later is = let same : memory ≡ later = cc in subst (HasGrow
 -- nor does a statement
 pub statement-takes-none : (frame : Frame) (memory later : Memory) (kind : StatementKind) → after_statement frame memory kind ≡ Ok later → HasGrown 0 memory later
 unfolding after_statement
-statement-takes-none frame memory later (Assign place rvalue) is = copied-takes-none memory later (slice_get frame.cells place.local.0) (rvalue_bytes frame memory rvalue) is
+statement-takes-none frame memory later (Assign place rvalue) is = copied-takes-none memory later (place_cell frame.program.world frame.body frame.cells place) (rvalue_bytes frame memory rvalue) is
 statement-takes-none frame memory later (FakeRead place) is = same-memory memory later is
 statement-takes-none frame memory later (StorageLive local) is = same-memory memory later is
 statement-takes-none frame memory later (StorageDead local) is = same-memory memory later is

@@ -54,7 +54,7 @@ abbrev pub target_of_blocks : LoopBlocks → OpenTarget
 target_of_blocks blocks =
     record {
       opened = record { node = blocks.node.0; label = blocks.label };
-      local = blocks.place.local.0;
+      local = blocks.place.0;
       begin_block = blocks.begin.0;
       end_block = blocks.end.0;
       kept = blocks.drop_scope.0;

@@ -15,7 +15,9 @@ use crate::leave::leave_scope;
 use crate::lower::lower_into;
 use crate::params::lower_params;
 use body_forms::{Context, form_not_built, is_copy};
-use mir::{Local, LocalId, MirBody, MirLowerError, MirSpan, Place, Terminator, TerminatorKind};
+use mir::{
+    Local, LocalId, MirBody, MirLowerError, MirSpan, ProjectionStore, Terminator, TerminatorKind,
+};
 use std::alloc::Global;
 use world::{Body, DefWithBodyId, HirDatabase, InferenceResult};
 
@@ -96,12 +98,13 @@ fn lower_body(context: &Context<'_>, owner: DefWithBodyId) -> Result<MirBody, Mi
     let mut graph = first_graph(context)?;
     let scope = graph.push_drop_scope();
     let params = lower_params(context, &mut graph)?;
-    let slot = Place { local: LocalId(0) };
+    let slot = LocalId(0);
     lower_into(context, &mut graph, start, slot)?;
     leave_scope(context, &mut graph, scope, start)?;
     graph.set_terminator(Terminator {
         span: MirSpan::ExprId(start),
         kind: TerminatorKind::Return,
     });
-    Ok(graph.into_body(owner, params))
+    let projections = ProjectionStore::new(context.alloc)?;
+    Ok(graph.into_body(owner, params, projections))
 }

@@ -6,7 +6,9 @@ ghost use Rattle.mir_lower.specs.Graph.{OpenTarget, with_targets, target_of_bloc
 ghost use Rattle.source_meaning.specs.Around.{is_meant};
 ghost use Rattle.source_meaning.specs.Source.{Node, Never};
 
-use mir::{BasicBlock, BasicBlockId, Local, LocalId, MirBody, Place, Statement, Terminator};
+use mir::{
+    BasicBlock, BasicBlockId, Local, LocalId, MirBody, ProjectionStore, Statement, Terminator,
+};
 use std::alloc::Global;
 use world::{BindingId, DefWithBodyId, ExprId, LabelId, List, NoMemory, Ty};
 
@@ -43,7 +45,7 @@ pub struct LoopBlocks {
     /// What follows it, and where `break` leads.
     pub end: BasicBlockId,
     /// Where its value goes.
-    pub place: Place,
+    pub place: LocalId,
     /// How many locals were in use when it was entered.
     pub drop_scope: DropScopeToken,
 }
@@ -339,8 +341,13 @@ impl Graph {
         None
     }
 
-    /// The body with these blocks and locals, some of which are the parameters'. It takes no memory.
-    pub fn into_body(self, owner: DefWithBodyId, params: List<LocalId>) -> MirBody
+    /// The body with these blocks and locals, some of which are the parameters', and with these projections. It takes no memory.
+    pub fn into_body(
+        self,
+        owner: DefWithBodyId,
+        params: List<LocalId>,
+        projection_store: ProjectionStore,
+    ) -> MirBody
         ensures blocks { result.basic_blocks ≡ (shape self).blocks }
         ensures locals { result.locals ≡ (shape self).locals }
         ensures start { result.start_block.0 ≡ 0 }
@@ -349,6 +356,7 @@ impl Graph {
     {
         let Graph { blocks, locals, .. } = self;
         MirBody {
+            projection_store,
             basic_blocks: List::from_vec(blocks),
             locals,
             start_block: BasicBlockId(0),

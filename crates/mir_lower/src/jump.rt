@@ -12,7 +12,7 @@ use crate::branch::go_on;
 use crate::graph::{DropScopeToken, Graph, LoopBlocks};
 use crate::leave::leave_marked;
 use body_forms::Context;
-use mir::{BasicBlockId, MirLowerError, MirSpan, Place, Terminator, TerminatorKind};
+use mir::{BasicBlockId, LocalId, MirLowerError, MirSpan, Terminator, TerminatorKind};
 use world::{ExprId, LabelId, NoMemory};
 
 /// Enters a loop or a labelled block: the current block leads to the one where it begins, which is opened. The block behind it
@@ -22,7 +22,7 @@ pub(crate) fn enter_loop(
     graph: &mut Graph,
     node: ExprId,
     label: Option<LabelId>,
-    place: Place,
+    place: LocalId,
 ) -> Result<LoopBlocks, NoMemory>
     requires sound { IsSound (source_of context.now) (shape graph.old) }
     requires opened { IsOpen (shape graph.old) }

@@ -6,6 +6,7 @@ ghost use Rattle.mir.specs.declared.body.TerminatorKind.TheVariants.{Drop as Dro
 ghost use Rattle.std.specs.Option.{option_copied};
 ghost use Rattle.source_meaning.specs.Source.{cell_type, is_dropped, drops};
 ghost use Rattle.body_forms.specs.Contexts.{source_of};
+ghost use Rattle.mir.specs.WholePlaces.{whole_place};
 ghost use Rattle.mir_lower.specs.Graph.{shape, with_statement, with_block, with_terminator, with_scope, cell_of};
 ghost use Rattle.mir_lower.specs.Growth.{IsSound, IsOpen};
 ghost use Rattle.mir_lower.specs.Leaving.{Idles, one_if};
@@ -13,7 +14,8 @@ ghost use Rattle.mir_lower.specs.Leaving.{Idles, one_if};
 use crate::graph::{DropScopeToken, Graph, Held, Marked};
 use body_forms::{Context, binding_ty, is_copy, never_type, value_type};
 use mir::{
-    BasicBlockId, LocalId, MirSpan, Place, Statement, StatementKind, Terminator, TerminatorKind,
+    BasicBlockId, LocalId, MirSpan, Place, ProjectionId, Statement, StatementKind, Terminator,
+    TerminatorKind,
 };
 use std::alloc::Global;
 use world::{ExprId, NoMemory, Ty};
@@ -43,7 +45,7 @@ fn is_dropped(context: &Context<'_>, held: Held) -> bool
 fn drop_local(alloc: Global, graph: &mut Graph, local: LocalId, at: ExprId) -> Result<(), NoMemory>
     requires { IsOpen (shape graph.old) }
     ensures { OnOk result ((target : _) × (target.0 ≡ length (shape graph.old).blocks)
-        × (shape graph.new ≡ with_block (with_terminator (record { span = MirSpan.ExprId at; kind = Dropping (record { local = local }) target None }) (shape graph.old)))) }
+        × (shape graph.new ≡ with_block (with_terminator (record { span = MirSpan.ExprId at; kind = Dropping (whole_place local) target None }) (shape graph.old)))) }
 {
     let count = graph.blocks.len();
     if count >= u32::MAX as usize {
@@ -53,7 +55,10 @@ fn drop_local(alloc: Global, graph: &mut Graph, local: LocalId, at: ExprId) -> R
     graph.set_terminator(Terminator {
         span: MirSpan::ExprId(at),
         kind: TerminatorKind::Drop {
-            place: Place { local },
+            place: Place {
+                local,
+                projection: ProjectionId::EMPTY,
+            },
             target,
             unwind: None,
         },

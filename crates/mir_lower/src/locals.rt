@@ -8,6 +8,7 @@ ghost use Rattle.source_meaning.specs.Core as expr;
 ghost use Rattle.source_meaning.specs.Core.{is_path, local_named};
 ghost use Rattle.world.specs.declared.infer.ValueNs.TheVariants.{LocalBinding};
 ghost use Rattle.body_forms.specs.Contexts.{source_of};
+ghost use Rattle.mir.specs.WholePlaces.{whole_place};
 ghost use Rattle.mir_lower.specs.Graph.{shape, with_statement, local_of};
 ghost use Rattle.mir_lower.specs.Growth.{IsSound, IsOpen, IsReady, IsReadyPart};
 ghost use Rattle.mir_lower.specs.Lowered.{IsGiven, IsNamed, Binds, IsCombinedIn, IsTargeted, Assigns};
@@ -20,23 +21,30 @@ use body_forms::{
     Context, compound_path, form_not_built, name_bound, node_ty, own_ty, target_path,
 };
 use mir::{
-    LocalId, MirLowerError, MirSpan, Operand, OperandKind, Place, Rvalue, Statement, StatementKind,
+    LocalId, MirLowerError, MirSpan, Operand, OperandKind, Place, ProjectionId, Rvalue, Statement,
+    StatementKind,
 };
 use world::{BindingId, ExprId, PatId, Text, TryClone, ValueNs};
 
 /// Adds an assignment.
 pub(crate) fn assign(
     graph: &mut Graph,
-    place: Place,
+    place: LocalId,
     rvalue: Rvalue,
     span: MirSpan,
 ) -> Result<(), MirLowerError>
     requires { IsOpen (shape graph.old) }
-    ensures added { OnOk result (shape graph.new ≡ with_statement (record { kind = Assign place rvalue; span = span }) (shape graph.old)) }
+    ensures added { OnOk result (shape graph.new ≡ with_statement (record { kind = Assign (whole_place place) rvalue; span = span }) (shape graph.old)) }
     ensures refused { IfErr result (λ error. error ≡ refusal.NoMemory) }
 {
     graph.push_statement(Statement {
-        kind: StatementKind::Assign(place, rvalue),
+        kind: StatementKind::Assign(
+            Place {
+                local: place,
+                projection: ProjectionId::EMPTY,
+            },
+            rvalue,
+        ),
         span,
     })?;
     Ok(())
@@ -69,17 +77,17 @@ pub(crate) fn place_named(
     graph: &Graph,
     e: ExprId,
     name: &Text,
-) -> Result<Place, MirLowerError>
+) -> Result<LocalId, MirLowerError>
     requires sound { IsSound (source_of context.now) (shape graph.now) }
     requires path { node (source_of context.now) e.0 ≡ Some (expr.Path name.now) }
-    ensures lowered { IfOk result (λ place. IsNamed (source_of context.now) (shape graph.now) e.0 place.local.0) }
+    ensures lowered { IfOk result (λ place. IsNamed (source_of context.now) (shape graph.now) e.0 place.0) }
     ensures built { OnOk result (NamesBinding (source_of context.now) e.0) }
     ensures refused { IfErr result (RefusesNode (source_of context.now) e.0) }
 {
     match context.infer.value_res.get(&e) {
         Some(named) => match binding_named(*named) {
             Some(binding) => match graph.binding_local(binding) {
-                Some(local) => Ok(Place { local }),
+                Some(local) => Ok(local),
                 None => Err(MirLowerError::InaccessibleLocal),
             },
             None => Err(form_not_built(context.alloc)),
@@ -114,10 +122,10 @@ pub(crate) fn new_temp(
     context: &Context<'_>,
     graph: &mut Graph,
     e: ExprId,
-) -> Result<Place, MirLowerError>
+) -> Result<LocalId, MirLowerError>
     requires ready { IsReadyPart (source_of context.now) (shape graph.old) e.0 }
     requires form { is_path (unadjusted (source_of context.now) e.0) ≡ false }
-    ensures given { IfOk result (λ place. IsGiven (source_of context.now) (shape graph.old) (shape graph.new) (Node e.0) place.local.0) }
+    ensures given { IfOk result (λ place. IsGiven (source_of context.now) (shape graph.old) (shape graph.new) (Node e.0) place.0) }
     ensures refused { IfErr result (λ error. error ≡ refusal.NoMemory) }
 {
     let ty = node_ty(context, e).try_clone(context.alloc)?;
@@ -126,7 +134,7 @@ pub(crate) fn new_temp(
         kind: StatementKind::StorageLive(local),
         span: MirSpan::ExprId(e),
     })?;
-    Ok(Place { local })
+    Ok(local)
 }
 
 /// Adds `StorageLive` of a local for the `!` of an expression, in the innermost open scope.
@@ -134,10 +142,10 @@ pub(crate) fn new_never(
     context: &Context<'_>,
     graph: &mut Graph,
     e: ExprId,
-) -> Result<Place, MirLowerError>
+) -> Result<LocalId, MirLowerError>
     requires ready { IsReady (source_of context.now) (shape graph.old) e.0 }
     requires adjusted { diverges (source_of context.now) e.0 ≡ true }
-    ensures given { IfOk result (λ place. IsGiven (source_of context.now) (shape graph.old) (shape graph.new) (Never e.0) place.local.0) }
+    ensures given { IfOk result (λ place. IsGiven (source_of context.now) (shape graph.old) (shape graph.new) (Never e.0) place.0) }
     ensures refused { IfErr result (λ error. error ≡ refusal.NoMemory) }
 {
     let ty = own_ty(context, e).try_clone(context.alloc)?;
@@ -146,17 +154,20 @@ pub(crate) fn new_never(
         kind: StatementKind::StorageLive(local),
         span: MirSpan::ExprId(e),
     })?;
-    Ok(Place { local })
+    Ok(local)
 }
 
 /// Notes that the value at a place was named.
-pub(crate) fn fake_read(graph: &mut Graph, place: Place, e: ExprId) -> Result<(), MirLowerError>
+pub(crate) fn fake_read(graph: &mut Graph, place: LocalId, e: ExprId) -> Result<(), MirLowerError>
     requires { IsOpen (shape graph.old) }
-    ensures added { OnOk result (shape graph.new ≡ with_statement (record { kind = FakeRead place; span = MirSpan.ExprId e }) (shape graph.old)) }
+    ensures added { OnOk result (shape graph.new ≡ with_statement (record { kind = FakeRead (whole_place place); span = MirSpan.ExprId e }) (shape graph.old)) }
     ensures refused { IfErr result (λ error. error ≡ refusal.NoMemory) }
 {
     graph.push_statement(Statement {
-        kind: StatementKind::FakeRead(place),
+        kind: StatementKind::FakeRead(Place {
+            local: place,
+            projection: ProjectionId::EMPTY,
+        }),
         span: MirSpan::ExprId(e),
     })?;
     Ok(())
@@ -167,11 +178,11 @@ pub(crate) fn bind(
     context: &Context<'_>,
     graph: &mut Graph,
     pat: PatId,
-    from: Place,
+    from: LocalId,
 ) -> Result<(), MirLowerError>
     requires sound { IsSound (source_of context.now) (shape graph.old) }
     requires opened { IsOpen (shape graph.old) }
-    ensures lowered { OnOk result ((cell : Cell) → local_of (shape graph.old) cell ≡ Some from.local.0
+    ensures lowered { OnOk result ((cell : Cell) → local_of (shape graph.old) cell ≡ Some from.0
         → Binds (source_of context.now) (shape graph.old) (shape graph.new) pat.0 cell) }
     ensures built { OnOk result (BindsBinding (source_of context.now) pat.0) }
     ensures refused { IfErr result (RefusesPattern (source_of context.now) pat.0) }
@@ -184,15 +195,13 @@ pub(crate) fn bind(
     };
     storage_live(context, graph, binding, local)?;
     let operand = Operand {
-        kind: OperandKind::Copy(from),
+        kind: OperandKind::Copy(Place {
+            local: from,
+            projection: ProjectionId::EMPTY,
+        }),
         span: None,
     };
-    assign(
-        graph,
-        Place { local },
-        Rvalue::Use(operand),
-        MirSpan::PatId(pat),
-    )
+    assign(graph, local, Rvalue::Use(operand), MirSpan::PatId(pat))
 }
 
 /// The local that the target of an assignment names: that of a binding.
@@ -222,9 +231,9 @@ pub(crate) fn combined_place(
     context: &Context<'_>,
     graph: &Graph,
     e: ExprId,
-) -> Result<Place, MirLowerError>
+) -> Result<LocalId, MirLowerError>
     requires { IsSound (source_of context.now) (shape graph.now) }
-    ensures lowered { IfOk result (λ place. IsCombinedIn (source_of context.now) (shape graph.now) e.0 place.local.0) }
+    ensures lowered { IfOk result (λ place. IsCombinedIn (source_of context.now) (shape graph.now) e.0 place.0) }
     ensures built { OnOk result (CombinesBinding (source_of context.now) e.0) }
     ensures refused { IfErr result (RefusesCombined (source_of context.now) e.0) }
 {
@@ -236,7 +245,7 @@ pub(crate) fn combined_place(
     };
     match binding_named(*named) {
         Some(binding) => match graph.binding_local(binding) {
-            Some(local) => Ok(Place { local }),
+            Some(local) => Ok(local),
             None => Err(MirLowerError::InaccessibleLocal),
         },
         None => Err(form_not_built(context.alloc)),
@@ -248,24 +257,22 @@ pub(crate) fn assign_target(
     context: &Context<'_>,
     graph: &mut Graph,
     pat: PatId,
-    from: Place,
+    from: LocalId,
 ) -> Result<(), MirLowerError>
     requires sound { IsSound (source_of context.now) (shape graph.old) }
     requires opened { IsOpen (shape graph.old) }
-    ensures lowered { OnOk result ((cell : Cell) → local_of (shape graph.old) cell ≡ Some from.local.0
+    ensures lowered { OnOk result ((cell : Cell) → local_of (shape graph.old) cell ≡ Some from.0
         → Assigns (source_of context.now) (shape graph.old) (shape graph.new) pat.0 cell) }
     ensures built { OnOk result (AssignsBinding (source_of context.now) pat.0) }
     ensures refused { IfErr result (RefusesTarget (source_of context.now) pat.0) }
 {
     let local = target_local(context, graph, pat)?;
     let operand = Operand {
-        kind: OperandKind::Copy(from),
+        kind: OperandKind::Copy(Place {
+            local: from,
+            projection: ProjectionId::EMPTY,
+        }),
         span: None,
     };
-    assign(
-        graph,
-        Place { local },
-        Rvalue::Use(operand),
-        MirSpan::PatId(pat),
-    )
+    assign(graph, local, Rvalue::Use(operand), MirSpan::PatId(pat))
 }

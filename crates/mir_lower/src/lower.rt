@@ -13,6 +13,7 @@ ghost use Rattle.world.specs.declared.body.Statement.TheVariants as statement_ki
 ghost use Rattle.body_forms.specs.Callees.{callee_number};
 ghost use Rattle.body_forms.specs.Contexts.{source_of};
 ghost use Rattle.body_forms.specs.Form.{core_value};
+ghost use Rattle.mir.specs.WholePlaces.{whole_place};
 ghost use Rattle.mir_lower.specs.Graph.{shape, local_of};
 ghost use Rattle.mir_lower.specs.Growth.{IsPlaced, IsReady, ArePartsReady, IsReadyPart};
 ghost use Rattle.body_forms.specs.Operations.{several_operation, single_operation};
@@ -34,15 +35,20 @@ use body_forms::{
     Context, Form, LiteralValue, Several, Single, diverges, form_at, form_not_built, kind_of,
     literal_at, lower_callee, lower_literal, made_of, method_args, path_at,
 };
-use mir::{BinOp, LocalId, MirLowerError, MirSpan, Operand, OperandKind, Place, Rvalue};
+use mir::{
+    BinOp, LocalId, MirLowerError, MirSpan, Operand, OperandKind, Place, ProjectionId, Rvalue,
+};
 use world::{ExprId, LabelId, List, LogicOp, PatId, Statement, Text, TryClone};
 
 /// A place as an operand.
-fn copied(place: Place, e: ExprId) -> Operand
-    ensures { result.kind ≡ Copy place }
+fn copied(place: LocalId, e: ExprId) -> Operand
+    ensures { result.kind ≡ Copy (whole_place place) }
 {
     Operand {
-        kind: OperandKind::Copy(place),
+        kind: OperandKind::Copy(Place {
+            local: place,
+            projection: ProjectionId::EMPTY,
+        }),
         span: Some(MirSpan::ExprId(e)),
     }
 }
@@ -63,11 +69,11 @@ fn literal_into(
     graph: &mut Graph,
     e: ExprId,
     literal: LiteralValue,
-    place: Place,
+    place: LocalId,
 ) -> Result<(), MirLowerError>
     requires ready { IsReady (source_of context.now) (shape graph.old) e.0 }
     requires form { node (source_of context.now) e.0 ≡ Some (expr.Literal (core_value literal)) }
-    ensures lowered { OnOk result ((cell : Cell) → local_of (shape graph.old) cell ≡ Some place.local.0
+    ensures lowered { OnOk result ((cell : Cell) → local_of (shape graph.old) cell ≡ Some place.0
         → LowersOwn (source_of context.now) (shape graph.old) (shape graph.new) e.0 cell) }
     ensures built { OnOk result (IsBuilt (source_of context.now) e.0) }
     ensures refused { IfErr result (RefusesAt (source_of context.now) e.0) }
@@ -82,11 +88,11 @@ fn name_into(
     graph: &mut Graph,
     e: ExprId,
     name: &Text,
-    place: Place,
+    place: LocalId,
 ) -> Result<(), MirLowerError>
     requires ready { IsReady (source_of context.now) (shape graph.old) e.0 }
     requires form { node (source_of context.now) e.0 ≡ Some (expr.Path name.now) }
-    ensures lowered { OnOk result ((cell : Cell) → local_of (shape graph.old) cell ≡ Some place.local.0
+    ensures lowered { OnOk result ((cell : Cell) → local_of (shape graph.old) cell ≡ Some place.0
         → LowersOwn (source_of context.now) (shape graph.old) (shape graph.new) e.0 cell) }
     ensures built { OnOk result (IsBuilt (source_of context.now) e.0) }
     ensures refused { IfErr result (RefusesAt (source_of context.now) e.0) }
@@ -123,9 +129,13 @@ pub(crate) fn lower_operand(
 
 /// An expression to a place: what a path names, or a local of its own.
 #[cycle(lower)]
-fn lower_place(context: &Context<'_>, graph: &mut Graph, e: ExprId) -> Result<Place, MirLowerError>
+fn lower_place(
+    context: &Context<'_>,
+    graph: &mut Graph,
+    e: ExprId,
+) -> Result<LocalId, MirLowerError>
     requires { IsReadyPart (source_of context.now) (shape graph.old) e.0 }
-    ensures lowered { IfOk result (λ place. LowersPlace (source_of context.now) (shape graph.old) (shape graph.new) e.0 place.local.0) }
+    ensures lowered { IfOk result (λ place. LowersPlace (source_of context.now) (shape graph.old) (shape graph.new) e.0 place.0) }
     ensures built { OnOk result (IsBuilt (source_of context.now) e.0) }
     ensures refused { IfErr result (RefusesAt (source_of context.now) e.0) }
 {
@@ -137,10 +147,10 @@ fn lower_place(context: &Context<'_>, graph: &mut Graph, e: ExprId) -> Result<Pl
 
 /// An expression that is no place goes into a local of its own, which is then its place.
 #[cycle(lower)]
-fn lower_temp(context: &Context<'_>, graph: &mut Graph, e: ExprId) -> Result<Place, MirLowerError>
+fn lower_temp(context: &Context<'_>, graph: &mut Graph, e: ExprId) -> Result<LocalId, MirLowerError>
     requires ready { IsReadyPart (source_of context.now) (shape graph.old) e.0 }
     requires form { is_path (unadjusted (source_of context.now) e.0) ≡ false }
-    ensures lowered { IfOk result (λ place. LowersPlace (source_of context.now) (shape graph.old) (shape graph.new) e.0 place.local.0) }
+    ensures lowered { IfOk result (λ place. LowersPlace (source_of context.now) (shape graph.old) (shape graph.new) e.0 place.0) }
     ensures built { OnOk result (IsBuilt (source_of context.now) e.0) }
     ensures refused { IfErr result (RefusesAt (source_of context.now) e.0) }
 {
@@ -155,11 +165,11 @@ pub(crate) fn lower_into(
     context: &Context<'_>,
     graph: &mut Graph,
     e: ExprId,
-    place: Place,
+    place: LocalId,
 ) -> Result<(), MirLowerError>
     requires ready { IsReady (source_of context.now) (shape graph.old) e.0 }
-    requires placed { IsPlaced (shape graph.old) place.local.0 }
-    ensures lowered { OnOk result ((cell : Cell) → local_of (shape graph.old) cell ≡ Some place.local.0
+    requires placed { IsPlaced (shape graph.old) place.0 }
+    ensures lowered { OnOk result ((cell : Cell) → local_of (shape graph.old) cell ≡ Some place.0
         → LowersInto (source_of context.now) (shape graph.old) (shape graph.new) e.0 cell) }
     ensures built { OnOk result (IsBuilt (source_of context.now) e.0) }
     ensures refused { IfErr result (RefusesAt (source_of context.now) e.0) }
@@ -178,11 +188,11 @@ fn lower_own(
     context: &Context<'_>,
     graph: &mut Graph,
     e: ExprId,
-    place: Place,
+    place: LocalId,
 ) -> Result<(), MirLowerError>
     requires ready { IsReady (source_of context.now) (shape graph.old) e.0 }
-    requires placed { IsPlaced (shape graph.old) place.local.0 }
-    ensures lowered { OnOk result ((cell : Cell) → local_of (shape graph.old) cell ≡ Some place.local.0
+    requires placed { IsPlaced (shape graph.old) place.0 }
+    ensures lowered { OnOk result ((cell : Cell) → local_of (shape graph.old) cell ≡ Some place.0
         → LowersOwn (source_of context.now) (shape graph.old) (shape graph.new) e.0 cell) }
     ensures built { OnOk result (IsBuilt (source_of context.now) e.0) }
     ensures refused { IfErr result (RefusesAt (source_of context.now) e.0) }
@@ -255,11 +265,11 @@ fn lower_single(
     e: ExprId,
     single: Single,
     operand: ExprId,
-    place: Place,
+    place: LocalId,
 ) -> Result<(), MirLowerError>
     requires ready { IsReady (source_of context.now) (shape graph.old) e.0 }
     requires form { node (source_of context.now) e.0 ≡ Some (expr.Strict (single_operation single) (operand.0 ∷ [])) }
-    ensures lowered { OnOk result ((cell : Cell) → local_of (shape graph.old) cell ≡ Some place.local.0
+    ensures lowered { OnOk result ((cell : Cell) → local_of (shape graph.old) cell ≡ Some place.0
         → LowersOwn (source_of context.now) (shape graph.old) (shape graph.new) e.0 cell) }
     ensures built { OnOk result (IsBuilt (source_of context.now) e.0) }
     ensures refused { IfErr result (RefusesAt (source_of context.now) e.0) }
@@ -277,11 +287,11 @@ fn lower_aggregate(
     e: ExprId,
     several: Several,
     parts: &[ExprId],
-    place: Place,
+    place: LocalId,
 ) -> Result<(), MirLowerError>
     requires ready { IsReady (source_of context.now) (shape graph.old) e.0 }
     requires form { node (source_of context.now) e.0 ≡ Some (expr.Strict (several_operation several) (expr_numbers parts.now)) }
-    ensures lowered { OnOk result ((cell : Cell) → local_of (shape graph.old) cell ≡ Some place.local.0
+    ensures lowered { OnOk result ((cell : Cell) → local_of (shape graph.old) cell ≡ Some place.0
         → LowersOwn (source_of context.now) (shape graph.old) (shape graph.new) e.0 cell) }
     ensures built { OnOk result (IsBuilt (source_of context.now) e.0) }
     ensures refused { IfErr result (RefusesAt (source_of context.now) e.0) }
@@ -305,11 +315,11 @@ fn lower_binary(
     op: BinOp,
     lhs: ExprId,
     rhs: ExprId,
-    place: Place,
+    place: LocalId,
 ) -> Result<(), MirLowerError>
     requires ready { IsReady (source_of context.now) (shape graph.old) e.0 }
     requires form { node (source_of context.now) e.0 ≡ Some (expr.Strict (Combine op) (lhs.0 ∷ rhs.0 ∷ [])) }
-    ensures lowered { OnOk result ((cell : Cell) → local_of (shape graph.old) cell ≡ Some place.local.0
+    ensures lowered { OnOk result ((cell : Cell) → local_of (shape graph.old) cell ≡ Some place.0
         → LowersOwn (source_of context.now) (shape graph.old) (shape graph.new) e.0 cell) }
     ensures built { OnOk result (IsBuilt (source_of context.now) e.0) }
     ensures refused { IfErr result (RefusesAt (source_of context.now) e.0) }
@@ -333,12 +343,12 @@ fn lower_logic(
     op: LogicOp,
     lhs: ExprId,
     rhs: ExprId,
-    place: Place,
+    place: LocalId,
 ) -> Result<(), MirLowerError>
     requires ready { IsReady (source_of context.now) (shape graph.old) e.0 }
     requires form { node (source_of context.now) e.0 ≡ Some (expr.Logic op lhs.0 rhs.0) }
-    requires placed { IsPlaced (shape graph.old) place.local.0 }
-    ensures lowered { OnOk result ((cell : Cell) → local_of (shape graph.old) cell ≡ Some place.local.0
+    requires placed { IsPlaced (shape graph.old) place.0 }
+    ensures lowered { OnOk result ((cell : Cell) → local_of (shape graph.old) cell ≡ Some place.0
         → LowersOwn (source_of context.now) (shape graph.old) (shape graph.new) e.0 cell) }
     ensures built { OnOk result (IsBuilt (source_of context.now) e.0) }
     ensures refused { IfErr result (RefusesAt (source_of context.now) e.0) }
@@ -362,12 +372,12 @@ fn lower_if(
     condition: ExprId,
     then_branch: ExprId,
     else_branch: Option<ExprId>,
-    place: Place,
+    place: LocalId,
 ) -> Result<(), MirLowerError>
     requires ready { IsReady (source_of context.now) (shape graph.old) e.0 }
     requires form { node (source_of context.now) e.0 ≡ Some (expr.If condition.0 then_branch.0 else_branch) }
-    requires placed { IsPlaced (shape graph.old) place.local.0 }
-    ensures lowered { OnOk result ((cell : Cell) → local_of (shape graph.old) cell ≡ Some place.local.0
+    requires placed { IsPlaced (shape graph.old) place.0 }
+    ensures lowered { OnOk result ((cell : Cell) → local_of (shape graph.old) cell ≡ Some place.0
         → LowersOwn (source_of context.now) (shape graph.old) (shape graph.new) e.0 cell) }
     ensures built { OnOk result (IsBuilt (source_of context.now) e.0) }
     ensures refused { IfErr result (RefusesAt (source_of context.now) e.0) }
@@ -437,12 +447,12 @@ fn lower_block(
     e: ExprId,
     statements: &List<Statement>,
     tail: Option<ExprId>,
-    place: Place,
+    place: LocalId,
 ) -> Result<(), MirLowerError>
     requires ready { IsReady (source_of context.now) (shape graph.old) e.0 }
     requires form { node (source_of context.now) e.0 ≡ Some (expr.Block statements.now tail) }
-    requires placed { IsPlaced (shape graph.old) place.local.0 }
-    ensures lowered { OnOk result ((cell : Cell) → local_of (shape graph.old) cell ≡ Some place.local.0
+    requires placed { IsPlaced (shape graph.old) place.0 }
+    ensures lowered { OnOk result ((cell : Cell) → local_of (shape graph.old) cell ≡ Some place.0
         → LowersOwn (source_of context.now) (shape graph.old) (shape graph.new) e.0 cell) }
     ensures built { OnOk result (IsBuilt (source_of context.now) e.0) }
     ensures refused { IfErr result (RefusesAt (source_of context.now) e.0) }
@@ -463,12 +473,12 @@ fn lower_labelled(
     label: LabelId,
     statements: &List<Statement>,
     tail: Option<ExprId>,
-    place: Place,
+    place: LocalId,
 ) -> Result<(), MirLowerError>
     requires ready { IsReady (source_of context.now) (shape graph.old) e.0 }
     requires form { node (source_of context.now) e.0 ≡ Some (expr.Labelled label statements.now tail) }
-    requires placed { IsPlaced (shape graph.old) place.local.0 }
-    ensures lowered { OnOk result ((cell : Cell) → local_of (shape graph.old) cell ≡ Some place.local.0
+    requires placed { IsPlaced (shape graph.old) place.0 }
+    ensures lowered { OnOk result ((cell : Cell) → local_of (shape graph.old) cell ≡ Some place.0
         → LowersOwn (source_of context.now) (shape graph.old) (shape graph.new) e.0 cell) }
     ensures built { OnOk result (IsBuilt (source_of context.now) e.0) }
     ensures refused { IfErr result (RefusesAt (source_of context.now) e.0) }
@@ -490,12 +500,12 @@ fn lower_loop(
     e: ExprId,
     label: Option<LabelId>,
     body: ExprId,
-    place: Place,
+    place: LocalId,
 ) -> Result<(), MirLowerError>
     requires ready { IsReady (source_of context.now) (shape graph.old) e.0 }
     requires form { node (source_of context.now) e.0 ≡ Some (expr.Loop label body.0) }
-    requires placed { IsPlaced (shape graph.old) place.local.0 }
-    ensures lowered { OnOk result ((cell : Cell) → local_of (shape graph.old) cell ≡ Some place.local.0
+    requires placed { IsPlaced (shape graph.old) place.0 }
+    ensures lowered { OnOk result ((cell : Cell) → local_of (shape graph.old) cell ≡ Some place.0
         → LowersOwn (source_of context.now) (shape graph.old) (shape graph.new) e.0 cell) }
     ensures built { OnOk result (IsBuilt (source_of context.now) e.0) }
     ensures refused { IfErr result (RefusesAt (source_of context.now) e.0) }
@@ -561,7 +571,7 @@ fn lower_return(
     ensures built { OnOk result (IsBuilt (source_of context.now) e.0) }
     ensures refused { IfErr result (RefusesAt (source_of context.now) e.0) }
 {
-    let slot = Place { local: LocalId(0) };
+    let slot = LocalId(0);
     lower_tail(context, graph, e, value, slot)?;
     return_from(context, graph, e)?;
     Ok(())
@@ -575,11 +585,11 @@ fn lower_method_call(
     e: ExprId,
     receiver: ExprId,
     args: &[ExprId],
-    place: Place,
+    place: LocalId,
 ) -> Result<(), MirLowerError>
     requires ready { IsReady (source_of context.now) (shape graph.old) e.0 }
     requires form { node (source_of context.now) e.0 ≡ Some (expr.Call None (receiver.0 ∷ expr_numbers args.now)) }
-    ensures lowered { OnOk result ((cell : Cell) → local_of (shape graph.old) cell ≡ Some place.local.0
+    ensures lowered { OnOk result ((cell : Cell) → local_of (shape graph.old) cell ≡ Some place.0
         → LowersOwn (source_of context.now) (shape graph.old) (shape graph.new) e.0 cell) }
     ensures built { OnOk result (IsBuilt (source_of context.now) e.0) }
     ensures refused { IfErr result (RefusesAt (source_of context.now) e.0) }
@@ -596,18 +606,22 @@ fn lower_call(
     e: ExprId,
     callee: Option<ExprId>,
     args: &[ExprId],
-    place: Place,
+    place: LocalId,
 ) -> Result<(), MirLowerError>
     requires ready { IsReady (source_of context.now) (shape graph.old) e.0 }
     requires form { node (source_of context.now) e.0 ≡ Some (expr.Call (callee_number callee) (expr_numbers args.now)) }
-    ensures lowered { OnOk result ((cell : Cell) → local_of (shape graph.old) cell ≡ Some place.local.0
+    ensures lowered { OnOk result ((cell : Cell) → local_of (shape graph.old) cell ≡ Some place.0
         → LowersOwn (source_of context.now) (shape graph.old) (shape graph.new) e.0 cell) }
     ensures built { OnOk result (IsBuilt (source_of context.now) e.0) }
     ensures refused { IfErr result (RefusesAt (source_of context.now) e.0) }
 {
     let func = lower_callee(context, e, callee)?;
     let operands = lower_operands(context, graph, e, args)?;
-    call(context, graph, e, func, operands, place)?;
+    let destination = Place {
+        local: place,
+        projection: ProjectionId::EMPTY,
+    };
+    call(context, graph, e, func, operands, destination)?;
     Ok(())
 }
 
@@ -660,12 +674,12 @@ fn lower_tail(
     graph: &mut Graph,
     e: ExprId,
     tail: Option<ExprId>,
-    place: Place,
+    place: LocalId,
 ) -> Result<(), MirLowerError>
     requires ready { ArePartsReady (source_of context.now) (shape graph.old) e.0 }
     requires part { IfSome tail (λ one. Contains (parts_of (node (source_of context.now) e.0)) one.0) }
-    requires placed { IsPlaced (shape graph.old) place.local.0 }
-    ensures lowered { OnOk result ((cell : Cell) → local_of (shape graph.old) cell ≡ Some place.local.0
+    requires placed { IsPlaced (shape graph.old) place.0 }
+    ensures lowered { OnOk result ((cell : Cell) → local_of (shape graph.old) cell ≡ Some place.0
         → LowersTail (source_of context.now) (shape graph.old) (shape graph.new) tail cell) }
     ensures built { OnOk result (All (IsBuilt (source_of context.now)) (optional tail)) }
     ensures refused { IfErr result (RefusesAt (source_of context.now) e.0) }

@@ -14,7 +14,7 @@ returns-then-needed c =
     let source = source_of c.args.context.now in
     on_ok_weaker c.drop_local.result
     (λ h. subst (λ (b : Bool). Idles source (shape c.args.graph.now) (shape c.drop_local.new.graph) (one_if b)) (sym c.if-needed.true ∙ c.is_dropped-needed.ensures)
-    (idles-drop source (shape c.args.graph.now) (shape c.drop_local.new.graph) (record { local = c.args.marked.local }) h.0 None (ExprId c.args.at) c.requires.sound c.requires.opened h.1 h.2))
+    (idles-drop source (shape c.args.graph.now) (shape c.drop_local.new.graph) c.args.marked.local h.0 None (ExprId c.args.at) c.requires.sound c.requires.opened h.1 h.2))
     c.drop_local.ensures
 
 pub returns-else-needed : goal.returns-else-needed

@@ -10,5 +10,5 @@ use Rattle.mir_lower.proofs.locals.assign_target.Goals as goal
 pub returns-clause-lowered : goal.returns-clause-lowered
 returns-clause-lowered c =
     on_ok_weaker c.assign.result
-    (λ added cell found. assigns-target (source_of c.args.context.now) (shape c.args.graph.now) (shape c.assign.new.graph) c.args.pat.0 (record { local = c.in_ok-local.local }) c.args.from _ (PatId c.args.pat) c.requires.sound c.requires.opened c.in_ok-local.ensures.lowered refl added cell found)
+    (λ added cell found. assigns-target (source_of c.args.context.now) (shape c.args.graph.now) (shape c.assign.new.graph) c.args.pat.0 c.in_ok-local.local c.args.from _ (PatId c.args.pat) c.requires.sound c.requires.opened c.in_ok-local.ensures.lowered refl added cell found)
     c.assign.ensures.added

@@ -29,5 +29,5 @@ pub returns-clause-lowered : goal.returns-clause-lowered
 returns-clause-lowered c =
     let source = source_of c.args.context.now in
     on_ok_weaker c.assign.result
-    (λ added cell found. binds-name source (shape c.args.graph.now) (shape c.storage_live.new.graph) (shape c.assign.new.graph) c.args.pat _ (record { local = c.in-Some-binding_local.local }) c.args.from _ (PatId c.args.pat) (sym c.in-Some.ensures) c.in_ok-storage_live.ensures.given refl added cell found)
+    (λ added cell found. binds-name source (shape c.args.graph.now) (shape c.storage_live.new.graph) (shape c.assign.new.graph) c.args.pat _ c.in-Some-binding_local.local c.args.from _ (PatId c.args.pat) (sym c.in-Some.ensures) c.in_ok-storage_live.ensures.given refl added cell found)
     c.assign.ensures.added

@@ -13,6 +13,7 @@ use Rattle.mir_lower.specs.Graph.{shape, target_of_blocks}
 use Rattle.mir_lower.specs.Growth.{Grows, IsPlaced, IsInside}
 use Rattle.source_meaning.specs.Valid.{opened_in}
 use Rattle.mir_lower.specs.Lowered.{HasStatements, LowersOperand, LowersOperands, LowersStatements, LowersTail}
+use Rattle.mir.specs.WholePlaces.{whole_place}
 use Rattle.mir.specs.declared.operand.Operand.{Operand}
 use Rattle.mir.specs.declared.operand.OperandKind.{OperandKind}
 use Rattle.mir.specs.declared.operand.Rvalue.TheVariants.{Aggregate, CheckedBinaryOp, Use}
@@ -41,7 +42,7 @@ use Rattle.mir_lower.proofs.Refused.{refuses-here, refuses-no-memory, refuses-pa
 use Rattle.mir_lower.proofs.Growing.{grows-trans}
 use Rattle.mir_lower.proofs.Steps.{local_of-grows, placed-later}
 use Rattle.mir_lower.proofs.Branches.{reserved-spared, other-reserved, join-reserved}
-use Rattle.mir.specs.declared.operand.Place.{Place}
+use Rattle.mir.specs.declared.ids.LocalId.{LocalId}
 use Rattle.mir_lower.proofs.Jumping.{meant-has, break-part, lowers-break}
 use Rattle.mir_lower.proofs.Loops.{body-part, labelled-tail-part, lowers-loop, lowers-labelled}
 use Rattle.mir_lower.proofs.Ready.{ready-in, parts-ready, parts-ready-in, part-ready, ready-part, parts-entered, opened-is}
@@ -84,7 +85,7 @@ lower_operand-returns-in_ok-place-in-None t c =
 pub lower_place-returns-in-Some-clause-lowered : goal.lower_place-returns-in-Some-clause-lowered
 lower_place-returns-in-Some-clause-lowered t c =
     IfOk-weaker c.place_named.result _ _
-    (λ place named. lowers-name (source_of c.args.context.now) (shape c.args.graph.now) c.args.e.0 place.local.0 c.in-Some.name.now c.requires.ready.sound c.requires.ready.«open» c.in-Some.ensures.some named)
+    (λ place named. lowers-name (source_of c.args.context.now) (shape c.args.graph.now) c.args.e.0 place.0 c.in-Some.name.now c.requires.ready.sound c.requires.ready.«open» c.in-Some.ensures.some named)
     c.place_named.ensures.lowered
 
 pub lower_place-returns-in-Some-clause-built : goal.lower_place-returns-in-Some-clause-built
@@ -102,7 +103,7 @@ lower_temp-returns-in_err-place-clause-refused t c =
 
 pub lower_temp-returns-clause-lowered : goal.lower_temp-returns-clause-lowered
 lower_temp-returns-clause-lowered t c =
-    lowers-temp (source_of c.args.context.now) (shape c.args.graph.now) (shape c.new_temp.new.graph) (shape c.lower_into.new.graph) c.args.e.0 c.in_ok-place.place.local.0 c.requires.form c.in_ok-place.ensures.given
+    lowers-temp (source_of c.args.context.now) (shape c.args.graph.now) (shape c.new_temp.new.graph) (shape c.lower_into.new.graph) c.args.e.0 c.in_ok-place.place.0 c.requires.form c.in_ok-place.ensures.given
     (c.in_ok-lower_into.ensures.lowered (Node c.args.e.0) c.in_ok-place.ensures.given.found)
 
 -- an expression into a place
@@ -334,7 +335,7 @@ lower_if-lower_into-requires t c =
       omega (arith, below),
       (
         (ready-part source s0 s2 c.args.e.0 c.args.then_branch.0 (parts-ready source s0 c.args.e.0 (λ outer. ap (λ n. opened_in c.args.e.0 n outer) c.requires.form) c.requires.ready) is (forked.spares.targets ∙ c.in_ok-test.ensures.lowered.keeps.spares.targets) (grows-trans s0 s1 s2 c.in_ok-test.ensures.lowered.keeps.grows forked.grows) forked.sound forked.«open»).ready,
-        placed-later s0 s2 (grows-trans s0 s1 s2 c.in_ok-test.ensures.lowered.keeps.grows forked.grows) c.args.place.local.0 c.requires.placed,
+        placed-later s0 s2 (grows-trans s0 s1 s2 c.in_ok-test.ensures.lowered.keeps.grows forked.grows) c.args.place.0 c.requires.placed,
       ),
     )
 
@@ -350,7 +351,7 @@ lower_if-go_on-requires t c =
     let s1 = shape c.lower_operand.new.graph in
     let s2 = shape c.fork.new.graph in
     let forked = c.in_ok-branches.ensures.forked in
-    let placed = placed-later s0 s2 (grows-trans s0 s1 s2 c.in_ok-test.ensures.lowered.keeps.grows forked.grows) c.args.place.local.0 c.requires.placed in
+    let placed = placed-later s0 s2 (grows-trans s0 s1 s2 c.in_ok-test.ensures.lowered.keeps.grows forked.grows) c.args.place.0 c.requires.placed in
     let one = (c.in_ok-lower_into.ensures.lowered placed.cell placed.found).keeps in
     record { opened = one.«open»; reserved = other-reserved forked one }
 
@@ -363,7 +364,7 @@ lower_if-lower_tail-requires t c =
     let s3 = shape c.lower_into.new.graph in
     let s4 = shape c.go_on.new.graph in
     let forked = c.in_ok-branches.ensures.forked in
-    let placed = placed-later s0 s2 (grows-trans s0 s1 s2 c.in_ok-test.ensures.lowered.keeps.grows forked.grows) c.args.place.local.0 c.requires.placed in
+    let placed = placed-later s0 s2 (grows-trans s0 s1 s2 c.in_ok-test.ensures.lowered.keeps.grows forked.grows) c.args.place.0 c.requires.placed in
     let one = (c.in_ok-lower_into.ensures.lowered placed.cell placed.found).keeps in
     let gone = c.go_on.ensures source one.sound in (
       omega arith,
@@ -371,7 +372,7 @@ lower_if-lower_tail-requires t c =
         parts-ready-in source s0 s4 c.args.e.0 (parts-ready source s0 c.args.e.0 (λ outer. ap (λ n. opened_in c.args.e.0 n outer) c.requires.form) c.requires.ready) (gone.targets ∙ one.spares.targets ∙ forked.spares.targets ∙ c.in_ok-test.ensures.lowered.keeps.spares.targets) (grows-trans s0 s2 s4 (grows-trans s0 s1 s2 c.in_ok-test.ensures.lowered.keeps.grows forked.grows) (grows-trans s2 s3 s4 one.grows gone.grows)) gone.sound gone.«open»,
         (
           else-part source c.args.e.0 c.args.condition.0 c.args.then_branch.0 c.args.else_branch c.requires.form,
-          placed-later s2 s4 (grows-trans s2 s3 s4 one.grows gone.grows) c.args.place.local.0 placed,
+          placed-later s2 s4 (grows-trans s2 s3 s4 one.grows gone.grows) c.args.place.0 placed,
         ),
       ),
     )
@@ -385,10 +386,10 @@ lower_if-go_on-requires-2 t c =
     let s3 = shape c.lower_into.new.graph in
     let s4 = shape c.go_on.new.graph in
     let forked = c.in_ok-branches.ensures.forked in
-    let placed = placed-later s0 s2 (grows-trans s0 s1 s2 c.in_ok-test.ensures.lowered.keeps.grows forked.grows) c.args.place.local.0 c.requires.placed in
+    let placed = placed-later s0 s2 (grows-trans s0 s1 s2 c.in_ok-test.ensures.lowered.keeps.grows forked.grows) c.args.place.0 c.requires.placed in
     let one = (c.in_ok-lower_into.ensures.lowered placed.cell placed.found).keeps in
     let gone = c.go_on.ensures source one.sound in
-    let placed' = placed-later s2 s4 (grows-trans s2 s3 s4 one.grows gone.grows) c.args.place.local.0 placed in
+    let placed' = placed-later s2 s4 (grows-trans s2 s3 s4 one.grows gone.grows) c.args.place.0 placed in
     let two = (c.in_ok-lower_tail.ensures.lowered placed'.cell placed'.found).keeps in
     record { opened = two.«open»; reserved = join-reserved forked one gone two }
 
@@ -409,10 +410,10 @@ lower_if-returns-clause-lowered t c =
     let s6 = shape c.go_on-2.new.graph in
     let test = c.in_ok-test.ensures.lowered in
     let forked = c.in_ok-branches.ensures.forked in
-    let found2 = local_of-grows s0 s2 (grows-trans s0 s1 s2 test.keeps.grows forked.grows) cell c.args.place.local.0 found in
+    let found2 = local_of-grows s0 s2 (grows-trans s0 s1 s2 test.keeps.grows forked.grows) cell c.args.place.0 found in
     let one = c.in_ok-lower_into.ensures.lowered cell found2 in
     let gone = c.go_on.ensures source one.keeps.sound in
-    let found4 = local_of-grows s2 s4 (grows-trans s2 s3 s4 one.keeps.grows gone.grows) cell c.args.place.local.0 found2 in
+    let found4 = local_of-grows s2 s4 (grows-trans s2 s3 s4 one.keeps.grows gone.grows) cell c.args.place.0 found2 in
     let two = c.in_ok-lower_tail.ensures.lowered cell found4 in
     lowers-if source s0 s1 s2 s3 s4 s5 s6 c.args.e.0 c.args.condition.0 c.args.then_branch.0 c.args.else_branch c.in_ok-test.test.kind c.in_ok-branches.branches.other.0 c.in_ok-branches.branches.join.0 cell c.requires.form test one two
     (record { test = test.keeps; forked = forked; one = one.keeps; one_ended = gone; two = two.keeps; two_ended = c.go_on-2.ensures source two.keeps.sound }) c.requires.ready
@@ -474,7 +475,7 @@ lower_logic-lower_into-requires t c =
       omega (arith, below),
       (
         (ready-part source s0 s4 c.args.e.0 c.args.rhs.0 (parts-ready source s0 c.args.e.0 (λ outer. ap (λ n. opened_in c.args.e.0 n outer) c.requires.form) c.requires.ready) is (gone.targets ∙ one.spares.targets ∙ forked.spares.targets ∙ c.in_ok-left.ensures.lowered.keeps.spares.targets) (grows-trans s0 s2 s4 grown (grows-trans s2 s3 s4 one.grows gone.grows)) gone.sound gone.«open»).ready,
-        placed-later s0 s4 (grows-trans s0 s2 s4 grown (grows-trans s2 s3 s4 one.grows gone.grows)) c.args.place.local.0 c.requires.placed,
+        placed-later s0 s4 (grows-trans s0 s2 s4 grown (grows-trans s2 s3 s4 one.grows gone.grows)) c.args.place.0 c.requires.placed,
       ),
     )
 
@@ -496,7 +497,7 @@ lower_logic-go_on-requires-2 t c =
     let one = keeps-decided source s2 s3 c.in_ok-left.left c.args.place (ExprId c.args.e) forked.«open» c.in_ok-assign.ensures.added forked.sound in
     let gone = c.go_on.ensures source one.sound in
     let grown : Grows s0 s2 = grows-trans s0 s1 s2 c.in_ok-left.ensures.lowered.keeps.grows forked.grows in
-    let placed = placed-later s0 s4 (grows-trans s0 s2 s4 grown (grows-trans s2 s3 s4 one.grows gone.grows)) c.args.place.local.0 c.requires.placed in
+    let placed = placed-later s0 s4 (grows-trans s0 s2 s4 grown (grows-trans s2 s3 s4 one.grows gone.grows)) c.args.place.0 c.requires.placed in
     let two = (c.in_ok-lower_into.ensures.lowered placed.cell placed.found).keeps in
     record { opened = two.«open»; reserved = join-reserved forked one gone two }
 
@@ -524,7 +525,7 @@ lower_logic-returns-clause-lowered t c =
     let one = keeps-decided source s2 s3 left c.args.place (ExprId c.args.e) forked.«open» c.in_ok-assign.ensures.added forked.sound in
     let gone = c.go_on.ensures source one.sound in
     let grown : Grows s0 s2 = grows-trans s0 s1 s2 test.keeps.grows forked.grows in
-    let two = c.in_ok-lower_into.ensures.lowered cell (local_of-grows s0 s4 (grows-trans s0 s2 s4 grown (grows-trans s2 s3 s4 one.grows gone.grows)) cell c.args.place.local.0 found) in
+    let two = c.in_ok-lower_into.ensures.lowered cell (local_of-grows s0 s4 (grows-trans s0 s2 s4 grown (grows-trans s2 s3 s4 one.grows gone.grows)) cell c.args.place.0 found) in
     lowers-logic source s0 s1 s2 s3 s4 s5 s6 c.args.e.0 c.args.op c.args.lhs.0 c.args.rhs.0 left c.args.place (ExprId c.args.e) branches.other.0 branches.join.0 cell c.requires.form test c.in_ok-assign.ensures.added two
     (record { test = test.keeps; forked = forked; one = one; one_ended = gone; two = two.keeps; two_ended = c.go_on-2.ensures source two.keeps.sound }) c.requires.ready found
 
@@ -564,7 +565,7 @@ lower_assignment-returns-clause-lowered t c =
     let source = source_of c.args.context.now in
     let place = c.in_ok-place.ensures.lowered in
     on_ok_weaker c.assign_target.result
-    (λ assigning cell. lowers-assign source (shape c.args.graph.now) (shape c.lower_place.new.graph) (shape c.fake_read.new.graph) (shape c.assign_target.new.graph) c.args.e.0 c.args.target.0 c.args.value.0 c.in_ok-place.place.local.0 cell c.requires.ready c.requires.form place
+    (λ assigning cell. lowers-assign source (shape c.args.graph.now) (shape c.lower_place.new.graph) (shape c.fake_read.new.graph) (shape c.assign_target.new.graph) c.args.e.0 c.args.target.0 c.args.value.0 c.in_ok-place.place.0 cell c.requires.ready c.requires.form place
     (idles-read source (shape c.lower_place.new.graph) (shape c.fake_read.new.graph) c.in_ok-place.place (ExprId c.args.value) place.keeps.sound place.keeps.«open» c.in_ok-fake_read.ensures.added) assigning)
     c.assign_target.ensures.lowered
 
@@ -729,7 +730,7 @@ lower_let-returns-clause-lowered t c =
     let source = source_of c.args.context.now in
     let place = c.in_ok-place.ensures.lowered in
     on_ok_weaker c.bind.result
-    (λ binding. lowers-let source (shape c.args.graph.now) (shape c.lower_place.new.graph) (shape c.fake_read.new.graph) (shape c.bind.new.graph) c.args.pat c.args.initializer c.in_ok-place.place.local.0 place
+    (λ binding. lowers-let source (shape c.args.graph.now) (shape c.lower_place.new.graph) (shape c.fake_read.new.graph) (shape c.bind.new.graph) c.args.pat c.args.initializer c.in_ok-place.place.0 place
     (idles-read source (shape c.lower_place.new.graph) (shape c.fake_read.new.graph) c.in_ok-place.place (ExprId c.args.initializer) place.keeps.sound place.keeps.«open» c.in_ok-fake_read.ensures.added) binding)
     c.bind.ensures.lowered
 
@@ -797,7 +798,7 @@ lower_expr_statement-returns-clause-lowered t c =
     let place = c.in_ok-place.ensures.lowered in
     let read = idles-read source s1 s2 c.in_ok-place.place (ExprId c.args.expr) place.keeps.sound place.keeps.«open» c.in_ok-fake_read.ensures.added in
     let left = scope-left s0 s2 c.push_drop_scope-scope.result.0 (marked_as_place source c.args.expr.0) c.push_drop_scope-scope.ensures (read.scope ∙ place.keeps.scope) source s3 c.in_ok-leave_scope.ensures in
-    lowers-expr-statement source s0 s1 s2 s3 c.args.expr c.args.has_semi c.in_ok-place.place.local.0 place read left
+    lowers-expr-statement source s0 s1 s2 s3 c.args.expr c.args.has_semi c.in_ok-place.place.0 place read left
 
 -- a block
 
@@ -810,7 +811,7 @@ lower_block-lower_tail-requires t c =
       omega arith,
       (
         parts-ready-in source s0 s1 c.args.e.0 (parts-ready source s0 c.args.e.0 (λ outer. ap (λ n. opened_in c.args.e.0 n outer) c.requires.form) c.requires.ready) kept.spares.targets kept.grows kept.sound kept.«open»,
-        (tail-part source c.args.e.0 c.args.statements.now c.args.tail c.requires.form, placed-later s0 s1 kept.grows c.args.place.local.0 c.requires.placed),
+        (tail-part source c.args.e.0 c.args.statements.now c.args.tail c.requires.form, placed-later s0 s1 kept.grows c.args.place.0 c.requires.placed),
       ),
     )
 
@@ -820,12 +821,12 @@ lower_block-lower_statements-requires t c =
 
 pub lower_block-leave_scope-requires-clause-sound : goal.lower_block-leave_scope-requires-clause-sound
 lower_block-leave_scope-requires-clause-sound t c =
-    let placed = placed-later (shape c.args.graph.now) (shape c.lower_statements.new.graph) c.in_ok-lower_statements.ensures.lowered.keeps.grows c.args.place.local.0 c.requires.placed in
+    let placed = placed-later (shape c.args.graph.now) (shape c.lower_statements.new.graph) c.in_ok-lower_statements.ensures.lowered.keeps.grows c.args.place.0 c.requires.placed in
     (c.in_ok-lower_tail.ensures.lowered placed.cell placed.found).keeps.sound
 
 pub lower_block-leave_scope-requires-clause-opened : goal.lower_block-leave_scope-requires-clause-opened
 lower_block-leave_scope-requires-clause-opened t c =
-    let placed = placed-later (shape c.args.graph.now) (shape c.lower_statements.new.graph) c.in_ok-lower_statements.ensures.lowered.keeps.grows c.args.place.local.0 c.requires.placed in
+    let placed = placed-later (shape c.args.graph.now) (shape c.lower_statements.new.graph) c.in_ok-lower_statements.ensures.lowered.keeps.grows c.args.place.0 c.requires.placed in
     (c.in_ok-lower_tail.ensures.lowered placed.cell placed.found).keeps.«open»
 
 pub lower_block-leave_scope-requires-clause-within : goal.lower_block-leave_scope-requires-clause-within
@@ -835,7 +836,7 @@ lower_block-leave_scope-requires-clause-within t c =
     let s1 = shape c.lower_statements.new.graph in
     let s2 = shape c.lower_tail.new.graph in
     let first : LowersStatements source s0 s1 c.args.statements.now = subst (λ (list : List Statement). LowersStatements source s0 s1 list) c.as_slice.ensures c.in_ok-lower_statements.ensures.lowered in
-    let placed = placed-later s0 s1 first.keeps.grows c.args.place.local.0 c.requires.placed in
+    let placed = placed-later s0 s1 first.keeps.grows c.args.place.0 c.requires.placed in
     opened-within s0 s2 c.push_drop_scope-scope.result.0 (marked_in_block source c.args.statements.now c.args.tail) c.push_drop_scope-scope.ensures
     (block-inner source s0 s1 s2 c.args.statements.now c.args.tail placed.cell first (c.in_ok-lower_tail.ensures.lowered placed.cell placed.found))
 
@@ -859,7 +860,7 @@ lower_block-returns-clause-lowered t c =
     let s2 = shape c.lower_tail.new.graph in
     let s3 = shape c.leave_scope.new.graph in
     let first : LowersStatements source s0 s1 c.args.statements.now = subst (λ (list : List Statement). LowersStatements source s0 s1 list) c.as_slice.ensures c.in_ok-lower_statements.ensures.lowered in
-    let last = c.in_ok-lower_tail.ensures.lowered cell (local_of-grows s0 s1 first.keeps.grows cell c.args.place.local.0 found) in
+    let last = c.in_ok-lower_tail.ensures.lowered cell (local_of-grows s0 s1 first.keeps.grows cell c.args.place.0 found) in
     let left = scope-left s0 s2 c.push_drop_scope-scope.result.0 (marked_in_block source c.args.statements.now c.args.tail) c.push_drop_scope-scope.ensures (block-inner source s0 s1 s2 c.args.statements.now c.args.tail cell first last) source s3 c.in_ok-leave_scope.ensures in
     lowers-block source s0 s1 s2 s3 c.args.e.0 c.args.statements.now c.args.tail cell c.requires.ready c.requires.form first last left
 
@@ -878,7 +879,7 @@ lower_labelled-lower_statements-requires t c =
     let entered = c.in_ok-blocks.ensures.entered in
     let opened = opened-is blocks c.args.e (Some c.args.label) c.in_ok-blocks.ensures.node c.in_ok-blocks.ensures.label in
     let place-is = c.in_ok-blocks.ensures.place in
-    let placed : IsPlaced s0 blocks.place.local.0 = subst (λ (p : Place). IsPlaced s0 p.local.0) (sym place-is) c.requires.placed in
+    let placed : IsPlaced s0 blocks.place.0 = subst (λ (p : LocalId). IsPlaced s0 p.0) (sym place-is) c.requires.placed in
     let parts = parts-entered source s0 s1 c.args.e.0 (Some c.args.label) (target_of_blocks blocks) c.requires.ready entered opened (λ outer. ap (λ n. opened_in c.args.e.0 n outer) c.requires.form) placed in
     (omega arith, (parts, subst (λ n. HasStatements n c.as_slice.result.now) (sym c.requires.form) (sym c.as_slice.ensures)))
 
@@ -891,14 +892,14 @@ lower_labelled-lower_tail-requires t c =
     let entered = c.in_ok-blocks.ensures.entered in
     let opened = opened-is blocks c.args.e (Some c.args.label) c.in_ok-blocks.ensures.node c.in_ok-blocks.ensures.label in
     let place-is = c.in_ok-blocks.ensures.place in
-    let placed : IsPlaced s0 blocks.place.local.0 = subst (λ (p : Place). IsPlaced s0 p.local.0) (sym place-is) c.requires.placed in
+    let placed : IsPlaced s0 blocks.place.0 = subst (λ (p : LocalId). IsPlaced s0 p.0) (sym place-is) c.requires.placed in
     let parts = parts-entered source s0 s1 c.args.e.0 (Some c.args.label) (target_of_blocks blocks) c.requires.ready entered opened (λ outer. ap (λ n. opened_in c.args.e.0 n outer) c.requires.form) placed in
     let s2 = shape c.lower_statements.new.graph in
     let kept = c.in_ok-lower_statements.ensures.lowered.keeps in (
       omega arith,
       (
         parts-ready-in source s1 s2 c.args.e.0 parts kept.spares.targets kept.grows kept.sound kept.«open»,
-        (labelled-tail-part source c.args.e.0 c.args.label c.args.statements.now c.args.tail c.requires.form, placed-later s0 s2 (grows-trans s0 s1 s2 entered.grows kept.grows) c.args.place.local.0 c.requires.placed),
+        (labelled-tail-part source c.args.e.0 c.args.label c.args.statements.now c.args.tail c.requires.form, placed-later s0 s2 (grows-trans s0 s1 s2 entered.grows kept.grows) c.args.place.0 c.requires.placed),
       ),
     )
 
@@ -911,7 +912,7 @@ lower_labelled-leave_scope-requires-clause-sound t c =
     let s2 = shape c.lower_statements.new.graph in
     let s3 = shape c.lower_tail.new.graph in
     let first : LowersStatements source s1 s2 c.args.statements.now = subst (λ (list : List Statement). LowersStatements source s1 s2 list) c.as_slice.ensures c.in_ok-lower_statements.ensures.lowered in
-    let here-placed = placed-later s0 s2 (grows-trans s0 s1 s2 entered.grows first.keeps.grows) c.args.place.local.0 c.requires.placed in
+    let here-placed = placed-later s0 s2 (grows-trans s0 s1 s2 entered.grows first.keeps.grows) c.args.place.0 c.requires.placed in
     let last = c.in_ok-lower_tail.ensures.lowered here-placed.cell here-placed.found in
     last.keeps.sound
 
@@ -924,7 +925,7 @@ lower_labelled-leave_scope-requires-clause-opened t c =
     let s2 = shape c.lower_statements.new.graph in
     let s3 = shape c.lower_tail.new.graph in
     let first : LowersStatements source s1 s2 c.args.statements.now = subst (λ (list : List Statement). LowersStatements source s1 s2 list) c.as_slice.ensures c.in_ok-lower_statements.ensures.lowered in
-    let here-placed = placed-later s0 s2 (grows-trans s0 s1 s2 entered.grows first.keeps.grows) c.args.place.local.0 c.requires.placed in
+    let here-placed = placed-later s0 s2 (grows-trans s0 s1 s2 entered.grows first.keeps.grows) c.args.place.0 c.requires.placed in
     let last = c.in_ok-lower_tail.ensures.lowered here-placed.cell here-placed.found in
     last.keeps.«open»
 
@@ -937,7 +938,7 @@ lower_labelled-leave_scope-requires-clause-within t c =
     let s2 = shape c.lower_statements.new.graph in
     let s3 = shape c.lower_tail.new.graph in
     let first : LowersStatements source s1 s2 c.args.statements.now = subst (λ (list : List Statement). LowersStatements source s1 s2 list) c.as_slice.ensures c.in_ok-lower_statements.ensures.lowered in
-    let here-placed = placed-later s0 s2 (grows-trans s0 s1 s2 entered.grows first.keeps.grows) c.args.place.local.0 c.requires.placed in
+    let here-placed = placed-later s0 s2 (grows-trans s0 s1 s2 entered.grows first.keeps.grows) c.args.place.0 c.requires.placed in
     let last = c.in_ok-lower_tail.ensures.lowered here-placed.cell here-placed.found in
     opened-within s1 s3 c.push_drop_scope-scope.result.0 (marked_in_block source c.args.statements.now c.args.tail) c.push_drop_scope-scope.ensures
     (block-inner source s1 s2 s3 c.args.statements.now c.args.tail here-placed.cell first last)
@@ -955,7 +956,7 @@ lower_labelled-leave_loop-requires t c =
     let s2 = shape c.lower_statements.new.graph in
     let s3 = shape c.lower_tail.new.graph in
     let first : LowersStatements source s1 s2 c.args.statements.now = subst (λ (list : List Statement). LowersStatements source s1 s2 list) c.as_slice.ensures c.in_ok-lower_statements.ensures.lowered in
-    let here-placed = placed-later s0 s2 (grows-trans s0 s1 s2 entered.grows first.keeps.grows) c.args.place.local.0 c.requires.placed in
+    let here-placed = placed-later s0 s2 (grows-trans s0 s1 s2 entered.grows first.keeps.grows) c.args.place.0 c.requires.placed in
     let last = c.in_ok-lower_tail.ensures.lowered here-placed.cell here-placed.found in
     let s4 = shape c.leave_scope.new.graph in
     let left = scope-left s1 s3 c.push_drop_scope-scope.result.0 (marked_in_block source c.args.statements.now c.args.tail) c.push_drop_scope-scope.ensures (block-inner source s1 s2 s3 c.args.statements.now c.args.tail here-placed.cell first last) source s4 c.in_ok-leave_scope.ensures in
@@ -981,7 +982,7 @@ lower_labelled-returns-clause-lowered t c =
     let entered = c.in_ok-blocks.ensures.entered in
     let opened = opened-is blocks c.args.e (Some c.args.label) c.in_ok-blocks.ensures.node c.in_ok-blocks.ensures.label in
     let place-is = c.in_ok-blocks.ensures.place in
-    let placed : IsPlaced s0 blocks.place.local.0 = subst (λ (p : Place). IsPlaced s0 p.local.0) (sym place-is) c.requires.placed in
+    let placed : IsPlaced s0 blocks.place.0 = subst (λ (p : LocalId). IsPlaced s0 p.0) (sym place-is) c.requires.placed in
     let parts = parts-entered source s0 s1 c.args.e.0 (Some c.args.label) (target_of_blocks blocks) c.requires.ready entered opened (λ outer. ap (λ n. opened_in c.args.e.0 n outer) c.requires.form) placed in
     let s2 = shape c.lower_statements.new.graph in
     let s3 = shape c.lower_tail.new.graph in
@@ -989,10 +990,10 @@ lower_labelled-returns-clause-lowered t c =
     let s5 = shape c.leave_loop.new.graph in
     let target = target_of_blocks blocks in
     let first : LowersStatements source s1 s2 c.args.statements.now = subst (λ (list : List Statement). LowersStatements source s1 s2 list) c.as_slice.ensures c.in_ok-lower_statements.ensures.lowered in
-    let last = c.in_ok-lower_tail.ensures.lowered cell (local_of-grows s0 s2 (grows-trans s0 s1 s2 entered.grows first.keeps.grows) cell c.args.place.local.0 found) in
+    let last = c.in_ok-lower_tail.ensures.lowered cell (local_of-grows s0 s2 (grows-trans s0 s1 s2 entered.grows first.keeps.grows) cell c.args.place.0 found) in
     let left = scope-left s1 s3 c.push_drop_scope-scope.result.0 (marked_in_block source c.args.statements.now c.args.tail) c.push_drop_scope-scope.ensures (block-inner source s1 s2 s3 c.args.statements.now c.args.tail cell first last) source s4 c.in_ok-leave_scope.ensures in
     let targets = left.spares.targets ∙ last.keeps.spares.targets ∙ first.keeps.spares.targets ∙ entered.targets in
-    lowers-labelled source s0 s1 s2 s3 s4 s5 c.args.e.0 c.args.label c.args.statements.now c.args.tail target cell c.requires.form c.requires.ready entered opened (found ∙ ap (λ (p : Place). Some p.local.0) (sym place-is)) first last left
+    lowers-labelled source s0 s1 s2 s3 s4 s5 c.args.e.0 c.args.label c.args.statements.now c.args.tail target cell c.requires.form c.requires.ready entered opened (found ∙ ap (λ (p : LocalId). Some p.0) (sym place-is)) first last left
     (c.leave_loop.ensures source target s0.targets left.sound targets)
 
 -- a loop
@@ -1010,7 +1011,7 @@ lower_loop-lower_place-requires t c =
     let entered = c.in_ok-blocks.ensures.entered in
     let opened = opened-is blocks c.args.e c.args.label c.in_ok-blocks.ensures.node c.in_ok-blocks.ensures.label in
     let place-is = c.in_ok-blocks.ensures.place in
-    let placed : IsPlaced s0 blocks.place.local.0 = subst (λ (p : Place). IsPlaced s0 p.local.0) (sym place-is) c.requires.placed in
+    let placed : IsPlaced s0 blocks.place.0 = subst (λ (p : LocalId). IsPlaced s0 p.0) (sym place-is) c.requires.placed in
     let parts = parts-entered source s0 s1 c.args.e.0 c.args.label (target_of_blocks blocks) c.requires.ready entered opened (λ outer. ap (λ n. opened_in c.args.e.0 n outer) c.requires.form) placed in
     let is = body-part source c.args.e.0 c.args.label c.args.body.0 c.requires.form in
     let below = part-below source c.args.e.0 c.args.body.0 c.requires.ready.checked is in
@@ -1057,7 +1058,7 @@ lower_loop-returns-clause-lowered t c =
     let entered = c.in_ok-blocks.ensures.entered in
     let opened = opened-is blocks c.args.e c.args.label c.in_ok-blocks.ensures.node c.in_ok-blocks.ensures.label in
     let place-is = c.in_ok-blocks.ensures.place in
-    let placed : IsPlaced s0 blocks.place.local.0 = subst (λ (p : Place). IsPlaced s0 p.local.0) (sym place-is) c.requires.placed in
+    let placed : IsPlaced s0 blocks.place.0 = subst (λ (p : LocalId). IsPlaced s0 p.0) (sym place-is) c.requires.placed in
     let parts = parts-entered source s0 s1 c.args.e.0 c.args.label (target_of_blocks blocks) c.requires.ready entered opened (λ outer. ap (λ n. opened_in c.args.e.0 n outer) c.requires.form) placed in
     let s2 = shape c.lower_place.new.graph in
     let s3 = shape c.leave_scope.new.graph in
@@ -1065,7 +1066,7 @@ lower_loop-returns-clause-lowered t c =
     let left = scope-left s1 s2 c.push_drop_scope-scope.result.0 (marked_as_place source c.args.body.0) c.push_drop_scope-scope.ensures place.keeps.scope source s3 c.in_ok-leave_scope.ensures in
     let s4 = shape c.leave_loop.new.graph in
     let target = target_of_blocks blocks in
-    lowers-loop source s0 s1 s2 s3 s4 c.args.e.0 c.args.label c.args.body.0 c.in_ok-lower_place.field-0.local.0 target cell c.requires.form c.requires.ready entered opened (found ∙ ap (λ (p : Place). Some p.local.0) (sym place-is)) place left
+    lowers-loop source s0 s1 s2 s3 s4 c.args.e.0 c.args.label c.args.body.0 c.in_ok-lower_place.field-0.0 target cell c.requires.form c.requires.ready entered opened (found ∙ ap (λ (p : LocalId). Some p.0) (sym place-is)) place left
     (c.leave_loop.ensures source target s0.targets left.sound (left.spares.targets ∙ place.keeps.spares.targets ∙ entered.targets))
 
 -- a `break`
@@ -1199,7 +1200,7 @@ lower_call-returns-clause-lowered t c =
     let given : LowersOperands source s0 s1 es (map (λ (operand : Operand). operand.kind) c.in_ok-operands.operands) = c.in_ok-operands.ensures.lowered in
     let next = c.in_ok-call.ensures in
     lowers-call source s0 s1 (shape c.call.new.graph) c.args.e (callee_number c.args.callee) es c.in_ok-func.func c.in_ok-operands.operands c.args.place next.0 c.requires.ready c.requires.form given c.in_ok-func.ensures.callee c.in_ok-func.ensures.built next.1
-    (has-called source s1 (shape c.call.new.graph) c.args.e c.in_ok-func.func c.in_ok-operands.operands c.args.place _ given.keeps.sound given.keeps.«open» next.2) cell found
+    (has-called source s1 (shape c.call.new.graph) c.args.e c.in_ok-func.func c.in_ok-operands.operands (whole_place c.args.place) _ given.keeps.sound given.keeps.«open» next.2) cell found
 
 pub lower_call-returns-clause-built : goal.lower_call-returns-clause-built
 lower_call-returns-clause-built t c =
