@@ -1,9 +1,10 @@
 -- Where a body leads that is called: to its first block, in a frame of the same program, or to a fault. It asks for nothing.
 use Rattle.std.proofs.Common.{◌≡◌, ℕ, suc, Bool, true, false, List, Option, Some, None, refl}
-use Rattle.std.specs.Prelude.{slice_get, Result, Ok, Err, nat_le}
+use Rattle.std.specs.Prelude.{Result, Ok, Err, nat_le}
 use Rattle.types.specs.declared.ids.FunctionId.{FunctionId}
 use Rattle.mir.specs.declared.address.Interval.{Interval}
 use Rattle.mir.specs.Memory.{Memory}
+use Rattle.mir.specs.Places.{place_cell}
 use Rattle.mir.specs.Run.{Frame, Calling, Next, Stops, GoesTo, Asks, levels_over, called_cells, filled, entered, called}
 use Rattle.mir.specs.declared.body.MirBody.{MirBody}
 use Rattle.mir.specs.declared.errors.MirEvalError.{MirEvalError}
@@ -40,7 +41,7 @@ module _ (frame : Frame) where
     enters_body : (destination : Option Interval) → Enters frame (entered frame memory call id body destination)
     enters_body destination = enters_placed destination (called_cells frame.program.world body.locals destination memory) refl
 
-    enters_returning : (cell : Option Interval) (block : ℕ) → call.target ≡ Some block → slice_get frame.cells call.destination.local.0 ≡ cell
+    enters_returning : (cell : Option Interval) (block : ℕ) → call.target ≡ Some block → place_cell frame.program.world frame.body frame.cells call.destination ≡ cell
         → Enters frame (called frame memory call id body)
     unfolding called
     enters_returning (Some cell) block is cell_is = rw (is, cell_is, called) (enters_body (Some cell))
@@ -53,7 +54,7 @@ module _ (frame : Frame) where
     enters_nested false is fits_is = rw (is, fits_is, called) tt
 
     enters_by : (target : Option ℕ) → call.target ≡ target → Enters frame (called frame memory call id body)
-    enters_by (Some block) is = enters_returning (slice_get frame.cells call.destination.local.0) block is refl
+    enters_by (Some block) is = enters_returning (place_cell frame.program.world frame.body frame.cells call.destination) block is refl
     enters_by None is = enters_nested (nat_le (suc (levels_over frame.below)) frame.program.nesting) is refl
 
     pub enters_called : Enters frame (called frame memory call id body)

@@ -4,6 +4,7 @@ use Rattle.std.specs.Prelude.{slice_get, Result, Ok, Err}
 use Rattle.numbers.specs.Constants.{number_in}
 use Rattle.mir.specs.declared.address.Interval.{Interval}
 use Rattle.mir.specs.Memory.{Memory}
+use Rattle.mir.specs.Places.{place_cell}
 use Rattle.mir.specs.Run.{Frame, read, repeats, aggregated, operand_bytes, operands_bytes, rvalue_bytes, copied, after_statement, after_statements, filled}
 use Rattle.mir.specs.declared.answers.Answer.{Answer}
 use Rattle.mir.specs.declared.answers.Query.{Query}
@@ -47,7 +48,7 @@ module _ (later : List (Query × Answer)) (frame : Frame) where
 
   same_statement : (memory : Memory) (kind : StatementKind) → after_statement (telling later frame) memory kind ≡ after_statement frame memory kind
   unfolding after_statement
-  same_statement memory (Assign place rvalue) = ap (copied memory (slice_get frame.cells place.local.0)) (same_rvalue memory rvalue)
+  same_statement memory (Assign place rvalue) = ap (copied memory (place_cell frame.program.world frame.body frame.cells place)) (same_rvalue memory rvalue)
   same_statement memory (FakeRead place) = refl
   same_statement memory (StorageLive local) = refl
   same_statement memory (StorageDead local) = refl

@@ -1,11 +1,12 @@
 -- Where a block leads in a run that was told more: to the same place, or, where it led to a query, to where its call leads now.
 use Rattle.std.proofs.Common.{◌≡◌, ℕ, suc, Bool, true, false, List, [], ◌∷◌, Option, Some, None, drop, refl}
-use Rattle.std.specs.Prelude.{slice_get, Result, Ok, Err, length, option_and_then, nat_le}
+use Rattle.std.specs.Prelude.{Result, Ok, Err, length, option_and_then, nat_le}
 use Rattle.types.specs.declared.ids.FunctionId.{FunctionId}
 use Rattle.types.specs.declared.ty.GenericArgs.{GenericArgs}
 use Rattle.mir.specs.Answers.{answer_to}
 use Rattle.mir.specs.declared.address.Interval.{Interval}
 use Rattle.mir.specs.Memory.{Memory}
+use Rattle.mir.specs.Places.{place_cell}
 use Rattle.mir.specs.Run.{Frame, Waiting, Calling, Next, Stops, GoesTo, Asks, operand_bytes, operand_type, function_in, body_query, calling, levels_over, resumed, after_return, after_statements, called_cells, filled, entered, called, called_by, calls, switched, terminated, next_from}
 use Rattle.mir.specs.declared.answers.Answer.{Answer}
 use Rattle.mir.specs.declared.answers.Answer.TheVariants as answer
@@ -46,7 +47,7 @@ module _ (later : List (Query × Answer)) (frame : Frame) where
     retold_entered : (destination : Option Interval) → entered (telling later frame) memory call id body destination ≡ retold later (entered frame memory call id body destination)
     retold_entered destination = retold_placed destination (called_cells frame.program.world body.locals destination memory) refl
 
-    retold_returning : (cell : Option Interval) (block : ℕ) → call.target ≡ Some block → slice_get frame.cells call.destination.local.0 ≡ cell
+    retold_returning : (cell : Option Interval) (block : ℕ) → call.target ≡ Some block → place_cell frame.program.world frame.body frame.cells call.destination ≡ cell
         → called (telling later frame) memory call id body ≡ retold later (called frame memory call id body)
     unfolding called
     retold_returning (Some cell) block is cell_is = rw (is, cell_is, called) (retold_entered (Some cell))
@@ -59,7 +60,7 @@ module _ (later : List (Query × Answer)) (frame : Frame) where
     retold_nested false is fits_is = rw (is, fits_is, called)
 
     retold_called : (target : Option ℕ) → call.target ≡ target → called (telling later frame) memory call id body ≡ retold later (called frame memory call id body)
-    retold_called (Some block) is = retold_returning (slice_get frame.cells call.destination.local.0) block is refl
+    retold_called (Some block) is = retold_returning (place_cell frame.program.world frame.body frame.cells call.destination) block is refl
     retold_called None is = retold_nested (nat_le (suc (levels_over frame.below)) frame.program.nesting) is refl
 
   -- a call of a function, by the answer to the query for its body before the run was told more

@@ -377,6 +377,7 @@ impl Graph {
             ..
         } = self;
         MirBody {
+            projection_store,
             basic_blocks: List::from_vec(blocks),
             locals,
             start_block: BasicBlockId(0),

@@ -14,6 +14,7 @@ use Rattle.mir.specs.declared.statement.Statement.{Statement}
 use Rattle.mir.specs.declared.statement.StatementKind.{StatementKind}
 use Rattle.mir.specs.declared.statement.StatementKind.TheVariants.{Assign, FakeRead, StorageLive, StorageDead}
 use Rattle.mir.specs.Run.{constant_bytes, operand_type}
+use Rattle.mir.specs.WholePlaces.{whole_place}
 use Rattle.mir_rows.specs.declared.row.Action.{Action}
 use Rattle.mir_rows.specs.declared.row.Action.TheVariants as action
 use Rattle.mir_rows.specs.declared.row.BlockRows.{BlockRows}
@@ -42,7 +43,7 @@ constant_in (operand.Constant konst ty) = constant_bytes konst
 
 -- a source is what an operand says
 abbrev pub IsSource : Source → OperandKind → Type 0
-IsSource (source.Local local) kind = kind ≡ operand.Copy (record { local = local })
+IsSource (source.Local local) kind = kind ≡ operand.Copy (whole_place local)
 IsSource (source.Constant short) kind = constant_in kind ≡ Some (short_bytes short)
 
 -- two sources are what two operands say, and the bytes of both are of a kind
@@ -54,9 +55,9 @@ pub record AreOperands (body : MirBody) (kind : Kind) (first second : Source) (o
 
 -- an action is what a statement of a body does
 abbrev pub Says : MirBody → Action → StatementKind → Type 0
-Says body (action.Combine op kind to left right) (Assign place (CheckedBinaryOp operator one other)) = (place.local ≡ to) × (operator ≡ op) × AreOperands body kind left right one.kind other.kind
-Says body (action.Copy to from) (Assign place (Use operand)) = (place.local ≡ to) × IsSource (source.Local from) operand.kind
-Says body (action.Put to value) (Assign place (Use operand)) = (place.local ≡ to) × IsSource (source.Constant value) operand.kind
+Says body (action.Combine op kind to left right) (Assign place (CheckedBinaryOp operator one other)) = (place ≡ whole_place to) × (operator ≡ op) × AreOperands body kind left right one.kind other.kind
+Says body (action.Copy to from) (Assign place (Use operand)) = (place ≡ whole_place to) × IsSource (source.Local from) operand.kind
+Says body (action.Put to value) (Assign place (Use operand)) = (place ≡ whole_place to) × IsSource (source.Constant value) operand.kind
 Says body action.Other statement = Unit {0}
 Says body _ _ = ⊥
 

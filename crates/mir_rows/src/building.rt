@@ -4,13 +4,14 @@ ghost use Rattle.std.specs.Prelude.{◌≡◌, IfOk, IfSome};
 ghost use Rattle.mir.specs.declared.operand.Rvalue.TheVariants.{CheckedBinaryOp, Use};
 ghost use Rattle.mir.specs.declared.statement.StatementKind.TheVariants.{Assign};
 ghost use Rattle.mir.specs.declared.body.TerminatorKind.TheVariants.{SwitchInt};
+ghost use Rattle.mir.specs.WholePlaces.{whole_place};
 ghost use Rattle.mir_rows.specs.Rows.{is_idle, short_bytes, AreBlocks, AreRows, IsBlock, IsSource, IsWay, Leads, Says};
 
 use crate::operands::{constant_bytes, operand_kind};
 use crate::row::{Action, BlockRows, Row, Short, Source, Way};
 use mir::{
-    BasicBlock, BinOp, MirBody, Operand, OperandKind, Place, Rvalue, Statement, StatementKind,
-    SwitchTargets, Terminator, TerminatorKind,
+    BasicBlock, BinOp, LocalId, MirBody, Operand, OperandKind, Place, Rvalue, Statement,
+    StatementKind, SwitchTargets, Terminator, TerminatorKind,
 };
 use std::alloc::Global;
 use world::NoMemory;
@@ -28,28 +29,40 @@ fn short(bytes: &[u8]) -> Option<Short>
     Some(Short { room, count })
 }
 
-/// What an operator reads of an operand, where that is a local, or a constant of at most 16 bytes.
+/// The local that a place is, where it is a whole one.
+fn whole(place: Place) -> Option<LocalId>
+    ensures { IfSome result (λ local. place ≡ whole_place local) }
+{
+    if place.projection.is_empty() {
+        Some(place.local)
+    } else {
+        None
+    }
+}
+
+/// What an operator reads of an operand, where that is a whole local, or a constant of at most 16 bytes.
 fn source(operand: &OperandKind) -> Option<Source>
     ensures { IfSome result (λ source. IsSource source operand.now) }
 {
     match operand {
-        OperandKind::Copy(place) => Some(Source::Local(place.local)),
+        OperandKind::Copy(place) => Some(Source::Local(whole(*place)?)),
         OperandKind::Constant { konst, .. } => {
             Some(Source::Constant(short(constant_bytes(konst)?)?))
         }
     }
 }
 
-/// The assignment of what an operator makes of two operands, where these are of one kind and have sources.
+/// The assignment to a whole local of what an operator makes of two operands, where these are of one kind and have sources.
 fn combine(body: &MirBody, to: Place, op: BinOp, left: &Operand, right: &Operand) -> Option<Action>
     ensures { IfSome result (λ action. Says body.now action (Assign to (CheckedBinaryOp op left.now right.now))) }
 {
+    let to = whole(to)?;
     let kind = operand_kind(body, &left.kind)?;
     if operand_kind(body, &right.kind)? == kind {
         Some(Action::Combine {
             op,
             kind,
-            to: to.local,
+            to,
             left: source(&left.kind)?,
             right: source(&right.kind)?,
         })
@@ -58,16 +71,14 @@ fn combine(body: &MirBody, to: Place, op: BinOp, left: &Operand, right: &Operand
     }
 }
 
-/// The assignment of an operand, where that has a source.
+/// The assignment of an operand to a whole local, where the operand has a source.
 fn put(body: &MirBody, to: Place, operand: &Operand) -> Option<Action>
     ensures { IfSome result (λ action. Says body.now action (Assign to (Use operand.now))) }
 {
+    let to = whole(to)?;
     match source(&operand.kind)? {
-        Source::Local(from) => Some(Action::Copy { to: to.local, from }),
-        Source::Constant(value) => Some(Action::Put {
-            to: to.local,
-            value,
-        }),
+        Source::Local(from) => Some(Action::Copy { to, from }),
+        Source::Constant(value) => Some(Action::Put { to, value }),
     }
 }
 

@@ -18,13 +18,11 @@ pub struct Code {
 impl Model for Code {
     ghost use Rattle.mir.specs.declared.body.MirBody.{MirBody};
     ghost use Rattle.mir_rows.specs.Rows.{AreBlocks};
-    ghost use Rattle.std.specs.Coded.{codes};
-    ghost use Rattle.types.specs.contracts.ty.Const as konst;
-    ghost use Rattle.types.specs.contracts.ty.Ty as ty;
+    ghost use Rattle.mir.specs.contracts.body.MirBody as lowered;
 
     ghost Value = { MirBody };
 
-    ghost coded = { Prim.hlevel (codes, konst.the_row.coded, ty.the_row.coded) };
+    ghost coded = { lowered.the_row.coded };
 
     ghost view = { λ code. code.body.value };
 

@@ -5,8 +5,10 @@
 mod building;
 mod code;
 mod operands;
+mod places;
 mod row;
 
 pub use code::Code;
 pub use operands::{constant_bytes, operand_kind};
+pub use places::{place_cell, place_type};
 pub use row::{Action, BlockRows, Row, Short, Source, Way};

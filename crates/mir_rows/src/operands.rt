@@ -5,6 +5,7 @@ ghost use Rattle.std.specs.Option.{option_copied};
 ghost use Rattle.numbers.specs.Operators.{kind_of};
 ghost use Rattle.mir.specs.Run.{constant_bytes, operand_type};
 
+use crate::places::place_type;
 use mir::{MirBody, OperandKind};
 use numbers::Kind;
 use world::Const;
@@ -26,8 +27,8 @@ pub fn operand_kind(body: &MirBody, kind: &OperandKind) -> Option<Kind>
     ensures { result ≡ option_and_then kind_of (operand_type body.now kind.now) }
 {
     match kind {
-        OperandKind::Copy(place) => match body.locals.get(place.local.0 as u64) {
-            Some(local) => Kind::of(&local.ty),
+        OperandKind::Copy(place) => match place_type(body, *place) {
+            Some(ty) => Kind::of(ty),
             None => None,
         },
         OperandKind::Constant { ty, .. } => Kind::of(ty),

@@ -23,7 +23,7 @@ impl Short {
     }
 }
 
-/// What an operator reads: a local, or a constant.
+/// What an operator reads: a whole local, or a constant.
 #[derive(Clone, Copy, PartialEq, Eq, Debug)]
 pub enum Source {
     Local(LocalId),

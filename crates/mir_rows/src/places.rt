@@ -1,0 +1,205 @@
+//! Where the values of places lie, and of which types they are.
+
+ghost use Rattle.std.specs.Prelude.{◌≡◌, ℕ, ◌*◌, ◌^◌, ◌≤◌, IfSome, Some, option_and_then, option_map, slice_get};
+ghost use Rattle.std.specs.Option.{option_copied};
+ghost use Rattle.mir.specs.Places.{cell_at, cell_behind, elem_offset, elem_type, local_type, offset_behind, part_of_cell, place_cell, place_type, type_at, type_behind};
+ghost use Rattle.mir.specs.Projections.{projection_of};
+ghost use Rattle.world.specs.Lookups.{layout_of};
+ghost use Rattle.mir_rows.specs.Places.{HasEnd, HaveEnds};
+
+use either::Either;
+use mir::{Interner, Interval, LocalId, MirBody, Place, PlaceElem, ProjectionElem};
+use world::{HirDatabase, Ty};
+
+/// The type of a local.
+#[inline(always)]
+fn local_type(body: &MirBody, local: LocalId) -> Option<&Ty>
+    ensures { option_copied result ≡ local_type body.now local }
+{
+    match body.locals.get(local.0 as u64) {
+        Some(local) => Some(&local.ty),
+        None => None,
+    }
+}
+
+/// The type that an element leads to from a value of a type.
+fn elem_type<'a>(elem: &PlaceElem, ty: &'a Ty) -> Option<&'a Ty>
+    ensures { option_copied result ≡ elem_type elem.now ty.now }
+{
+    match elem {
+        ProjectionElem::Field(Either::Right(field)) => match ty {
+            Ty::Tuple(parts) => parts.get(field.index as u64),
+            _ => None,
+        },
+        _ => None,
+    }
+}
+
+/// How far behind the first byte of a value of a type what an element leads to begins.
+fn elem_offset(db: &HirDatabase, elem: &PlaceElem, ty: &Ty) -> Option<u64>
+    ensures { result ≡ elem_offset db.now elem.now ty.now }
+{
+    match elem {
+        ProjectionElem::Field(Either::Right(field)) => match db.layout_of(ty) {
+            Some(layout) => layout.offsets.get(field.index as u64).copied(),
+            None => None,
+        },
+        _ => None,
+    }
+}
+
+/// The type of what elements lead to, one after another.
+fn type_behind<'a>(elements: &[PlaceElem], ty: Option<&'a Ty>) -> Option<&'a Ty>
+    ensures { option_copied result ≡ type_behind elements.now (option_copied ty.entry) }
+{
+    let mut seen = ty;
+    for elem in elements {
+        seen = match seen {
+            Some(ty) => elem_type(elem, ty),
+            None => None,
+        };
+    }
+    seen
+}
+
+/// How far behind the first byte of a value of a type what elements lead to begins.
+fn offset_behind(db: &HirDatabase, elements: &[PlaceElem], ty: Option<&Ty>) -> Option<u128>
+    ensures { result ≡ offset_behind db.now elements.now (option_copied ty.entry) }
+{
+    let mut seen = ty;
+    let mut offset: u128 = 0;
+    for elem in elements {
+        let Some(ty) = seen else {
+            return None;
+        };
+        let Some(more) = elem_offset(db, elem, ty) else {
+            return None;
+        };
+        offset += more as u128;
+        seen = elem_type(elem, ty);
+    }
+    Some(offset)
+}
+
+/// So many bytes of a cell from an offset on, where the cell has as many.
+fn part_of_cell(cell: Interval, offset: u128, size: u64) -> Option<Interval>
+    requires { HasEnd cell }
+    ensures { result ≡ part_of_cell cell offset size }
+{
+    if offset > cell.size as u128 {
+        return None;
+    }
+    if offset + size as u128 > cell.size as u128 {
+        return None;
+    }
+    match cell.addr.offset(offset as u64) {
+        Some(addr) => Some(Interval { addr, size }),
+        None => None,
+    }
+}
+
+/// Where the value lies that elements lead to, in the cell of a value of a type.
+fn cell_behind(
+    db: &HirDatabase,
+    elements: &[PlaceElem],
+    ty: Option<&Ty>,
+    cell: Interval,
+) -> Option<Interval>
+    requires { HasEnd cell }
+    ensures { result ≡ cell_behind db.now elements.now (option_copied ty.entry) cell }
+{
+    if elements.is_empty() {
+        return Some(cell);
+    }
+    let Some(offset) = offset_behind(db, elements, ty) else {
+        return None;
+    };
+    let Some(seen) = type_behind(elements, ty) else {
+        return None;
+    };
+    match db.layout_of(seen) {
+        Some(layout) => part_of_cell(cell, offset, layout.size),
+        None => None,
+    }
+}
+
+/// The elements of a projection, where its id stands for one.
+fn elements(body: &MirBody, place: Place) -> Option<&[PlaceElem]>
+    ensures { option_copied result ≡ projection_of body.now.projection_store.projections place.projection }
+{
+    if body.projection_store.has(place.projection) {
+        Some(place.projection.lookup(&body.projection_store))
+    } else {
+        None
+    }
+}
+
+/// The cell of a local.
+#[inline(always)]
+fn cell_of(cells: &[Interval], local: LocalId) -> Option<Interval>
+    ensures { result ≡ slice_get cells.now local.0 }
+{
+    match cells.get(local.0 as usize) {
+        Some(cell) => Some(*cell),
+        None => None,
+    }
+}
+
+/// Where a place's value lies whose projection is looked up.
+#[inline(never)]
+fn cell_at(db: &HirDatabase, body: &MirBody, cells: &[Interval], place: Place) -> Option<Interval>
+    requires { HaveEnds cells.now }
+    ensures { result ≡ cell_at db.now body.now cells.now place (projection_of body.now.projection_store.projections place.projection) }
+{
+    let Some(elements) = elements(body, place) else {
+        return None;
+    };
+    match cell_of(cells, place.local) {
+        Some(cell) => cell_behind(db, elements, local_type(body, place.local), cell),
+        None => None,
+    }
+}
+
+/// Where a place's value lies.
+#[inline(always)]
+#[tactic(auto, unfolding(mir::specs::Places::place_cell))]
+pub fn place_cell(
+    db: &HirDatabase,
+    body: &MirBody,
+    cells: &[Interval],
+    place: Place,
+) -> Option<Interval>
+    requires { HaveEnds cells.now }
+    ensures cell { result ≡ place_cell db.now body.now cells.now place }
+    ensures ends { IfSome result HasEnd }
+{
+    if place.projection.0 == 0 {
+        cell_of(cells, place.local)
+    } else {
+        cell_at(db, body, cells, place)
+    }
+}
+
+/// The type of a place's value whose projection is looked up.
+#[inline(never)]
+fn type_at(body: &MirBody, place: Place) -> Option<&Ty>
+    ensures { option_copied result ≡ type_at body.now place (projection_of body.now.projection_store.projections place.projection) }
+{
+    let Some(elements) = elements(body, place) else {
+        return None;
+    };
+    type_behind(elements, local_type(body, place.local))
+}
+
+/// The type of a place's value.
+#[inline(always)]
+#[tactic(auto, unfolding(mir::specs::Places::place_type, mir::specs::Places::type_behind))]
+pub fn place_type(body: &MirBody, place: Place) -> Option<&Ty>
+    ensures { option_copied result ≡ place_type body.now place }
+{
+    if place.projection.0 == 0 {
+        local_type(body, place.local)
+    } else {
+        type_at(body, place)
+    }
+}
