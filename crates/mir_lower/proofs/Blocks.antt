@@ -18,7 +18,6 @@ use Rattle.mir.specs.declared.span.MirSpan.{MirSpan}
 use Rattle.mir.specs.declared.statement.Statement.{Statement as MirStatement}
 use Rattle.mir.specs.declared.statement.StatementKind.TheVariants.{FakeRead}
 use Rattle.mir.specs.Memory.{Memory}
-use Rattle.mir.specs.WholePlaces.{whole_place}
 use Rattle.mir.specs.Run.{Frame, after_statement}
 use Rattle.source_meaning.specs.Around.{Around, marking}
 use Rattle.source_meaning.specs.Ends.{no_cost, End, Go, then_do}
@@ -58,7 +57,7 @@ read-does-nothing frame memory place = refl
 
 pub idles-read : (source : Source) (s new : Shape) (place : GraphPlace) (span : MirSpan) → IsSound source s → IsOpen s → new ≡ with_statement (record { kind = FakeRead place; span = span }) s → Idles source s new 0
 idles-read source s new place span sound opened same =
-    let st : MirStatement = record { kind = FakeRead (whole_place place); span = span } in
+    let st : MirStatement = record { kind = FakeRead place; span = span } in
     subst (λ (n : Shape). Idles source s n 0) (sym same)
     (record {
       grows = with_statement-grows st s opened;
@@ -66,7 +65,7 @@ idles-read source s new place span sound opened same =
       sound = with_statement-sound source st s opened sound;
       «open» = with_statement-open st s opened;
       scope = with_statement-scope st s opened;
-      comes = λ whole frame grows is memory. comes-statement st s whole frame memory opened grows is memory (read-does-nothing frame memory (whole_place place)) (keeps-refl frame memory);
+      comes = λ whole frame grows is memory. comes-statement st s whole frame memory opened grows is memory (read-does-nothing frame memory place) (keeps-refl frame memory);
     })
 
 -- a name is bound to the value of a place

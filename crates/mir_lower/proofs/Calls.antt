@@ -10,7 +10,6 @@ use Rattle.mir.specs.declared.operand.Operand.{Operand as MirOperand}
 use Rattle.mir.specs.declared.operand.OperandKind.{OperandKind}
 use Rattle.mir.specs.declared.ids.LocalId.{LocalId}
 use Rattle.mir.specs.Memory.{Memory}
-use Rattle.mir.specs.WholePlaces.{whole_place}
 use Rattle.mir.specs.Run.{Frame, Calling, calls, going_on, terminated, operand_type as mir_type}
 use Rattle.body_forms.specs.Callees.{IsCalleeOperand}
 use Rattle.source_meaning.specs.Around.{Around}

@@ -11,8 +11,6 @@ use Rattle.mir.specs.declared.statement.StatementKind.TheVariants.{Assign}
 use Rattle.mir.specs.declared.address.Interval.{Interval}
 use Rattle.mir.specs.Areas.{with_bytes}
 use Rattle.mir.specs.Memory.{Memory, cell_bytes}
-use Rattle.mir.specs.Places.{place_cell}
-use Rattle.mir.specs.WholePlaces.{whole_place}
 use Rattle.mir.specs.Run.{Frame, after_statement, copied, rvalue_bytes, bad_write}
 use Rattle.source_meaning.specs.Source.{Source, Cell, Result as Slot, Node, Binding, Never, Store, same_cell, with_cell_bytes}
 use Rattle.mir_lower.specs.Does.{IsFrameOf, Holds}

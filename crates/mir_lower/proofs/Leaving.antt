@@ -12,7 +12,6 @@ use Rattle.mir.specs.declared.span.MirSpan.{MirSpan}
 use Rattle.mir.specs.declared.statement.Statement.{Statement}
 use Rattle.mir.specs.declared.statement.StatementKind.TheVariants.{StorageDead}
 use Rattle.mir.specs.Memory.{Memory}
-use Rattle.mir.specs.WholePlaces.{whole_place}
 use Rattle.mir.specs.Run.{Frame, Next, Stops, GoesTo, Asks, Asked, trail_of, faults, after_statement, after_statements, terminated, next_from, going_on, running, entering, out_of_blocks}
 use Rattle.source_meaning.specs.Source.{Source, Cell}
 use Rattle.mir_lower.specs.Does.{here, IsFrameOf}
@@ -111,9 +110,9 @@ unfolding terminated
 drop-leads frame memory place target unwind span = refl
 
 -- ending the current block by a drop, and opening the block that it goes to
-pub idles-drop : (source : Source) (s new : Shape) (place : LocalId) (target : BasicBlockId) (unwind : Option BasicBlockId) (span : MirSpan) → IsSound source s → IsOpen s → target.0 ≡ length s.blocks → new ≡ with_block (with_terminator (record { span = span; kind = Drop (whole_place place) target unwind }) s) → Idles source s new 1
+pub idles-drop : (source : Source) (s new : Shape) (place : Place) (target : BasicBlockId) (unwind : Option BasicBlockId) (span : MirSpan) → IsSound source s → IsOpen s → target.0 ≡ length s.blocks → new ≡ with_block (with_terminator (record { span = span; kind = Drop place target unwind }) s) → Idles source s new 1
 idles-drop source s new place target unwind span sound opened at same =
-    let t : Terminator = record { span = span; kind = Drop (whole_place place) target unwind } in
+    let t : Terminator = record { span = span; kind = Drop place target unwind } in
     let b = current_of s opened in
     let many : length (with_terminator t s).blocks ≡ length s.blocks = ap (λ (n : Shape). length n.blocks) (with_terminator-is t s b.0 b.1) ∙ length-set s.blocks s.current (ended t b.0) in
     subst (λ (n : Shape). Idles source s n 1) (sym same)

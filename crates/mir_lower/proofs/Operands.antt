@@ -9,8 +9,6 @@ use Rattle.mir.specs.declared.operand.OperandKind.TheVariants.{Copy}
 use Rattle.mir.specs.declared.ids.LocalId.{LocalId}
 use Rattle.mir.specs.declared.operand.Place.{Place as GraphPlace}
 use Rattle.mir.specs.Memory.{Memory}
-use Rattle.mir.specs.Places.{place_cell, place_type, type_behind}
-use Rattle.mir.specs.WholePlaces.{whole_place}
 use Rattle.mir.specs.Run.{Frame, operand_bytes as mir_bytes, operand_type as mir_type}
 use Rattle.source_meaning.specs.Around.{Around, marking}
 use Rattle.source_meaning.specs.Ends.{no_cost, Go, Stuck, then_do}
@@ -81,7 +79,7 @@ place-operand : (source : Source) (old new whole : Shape) (frame : Frame) (e : â
 unfolding level_at
 place-operand source old new whole frame e place sound is grows does form lands around stands zero serves store memory holds = inr (none-entered (run_from frame memory (here old)))
 place-operand source old new whole frame e place sound is grows does form lands around stands (suc fuel) serves store memory holds =
-    subst (Reaches source whole lands frame (here old) (here new) memory (Fits source (Copy (whole_place place)) whole frame))
+    subst (Reaches source whole lands frame (here old) (here new) memory (Fits source (Copy place) whole frame))
     (sym (no-literal (unadjusted source e) form))
     (reaches-then source whole lands frame (here old) (here new) (here new) memory (LeadsTo does.at whole frame) (Fits source (Copy place) whole frame)
     ((level_at source fuel around).place e store) (Î» at later. Go (At at) later no_cost)

@@ -13,7 +13,6 @@ use Rattle.mir.specs.declared.span.MirSpan.{MirSpan}
 use Rattle.mir.specs.declared.statement.Statement.{Statement}
 use Rattle.mir.specs.declared.statement.StatementKind.TheVariants.{Assign}
 use Rattle.mir.specs.Memory.{Memory}
-use Rattle.mir.specs.WholePlaces.{whole_place}
 use Rattle.mir.specs.Run.{Frame, rvalue_bytes, operand_bytes as mir_bytes, read}
 use Rattle.source_meaning.specs.Around.{Around}
 use Rattle.source_meaning.specs.Events.{marked_itself}

@@ -15,9 +15,7 @@ use crate::leave::leave_scope;
 use crate::lower::lower_into;
 use crate::params::lower_params;
 use body_forms::{Context, form_not_built, is_copy};
-use mir::{
-    Local, LocalId, MirBody, MirLowerError, MirSpan, ProjectionStore, Terminator, TerminatorKind,
-};
+use mir::{Local, LocalId, MirBody, MirLowerError, MirSpan, Place, Terminator, TerminatorKind};
 use std::alloc::Global;
 use world::{Body, DefWithBodyId, HirDatabase, InferenceResult};
 
@@ -104,6 +102,5 @@ fn lower_body(context: &Context<'_>, owner: DefWithBodyId) -> Result<MirBody, Mi
         span: MirSpan::ExprId(start),
         kind: TerminatorKind::Return,
     });
-    let projections = ProjectionStore::new(context.alloc)?;
-    Ok(graph.into_body(owner, params, projections))
+    Ok(graph.into_body(owner, params))
 }

@@ -377,7 +377,6 @@ impl Graph {
             ..
         } = self;
         MirBody {
-            projection_store,
             basic_blocks: List::from_vec(blocks),
             locals,
             start_block: BasicBlockId(0),

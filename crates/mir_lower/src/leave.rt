@@ -14,8 +14,7 @@ ghost use Rattle.mir_lower.specs.Leaving.{Idles, one_if};
 use crate::graph::{DropScopeToken, Graph, Held, Marked};
 use body_forms::{Context, binding_ty, is_copy, never_type, value_type};
 use mir::{
-    BasicBlockId, LocalId, MirSpan, Place, ProjectionId, Statement, StatementKind, Terminator,
-    TerminatorKind,
+    BasicBlockId, LocalId, MirSpan, Place, Statement, StatementKind, Terminator, TerminatorKind,
 };
 use std::alloc::Global;
 use world::{ExprId, NoMemory, Ty};

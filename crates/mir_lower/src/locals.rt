@@ -22,8 +22,7 @@ use body_forms::{
     Context, compound_path, form_not_built, name_bound, node_ty, own_ty, target_path,
 };
 use mir::{
-    LocalId, MirLowerError, MirSpan, Operand, OperandKind, Place, ProjectionId, Rvalue, Statement,
-    StatementKind,
+    LocalId, MirLowerError, MirSpan, Operand, OperandKind, Place, Rvalue, Statement, StatementKind,
 };
 use world::{BindingId, ExprId, PatId, Text, TryClone, ValueNs};
 
@@ -153,16 +152,13 @@ pub(crate) fn new_never(
 }
 
 /// Notes that the value at a place was named.
-pub(crate) fn fake_read(graph: &mut Graph, place: LocalId, e: ExprId) -> Result<(), MirLowerError>
+pub(crate) fn fake_read(graph: &mut Graph, place: Place, e: ExprId) -> Result<(), MirLowerError>
     requires { IsOpen (shape graph.old) }
-    ensures added { OnOk result (shape graph.new ≡ with_statement (record { kind = FakeRead (whole_place place); span = MirSpan.ExprId e }) (shape graph.old)) }
+    ensures added { OnOk result (shape graph.new ≡ with_statement (record { kind = FakeRead place; span = MirSpan.ExprId e }) (shape graph.old)) }
     ensures refused { IfErr result (λ error. error ≡ refusal.NoMemory) }
 {
     graph.push_statement(Statement {
-        kind: StatementKind::FakeRead(Place {
-            local: place,
-            projection: ProjectionId::EMPTY,
-        }),
+        kind: StatementKind::FakeRead(place),
         span: MirSpan::ExprId(e),
     })?;
     Ok(())
@@ -173,7 +169,7 @@ pub(crate) fn bind(
     context: &Context<'_>,
     graph: &mut Graph,
     pat: PatId,
-    from: LocalId,
+    from: Place,
 ) -> Result<(), MirLowerError>
     requires sound { IsSound (source_of context.now) (shape graph.old) }
     requires opened { IsOpen (shape graph.old) }
@@ -190,10 +186,7 @@ pub(crate) fn bind(
     };
     storage_live(context, graph, binding, local)?;
     let operand = Operand {
-        kind: OperandKind::Copy(Place {
-            local: from,
-            projection: ProjectionId::EMPTY,
-        }),
+        kind: OperandKind::Copy(from),
         span: None,
     };
     assign(graph, local, Rvalue::Use(operand), MirSpan::PatId(pat))
@@ -252,7 +245,7 @@ pub(crate) fn assign_target(
     context: &Context<'_>,
     graph: &mut Graph,
     pat: PatId,
-    from: LocalId,
+    from: Place,
 ) -> Result<(), MirLowerError>
     requires sound { IsSound (source_of context.now) (shape graph.old) }
     requires opened { IsOpen (shape graph.old) }
@@ -263,10 +256,7 @@ pub(crate) fn assign_target(
 {
     let local = target_local(context, graph, pat)?;
     let operand = Operand {
-        kind: OperandKind::Copy(Place {
-            local: from,
-            projection: ProjectionId::EMPTY,
-        }),
+        kind: OperandKind::Copy(from),
         span: None,
     };
     assign(graph, local, Rvalue::Use(operand), MirSpan::PatId(pat))

@@ -13,7 +13,6 @@ ghost use Rattle.world.specs.declared.body.Statement.TheVariants as statement_ki
 ghost use Rattle.body_forms.specs.Callees.{callee_number};
 ghost use Rattle.body_forms.specs.Contexts.{source_of};
 ghost use Rattle.body_forms.specs.Form.{core_value};
-ghost use Rattle.mir.specs.WholePlaces.{whole_place};
 ghost use Rattle.mir_lower.specs.Graph.{shape, local_of};
 ghost use Rattle.mir_lower.specs.Growth.{IsPlaced, IsReady, ArePartsReady, IsReadyPart};
 ghost use Rattle.body_forms.specs.Operations.{several_operation, single_operation};
@@ -44,14 +43,11 @@ use world::{
 };
 
 /// A place as an operand.
-fn copied(place: LocalId, e: ExprId) -> Operand
-    ensures { result.kind ≡ Copy (whole_place place) }
+fn copied(place: Place, e: ExprId) -> Operand
+    ensures { result.kind ≡ Copy place }
 {
     Operand {
-        kind: OperandKind::Copy(Place {
-            local: place,
-            projection: ProjectionId::EMPTY,
-        }),
+        kind: OperandKind::Copy(place),
         span: Some(MirSpan::ExprId(e)),
     }
 }
@@ -132,11 +128,7 @@ pub(crate) fn lower_operand(
 
 /// An expression to a place: what a path names, a field of its base's place, or a local of its own.
 #[cycle(lower)]
-fn lower_place(
-    context: &Context<'_>,
-    graph: &mut Graph,
-    e: ExprId,
-) -> Result<LocalId, MirLowerError>
+fn lower_place(context: &Context<'_>, graph: &mut Graph, e: ExprId) -> Result<Place, MirLowerError>
     requires { IsReadyPart (source_of context.now) (shape graph.old) e.0 }
     ensures lowered { IfOk result (λ place. LowersPlace (source_of context.now) (shape graph.old) (shape graph.new) e.0 place) }
     ensures built { OnOk result (IsBuilt (source_of context.now) e.0) }
@@ -201,7 +193,7 @@ fn field_into(
 
 /// An expression that is no place goes into a local of its own, which is then its place.
 #[cycle(lower)]
-fn lower_temp(context: &Context<'_>, graph: &mut Graph, e: ExprId) -> Result<LocalId, MirLowerError>
+fn lower_temp(context: &Context<'_>, graph: &mut Graph, e: ExprId) -> Result<Place, MirLowerError>
     requires ready { IsReadyPart (source_of context.now) (shape graph.old) e.0 }
     requires form { is_place (unadjusted (source_of context.now) e.0) ≡ false }
     ensures lowered { IfOk result (λ place. LowersPlace (source_of context.now) (shape graph.old) (shape graph.new) e.0 place) }

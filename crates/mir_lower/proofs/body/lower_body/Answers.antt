@@ -70,11 +70,6 @@ returns-in_err-leave_scope-clause-refused c =
     let source = source_of c.args.context.now in
     refused-exit (Cause source) _ c.from_residual-in_err-leave_scope.result c.from_residual-in_err-leave_scope.ensures.1 (λ error none. inr (refuses-no-memory source (root source) error none))
 
-pub returns-in_err-projections-clause-refused : goal.returns-in_err-projections-clause-refused
-returns-in_err-projections-clause-refused c =
-    let source = source_of c.args.context.now in
-    refused-exit (Cause source) _ c.from_residual-in_err-projections.result c.from_residual-in_err-projections.ensures.1 (λ error none. inr (refuses-no-memory source (root source) error none))
-
 pub returns : goal.returns
 returns c =
     let source = source_of c.args.context.now in
