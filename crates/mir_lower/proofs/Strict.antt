@@ -12,7 +12,7 @@ use Rattle.source_meaning.specs.Around.{Around, marking}
 use Rattle.source_meaning.specs.Core.{Operation, Strict, is_truth}
 use Rattle.source_meaning.specs.Ends.{Go, then_do, no_cost}
 use Rattle.source_meaning.specs.Events.{marked_as_operand}
-use Rattle.source_meaning.specs.Meaning.{Levels, level_at, callees_at, operands_of, into_of}
+use Rattle.source_meaning.specs.Meaning.{Levels, level_at, callees_at, operands_of, into_of, values_of}
 use Rattle.source_meaning.specs.Source.{Source, node, own_type, unadjusted, Cell, Store}
 use Rattle.source_meaning.specs.Steps.{parts_of}
 use Rattle.source_meaning.specs.Valid.{own, inside, sized_parts, IsLaidOutNode}

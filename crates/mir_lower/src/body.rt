@@ -15,7 +15,7 @@ use crate::leave::leave_scope;
 use crate::lower::lower_into;
 use crate::params::lower_params;
 use body_forms::{Context, form_not_built, is_copy};
-use mir::{Local, LocalId, MirBody, MirLowerError, MirSpan, Place, Terminator, TerminatorKind};
+use mir::{Local, LocalId, MirBody, MirLowerError, MirSpan, Terminator, TerminatorKind};
 use std::alloc::Global;
 use world::{Body, DefWithBodyId, HirDatabase, InferenceResult};
 

@@ -110,7 +110,7 @@ lower_place-lower_field-requires t c =
     let source = source_of c.args.context.now in
     let form : unadjusted source c.args.e.0 ≡ Some (expr.Field c.in-Field.base.0 c.in-Field.index) = subst (IsPlaceForm source c.args.e.0) c.in-Field.is c.place_form_at.ensures in
     let node-is = (unadjusted-plain source c.args.e.0 _ form).1 in
-    (omega arith, parts-ready source (shape c.args.graph.now) c.args.e.0 (λ outer. ap (λ n. opened_in c.args.e.0 n outer) node-is) c.requires.ready, node-is)
+    (omega arith, (parts-ready source (shape c.args.graph.now) c.args.e.0 (λ outer. ap (λ n. opened_in c.args.e.0 n outer) node-is) c.requires.ready, node-is))
 
 pub lower_place-returns-in-Field-clause-lowered : goal.lower_place-returns-in-Field-clause-lowered
 lower_place-returns-in-Field-clause-lowered t c =
@@ -159,7 +159,7 @@ lower_field-returns-clause-lowered t c =
 pub field_into-lower_field-requires : goal.field_into-lower_field-requires
 field_into-lower_field-requires t c =
     let source = source_of c.args.context.now in
-    (omega arith, parts-ready source (shape c.args.graph.now) c.args.e.0 (λ outer. ap (λ n. opened_in c.args.e.0 n outer) c.requires.form) c.requires.ready, c.requires.form)
+    (omega arith, (parts-ready source (shape c.args.graph.now) c.args.e.0 (λ outer. ap (λ n. opened_in c.args.e.0 n outer) c.requires.form) c.requires.ready, c.requires.form))
 
 pub field_into-returns-clause-lowered : goal.field_into-returns-clause-lowered
 field_into-returns-clause-lowered t c =
