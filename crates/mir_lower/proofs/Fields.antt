@@ -115,6 +115,7 @@ lays-field source s e base field form below plain layouts = by_node (plain.nodes
   where
     is : node source e ≡ Some (expr.Field base field)
     is = (unadjusted-plain source e (expr.Field base field) form).1
+
     by_node : IsPlainNode source e → (f : ℕ) → NeedsLayout source e f → IsLaidOutNode source f
     by_node plain-node =
         let typed : IsPlainField source base field plain-node.ty = subst (λ n. HasPlainForm source e n plain-node.ty) is plain-node.form in

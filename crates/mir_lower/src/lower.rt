@@ -31,16 +31,12 @@ use crate::locals::{
     assign, assign_target, bind, combined_local, fake_read, named_local, new_never, new_temp,
 };
 use body_forms::{
-    Context, Form, LiteralValue, PlaceForm, Several, Single, diverges, form_at, form_not_built, kind_of,
-    literal_at, lower_callee, lower_literal, made_of, method_args, place_form_at,
+    Context, Form, LiteralValue, PlaceForm, Several, Single, diverges, form_at, form_not_built,
+    kind_of, literal_at, lower_callee, lower_literal, made_of, method_args, place_form_at,
 };
 use either::Either;
-use mir::{
-    BinOp, LocalId, MirLowerError, MirSpan, Operand, OperandKind, Place, PlaceElem, Rvalue,
-};
-use world::{
-    ExprId, LabelId, List, LogicOp, PatId, Statement, Text, TryClone, TupleFieldId,
-};
+use mir::{BinOp, LocalId, MirLowerError, MirSpan, Operand, OperandKind, Place, PlaceElem, Rvalue};
+use world::{ExprId, LabelId, List, LogicOp, PatId, Statement, Text, TryClone, TupleFieldId};
 
 /// A place as an operand.
 fn copied(place: Place, e: ExprId) -> Operand
@@ -183,12 +179,7 @@ fn field_into(
     ensures refused { IfErr result (RefusesAt (source_of context.now) e.0) }
 {
     let from = lower_field(context, graph, e, base, index)?;
-    assign(
-        graph,
-        to,
-        Rvalue::Use(copied(from, e)),
-        MirSpan::ExprId(e),
-    )
+    assign(graph, to, Rvalue::Use(copied(from, e)), MirSpan::ExprId(e))
 }
 
 /// An expression that is no place goes into a local of its own, which is then its place.
@@ -259,27 +250,12 @@ fn lower_own(
             lower_aggregate(context, graph, e, Several::Tuple, parts.as_slice(), to)
         }
         Form::Array(elements) => {
-            lower_aggregate(
-                context,
-                graph,
-                e,
-                Several::Array,
-                elements.as_slice(),
-                to,
-            )
+            lower_aggregate(context, graph, e, Several::Array, elements.as_slice(), to)
         }
         Form::Binary(op, lhs, rhs) => lower_binary(context, graph, e, op, lhs, rhs, to),
         Form::Logic(op, lhs, rhs) => lower_logic(context, graph, e, op, lhs, rhs, to),
         Form::If(condition, then_branch, else_branch) => {
-            lower_if(
-                context,
-                graph,
-                e,
-                condition,
-                then_branch,
-                else_branch,
-                to,
-            )
+            lower_if(context, graph, e, condition, then_branch, else_branch, to)
         }
         Form::Assign(target, value) => lower_assignment(context, graph, e, target, value),
         Form::Compound(op, target, value) => {
