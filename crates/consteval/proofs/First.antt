@@ -6,6 +6,7 @@ use Rattle.types.specs.declared.ty.GenericArgs.{GenericArgs}
 use Rattle.mir.specs.Answers.{answer_to}
 use Rattle.mir.specs.declared.address.Interval.{Interval}
 use Rattle.mir.specs.Memory.{Memory, cell_bytes}
+use Rattle.mir.specs.Places.{place_cell}
 use Rattle.mir.specs.Run.{Frame, Waiting, Calling, Ending, Returned, Faulted, Asked, Next, Stops, GoesTo, Asks, operand_bytes, operand_type, function_in, body_query, calling, first_body, returned, resumed, after_return, after_statements, levels_over, called_cells, filled, entered, called, called_by, calls, switched, terminated, next_from, entering, going_on}
 use Rattle.mir.specs.declared.answers.Answer.{Answer}
 use Rattle.mir.specs.declared.answers.Answer.TheVariants as answer
@@ -49,7 +50,7 @@ module _ (frame : Frame) where
     begins-body : (destination : Option Interval) → Begins frame (entered frame memory call id body destination)
     begins-body destination = begins-placed destination (called_cells frame.program.world body.locals destination memory) refl
 
-    begins-returning : (cell : Option Interval) (block : ℕ) → call.target ≡ Some block → slice_get frame.cells call.destination.local.0 ≡ cell
+    begins-returning : (cell : Option Interval) (block : ℕ) → call.target ≡ Some block → place_cell frame.program.world frame.body frame.cells call.destination ≡ cell
         → Begins frame (called frame memory call id body)
     unfolding called
     begins-returning (Some cell) block is cell_is = rw (is, cell_is, called) (begins-body (Some cell))
@@ -62,7 +63,7 @@ module _ (frame : Frame) where
     begins-nested false is fits_is = rw (is, fits_is, called) tt
 
     begins-called : (target : Option ℕ) → call.target ≡ target → Begins frame (called frame memory call id body)
-    begins-called (Some block) is = begins-returning (slice_get frame.cells call.destination.local.0) block is refl
+    begins-called (Some block) is = begins-returning (place_cell frame.program.world frame.body frame.cells call.destination) block is refl
     begins-called None is = begins-nested (nat_le (suc (levels_over frame.below)) frame.program.nesting) is refl
 
   begins-by : (memory : Memory) (call : Calling) (callee : FunctionId × GenericArgs) (told : Option Answer)

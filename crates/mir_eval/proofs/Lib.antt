@@ -1,6 +1,7 @@
 pub mod Aggregating
 pub mod Alignments
 pub mod Callers
+pub mod Ends
 pub mod Entering
 pub mod Filling
 pub mod Laying

@@ -22,8 +22,10 @@ use Rattle.mir.specs.declared.statement.StatementKind.{StatementKind}
 use Rattle.mir.specs.declared.statement.StatementKind.TheVariants.{Assign, FakeRead, StorageLive, StorageDead}
 use Rattle.mir.specs.declared.switch.SwitchTargets.{SwitchTargets}
 use Rattle.mir.specs.Memory.{Memory, cell_bytes}
+use Rattle.mir.specs.Places.{place_cell}
 use Rattle.mir.specs.Run.{Frame, GoesTo, after_statement, copied, operand_bytes, operand_type, operated, read, rvalue_bytes, switched, terminated}
 use Rattle.mir.specs.Switches.{first_target, target_of}
+use Rattle.mir.specs.WholePlaces.{whole_place}
 use Rattle.mir_ops.specs.declared.made.Made.{Made}
 use Rattle.mir_ops.specs.Made.{made_bytes}
 use Rattle.mir_rows.specs.declared.row.Action.{Action}
@@ -51,7 +53,7 @@ module _ (frame : Frame) (memory : Memory) where
   -- the bytes of an operand that is a local
   pub local-bytes : (local : LocalId) (cell : Interval) (bytes : List ℕ) → slice_get frame.cells local.0 ≡ Some cell → cell_bytes memory cell ≡ Some bytes →
       (kind : OperandKind) → IsSource (source.Local local) kind → operand_bytes frame memory kind ≡ Some bytes
-  unfolding operand_bytes
+  unfolding operand_bytes place_cell
   local-bytes local cell bytes there are kind is =
       ap (operand_bytes frame memory) is ∙ ap (λ (found : Option Interval). option_and_then (cell_bytes memory) found) there ∙ are
 
@@ -87,11 +89,11 @@ module _ (frame : Frame) (memory : Memory) where
         ((one other : OperandKind) → AreOperands frame.body kind left right one other → operated op (operand_type frame.body one) (operand_type frame.body other) (operand_bytes frame memory one) (operand_bytes frame memory other) ≡ Ok (made_bytes m)) →
         out ≡ copied memory (slice_get frame.cells to.0) (Ok (made_bytes m)) →
         (statement : StatementKind) → Says frame.body (action.Combine op kind to left right) statement → out ≡ after_statement frame memory statement
-    unfolding after_statement rvalue_bytes
+    unfolding after_statement rvalue_bytes place_cell
     combines op kind left right m makes is (Assign place (CheckedBinaryOp operator one other)) says =
         is
-        ∙ ap (λ (l : LocalId). copied memory (slice_get frame.cells l.0) (Ok (made_bytes m))) (sym says.0)
-        ∙ ap (copied memory (slice_get frame.cells place.local.0))
+        ∙ ap (λ (p : Place). copied memory (place_cell frame.program.world frame.body frame.cells p) (Ok (made_bytes m))) (sym says.0)
+        ∙ ap (copied memory (place_cell frame.program.world frame.body frame.cells place))
         (sym (makes one.kind other.kind says.2) ∙ ap (λ (o : Operator). operated o (operand_type frame.body one.kind) (operand_type frame.body other.kind) (operand_bytes frame memory one.kind) (operand_bytes frame memory other.kind)) (sym says.1))
     combines op kind left right m makes is (Assign place (Use given)) says = absurd says
     combines op kind left right m makes is (Assign place (UnaryOp operator given)) says = absurd says
@@ -112,10 +114,10 @@ module _ (frame : Frame) (memory : Memory) where
 
     -- or the bytes of a source
     puts : (given : Source) → ((kind : OperandKind) → IsSource given kind → out ≡ copied memory (slice_get frame.cells to.0) (read (operand_bytes frame memory kind))) →
-        (place : Place) (one : Operand) → place.local ≡ to → IsSource given one.kind → out ≡ after_statement frame memory (Assign place (Use one))
-    unfolding after_statement rvalue_bytes
+        (place : Place) (one : Operand) → place ≡ whole_place to → IsSource given one.kind → out ≡ after_statement frame memory (Assign place (Use one))
+    unfolding after_statement rvalue_bytes place_cell
     puts given does place one same said =
-        does one.kind said ∙ ap (λ (l : LocalId). copied memory (slice_get frame.cells l.0) (read (operand_bytes frame memory one.kind))) (sym same)
+        does one.kind said ∙ ap (λ (p : Place). copied memory (place_cell frame.program.world frame.body frame.cells p) (read (operand_bytes frame memory one.kind))) (sym same)
 
     copies : (from : LocalId) → ((kind : OperandKind) → IsSource (source.Local from) kind → out ≡ copied memory (slice_get frame.cells to.0) (read (operand_bytes frame memory kind))) →
         (statement : StatementKind) → Says frame.body (action.Copy to from) statement → out ≡ after_statement frame memory statement

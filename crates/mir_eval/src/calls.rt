@@ -1,12 +1,13 @@
 //! Calls: what is called, the cells of its body, and its arguments.
 
 ghost use Rattle.std.specs.Option.{ForSome};
-ghost use Rattle.std.specs.Prelude.{◌≡◌, ◌⊎◌, Ok, Err, IfOk, IfErr, option_map, option_and_then, slice_get};
+ghost use Rattle.std.specs.Prelude.{◌≡◌, ◌⊎◌, Ok, Err, IfOk, IfErr, IfSome, option_map, option_and_then, slice_get};
 ghost use Rattle.mir.specs.declared.errors.MirEvalError as error;
 ghost use Rattle.mir_eval.specs.Alignments.{HasAlignments};
 ghost use Rattle.mir_eval.specs.Callees.{AreSizes};
 ghost use Rattle.mir.specs.Memory.{cells_of, sizes_of};
 ghost use Rattle.mir.specs.Run.{called_cells, copied, filled, function_in, operand_bytes, operand_type, read};
+ghost use Rattle.mir_rows.specs.Places.{HasEnd, HaveEnds};
 ghost use Rattle.mir_eval.specs.Calls.{call_is, function_is};
 ghost use Rattle.mir_eval.specs.Frames.{frame_of};
 ghost use Rattle.mir_eval.specs.Machine.{call_at};
@@ -23,6 +24,7 @@ use mir::{
     OperandKind, Place, TerminatorKind,
 };
 use mir_mem::Memory;
+use mir_rows::place_type;
 use std::alloc::Global;
 use std::rc::Rc;
 use world::{CallableDefId, FunctionId, GenericArgs, HirDatabase, List, Ty};
@@ -89,8 +91,8 @@ pub(crate) fn callee<'r>(body: &'r MirBody, func: &'r OperandKind) -> Option<Fun
     ensures { option_map function_is result ≡ option_and_then function_in (operand_type body.now func.now) }
 {
     match func {
-        OperandKind::Copy(place) => match body.locals.get(place.local.0 as u64) {
-            Some(local) => function_in(&local.ty),
+        OperandKind::Copy(place) => match place_type(body, *place) {
+            Some(ty) => function_in(ty),
             None => None,
         },
         OperandKind::Constant { ty, .. } => function_in(ty),
@@ -109,6 +111,7 @@ fn other_cells<M: Memory>(
     requires aligned { HasAlignments db.now }
     requires sizes { ForSome sizes.now (λ sizes. sizes_of db.now locals.now ≡ Ok sizes.value) }
     ensures ok { IfOk result (λ cells. cells_of db.now locals.now (M.areas memory.old) ≡ Ok (cells, M.areas memory.new)) }
+    ensures ends { IfOk result HaveEnds }
     ensures err { IfErr result (λ e. (e ≡ error.NoMemory) ⊎ (cells_of db.now locals.now (M.areas memory.old) ≡ Err e)) }
 {
     match sizes {
@@ -129,7 +132,9 @@ pub(crate) fn callee_cells<M: Memory>(
 ) -> Result<Vec<Interval>, MirEvalError>
     requires aligned { HasAlignments program.now.db.now }
     requires sizes { ForSome callee.now.sizes (λ sizes. AreSizes program.now.db.now callee.now.body.value.locals sizes.value) }
+    requires end { IfSome destination HasEnd }
     ensures ok { IfOk result (λ cells. called_cells program.now.db.now callee.now.body.value.locals destination (M.areas memory.old) ≡ Ok (cells.items, M.areas memory.new)) }
+    ensures ends { IfOk result (λ cells. HaveEnds cells.items) }
     ensures err { IfErr result (λ e. (e ≡ error.NoMemory) ⊎ (called_cells program.now.db.now callee.now.body.value.locals destination (M.areas memory.old) ≡ Err e)) }
 {
     let locals = callee.body.as_ref().body().locals.as_slice();

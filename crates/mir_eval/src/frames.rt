@@ -4,6 +4,7 @@ ghost use Rattle.std.proofs.Props.{props};
 ghost use Rattle.std.specs.Coded.{codes};
 ghost use Rattle.mir.specs.contracts.body.MirBody as lowered;
 ghost use Rattle.mir.specs.contracts.errors.MirEvalError as failed;
+ghost use Rattle.mir_rows.specs.Places.{HaveEnds};
 ghost use Rattle.mir_eval.specs.Callees.{AreCallees};
 
 use crate::callees::Callee;
@@ -39,6 +40,7 @@ pub(crate) struct Suspended {
     pub next: Option<BasicBlockId>,
     /// The call, as a fault's trail names it.
     pub call: TrailEntry,
+    ghost ends: { HaveEnds cells.items },
 }
 
 /// A body that runs, what its run goes by, where each of its locals lies, and the callers that wait, the nearest last.
@@ -48,6 +50,7 @@ pub(crate) struct StackFrame<'r, 'a> {
     pub body: &'r Code,
     pub cells: &'r [Interval],
     pub below: &'r [Suspended],
+    ghost ends: { HaveEnds cells.now },
 }
 
 /// A point of a run: about to enter a block, or at the call that ends a block.

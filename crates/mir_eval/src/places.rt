@@ -1,6 +1,6 @@
 //! The cells of a body's locals, placed on the stack.
 
-ghost use Rattle.std.specs.Prelude.{◌≡◌, ◌⊎◌, ◌++◌, true, codes, All, Ok, Err, IfOk, IfErr, OnErr};
+ghost use Rattle.std.specs.Prelude.{◌≡◌, ◌⊎◌, ◌++◌, true, codes, All, Ok, Err, IfOk, IfErr, IfSome, OnErr};
 ghost use Rattle.std.specs.Option.{option_to_list};
 ghost use Rattle.world.specs.Checked.{IsAlignment};
 ghost use Rattle.mir_eval.specs.Alignments.{HasAlignments};
@@ -9,6 +9,7 @@ ghost use Rattle.mir.specs.declared.errors.MirEvalError as error;
 ghost use Rattle.mir.specs.Areas.{after_push};
 ghost use Rattle.mir.specs.Errors.{layout_error_of};
 ghost use Rattle.mir.specs.Memory.{cell_size_of, sizes_of, pushed, cells_of};
+ghost use Rattle.mir_rows.specs.Places.{HasEnd, HaveEnds};
 
 use mir::{CellSize, Interval, Local, MemFault, MirEvalError, layout_error_of};
 use mir_mem::Memory;
@@ -90,6 +91,7 @@ pub(crate) fn push<M: Memory>(
 ) -> Result<List<Interval>, MirEvalError>
     requires { All (λ cell. IsAlignment cell.align) sizes.now }
     ensures ok { IfOk result (λ cells. pushed (after_push (M.areas memory.old) sizes.now) ≡ Ok (cells, M.areas memory.new)) }
+    ensures ends { IfOk result HaveEnds }
     ensures err { IfErr result (λ e. (e ≡ error.NoMemory) ⊎ (pushed (after_push (M.areas memory.old) sizes.now) ≡ Err e)) }
     ensures kept { OnErr result (M.areas memory.new ≡ M.areas memory.old) }
 {
@@ -111,6 +113,7 @@ pub(crate) fn lay_out<M: Memory>(
 ) -> Result<List<Interval>, MirEvalError>
     requires { HasAlignments db.now }
     ensures ok { IfOk result (λ cells. cells_of db.now locals.now (M.areas memory.old) ≡ Ok (cells, M.areas memory.new)) }
+    ensures ends { IfOk result HaveEnds }
     ensures err { IfErr result (λ e. (e ≡ error.NoMemory) ⊎ (cells_of db.now locals.now (M.areas memory.old) ≡ Err e)) }
     ensures kept { OnErr result (M.areas memory.new ≡ M.areas memory.old) }
 {
@@ -127,7 +130,10 @@ pub(crate) fn listed(
     first: Option<Interval>,
     others: &[Interval],
 ) -> Result<Vec<Interval>, NoMemory>
-    ensures { IfOk result (λ cells. cells.items ≡ option_to_list first ++ others.now) }
+    requires first { IfSome first HasEnd }
+    requires others { HaveEnds others.now }
+    ensures cells { IfOk result (λ cells. cells.items ≡ option_to_list first ++ others.now) }
+    ensures ends { IfOk result (λ cells. HaveEnds cells.items) }
 {
     let mut cells = room;
     cells.clear();

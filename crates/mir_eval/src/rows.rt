@@ -87,7 +87,7 @@ fn assign_made<M: Memory>(
 
 /// Copies a local to another one.
 #[inline(always)]
-#[tactic(auto, unfolding(mir::specs::Run::copied, mir::specs::Run::operand_bytes))]
+#[tactic(auto, unfolding(mir::specs::Run::copied, mir::specs::Run::operand_bytes, mir::specs::Places::place_cell))]
 fn copy_local<M: Memory>(
     frame: StackFrame<'_, '_>,
     memory: &mut M,
@@ -107,7 +107,7 @@ fn copy_local<M: Memory>(
 
 /// Assigns a constant to a local.
 #[inline(always)]
-#[tactic(auto, unfolding(mir::specs::Run::copied, mir::specs::Run::operand_bytes))]
+#[tactic(auto, unfolding(mir::specs::Run::copied, mir::specs::Run::operand_bytes, mir::specs::Places::place_cell))]
 fn put<M: Memory>(
     frame: StackFrame<'_, '_>,
     memory: &mut M,

@@ -1,16 +1,16 @@
 //! A run that has begun, and the phases of an evaluator.
 
 ghost use Rattle.std.specs.Option.{ForSome};
-ghost use Rattle.std.specs.Prelude.{true, ◌≡◌, ◌⊎◌, ◌+◌, ◌^◌, ◌<◌, ◌≤◌, ◌∷◌, ◌++◌, Err, Ok, Some, None, IfOk, IfErr, IsSome, OnOk, slice_get};
+ghost use Rattle.std.specs.Prelude.{true, ◌≡◌, ◌⊎◌, ◌+◌, ◌^◌, ◌<◌, ◌≤◌, ◌∷◌, ◌++◌, Err, Ok, Some, None, IfOk, IfErr, IfSome, IsSome, OnOk, slice_get};
 ghost use Rattle.mir_eval.specs.Alignments.{HasAlignments};
 ghost use Rattle.mir_eval.specs.Callees.{AreSizes};
 ghost use Rattle.mir.specs.Run.{callee_error, levels_over};
+ghost use Rattle.mir_rows.specs.Places.{HasEnd, HaveEnds};
 ghost use Rattle.mir_eval.specs.Frames.{callers, stands_at};
 
 use crate::blocks::{enter, enter_all};
 use crate::callees::{Callee, callee_of, ready};
 use crate::calls::{Call, Function, call_at, callee, callee_cells, fill};
-use crate::cells::cell_of;
 use crate::faults::{Fault, to_error};
 use crate::frames::{Point, Program, StackFrame, Suspended};
 use crate::outcomes::{faulted, returned};
@@ -21,7 +21,7 @@ use mir::{
     Answer, BasicBlockId, ConstEvalError, Interval, MirBody, MirEvalError, Query, TrailEntry,
 };
 use mir_mem::Memory;
-use mir_rows::Code;
+use mir_rows::{Code, place_cell};
 use std::alloc::Global;
 use std::mem;
 use std::rc::Rc;
@@ -47,6 +47,7 @@ pub(crate) struct Run<'a, M> {
     ghost nested: { levels ≡ levels_over (callers below.items) },
     ghost aligned: { HasAlignments program.db.now },
     ghost stands: { stands_at body.value point ≡ true },
+    ghost ends: { HaveEnds cells.items },
 }
 
 /// Where an evaluator is in its one run.
@@ -231,6 +232,7 @@ impl<'a, M: Memory + Drop> Run<'a, M> {
     ) -> Went
         requires level { call.target ≡ None → self.old.levels < self.old.program.nesting }
         requires sizes { ForSome callee.sizes (λ sizes. AreSizes self.old.program.db.now callee.body.value.locals sizes.value) }
+        requires end { IfSome destination HasEnd }
         ensures leads { Leads M.areas (frame_in self.old) (entered (frame_in self.old) (M.areas self.old.memory) (call_is call.entry) id callee.body.value destination) self.new result }
         ensures same { self.new.left ≡ self.old.left }
         ensures run { IsInRun (frame_in self.old) self.new result }
@@ -276,7 +278,8 @@ impl<'a, M: Memory + Drop> Run<'a, M> {
         body: Rc<Code>,
         cells: Vec<Interval>,
     ) -> Went
-        requires { call.target ≡ None → self.old.levels < self.old.program.nesting }
+        requires level { call.target ≡ None → self.old.levels < self.old.program.nesting }
+        requires ends { HaveEnds cells.items }
         ensures leads { Leads M.areas (frame_in self.old) (GoesTo (called_frame (frame_in self.old) (call_is call.entry) id body.value cells.items) (M.areas self.old.memory) body.value.start_block.0) self.new result }
         ensures same { self.new.left ≡ self.old.left }
         ensures run { IsInRun (frame_in self.old) self.new result }
@@ -322,7 +325,12 @@ impl<'a, M: Memory + Drop> Run<'a, M> {
         ensures asks { AsksAtCall self.new result }
     {
         match call.target {
-            Some(_) => match cell_of(self.cells.as_slice(), call.destination.local) {
+            Some(_) => match place_cell(
+                self.program.db,
+                self.body.as_ref().body(),
+                self.cells.as_slice(),
+                call.destination,
+            ) {
                 Some(cell) => self.enter_body(alloc, call, id, callee, Some(cell)),
                 None => self.fault(alloc, Fault::BadWrite),
             },

@@ -10,7 +10,7 @@ ghost use Rattle.mir_eval.specs.Frames.{frame_of};
 ghost use Rattle.mir_eval.specs.Steps.{operated_bytes, left_with, next_of, OrNoMemory};
 
 use crate::aggregates::{aggregate, assign_bytes, repeated};
-use crate::cells::{cell_of, copy, read, write};
+use crate::cells::{copy, read, write};
 use crate::faults::Fault;
 use crate::frames::StackFrame;
 use mir::{
@@ -18,7 +18,7 @@ use mir::{
     Terminator, TerminatorKind, UnOp, fixed_size,
 };
 use mir_mem::{Memory, View, gather, whole};
-use mir_rows::{constant_bytes, operand_kind};
+use mir_rows::{constant_bytes, operand_kind, place_cell};
 use numbers::{Computed, compute, convert, invert, negate, number_of};
 use types::Ty;
 
@@ -58,7 +58,12 @@ pub(crate) fn operand<'r, M: Memory>(
     ensures { option_map concat result ≡ operand_bytes (frame_of frame.entry) (M.areas memory.now) kind.now }
 {
     match kind {
-        OperandKind::Copy(place) => match cell_of(frame.cells, place.local) {
+        OperandKind::Copy(place) => match place_cell(
+            frame.program.db,
+            frame.body.body(),
+            frame.cells,
+            *place,
+        ) {
             Some(cell) => read(memory, cell),
             None => None,
         },
@@ -80,7 +85,12 @@ pub(crate) fn assign_operand<M: Memory>(
     ensures { left_with (M.areas memory.new) result ≡ copied (M.areas memory.old) (Some to) (read (operand_bytes (frame_of frame.entry) (M.areas memory.old) kind.now)) }
 {
     match kind {
-        OperandKind::Copy(place) => match cell_of(frame.cells, place.local) {
+        OperandKind::Copy(place) => match place_cell(
+            frame.program.db,
+            frame.body.body(),
+            frame.cells,
+            *place,
+        ) {
             Some(from) => copy(memory, from, to),
             None => Err(Fault::BadRead),
         },
@@ -251,7 +261,12 @@ pub(crate) fn execute<M: Memory>(
     ensures { OrNoMemory result (left_with (M.areas memory.new) result ≡ after_statement (frame_of frame.entry) (M.areas memory.old) statement.now) }
 {
     match statement {
-        StatementKind::Assign(place, rvalue) => match cell_of(frame.cells, place.local) {
+        StatementKind::Assign(place, rvalue) => match place_cell(
+            frame.program.db,
+            frame.body.body(),
+            frame.cells,
+            *place,
+        ) {
             Some(to) => assign(frame, memory, to, rvalue),
             None => Err(Fault::BadWrite),
         },

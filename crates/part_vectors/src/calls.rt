@@ -11,7 +11,7 @@ use crate::graphs::{
 use crate::machine::begun;
 use mir::{
     Answer, BasicBlock, BasicBlockId, BinOp, ConstEvalError, LocalId, MirBody, MirLowerError,
-    Operand, Place, Query, Rvalue, StatementKind, TerminatorKind,
+    Operand, Place, ProjectionStore, Query, Rvalue, StatementKind, TerminatorKind,
 };
 use mir_eval::{Evaluator, Limits};
 use mir_mem::FlatMemory;
@@ -216,7 +216,7 @@ fn calling(
     let call = TerminatorKind::Call {
         func: function_operand(alloc, number),
         args,
-        destination: Place { local: LocalId(to) },
+        destination: Place::from(LocalId(to)),
         target,
         cleanup: None,
         from_hir_call: true,
@@ -262,6 +262,7 @@ fn root_blocks(alloc: Global, row: &Row) -> Result<List<BasicBlock>, NoMemory> {
 /// The body of the constant.
 fn root(alloc: Global, row: &Row) -> Result<MirBody, NoMemory> {
     Ok(MirBody {
+        projection_store: ProjectionStore::new(alloc)?,
         basic_blocks: root_blocks(alloc, row)?,
         locals: locals(alloc, 2)?,
         start_block: BasicBlockId(0),
@@ -299,6 +300,7 @@ fn body_of(
     param_locals.push(LocalId(1))?;
     param_locals.push(LocalId(2))?;
     let body = MirBody {
+        projection_store: ProjectionStore::new(alloc)?,
         basic_blocks,
         locals: locals(alloc, 3)?,
         start_block: BasicBlockId(0),

@@ -1,8 +1,8 @@
 //! Parts of graphs that are made by hand, without a source.
 
 use mir::{
-    BasicBlock, Local, LocalId, MirSpan, Operand, OperandKind, Place, Statement, StatementKind,
-    Terminator, TerminatorKind,
+    BasicBlock, Local, LocalId, MirSpan, Operand, OperandKind, Place, ProjectionId, Statement,
+    StatementKind, Terminator, TerminatorKind,
 };
 use std::alloc::Global;
 use std::test::Fail;
@@ -16,7 +16,10 @@ use world_check::CheckedWorld;
 pub(crate) const OWNER: DefWithBodyId = DefWithBodyId::ConstId(ConstId(0));
 
 /// The return place.
-pub(crate) const SLOT: Place = Place { local: LocalId(0) };
+pub(crate) const SLOT: Place = Place {
+    local: LocalId(0),
+    projection: ProjectionId(0),
+};
 
 fn u64_type() -> Ty {
     Ty::Uint(UintTy::U64)
@@ -83,9 +86,7 @@ pub(crate) fn number(alloc: Global, number: u8) -> Result<Operand, NoMemory> {
 /// What a local has, as an operand.
 pub(crate) fn copy_of(local: u32) -> Operand {
     Operand {
-        kind: OperandKind::Copy(Place {
-            local: LocalId(local),
-        }),
+        kind: OperandKind::Copy(Place::from(LocalId(local))),
         span: None,
     }
 }

@@ -7,8 +7,8 @@ ghost use Rattle.world.specs.Limits.{IsWithin};
 
 use crate::graphs::{OWNER, SLOT, block, locals, number, statement, world_of_one};
 use mir::{
-    BasicBlock, BasicBlockId, BinOp, MirBody, MirEvalError, Rvalue, StatementKind, SwitchTargets,
-    TerminatorKind,
+    BasicBlock, BasicBlockId, BinOp, MirBody, MirEvalError, ProjectionStore, Rvalue, StatementKind,
+    SwitchTargets, TerminatorKind,
 };
 use mir_eval::{Evaluator, Limits, Turned};
 use mir_mem::FlatMemory;
@@ -20,6 +20,7 @@ use world::{HirDatabase, List, NoMemory};
 /// A body of these blocks, with no local but the return slot.
 fn body_of(alloc: Global, basic_blocks: List<BasicBlock>) -> Result<MirBody, NoMemory> {
     Ok(MirBody {
+        projection_store: ProjectionStore::new(alloc)?,
         basic_blocks,
         locals: locals(alloc, 1)?,
         start_block: BasicBlockId(0),
