@@ -1,5 +1,5 @@
 -- A `usize` stands for the address behind each cell of a memory whose stack keeps to its limit.
-use Rattle.std.proofs.Common.{◌≡◌, ℕ, zero, suc, ◌+◌, ◌-◌, ◌^◌, ◌<◌, ◌≤◌, Bool, true, false, List, [], ◌∷◌, ◌++◌, length, Option, Some, None, Result, Ok, Err, refl, subst, arith, leb-true}
+use Rattle.std.proofs.Common.{◌≡◌, ℕ, zero, suc, ◌+◌, ◌-◌, ◌^◌, ◌<◌, ◌≤◌, Bool, true, false, List, [], ◌∷◌, ◌++◌, length, Option, Some, None, Result, Ok, Err, refl, ap, subst, arith, leb-true}
 use Rattle.std.specs.Prelude.{IfSome, if◌then◌else◌, nat_le, slice_get}
 use Rattle.std.specs.Option.{option_to_list}
 use Rattle.std.proofs.lemmas.Option.{same_Some}
@@ -33,6 +33,11 @@ behind-ends end bound (cell ∷ cells) fits small =
     let rest = length_behind-ge (end_behind end cell) cells in
     more_ends _ (cells_behind (end_behind end cell) cells) (omega (arith, rest, fits, small)) (behind-ends (end_behind end cell) bound cells fits small)
 
+-- the cells of what was placed
+abbrev cells_in : Result (List Interval × Areas) MirEvalError → List Interval
+cells_in (Ok placed) = placed.0
+cells_in (Err e) = []
+
 -- cells that are pushed
 pub pushed_ends : (areas after : Areas) (sizes : List CellSize) (cells : List Interval) → IsBounded areas → pushed (after_push areas sizes) ≡ Ok (cells, after) → HaveEnds cells
 unfolding after_push
@@ -41,7 +46,7 @@ pushed_ends areas after sizes cells bounded is = by (nat_le (length_behind (leng
       → ◌≡◌ {A = Result (List Interval × Areas) MirEvalError} (pushed (if fits then Ok (cells_behind (length areas.stack) sizes, record areas { stack = grown_to (length_behind (length areas.stack) sizes) areas.stack }) else Err MemoryLimitExceeded)) (Ok (cells, after))
       → HaveEnds cells
   by true fits made =
-      let same : cells_behind (length areas.stack) sizes ≡ cells = cc in
+      let same : cells_behind (length areas.stack) sizes ≡ cells = ap cells_in made in
       let within = leb-true (length_behind (length areas.stack) sizes - 1) areas.limit fits in
       let small = bounded.limit in
       subst HaveEnds same (behind-ends (length areas.stack) (areas.limit + 1) sizes (omega (arith, within)) (omega (arith, small)))
