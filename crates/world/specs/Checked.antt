@@ -2,6 +2,7 @@
 use Rattle.std.specs.Prelude.{◌≡◌, ℕ, ◌*◌, ◌^◌, ◌<◌, ◌≤◌, List, [], ◌∷◌, ◌++◌, length, Option, Some, None, slice_get, All, IfSome, flat_map}
 use Rattle.world.specs.declared.body.Body.{Body}
 use Rattle.world.specs.declared.expr.Expr.{Expr}
+use Rattle.world.specs.declared.pat.Pat.{Pat}
 use Rattle.world.specs.declared.database.BodyRow.{BodyRow}
 use Rattle.world.specs.declared.items.ConstRow.{ConstRow}
 use Rattle.world.specs.declared.database.HirDatabase.{HirDatabase}
@@ -13,15 +14,18 @@ use Rattle.types.specs.declared.scalars.UintTy.{UintTy}
 use Rattle.types.specs.declared.scalars.UintTy.TheVariants as uint
 use Rattle.types.specs.declared.ty.Ty.{Ty, Bool, Char, Int, Uint}
 use Rattle.world.specs.Lookups.{expr_of}
-use Rattle.world.specs.Nodes.{children_of}
+use Rattle.world.specs.Nodes.{children_of, inner_exprs_of, patterns_of}
 
--- a typed body whose nodes are in order: each has a type, and an expression comes after those that it holds
+-- a typed body whose nodes are in order: each has a type, and an expression comes after those that it holds, and after those that
+-- the patterns hold which it holds
 pub record IsCheckedBody (body : Body) (infer : InferenceResult) : Type 0 where
   pub root : body.body_expr.0 < length body.exprs
   pub expr_types : length infer.expr_types ≡ length body.exprs
   pub pat_types : length infer.pat_types ≡ length body.pats
   pub binding_types : length infer.binding_types ≡ length body.bindings
   pub children : (e : ℕ) (node : Expr) → expr_of body e ≡ Some node → All (λ child. child < e) (children_of node)
+  pub inside : (e : ℕ) (node : Expr) (k p : ℕ) (pat : Pat) → expr_of body e ≡ Some node → slice_get (patterns_of node) k ≡ Some p → slice_get body.pats p ≡ Some pat →
+      All (λ inner. inner < e) (inner_exprs_of pat)
 
 -- how many bytes an integer type has
 abbrev pub int_bytes : IntTy → ℕ

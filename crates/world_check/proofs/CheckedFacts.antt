@@ -10,17 +10,19 @@ use Rattle.types.specs.declared.ty.Const.TheFolds.{the_lemmas}
 use Rattle.types.specs.declared.ty.Ty.{Ty}
 use Rattle.types.specs.declared.ty.Ty as type
 use Rattle.world.specs.Checked.{IsAlignment, IsChecked, IsCheckedBody, IsCheckedConst, IsCheckedLayout, fixed_size, int_bytes, uint_bytes}
-use Rattle.world.specs.Nodes.{children_of}
+use Rattle.world.specs.Nodes.{children_of, inner_exprs_of, patterns_of}
+use Rattle.world.specs.declared.body.Body.{Body}
 use Rattle.world.specs.declared.database.BodyRow.{BodyRow}
 use Rattle.world.specs.declared.database.HirDatabase.{HirDatabase}
 use Rattle.world.specs.declared.items.ConstRow.{ConstRow}
 use Rattle.world.specs.declared.layout.Layout.{Layout}
+use Rattle.world.specs.declared.pat.Pat.{Pat}
 use Rattle.check_ids.specs.Inferred.{has_type_each, is_inferred_right}
 use Rattle.check_ids.specs.Parts.{are_roots_known, unless, wrong_name, wrong_node, wrong_part}
 use Rattle.check_ids.specs.declared.part.BodyPart.{BodyPart}
 use Rattle.check_ids.specs.declared.part.BodyPart.TheVariants as part
 use Rattle.world.specs.Failing.{first_failing}
-use Rattle.check_trees.specs.Tree.{is_expr_in_order}
+use Rattle.check_trees.specs.Tree.{inner_exprs_in, is_expr_in_order, stands_inside}
 use Rattle.check_items.specs.Names.{is_body_known, is_const_named}
 use Rattle.check_layouts.specs.Layouts.{are_parts_right, is_layout_right, is_size_right}
 use Rattle.check_layouts.specs.Sizes.{alignments, is_alignment, is_fixed_size, is_multiple_of, known_size}
@@ -37,6 +39,7 @@ use Rattle.world_check.proofs.AllMet.{all_met}
 use Rattle.world_check.proofs.Decided.{meets_decides}
 use Rattle.world_check.proofs.FoundIds.{id_found}
 use Rattle.world_check.proofs.FoundPlaces.{layout_found, tree_found}
+use Rattle.world_check.proofs.InOrder.{stands_here}
 use Rattle.world_check.proofs.Passing.{all_at, all_pass, both, found_none_at, neither, not_mapped, passes_at, within_table}
 
 is_below : (c i : ℕ) → ltb c i ≡ true → c < i
@@ -128,6 +131,11 @@ no_part : (passes : Bool) (found : BodyPart) → unless passes found ≡ None �
 no_part true found e = refl
 no_part false found e = cc
 
+-- the expressions that a pattern holds have lower numbers, where those inside it have
+held_below : (body : Body) (e p : ℕ) (pat : Pat) → slice_get body.pats p ≡ Some pat → stands_inside body e 400 p ≡ true → All (λ inner. inner < e) (inner_exprs_of pat)
+held_below body e p pat there stands =
+    all_below e (inner_exprs_of pat) (ap (λ found. list_all (λ inner. ltb inner e) (inner_exprs_in found)) (sym there) ∙ stands_here body e 400 p stands)
+
 checked_body : (world : HirDatabase) (b : ℕ) (row : BodyRow) → wrong_part_in world b row ≡ None → wrong_node_in b row ≡ None → IsCheckedBody row.body row.infer
 checked_body world b row ranges trees =
     let body = row.body in
@@ -155,6 +163,12 @@ checked_body world b row ranges trees =
           let inside = both _ _ held.0 in
           let below = both (list_all (λ child. ltb child e) (children_of node)) _ inside.0 in
           all_below e (children_of node) below.0;
+      inside = λ e node k p pat at has there.
+          let whole = passes_at (is_expr_in_order body) e body.exprs node ordered at in
+          let held = both _ _ whole in
+          let tree = both _ _ held.0 in
+          let stands = both _ (list_all (stands_inside body e 400) (patterns_of node)) tree.0 in
+          held_below body e p pat there (all_at (stands_inside body e 400) k (patterns_of node) p stands.1 has);
     }
 
 row_passes : (row : CheckRow) (found : Option Place) (later : Option (CheckRow × List ℕ)) → row_failure row found later ≡ None → (found ≡ None) × (later ≡ None)

@@ -163,7 +163,7 @@ unfolding stands_inside
 stands-suc body e n p = refl
 
 -- the expressions in the pattern itself
-stands_here : (body : Body) (e n p : ℕ) → stands_inside body e n p ≡ true → list_all (λ inner. ltb inner e) (inner_exprs_at body p) ≡ true
+pub stands_here : (body : Body) (e n p : ℕ) → stands_inside body e n p ≡ true → list_all (λ inner. ltb inner e) (inner_exprs_at body p) ≡ true
 stands_here body e zero p h = sym (stands-zero body e p) ∙ h
 stands_here body e (suc n) p h = (both _ _ (sym (stands-suc body e n p) ∙ h)).0
 
