@@ -1,16 +1,16 @@
 -- The form of an expression, as far as forms have a meaning.
-use Rattle.std.specs.Prelude.{◌≡◌, ℕ, Bool, false, [], ◌∷◌, Option, Some, None, pos}
-use Rattle.either.specs.declared.Either.{Either}
-use Rattle.source_meaning.specs.Core.{CoreExpr, CoreLiteral, Truth, Number, Character, Operation, Negate, Invert, Keep, Convert, Combine, MakeTuple, MakeArray, Repeat, core_of, is_place}
+use Rattle.std.specs.Prelude.{◌≡◌, ℕ, false, [], ◌∷◌, Option, Some, None, pos}
+use Rattle.source_meaning.specs.Core.{Assigned as CoreAssigned, Assignee as CoreAssignee, ByField, ByPath, ByPattern, ByPlace, CoreExpr, CoreLiteral, Findings, Truth, Number, Character, Operation, Negate, Invert, Keep, Convert, Combine, MakeTuple, MakeArray, Repeat, core_of, is_place}
 use Rattle.source_meaning.specs.Core as expr
 use Rattle.source_meaning.specs.Source.{Source, node, unadjusted}
-use Rattle.types.specs.declared.ids.ExprId.{ExprId}
-use Rattle.types.specs.declared.ids.FieldId.{FieldId}
-use Rattle.types.specs.declared.ids.TupleFieldId.{TupleFieldId}
 use Rattle.world.specs.Nodes.{expr_numbers}
 use Rattle.world.specs.declared.expr.Expr.{Expr}
 use Rattle.mir.specs.declared.operand.UnOp.{UnOp}
 use Rattle.mir.specs.declared.operand.UnOp.TheVariants as one
+use Rattle.body_forms.specs.declared.form.Assigned.{Assigned}
+use Rattle.body_forms.specs.declared.form.Assigned.TheVariants as assigned
+use Rattle.body_forms.specs.declared.form.Assignee.{Assignee}
+use Rattle.body_forms.specs.declared.form.Assignee.TheVariants as assignee
 use Rattle.body_forms.specs.declared.form.Form.{Form}
 use Rattle.body_forms.specs.declared.form.Form.TheVariants as form
 use Rattle.body_forms.specs.declared.form.PlaceForm.{PlaceForm}
@@ -31,9 +31,18 @@ abbrev pub operation_of : UnOp → Operation
 operation_of one.Not = Invert
 operation_of one.Neg = Negate
 
--- where no cast computes anything
-abbrev pub no_casts : ExprId → Option Operation
-no_casts operand = None
+-- what may be found out of an expression whose form depends on nothing but itself
+abbrev pub no_findings : Findings
+no_findings = record { names_item = false; casts = λ operand. None; field = None; assignee = λ pat. ByPattern pat.0; assigned = λ e. ByPath e.0 }
+
+-- the target of an assignment, and of a compound one
+abbrev pub core_assignee : Assignee → CoreAssignee
+core_assignee (assignee.Pattern pat) = ByPattern pat.0
+core_assignee (assignee.Place e) = ByPlace e.0
+
+abbrev pub core_assigned : Assigned → CoreAssigned
+core_assigned (assigned.Path e) = ByPath e.0
+core_assigned (assigned.Field base index) = ByField base.0 index
 
 -- the form with a meaning that a form of the code is, where it is one
 abbrev pub core_form : Form → Option CoreExpr
@@ -49,8 +58,8 @@ core_form (form.Repeat e) = Some (expr.Strict Repeat (e.0 ∷ []))
 core_form (form.Binary op lhs rhs) = Some (expr.Strict (Combine op) (lhs.0 ∷ rhs.0 ∷ []))
 core_form (form.Logic op lhs rhs) = Some (expr.Logic op lhs.0 rhs.0)
 core_form (form.If condition then_branch else_branch) = Some (expr.If condition.0 then_branch.0 else_branch)
-core_form (form.Assign assigned value) = Some (expr.Assign assigned.0 value.0)
-core_form (form.Compound op assigned value) = Some (expr.Compound op assigned.0 value.0)
+core_form (form.Assign to value) = Some (expr.Assign (core_assignee to) value.0)
+core_form (form.Compound op to value) = Some (expr.Compound op (core_assigned to) value.0)
 core_form (form.Block statements tail) = Some (expr.Block statements.now tail)
 core_form (form.Labelled label statements tail) = Some (expr.Labelled label statements.now tail)
 core_form (form.Loop label body) = Some (expr.Loop label body.0)
@@ -68,10 +77,9 @@ IsCause e form.Incomplete = IsIncomplete e
 IsCause e form.Unbuilt = IsIncomplete e → ⊥
 IsCause e _ = Unit {0}
 
--- the form of an expression whose value isn't adjusted, by whether its path is resolved to an item, by what casts compute, and by what a
--- field is resolved to
-pub record IsFormOf (names_item : Bool) (casts : ExprId → Option Operation) (field : Option (Either FieldId TupleFieldId)) (e : Expr) (f : Form) : Type 0 where
-  pub core : core_of names_item casts field e ≡ core_form f
+-- the form of an expression whose value isn't adjusted, by what is found out of it
+pub record IsFormOf (found : Findings) (e : Expr) (f : Form) : Type 0 where
+  pub core : core_of found e ≡ core_form f
   pub cause : IsCause e f
 
 -- why an expression of a source has no form with a meaning

@@ -5,7 +5,7 @@ use Rattle.world.specs.Lookups.{expr_of, function_row}
 use Rattle.types.specs.declared.ids.FunctionId.{FunctionId}
 use Rattle.source_meaning.specs.Built.{HasArrayType, is_direct}
 use Rattle.source_meaning.specs.Calls.{function_called}
-use Rattle.source_meaning.specs.Core.{CoreExpr, Number, Character, MakeArray, Repeat, cast_operation, core_of, field_named, is_adjusted_otherwise, names_item}
+use Rattle.source_meaning.specs.Core.{Assigned, Assignee, ByField, ByPath, ByPattern, ByPlace, CoreExpr, Number, Character, MakeArray, Repeat, core_of, is_adjusted_otherwise, is_place}
 use Rattle.source_meaning.specs.Core as expr
 use Rattle.source_meaning.specs.Core.{local_named}
 use Rattle.world.specs.declared.expr.Expr.{Expr}
@@ -19,7 +19,7 @@ use Rattle.world.specs.declared.layout.Layout.{Layout}
 use Rattle.mir.specs.declared.errors.MirLowerError.{MirLowerError}
 use Rattle.mir.specs.declared.errors.MirLowerError.TheVariants as refusal
 use Rattle.mir.specs.Errors.{layout_error_of}
-use Rattle.source_meaning.specs.Source.{Source, node, named_by, pattern, target_path, pattern_named_by, target, compound_path, compound_target, binding_type, root, own_layout, own_type}
+use Rattle.source_meaning.specs.Source.{Source, findings, node, unadjusted, named_by, pattern, target_path, pattern_named_by, target, compound_path, compound_target, binding_type, root, own_layout, own_type}
 use Rattle.source_meaning.specs.Around.{Opened, meant}
 use Rattle.source_meaning.specs.Valid.{EvaluatesIn}
 use Rattle.types.specs.declared.ids.ExprId.{ExprId}
@@ -48,7 +48,7 @@ pub record LacksPart (source : Source) (e : ℕ) : Type 0 where
 pub record IsUnbuiltExpr (source : Source) (e : ℕ) : Type 0 where
   pub expr : Expr
   pub stands : expr_of source.body e ≡ Some expr
-  pub no_form : core_of (names_item source.infer (record { 0 = e })) (cast_operation source.infer (record { 0 = e })) (field_named source.infer (record { 0 = e })) expr ≡ None
+  pub no_form : core_of (findings source e) expr ≡ None
   pub complete : IsIncomplete expr → ⊥
 
 -- An expression of a form that isn't built yet, whatever its parts are: one that is adjusted otherwise than by `NeverToAny`
@@ -68,17 +68,28 @@ IsUnbuiltStatement source _ = Unit {0}
 abbrev pub NamesNoBinding : Source → ℕ → Type 0
 NamesNoBinding source e = (named : ValueNs) × (named_by source e ≡ Some named) × (local_named named ≡ None)
 
--- a target of an assignment that isn't built yet: it is no path that could be one to a binding, or is resolved to something
--- else
+-- a target of an assignment by a pattern that isn't built yet: the pattern is no path that could be one to a binding, or is resolved to
+-- something else
 abbrev pub IsUnbuiltTarget : Source → ℕ → Type 0
 IsUnbuiltTarget source p =
     (target_path source p ≡ None)
     ⊎ ((named : ValueNs) × (pattern_named_by source p ≡ Some named) × (local_named named ≡ None))
 
--- a target of a compound assignment that isn't built yet: it is no path that could be one to a binding, or is resolved to something
--- else
+-- a target of a compound assignment, other than a field, that isn't built yet: it is no path that could be one to a binding, or is resolved
+-- to something else
 abbrev pub IsUnbuiltOperand : Source → ℕ → Type 0
 IsUnbuiltOperand source e = (compound_path source e ≡ None) ⊎ NamesNoBinding source e
+
+-- a target of an assignment that isn't built yet; that of an expression isn't where the expression is neither a path nor a field, or is
+-- adjusted
+abbrev pub IsUnbuiltAssignee : Source → Assignee → Type 0
+IsUnbuiltAssignee source (ByPattern pat) = IsUnbuiltTarget source pat
+IsUnbuiltAssignee source (ByPlace e) = is_place (unadjusted source e) ≡ false
+
+-- and one of a compound assignment
+abbrev pub IsUnbuiltAssigned : Source → Assigned → Type 0
+IsUnbuiltAssigned source (ByPath e) = IsUnbuiltOperand source e
+IsUnbuiltAssigned source (ByField base index) = ⊥
 
 -- a call that isn't built yet: it names no function, or one that is given generic arguments, or whose own body a call doesn't enter
 abbrev pub IsUnbuiltCall : Source → ℕ → (callee : Option ℕ) → Type 0
@@ -95,8 +106,8 @@ IsUnbuilt source e (Some (expr.Field base field)) = ⊥
 IsUnbuilt source e (Some (expr.Strict operation operands)) = ⊥
 IsUnbuilt source e (Some (expr.Logic op left right)) = ⊥
 IsUnbuilt source e (Some (expr.If condition then_branch else_branch)) = ⊥
-IsUnbuilt source e (Some (expr.Assign assigned value)) = IsUnbuiltTarget source assigned
-IsUnbuilt source e (Some (expr.Compound op assigned value)) = IsUnbuiltOperand source assigned
+IsUnbuilt source e (Some (expr.Assign to value)) = IsUnbuiltAssignee source to
+IsUnbuilt source e (Some (expr.Compound op to value)) = IsUnbuiltAssigned source to
 IsUnbuilt source e (Some (expr.Block statements tail)) = (one : Statement) × Contains statements one × IsUnbuiltStatement source one
 IsUnbuilt source e (Some (expr.Labelled label statements tail)) = (one : Statement) × Contains statements one × IsUnbuiltStatement source one
 IsUnbuilt source e (Some (expr.Loop label body)) = ⊥
@@ -123,20 +134,40 @@ AssignsNone source p = (binding : BindingId) × (target source p ≡ Some bindin
 abbrev pub CombinesNone : Source → ℕ → Type 0
 CombinesNone source e = (binding : BindingId) × (compound_target source e ≡ Some binding) × (binding_type source binding.0 ≡ None)
 
+-- a target of an assignment is a path to a binding that the body lacks
+abbrev pub AssigneeLacks : Source → Assignee → Type 0
+AssigneeLacks source (ByPattern pat) = AssignsNone source pat
+AssigneeLacks source (ByPlace e) = ⊥
+
+-- and one of a compound assignment
+abbrev pub AssignedLacks : Source → Assigned → Type 0
+AssignedLacks source (ByPath e) = CombinesNone source e
+AssignedLacks source (ByField base index) = ⊥
+
 -- an expression that names, assigns, or as a block binds, a binding that the body lacks
 abbrev pub LacksLocal : Source → ℕ → Option CoreExpr → Type 0
 LacksLocal source e (Some (expr.Path name)) = (binding : BindingId) × (named_by source e ≡ Some (LocalBinding binding)) × (binding_type source binding.0 ≡ None)
-LacksLocal source e (Some (expr.Assign assigned value)) = AssignsNone source assigned
-LacksLocal source e (Some (expr.Compound op assigned value)) = CombinesNone source assigned
+LacksLocal source e (Some (expr.Assign to value)) = AssigneeLacks source to
+LacksLocal source e (Some (expr.Compound op to value)) = AssignedLacks source to
 LacksLocal source e (Some (expr.Block statements tail)) = (one : Statement) × Contains statements one × LetBindsNone source one
 LacksLocal source e (Some (expr.Labelled label statements tail)) = (one : Statement) × Contains statements one × LetBindsNone source one
 LacksLocal source e _ = ⊥
 
+-- the path that an assignment's target is, to which name resolution found nothing
+abbrev pub AssigneeIsUnresolved : Source → Assignee → List ℕ → Type 0
+AssigneeIsUnresolved source (ByPattern pat) name = (target_path source pat ≡ Some name) × (pattern_named_by source pat ≡ None)
+AssigneeIsUnresolved source (ByPlace e) name = ⊥
+
+-- and that of a compound one
+abbrev pub AssignedIsUnresolved : Source → Assigned → List ℕ → Type 0
+AssignedIsUnresolved source (ByPath e) name = (compound_path source e ≡ Some name) × (named_by source e ≡ None)
+AssignedIsUnresolved source (ByField base index) name = ⊥
+
 -- a path, or the path that an assignment's target is, to which name resolution found nothing
 abbrev pub IsUnresolved : Source → ℕ → Option CoreExpr → List ℕ → Type 0
 IsUnresolved source e (Some (expr.Path given)) name = (given ≡ name) × (named_by source e ≡ None)
-IsUnresolved source e (Some (expr.Assign assigned value)) name = (target_path source assigned ≡ Some name) × (pattern_named_by source assigned ≡ None)
-IsUnresolved source e (Some (expr.Compound op assigned value)) name = (compound_path source assigned ≡ Some name) × (named_by source assigned ≡ None)
+IsUnresolved source e (Some (expr.Assign to value)) name = AssigneeIsUnresolved source to name
+IsUnresolved source e (Some (expr.Compound op to value)) name = AssignedIsUnresolved source to name
 IsUnresolved source e _ name = ⊥
 
 -- an expression stands in no loop and no labelled block of the body

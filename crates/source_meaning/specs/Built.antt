@@ -1,9 +1,9 @@
 -- Which expressions have a form that is built: each has a meaning, its paths name bindings of the body, and its statements
 -- bind names of the body.
 use Rattle.std.specs.Prelude.{◌≡◌, ℕ, Bool, true, false, not, ◌&&◌, All, List, [], ◌∷◌, Option, Some, None, is_some}
-use Rattle.source_meaning.specs.Core.{CoreExpr, Operation, MakeArray, Repeat}
+use Rattle.source_meaning.specs.Core.{Assigned, Assignee, ByField, ByPath, ByPattern, ByPlace, CoreExpr, Operation, MakeArray, Repeat, is_place}
 use Rattle.source_meaning.specs.Core as expr
-use Rattle.source_meaning.specs.Source.{Source, own_type, binding_type, named_by, pattern, target, compound_target}
+use Rattle.source_meaning.specs.Source.{Source, own_type, binding_type, named_by, pattern, target, compound_target, unadjusted}
 use Rattle.types.specs.declared.ids.BindingId.{BindingId}
 use Rattle.types.specs.declared.ids.FunctionId.{FunctionId}
 use Rattle.types.specs.declared.ids.GenericParamId.{GenericParamId}
@@ -34,17 +34,27 @@ pub record BindsBinding (source : Source) (pat : ℕ) : Type 0 where
   pub bound : pattern source pat ≡ Some binding
   pub there : IsBinding source binding
 
--- the target of an assignment is a path to a binding of the body
+-- the path that the target of an assignment is names a binding of the body
 pub record AssignsBinding (source : Source) (assigned : ℕ) : Type 0 where
   pub binding : BindingId
   pub names : target source assigned ≡ Some binding
   pub there : IsBinding source binding
 
--- the target of a compound assignment is a path to a binding of the body
+-- the path that the target of a compound assignment is names a binding of the body
 pub record CombinesBinding (source : Source) (assigned : ℕ) : Type 0 where
   pub binding : BindingId
   pub names : compound_target source assigned ≡ Some binding
   pub there : IsBinding source binding
+
+-- the target of an assignment that is built: a path to a binding of the body, or an expression that is a path or a field and isn't adjusted
+abbrev pub IsBuiltAssignee : Source → Assignee → Type 0
+IsBuiltAssignee source (ByPattern pat) = AssignsBinding source pat
+IsBuiltAssignee source (ByPlace e) = is_place (unadjusted source e) ≡ true
+
+-- the target of a compound assignment that is built: a path to a binding of the body, or a field
+abbrev pub IsBuiltAssigned : Source → Assigned → Type 0
+IsBuiltAssigned source (ByPath e) = CombinesBinding source e
+IsBuiltAssigned source (ByField base index) = Unit {0}
 
 -- a statement that is built: a `let` of a name with an initializer and without `else`, or an expression
 abbrev pub IsBuiltStatement : Source → Statement → Type 0
@@ -89,8 +99,8 @@ IsBuiltForm source e (Some (expr.Field base field)) = Unit {0}
 IsBuiltForm source e (Some (expr.Strict operation operands)) = IsBuiltStrict source e operation
 IsBuiltForm source e (Some (expr.Logic op left right)) = Unit {0}
 IsBuiltForm source e (Some (expr.If condition then_branch else_branch)) = Unit {0}
-IsBuiltForm source e (Some (expr.Assign assigned value)) = AssignsBinding source assigned
-IsBuiltForm source e (Some (expr.Compound op assigned value)) = CombinesBinding source assigned
+IsBuiltForm source e (Some (expr.Assign to value)) = IsBuiltAssignee source to
+IsBuiltForm source e (Some (expr.Compound op to value)) = IsBuiltAssigned source to
 IsBuiltForm source e (Some (expr.Block statements tail)) = All (IsBuiltStatement source) statements
 IsBuiltForm source e (Some (expr.Labelled label statements tail)) = All (IsBuiltStatement source) statements
 IsBuiltForm source e (Some (expr.Loop label body)) = Unit {0}

@@ -59,9 +59,21 @@ pub data Operation : Type 0 where
   MakeArray : Operation
   Repeat : Operation
 
+-- What an assignment writes to, by the pattern that its target is: the binding that the path names which the pattern is, or the place of the
+-- expression which the pattern holds.
+pub data Assignee : Type 0 where
+  ByPattern : (pat : ℕ) → Assignee
+  ByPlace : (e : ℕ) → Assignee
+
+-- The place that a compound assignment reads and writes, by the expression that its left operand is: the binding that the path names which
+-- the expression is, or a part of a tuple, by its base and its index.
+pub data Assigned : Type 0 where
+  ByPath : (e : ℕ) → Assigned
+  ByField : (base index : ℕ) → Assigned
+
 -- An expression of a form that has a meaning. A strict form evaluates all its operands from left to right, and then
 -- computes one operation. `&&` and `||` evaluate their right operand only where the left one doesn't decide, and `if` one of
--- its branches. An assignment writes a value to what its target names, and a compound one what an operator makes of that and the value. A `loop` evaluates its body again and again. A `break`
+-- its branches. An assignment writes a value to what its target names, and a compound one what an operator makes of what lies there and the value. A `loop` evaluates its body again and again. A `break`
 -- ends a loop or a labelled block around it, with a value or without, and a `continue` starts it again. A `return` ends the
 -- body, with a value or without. A call evaluates its arguments from left to right, and then enters the body of a function: the one that
 -- its callee's type names, or, where it is a method call, the one that it is resolved to; the receiver is its first argument. A field is
@@ -73,8 +85,8 @@ pub data CoreExpr : Type 0 where
   Strict : Operation → (operands : List ℕ) → CoreExpr
   Logic : LogicOp → (left right : ℕ) → CoreExpr
   If : (condition then_branch : ℕ) → (else_branch : Option ExprId) → CoreExpr
-  Assign : (assigned value : ℕ) → CoreExpr
-  Compound : Operator → (assigned value : ℕ) → CoreExpr
+  Assign : Assignee → (value : ℕ) → CoreExpr
+  Compound : Operator → Assigned → (value : ℕ) → CoreExpr
   Block : List Statement → (tail : Option ExprId) → CoreExpr
   Labelled : LabelId → List Statement → (tail : Option ExprId) → CoreExpr
   Loop : (label : Option LabelId) → (body : ℕ) → CoreExpr
@@ -102,16 +114,17 @@ abbrev pub eager_form : ℕ → ℕ → Operator → CoreExpr
 eager_form lhs rhs op = Strict (Combine op) (lhs ∷ rhs ∷ [])
 
 -- a compound assignment, which has an operator
-abbrev pub compound_form : ℕ → ℕ → Option ArithOp → Option CoreExpr
-compound_form lhs rhs (Some op) = Some (Compound (of_arith op) lhs rhs)
-compound_form lhs rhs None = None
+abbrev pub compound_form : Assigned → ℕ → Option ArithOp → Option CoreExpr
+compound_form to rhs (Some op) = Some (Compound (of_arith op) to rhs)
+compound_form to rhs None = None
 
--- an operator on two operands: one on values, which always evaluates both, `&&` or `||`, or one that assigns what it makes
-abbrev pub binary_form : ℕ → ℕ → BinaryOp → Option CoreExpr
-binary_form lhs rhs (binary.ArithOp op) = Some (eager_form lhs rhs (of_arith op))
-binary_form lhs rhs (binary.CmpOp op) = Some (eager_form lhs rhs (of_compare op))
-binary_form lhs rhs (binary.LogicOp op) = Some (Logic op lhs rhs)
-binary_form lhs rhs (binary.Assignment op) = compound_form lhs rhs op
+-- An operator on two operands: one on values, which always evaluates both, `&&` or `||`, or one that assigns what it makes. `to`: what the
+-- left operand is as the target of an assignment.
+abbrev pub binary_form : (to : Assigned) → ℕ → ℕ → BinaryOp → Option CoreExpr
+binary_form to lhs rhs (binary.ArithOp op) = Some (eager_form lhs rhs (of_arith op))
+binary_form to lhs rhs (binary.CmpOp op) = Some (eager_form lhs rhs (of_compare op))
+binary_form to lhs rhs (binary.LogicOp op) = Some (Logic op lhs rhs)
+binary_form to lhs rhs (binary.Assignment op) = compound_form to rhs op
 
 -- an operator on one operand, where it has a meaning
 abbrev pub unary_form : ℕ → Option Operation → Option CoreExpr
@@ -123,30 +136,41 @@ abbrev pub field_form : ℕ → Option (Either FieldId TupleFieldId) → Option 
 field_form base (Some (Right field)) = Some (Field base field.index)
 field_form base _ = None
 
--- The form of an expression, where it is one with a meaning. A path is not resolved to an item that a trait or an impl has,
--- or to a variant. `casts`: what a cast of an operand computes, where it has a meaning. `field`: what the expression is resolved to, where
--- it names a field.
-abbrev pub core_of : (names_item : Bool) → (casts : ExprId → Option Operation) → (field : Option (Either FieldId TupleFieldId)) → Expr → Option CoreExpr
-core_of names_item casts field (expr.Literal given) = option_map Literal (core_literal given)
-core_of names_item casts field (expr.Path name) = if names_item then None else Some (Path name)
-core_of names_item casts field (expr.Field base name) = field_form base.0 field
-core_of names_item casts field (expr.UnaryOp e op) = unary_form e.0 (unary_operation op)
-core_of names_item casts field (expr.Cast operand) = unary_form operand.0 (casts operand)
-core_of names_item casts field (expr.BinaryOp lhs rhs op) = option_and_then (binary_form lhs.0 rhs.0) op
-core_of names_item casts field (expr.If condition then_branch else_branch) = Some (If condition.0 then_branch.0 else_branch)
-core_of names_item casts field (expr.Assignment target value) = Some (Assign target.0 value.0)
-core_of names_item casts field (expr.Block statements tail None) = Some (Block statements tail)
-core_of names_item casts field (expr.Block statements tail (Some label)) = Some (Labelled label statements tail)
-core_of names_item casts field (expr.Loop body label) = Some (Loop label body.0)
-core_of names_item casts field (expr.Break value label) = Some (Break label value)
-core_of names_item casts field (expr.Continue label) = Some (Continue label)
-core_of names_item casts field (expr.Return value) = Some (Return value)
-core_of names_item casts field (expr.Call callee args) = Some (Call (Some callee.0) (expr_numbers args))
-core_of names_item casts field (expr.MethodCall receiver args name) = Some (Call None (receiver.0 ∷ expr_numbers args))
-core_of names_item casts field (expr.Tuple parts) = Some (Strict MakeTuple (expr_numbers parts))
-core_of names_item casts field (expr.Array elements) = Some (Strict MakeArray (expr_numbers elements))
-core_of names_item casts field (expr.Repeat initializer) = Some (Strict Repeat (initializer.0 ∷ []))
-core_of names_item casts field _ = None
+-- What the form of an expression depends on besides the expression itself.
+pub record Findings : Type 0 where
+  -- whether it is a path that is resolved to an item of a trait or an impl, or to a variant
+  pub names_item : Bool
+  -- what it computes, where it is a cast of an operand that has a meaning
+  pub casts : ExprId → Option Operation
+  -- what it is resolved to, where it names a field
+  pub field : Option (Either FieldId TupleFieldId)
+  -- what a pattern is as the target of an assignment
+  pub assignee : PatId → Assignee
+  -- what an expression is as the target of a compound assignment
+  pub assigned : ExprId → Assigned
+
+-- The form of an expression, where it is one with a meaning.
+abbrev pub core_of : Findings → Expr → Option CoreExpr
+core_of found (expr.Literal given) = option_map Literal (core_literal given)
+core_of found (expr.Path name) = if found.names_item then None else Some (Path name)
+core_of found (expr.Field base name) = field_form base.0 found.field
+core_of found (expr.UnaryOp e op) = unary_form e.0 (unary_operation op)
+core_of found (expr.Cast operand) = unary_form operand.0 (found.casts operand)
+core_of found (expr.BinaryOp lhs rhs op) = option_and_then (binary_form (found.assigned lhs) lhs.0 rhs.0) op
+core_of found (expr.If condition then_branch else_branch) = Some (If condition.0 then_branch.0 else_branch)
+core_of found (expr.Assignment target value) = Some (Assign (found.assignee target) value.0)
+core_of found (expr.Block statements tail None) = Some (Block statements tail)
+core_of found (expr.Block statements tail (Some label)) = Some (Labelled label statements tail)
+core_of found (expr.Loop body label) = Some (Loop label body.0)
+core_of found (expr.Break value label) = Some (Break label value)
+core_of found (expr.Continue label) = Some (Continue label)
+core_of found (expr.Return value) = Some (Return value)
+core_of found (expr.Call callee args) = Some (Call (Some callee.0) (expr_numbers args))
+core_of found (expr.MethodCall receiver args name) = Some (Call None (receiver.0 ∷ expr_numbers args))
+core_of found (expr.Tuple parts) = Some (Strict MakeTuple (expr_numbers parts))
+core_of found (expr.Array elements) = Some (Strict MakeArray (expr_numbers elements))
+core_of found (expr.Repeat initializer) = Some (Strict Repeat (initializer.0 ∷ []))
+core_of found _ = None
 
 -- the type that a step leads to, where it is `NeverToAny`, the one from `!` to any type
 abbrev pub never_step : Adjust → Ty → Option Ty
@@ -236,6 +260,20 @@ pattern_names_item infer p =
 -- whether a pattern dereferences the value first
 unfoldable pub is_dereferenced_pattern : InferenceResult → PatId → Bool
 is_dereferenced_pattern infer p = is_positive (lookup (is_at (PatIdOrd.ghosts.cmp p)) infer.pat_adjustments)
+
+-- the base and the index of the part of a tuple that an expression is, where it is a field that is resolved to one
+abbrev pub tuple_part : (base : ℕ) → Option (Either FieldId TupleFieldId) → Option (ℕ × ℕ)
+tuple_part base (Some (Right field)) = Some (base, field.index)
+tuple_part base _ = None
+
+abbrev pub part_in : Option (Either FieldId TupleFieldId) → Expr → Option (ℕ × ℕ)
+part_in named (expr.Field base name) = tuple_part base.0 named
+part_in named _ = None
+
+-- the expression that a pattern holds as the target of an assignment
+abbrev pub expr_in : Pat → Option ExprId
+expr_in (pat.Expr e) = Some e
+expr_in _ = None
 
 -- the text of a pattern that is a path
 abbrev pub path_of : Pat → Option (List ℕ)

@@ -21,13 +21,13 @@ use Rattle.numbers.specs.Operators.{Answer, Computes, Panics, Undefined, compute
 use Rattle.source_meaning.specs.Aggregates.{array_length, laid_out, repeated_for}
 use Rattle.source_meaning.specs.Calls.{source_called, must_not_return, parameter_cells, started}
 use Rattle.source_meaning.specs.Core as expr
-use Rattle.source_meaning.specs.Core.{CoreExpr, CoreLiteral, Truth, Number, Character, Operation, Negate, Invert, Keep, Convert, Combine, MakeTuple, MakeArray, Repeat}
+use Rattle.source_meaning.specs.Core.{Assigned, Assignee, ByField, ByPath, ByPattern, ByPlace, CoreExpr, CoreLiteral, Truth, Number, Character, Operation, Negate, Invert, Keep, Convert, Combine, MakeTuple, MakeArray, Repeat, is_place}
 use Rattle.source_meaning.specs.Ends.{Cost, no_cost, turns_alone, bytes_alone, plus, one_level_more, End, Go, Jumps, Break, Continue, Return, Faults, Panic, Undefined as UndefinedBehavior, Stuck, More, after, then_do, IsOver}
 use Rattle.source_meaning.specs.Entering.{room_of, entering, run_cost}
 use Rattle.source_meaning.specs.Around.{Around, Target, at_root, marking, inside, target_of}
-use Rattle.source_meaning.specs.Events.{marked, marked_as_place, marked_as_operand, marked_by_statement, marked_by_tail, marked_in_block}
-use Rattle.source_meaning.specs.Places.{place_bytes, operand_type, operand_bytes, operands_bytes}
-use Rattle.source_meaning.specs.Source.{Source, node, unadjusted, own_type, own_layout, named_by, pattern, target, compound_target, root, Result, Node, Binding, Path, Part, Place, whole, projected, never_marks, own_path, Store, zeroed, with_cell_bytes, Operand, Literally, At, drops}
+use Rattle.source_meaning.specs.Events.{marked, marked_as_place, marked_as_operand, marked_by_assigned, marked_by_statement, marked_by_tail, marked_in_block}
+use Rattle.source_meaning.specs.Places.{cell_with, place_bytes, operand_type, operand_bytes, operands_bytes}
+use Rattle.source_meaning.specs.Source.{Source, node, unadjusted, own_type, own_layout, named_by, pattern, target, compound_target, root, Cell, Result, Node, Binding, Path, Part, Place, whole, projected, never_marks, own_path, Store, zeroed, with_cell_bytes, Operand, Literally, At, drops}
 
 -- the byte of a truth value: 1 for true
 abbrev pub truth_byte : Bool → ℕ
@@ -230,7 +230,7 @@ abbrev pub field_into : Source → Level → (base index : ℕ) → Path → Sto
 field_into source below base index path store =
     then_do (field_place below base index store) (λ place later. copy_to later path (place_bytes source later place))
 
--- a name is bound, or assigned: the bytes of a place go into the binding's cell
+-- a name is bound: the bytes of a place go into the binding's cell
 abbrev pub bind : Source → Option BindingId → Place → Store → End (Unit {0})
 bind source (Some id) place store = copy_to store (record { cell = Binding id.0 }) (place_bytes source store place)
 bind source None place store = Stuck
@@ -244,20 +244,56 @@ statement_of source below (statement.Expr e has_semi) store =
     then_do (below.place e.0 store) (λ _ later. Go tt later (turns_alone (drops source (marked_as_place source e.0))))
 statement_of source below _ store = Stuck
 
--- the value's place, and then the name that is the target is assigned; nothing is written where the assignment itself
--- would be
-abbrev pub assign_into : Source → Level → (target value : ℕ) → Store → End (Unit {0})
-assign_into source below assigned value store = then_do (below.place value store) (λ place later. bind source (target source assigned) place later)
+-- all bytes of a cell are replaced, where there are some to put there
+abbrev pub put_all : Store → Cell → Option (List ℕ) → End (Unit {0})
+put_all store cell (Some bytes) = Go tt (with_cell_bytes store cell bytes) no_cost
+put_all store cell None = Stuck
 
--- A local is assigned what an operator makes of its own value and another: both are read when the operation runs.
-abbrev pub combine_into : Source → Operator → Option BindingId → Operand → Store → End (Unit {0})
-combine_into source op (Some id) given store =
-    put_answer store (record { cell = Binding id.0 }) (answered_for source.world None (Combine op) (values_of source store (At (whole (Binding id.0)) ∷ given ∷ [])))
-combine_into source op None given store = Stuck
+-- bytes are put at a place, if they are as many as lie there
+abbrev pub put_at : Source → Store → Place → List ℕ → End (Unit {0})
+put_at source store place bytes = put_all store place.cell (cell_with source store place bytes)
 
--- the value's operand, and then the local that is the target is assigned; nothing is written where the assignment itself would be
-abbrev pub compound_into : Source → Level → Operator → (assigned value : ℕ) → Store → End (Unit {0})
-compound_into source below op assigned value store = then_do (below.operand value store) (λ given later. combine_into source op (compound_target source assigned) given later)
+-- bytes are put there that were read, where there are some
+abbrev pub copy_at : Source → Store → Place → Option (List ℕ) → End (Unit {0})
+copy_at source store place (Some bytes) = put_at source store place bytes
+copy_at source store place None = Stuck
+
+-- what an operation makes is put there
+abbrev pub answer_at : Source → Store → Place → Answer → End (Unit {0})
+answer_at source store place (Computes bytes) = put_at source store place bytes
+answer_at source store place (Panics word) = Faults (Panic word) no_cost
+answer_at source store place Undefined = Stuck
+
+-- the place of a binding that is named
+abbrev pub bound_place : Option BindingId → Store → End Place
+bound_place (Some id) store = Go (whole (Binding id.0)) store no_cost
+bound_place None store = Stuck
+
+-- The place that an assignment writes to. That of an expression is evaluated as any place is; an expression that names no place can't be
+-- assigned.
+abbrev pub assignee_place : Source → Level → Assignee → Store → End Place
+assignee_place source below (ByPattern pat) store = bound_place (target source pat) store
+assignee_place source below (ByPlace e) store = if is_place (unadjusted source e) then below.place e store else Stuck
+
+-- the value's place, then that of the target, and then the value's bytes are copied; nothing is written where the assignment itself would be
+abbrev pub assign_into : Source → Levels → Around → Assignee → (value : ℕ) → Store → End (Unit {0})
+assign_into source below around to value store =
+    then_do ((below around).place value store) (λ from later.
+    then_do (assignee_place source (below (marking (marked_as_place source value) around)) to later) (λ place last.
+    copy_at source last place (place_bytes source last from)))
+
+-- the place that a compound assignment reads and writes
+abbrev pub assigned_place : Source → Level → Assigned → Store → End Place
+assigned_place source below (ByPath e) store = bound_place (compound_target source e) store
+assigned_place source below (ByField base index) store = field_place below base index store
+
+-- The target's place, then the value's operand, and then one operation that reads both and writes to the place; nothing is written where the
+-- assignment itself would be.
+abbrev pub compound_into : Source → Levels → Around → Operator → Assigned → (value : ℕ) → Store → End (Unit {0})
+compound_into source below around op to value store =
+    then_do (assigned_place source (below around) to store) (λ place later.
+    then_do ((below (marking (marked_by_assigned source to) around)).operand value later) (λ given last.
+    answer_at source last place (answered_for source.world None (Combine op) (values_of source last (At place ∷ given ∷ [])))))
 
 -- statements in order
 unfoldable pub statements_of : Source → Levels → Around → List Statement → Store → End (Unit {0})
@@ -380,8 +416,8 @@ into_of source below callees around e (Some (expr.Field base index)) path store 
 into_of source below callees around e (Some (expr.Strict operation operands)) path store = strict_into source below around e operation operands path store
 into_of source below callees around e (Some (expr.Logic op left right)) path store = logic_into source below around op left right path store
 into_of source below callees around e (Some (expr.If condition then_branch else_branch)) path store = if_into source below around condition then_branch else_branch path store
-into_of source below callees around e (Some (expr.Assign assigned value)) path store = assign_into source (below around) assigned value store
-into_of source below callees around e (Some (expr.Compound op assigned value)) path store = compound_into source (below around) op assigned value store
+into_of source below callees around e (Some (expr.Assign to value)) path store = assign_into source below around to value store
+into_of source below callees around e (Some (expr.Compound op to value)) path store = compound_into source below around op to value store
 into_of source below callees around e (Some (expr.Block statements tail)) path store = block_into source below around statements tail path store
 into_of source below callees around e (Some (expr.Labelled label statements tail)) path store = labelled_into source below around e label statements tail path store
 into_of source below callees around e (Some (expr.Loop label body)) path store = loop_into source below around e label body path store

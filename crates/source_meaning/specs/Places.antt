@@ -1,6 +1,6 @@
 -- Places: which bytes of a cell one is, and of which type. What lies behind elements is what they lead to, from a value on, where the first
 -- one is applied first.
-use Rattle.std.specs.Prelude.{ℕ, ◌+◌, List, [], ◌∷◌, length, take, drop, Option, Some, None, option_and_then, option_map, slice_get, if◌then◌else◌, nat_le}
+use Rattle.std.specs.Prelude.{ℕ, ◌+◌, ◌==◌, List, [], ◌∷◌, length, take, drop, Option, Some, None, option_and_then, option_map, slice_get, if◌then◌else◌, nat_le}
 use Rattle.types.specs.declared.ty.ComplexMemoryMap.{ComplexMemoryMap}
 use Rattle.types.specs.declared.ty.Const.{Const}
 use Rattle.types.specs.declared.ty.GenericArg.{GenericArg}
@@ -13,6 +13,7 @@ use Rattle.types.specs.declared.ty.UnevaluatedConst.{UnevaluatedConst}
 use Rattle.types.specs.declared.ty.ValueConst.{ValueConst}
 use Rattle.world.specs.declared.database.HirDatabase.{HirDatabase}
 use Rattle.world.specs.Lookups.{layout_of}
+use Rattle.numbers.specs.Aggregates.{with_part}
 use Rattle.source_meaning.specs.Source.{Source, Store, cell_type, PlaceElem, Part, Place, Operand, Literally, At}
 
 -- a type's variant
@@ -59,12 +60,24 @@ bytes_behind world (elem ∷ rest) ty bytes =
     option_and_then (λ offset. option_and_then (λ size. part_of offset size bytes)
     (option_map (λ layout. layout.size) (option_and_then (layout_of world) (type_behind (elem ∷ rest) ty)))) (offset_behind world (elem ∷ rest) ty)
 
+-- The bytes of a value of a type after others were put behind elements, where these are as many as lie there. Without elements they take
+-- the place of all.
+unfoldable pub bytes_with : HirDatabase → List PlaceElem → Option Ty → (put bytes : List ℕ) → Option (List ℕ)
+bytes_with world [] ty put bytes = if length put == length bytes then Some put else None
+bytes_with world (elem ∷ rest) ty put bytes =
+    option_and_then (λ offset. option_and_then (λ size. if length put == size then with_part offset put bytes else None)
+    (option_map (λ layout. layout.size) (option_and_then (layout_of world) (type_behind (elem ∷ rest) ty)))) (offset_behind world (elem ∷ rest) ty)
+
 -- the type of a place's value, and its bytes now, where its type and the layouts on the way say which they are
 unfoldable pub place_type : Source → Place → Option Ty
 place_type source place = type_behind place.projection (cell_type source place.cell)
 
 unfoldable pub place_bytes : Source → Store → Place → Option (List ℕ)
 place_bytes source store place = bytes_behind source.world place.projection (cell_type source place.cell) (store place.cell)
+
+-- the bytes of a place's cell after others were put at the place
+unfoldable pub cell_with : Source → Store → Place → List ℕ → Option (List ℕ)
+cell_with source store place put = bytes_with source.world place.projection (cell_type source place.cell) put (store place.cell)
 
 -- the type of an operand, and its bytes now
 abbrev pub operand_type : Source → Operand → Option Ty

@@ -11,8 +11,10 @@ use Rattle.world.specs.declared.infer.ValueNs.{ValueNs}
 use Rattle.world.specs.declared.layout.Layout.{Layout}
 use Rattle.types.specs.declared.ty.Ty.{Ty}
 use Rattle.types.specs.declared.ids.BindingId.{BindingId}
+use Rattle.types.specs.declared.ids.ExprId.{ExprId}
+use Rattle.types.specs.declared.ids.PatId.{PatId}
 use Rattle.world.specs.Lookups.{layout_of, type_of, expr_of, is_copy}
-use Rattle.source_meaning.specs.Core.{CoreExpr, cast_operation, core_of, field_named, is_adjusted_otherwise, is_adjusted_twice, named_path, type_after, is_adjusted_pattern, is_dereferenced_pattern, path_of, pattern_names_item, local_named, name_of, names_item, never_target}
+use Rattle.source_meaning.specs.Core.{Assigned, Assignee, ByField, ByPath, ByPattern, ByPlace, CoreExpr, Findings, cast_operation, core_of, expr_in, field_named, is_adjusted_otherwise, is_adjusted_twice, named_path, part_in, type_after, is_adjusted_pattern, is_dereferenced_pattern, path_of, pattern_names_item, local_named, name_of, names_item, never_target}
 
 -- a typed body in its world
 pub record Source : Type 0 where
@@ -20,12 +22,49 @@ pub record Source : Type 0 where
   pub body : Body
   pub infer : InferenceResult
 
+-- the expression that a pattern of the source holds, where it isn't dereferenced
+unfoldable pub pattern_expr : Source → ℕ → Option ExprId
+pattern_expr source p = if is_dereferenced_pattern source.infer (record { 0 = p }) then None else option_and_then expr_in (slice_get source.body.pats p)
+
+-- what a pattern is as the target of an assignment
+abbrev pub assignee_by : ℕ → Option ExprId → Assignee
+assignee_by p (Some e) = ByPlace e.0
+assignee_by p None = ByPattern p
+
+abbrev pub assignee : Source → PatId → Assignee
+assignee source p = assignee_by p.0 (pattern_expr source p.0)
+
+-- The base and the index of the part of a tuple that an expression is, where it is one. The one adjustment by which an operator's method would
+-- borrow it isn't looked at.
+unfoldable pub assigned_field : Source → ℕ → Option (ℕ × ℕ)
+assigned_field source e =
+    if is_adjusted_twice source.infer (record { 0 = e }) then None
+    else option_and_then (part_in (field_named source.infer (record { 0 = e }))) (expr_of source.body e)
+
+-- what an expression is as the target of a compound assignment
+abbrev pub assigned_by : ℕ → Option (ℕ × ℕ) → Assigned
+assigned_by e (Some field) = ByField field.0 field.1
+assigned_by e None = ByPath e
+
+abbrev pub assigned : Source → ExprId → Assigned
+assigned source e = assigned_by e.0 (assigned_field source e.0)
+
+-- what the form of an expression of the source depends on
+abbrev pub findings : Source → ℕ → Findings
+findings source e = record {
+  names_item = names_item source.infer (record { 0 = e });
+  casts = cast_operation source.infer (record { 0 = e });
+  field = field_named source.infer (record { 0 = e });
+  assignee = assignee source;
+  assigned = assigned source;
+}
+
 -- an expression itself, as it is before its value is adjusted, where it is of a form with a meaning and its only adjustment, if
 -- any, is `NeverToAny`
 unfoldable pub node : Source → ℕ → Option CoreExpr
 node source e =
     if is_adjusted_otherwise source.infer (record { 0 = e }) then None
-    else option_and_then (core_of (names_item source.infer (record { 0 = e })) (cast_operation source.infer (record { 0 = e })) (field_named source.infer (record { 0 = e }))) (expr_of source.body e)
+    else option_and_then (core_of (findings source e)) (expr_of source.body e)
 
 -- whether an expression's value is adjusted by `NeverToAny`
 abbrev pub diverges : Source → ℕ → Bool

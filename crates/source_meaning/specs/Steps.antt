@@ -5,7 +5,7 @@ use Rattle.types.specs.declared.ids.ExprId.{ExprId}
 use Rattle.world.specs.declared.body.Statement.{Statement}
 use Rattle.world.specs.declared.body.Statement.TheVariants as statement
 use Rattle.source_meaning.specs.Core as expr
-use Rattle.source_meaning.specs.Core.{CoreExpr}
+use Rattle.source_meaning.specs.Core.{Assigned, Assignee, ByField, ByPath, ByPattern, ByPlace, CoreExpr}
 
 -- A step of a form: it evaluates an expression to an operand, to a place, or into a given place (the form's own, that of the loop
 -- which a `break` ends, or the return path), binds a pattern, or opens or closes a scope.
@@ -33,6 +33,15 @@ tail_steps None = []
 abbrev pub block_steps : List Statement → Option ExprId → List Step
 block_steps statements tail = flat_map statement_steps statements ++ tail_steps tail
 
+-- what is evaluated for the target of an assignment, and of a compound one
+abbrev pub assignee_steps : Assignee → List Step
+assignee_steps (ByPattern pat) = []
+assignee_steps (ByPlace e) = Place e ∷ []
+
+abbrev pub assigned_steps : Assigned → List Step
+assigned_steps (ByPath e) = []
+assigned_steps (ByField base index) = Place base ∷ []
+
 -- The steps of each form, in order of lowering. The callee of a call isn't evaluated: it is named by a path, whose type is a function's own.
 abbrev pub steps_of : CoreExpr → List Step
 steps_of (expr.Literal given) = []
@@ -41,8 +50,8 @@ steps_of (expr.Field base field) = Place base ∷ []
 steps_of (expr.Strict operation operands) = map Operand operands
 steps_of (expr.Logic op left right) = Operand left ∷ Into right ∷ []
 steps_of (expr.If condition then_branch else_branch) = Operand condition ∷ Into then_branch ∷ tail_steps else_branch
-steps_of (expr.Assign target value) = Place value ∷ []
-steps_of (expr.Compound op target value) = Operand value ∷ []
+steps_of (expr.Assign to value) = Place value ∷ assignee_steps to
+steps_of (expr.Compound op to value) = assigned_steps to ++ Operand value ∷ []
 steps_of (expr.Block statements tail) = Open ∷ block_steps statements tail ++ Close ∷ []
 steps_of (expr.Labelled label statements tail) = Open ∷ block_steps statements tail ++ Close ∷ []
 steps_of (expr.Loop label body) = Open ∷ Place body ∷ Close ∷ []

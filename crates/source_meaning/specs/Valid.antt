@@ -20,7 +20,7 @@ use Rattle.numbers.specs.declared.operator.Operator.TheVariants.{Add, Sub, Mul, 
 use Rattle.source_meaning.specs.Around.{Opened, meant}
 use Rattle.source_meaning.specs.Calls.{function_called, source_of, source_called, parameters}
 use Rattle.source_meaning.specs.Core as expr
-use Rattle.source_meaning.specs.Core.{CoreExpr, CoreLiteral, Truth, Number, Character, Operation, Negate, Invert, Keep, Convert, Combine, MakeTuple, MakeArray, Repeat, is_truth, IsNoCall}
+use Rattle.source_meaning.specs.Core.{Assigned, Assignee, ByField, ByPath, ByPattern, ByPlace, CoreExpr, CoreLiteral, Truth, Number, Character, Operation, Negate, Invert, Keep, Convert, Combine, MakeTuple, MakeArray, Repeat, is_place, is_truth, IsNoCall}
 use Rattle.source_meaning.specs.Source.{Source, node, unadjusted, diverges, own_type, node_type, binding_type, pattern, pattern_type, target, compound_target, named_by, root}
 use Rattle.source_meaning.specs.Steps.{Step, steps_of, step_part, parts_of}
 use Rattle.source_meaning.specs.Steps as step
@@ -172,25 +172,34 @@ pub record IsPlainIf (source : Source) (condition then_branch : ℕ) (else_branc
   pub then_has : node_type source then_branch ≡ Some ty
   pub else_has : IsPlainTail source else_branch ty
 
--- the target of an assignment names a binding of its type, which is the value's
-pub record IsPlainAssign (source : Source) (assigned value : ℕ) : Type 0 where
+-- the path that a pattern is names a binding of the pattern's type
+pub record IsPlainTarget (source : Source) (pat : ℕ) (ty : Ty) : Type 0 where
   pub binding : BindingId
-  pub ty : Ty
-  pub names : target source assigned ≡ Some binding
-  pub target_has : pattern_type source assigned ≡ Some ty
+  pub names : target source pat ≡ Some binding
+  pub target_has : pattern_type source pat ≡ Some ty
   pub binding_has : binding_type source binding.0 ≡ Some ty
+
+-- an expression of a type is a path or a field, and isn't adjusted
+pub record IsPlainPlace (source : Source) (e : ℕ) (ty : Ty) : Type 0 where
+  pub place : is_place (unadjusted source e) ≡ true
+  pub has : node_type source e ≡ Some ty
+
+-- the target of an assignment is a place of a type
+abbrev pub IsPlainAssignee : Source → Assignee → Ty → Type 0
+IsPlainAssignee source (ByPattern pat) ty = IsPlainTarget source pat ty
+IsPlainAssignee source (ByPlace e) ty = IsPlainPlace source e ty
+
+-- which is the value's
+pub record IsPlainAssign (source : Source) (to : Assignee) (value : ℕ) : Type 0 where
+  pub ty : Ty
+  pub assignee : IsPlainAssignee source to ty
   pub value_has : node_type source value ≡ Some ty
 
--- the target of a compound assignment names a binding, of a type that has the operator and takes its result, with a value of the other
--- operand's
-pub record IsPlainCompound (source : Source) (op : Operator) (assigned value : ℕ) : Type 0 where
+-- the path that the target of a compound assignment is names a binding of a type
+pub record IsPlainOwn (source : Source) (e : ℕ) (ty : Ty) : Type 0 where
   pub binding : BindingId
-  pub ty : Ty
-  pub other : Ty
-  pub names : compound_target source assigned ≡ Some binding
+  pub names : compound_target source e ≡ Some binding
   pub binding_has : binding_type source binding.0 ≡ Some ty
-  pub value_has : node_type source value ≡ Some other
-  pub typed : IsCombined op ty other ty
 
 -- a path names a binding of its type
 pub record IsPlainPath (source : Source) (e : ℕ) (ty : Ty) : Type 0 where
@@ -203,6 +212,19 @@ pub record IsPlainField (source : Source) (base index : ℕ) (ty : Ty) : Type 0 
   pub parts : List Ty
   pub base_has : node_type source base ≡ Some (TupleTy parts)
   pub part_has : slice_get parts index ≡ Some ty
+
+-- the target of a compound assignment is a place of a type
+abbrev pub IsPlainAssigned : Source → Assigned → Ty → Type 0
+IsPlainAssigned source (ByPath e) ty = IsPlainOwn source e ty
+IsPlainAssigned source (ByField base index) ty = IsPlainField source base index ty
+
+-- which has the operator and takes its result, with a value of the other operand's
+pub record IsPlainCompound (source : Source) (op : Operator) (to : Assigned) (value : ℕ) : Type 0 where
+  pub ty : Ty
+  pub other : Ty
+  pub assigned : IsPlainAssigned source to ty
+  pub value_has : node_type source value ≡ Some other
+  pub typed : IsCombined op ty other ty
 
 -- the value of a `return`, where there is one, has the type of the body's result
 pub record HasPlainReturn (source : Source) (value : Option ExprId) : Type 0 where
@@ -250,8 +272,8 @@ HasPlainForm source e (Some (expr.Field base index)) ty = IsPlainField source ba
 HasPlainForm source e (Some (expr.Strict operation operands)) ty = IsPlainStrict source operation operands ty
 HasPlainForm source e (Some (expr.Logic op left right)) ty = IsPlainLogic source left right ty
 HasPlainForm source e (Some (expr.If condition then_branch else_branch)) ty = IsPlainIf source condition then_branch else_branch ty
-HasPlainForm source e (Some (expr.Assign assigned value)) ty = IsPlainAssign source assigned value
-HasPlainForm source e (Some (expr.Compound op assigned value)) ty = IsPlainCompound source op assigned value
+HasPlainForm source e (Some (expr.Assign to value)) ty = IsPlainAssign source to value
+HasPlainForm source e (Some (expr.Compound op to value)) ty = IsPlainCompound source op to value
 HasPlainForm source e (Some (expr.Block statements tail)) ty = All (IsPlainStatement source) statements × IsPlainTail source tail ty
 HasPlainForm source e (Some (expr.Labelled label statements tail)) ty = All (IsPlainStatement source) statements × IsPlainTail source tail ty
 HasPlainForm source e (Some (expr.Loop label body)) ty = Unit {0}
