@@ -9,10 +9,11 @@ use Rattle.mir.specs.declared.operand.OperandKind.{OperandKind}
 use Rattle.mir.specs.Memory.{Memory}
 use Rattle.mir.specs.Run.{Frame, operand_bytes as mir_bytes, operand_type as mir_type}
 use Rattle.source_meaning.specs.Around.{Around, Target}
+use Rattle.source_meaning.specs.Core.{Assigned, Assignee}
 use Rattle.source_meaning.specs.Ends.{Cost, cost_of, End, Go, Jumps, Faults, Stuck, More, Jump, Break, Continue, Return}
-use Rattle.source_meaning.specs.Meaning.{level_at, operands_of, field_place, statements_of, tail_into, bind}
-use Rattle.source_meaning.specs.Places.{operand_bytes, operand_type}
-use Rattle.source_meaning.specs.Source.{Source, pattern, target, Cell, Result, PlaceElem, Part, Place, Store, Operand}
+use Rattle.source_meaning.specs.Meaning.{level_at, operands_of, assigned_place, assignee_place, copy_at, field_place, statements_of, tail_into, bind}
+use Rattle.source_meaning.specs.Places.{operand_bytes, operand_type, place_bytes}
+use Rattle.source_meaning.specs.Source.{Source, pattern, Cell, Result, PlaceElem, Part, Place, Store, Operand}
 use Rattle.world.specs.declared.body.Statement.{Statement}
 use Rattle.types.specs.declared.ids.ExprId.{ExprId}
 use Rattle.mir_lower.specs.Graph.{Shape, OpenTarget, elements_in, local_of}
@@ -171,6 +172,13 @@ DoesTail source old new tail cell = Performs source old new Nothing (λ around f
 abbrev pub DoesBind : Source → Shape → Shape → ℕ → Place → Type 0
 DoesBind source old new pat at = Performs source old new Nothing (λ around fuel store. bind source (pattern source pat) at store)
 
--- the code assigns a place's value to the name that an assignment's target is
-abbrev pub DoesAssign : Source → Shape → Shape → ℕ → Place → Type 0
-DoesAssign source old new assigned at = Performs source old new Nothing (λ around fuel store. bind source (target source assigned) at store)
+-- the code finds the place that an assignment writes to, or a compound one
+abbrev pub DoesAssignee : Source → Shape → Shape → Assignee → GraphPlace → Type 0
+DoesAssignee source old new to place = Finds source old new place (λ around fuel store. assignee_place source (level_at source fuel around) to store)
+
+abbrev pub DoesAssigned : Source → Shape → Shape → Assigned → GraphPlace → Type 0
+DoesAssigned source old new to place = Finds source old new place (λ around fuel store. assigned_place source (level_at source fuel around) to store)
+
+-- the code copies the bytes of one place to another
+abbrev pub DoesAssign : Source → Shape → Shape → (to from : Place) → Type 0
+DoesAssign source old new to from = Performs source old new Nothing (λ around fuel store. copy_at source store to (place_bytes source store from))

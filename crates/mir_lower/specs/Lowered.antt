@@ -9,14 +9,14 @@ use Rattle.mir.specs.declared.operand.Rvalue.{Rvalue}
 use Rattle.mir.specs.declared.operand.Rvalue.TheVariants.{Cast}
 use Rattle.types.specs.declared.ty.Ty.{Ty}
 use Rattle.source_meaning.specs.Core as expr
-use Rattle.source_meaning.specs.Core.{CoreExpr, is_truth}
+use Rattle.source_meaning.specs.Core.{Assigned, Assignee, CoreExpr, is_truth}
 use Rattle.world.specs.declared.body.Statement.{Statement}
 use Rattle.types.specs.declared.ids.BindingId.{BindingId}
 use Rattle.types.specs.declared.ids.ExprId.{ExprId}
 use Rattle.world.specs.declared.infer.ValueNs.TheVariants.{LocalBinding}
-use Rattle.source_meaning.specs.Events.{marked, marked_itself, marked_as_place, marked_as_operand, marked_by_statement, marked_by_tail}
+use Rattle.source_meaning.specs.Events.{marked, marked_itself, marked_as_place, marked_as_operand, marked_by_assigned, marked_by_assignee, marked_by_statement, marked_by_tail}
 use Rattle.source_meaning.specs.Source.{Source, Cell, Place, node, unadjusted, own_type, node_type, named_by, pattern, target, compound_target, bound_by}
-use Rattle.source_meaning.specs.Steps.{statement_parts}
+use Rattle.source_meaning.specs.Steps.{assigned_parts, assignee_parts, statement_parts}
 use Rattle.source_meaning.specs.Aggregates.{HasAggregates}
 use Rattle.source_meaning.specs.Around.{Opened}
 use Rattle.source_meaning.specs.Valid.{IsPlainFrom, JumpsFit, IsLaidOut, NeedsLayout, IsLaidOutNode}
@@ -24,7 +24,7 @@ use Rattle.mir_lower.specs.Graph.{Shape, binding_local, local_of}
 use Rattle.mir_lower.specs.Growth.{Grows, Spares, IsSound, IsOpen}
 use Rattle.mir.specs.Memory.{Memory}
 use Rattle.mir.specs.Run.{Frame}
-use Rattle.mir_lower.specs.Does.{here, IsFrameOf, Does, DoesOwn, DoesOperand, DoesOperands, DoesPlace, DoesField, DoesStatements, DoesTail, DoesBind, DoesAssign}
+use Rattle.mir_lower.specs.Does.{here, IsFrameOf, Does, DoesOwn, DoesOperand, DoesOperands, DoesPlace, DoesField, DoesStatements, DoesTail, DoesBind, DoesAssign, DoesAssigned, DoesAssignee}
 use Rattle.mir_lower.specs.Runs.{Comes}
 
 -- the graph is as sound as before, has what it had, and these cells more came into use in the innermost open scope
@@ -105,22 +105,34 @@ pub record Binds (source : Source) (old new : Shape) (pat : ℕ) (at : Place) : 
   pub keeps : Keeps source old new (bound_by (pattern source pat))
   pub does : DoesBind source old new pat at
 
--- the target of an assignment names a binding with this local
+-- the path that the target of an assignment is names a binding with this local
 pub record IsTargeted (source : Source) (s : Shape) (assigned local : ℕ) : Type 0 where
   pub binding : BindingId
   pub names : target source assigned ≡ Some binding
   pub found : binding_local s binding.0 ≡ Some local
 
--- the target of a compound assignment names a binding that has a local
+-- and so does that of a compound one
 pub record IsCombinedIn (source : Source) (s : Shape) (assigned local : ℕ) : Type 0 where
   pub binding : BindingId
   pub names : compound_target source assigned ≡ Some binding
   pub found : binding_local s binding.0 ≡ Some local
 
--- the value of a place was assigned to a target: no cell is marked as in use
-pub record Assigns (source : Source) (old new : Shape) (assigned : ℕ) (at : Place) : Type 0 where
+-- the target of an assignment was lowered to a place
+pub record LowersAssignee (source : Source) (old new : Shape) (to : Assignee) (place : GraphPlace) : Type 0 where
+  pub keeps : Keeps source old new (marked_by_assignee source to)
+  pub does : DoesAssignee source old new to place
+  pub laid : (child : ℕ) → Contains (assignee_parts to) child → LaysOut source new child
+
+-- and that of a compound one
+pub record LowersAssigned (source : Source) (old new : Shape) (to : Assigned) (place : GraphPlace) : Type 0 where
+  pub keeps : Keeps source old new (marked_by_assigned source to)
+  pub does : DoesAssigned source old new to place
+  pub laid : (child : ℕ) → Contains (assigned_parts to) child → LaysOut source new child
+
+-- the bytes of one place were copied to another: no cell is marked as in use
+pub record Assigns (source : Source) (old new : Shape) (to from : Place) : Type 0 where
   pub keeps : Keeps source old new []
-  pub does : DoesAssign source old new assigned at
+  pub does : DoesAssign source old new to from
 
 -- statements were lowered
 pub record LowersStatements (source : Source) (old new : Shape) (statements : List Statement) : Type 0 where

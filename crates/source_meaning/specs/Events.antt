@@ -3,9 +3,9 @@
 use Rattle.std.specs.Prelude.{Bool, ℕ, zero, suc, cond, List, [], ◌∷◌, ◌++◌, length, map, flat_map, Option, Some, None}
 use Rattle.types.specs.declared.ids.ExprId.{ExprId}
 use Rattle.world.specs.declared.body.Statement.{Statement}
-use Rattle.source_meaning.specs.Core.{Assigned, CoreExpr, is_literal, is_path, is_place}
+use Rattle.source_meaning.specs.Core.{Assigned, Assignee, CoreExpr, is_literal, is_path, is_place}
 use Rattle.source_meaning.specs.Source.{Source, Cell, Node, node, unadjusted, never_marks, pattern, bound_by}
-use Rattle.source_meaning.specs.Steps.{Step, assigned_steps, statement_steps, tail_steps, block_steps, steps_of}
+use Rattle.source_meaning.specs.Steps.{Step, assigned_steps, assignee_steps, statement_steps, tail_steps, block_steps, steps_of}
 use Rattle.source_meaning.specs.Steps as step
 
 -- a scope opens, a cell is marked as live in the innermost open scope, or the innermost open scope closes
@@ -78,7 +78,7 @@ unfoldable pub marks_of : List Event → List Cell
 marks_of listed = innermost (scopes_after ([] ∷ []) listed)
 
 -- The cells that come into use in the scope that is open around: in an expression that is evaluated into a place, to a
--- place, or to an operand; in the target of a compound assignment; in a statement; in a tail; and in a block's own scope.
+-- place, or to an operand; in the target of an assignment, and of a compound one; in a statement; in a tail; and in a block's own scope.
 unfoldable pub marked : Source → ℕ → List Cell
 marked source e = marks_of (events source e)
 
@@ -91,6 +91,9 @@ marked_as_place source e = marks_of (place_events source (events source) e)
 
 unfoldable pub marked_as_operand : Source → ℕ → List Cell
 marked_as_operand source e = marks_of (operand_events source (events source) e)
+
+unfoldable pub marked_by_assignee : Source → Assignee → List Cell
+marked_by_assignee source to = marks_of (events_through source (assignee_steps to))
 
 unfoldable pub marked_by_assigned : Source → Assigned → List Cell
 marked_by_assigned source to = marks_of (events_through source (assigned_steps to))

@@ -72,6 +72,13 @@ abbrev pub parts_of : Option CoreExpr → List ℕ
 parts_of (Some form) = flat_map step_part (steps_of form)
 parts_of None = []
 
+-- the expressions that are evaluated for the target of an assignment, and of a compound one
+abbrev pub assignee_parts : Assignee → List ℕ
+assignee_parts to = flat_map step_part (assignee_steps to)
+
+abbrev pub assigned_parts : Assigned → List ℕ
+assigned_parts to = flat_map step_part (assigned_steps to)
+
 -- the expressions that a statement evaluates
 abbrev pub statement_parts : Statement → List ℕ
 statement_parts given = flat_map step_part (statement_steps given)
