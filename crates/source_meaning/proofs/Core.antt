@@ -21,7 +21,7 @@ use Rattle.types.specs.declared.operators.BinaryOp.{BinaryOp}
 use Rattle.types.specs.declared.operators.BinaryOp.TheVariants as binary
 use Rattle.numbers.specs.Operators.{of_arith, of_compare}
 use Rattle.source_meaning.specs.Core.{CoreExpr, Findings, Operation, MakeTuple, MakeArray, Repeat, Literal, Path, Field, Strict, Logic, If, Assign, Compound, Block, Labelled, Loop, Break, Continue, Return, Call, core_literal, unary_operation, unary_form, eager_form, binary_form, field_form, core_of, expr_in, field_named, is_adjusted_otherwise, is_adjusted_twice, is_dereferenced_pattern, part_in, tuple_part}
-use Rattle.source_meaning.specs.Source.{Source, assigned, assigned_by, assigned_field, assignee, assignee_by, findings, node, pattern_expr}
+use Rattle.source_meaning.specs.Source.{Source, assigned_by, assigned_field, assignee_by, findings, node, pattern_expr}
 use Rattle.source_meaning.specs.Steps.{parts_of, assigned_parts, assignee_parts, statement_parts}
 use Rattle.source_meaning.proofs.Parts.{first_is_contained, nothing_is_contained, rest_is_contained, among_more, strict_parts, if_parts, compound_parts, block_parts, tail_part, call_parts}
 
@@ -135,16 +135,15 @@ held_from false None e is = absurd cc
 held_from false (Some (pat.Expr held)) e is = (pat.Expr held, refl, (let same : held ≡ e = cc in ap (λ (one : ExprId). one.0 ∷ []) same))
 held_from false (Some _) e is = absurd cc
 
--- what the target of an assignment evaluates its pattern holds
-assignee_part_is_inner : (source : Source) (target : PatId) (child : ℕ) → Contains (assignee_parts (assignee source target)) child → (given : Pat) × (slice_get source.body.pats target.0 ≡ Some given) × Contains (inner_exprs_of given) child
+pattern_holds : (source : Source) (p : ℕ) (e : ExprId) → pattern_expr source p ≡ Some e → (given : Pat) × (slice_get source.body.pats p ≡ Some given) × (inner_exprs_of given ≡ e.0 ∷ [])
 unfolding pattern_expr
-assignee_part_is_inner source target child within = by_held (pattern_expr source target.0) refl within
-  where
-    by_held : (held : Option ExprId) → pattern_expr source target.0 ≡ held → Contains (assignee_parts (assignee_by target.0 held)) child → (given : Pat) × (slice_get source.body.pats target.0 ≡ Some given) × Contains (inner_exprs_of given) child
-    by_held (Some e) is inside =
-        let from = held_from (is_dereferenced_pattern source.infer (record { 0 = target.0 })) (slice_get source.body.pats target.0) e is in
-        (from.0, from.1, subst (λ held. Contains held child) (sym from.2) inside)
-    by_held None is inside = absurd (nothing_is_contained child inside)
+pattern_holds source p e is = held_from (is_dereferenced_pattern source.infer (record { 0 = p })) (slice_get source.body.pats p) e is
+
+-- what the target of an assignment evaluates its pattern holds
+assignee_part_is_inner : (source : Source) (p : ℕ) (held : Option ExprId) (child : ℕ) → pattern_expr source p ≡ held → Contains (assignee_parts (assignee_by p held)) child →
+    (given : Pat) × (slice_get source.body.pats p ≡ Some given) × Contains (inner_exprs_of given) child
+assignee_part_is_inner source p (Some e) child is within = let from = pattern_holds source p e is in (from.0, from.1, subst (λ inner. Contains inner child) (sym from.2) within)
+assignee_part_is_inner source p None child is within = absurd (nothing_is_contained child within)
 
 -- the field that an expression is as the target of a compound assignment
 tuple_part_base : (base : ℕ) (named : Option (Either FieldId TupleFieldId)) (field : ℕ × ℕ) → tuple_part base named ≡ Some field → base ≡ field.0
@@ -158,16 +157,15 @@ field_from false named None field is = absurd cc
 field_from false named (Some (whole.Field base name)) field is = (whole.Field base name, refl, ap (λ b. b ∷ []) (tuple_part_base base.0 named field is))
 field_from false named (Some _) field is = absurd cc
 
--- what the target of a compound assignment evaluates it holds
-assigned_part_is_child : (source : Source) (left : ExprId) (child : ℕ) → Contains (assigned_parts (assigned source left)) child → (given : Expr) × (expr_of source.body left.0 ≡ Some given) × Contains (children_of given) child
+field_holds : (source : Source) (e : ℕ) (field : ℕ × ℕ) → assigned_field source e ≡ Some field → (given : Expr) × (expr_of source.body e ≡ Some given) × (children_of given ≡ field.0 ∷ [])
 unfolding assigned_field
-assigned_part_is_child source left child within = by_field (assigned_field source left.0) refl within
-  where
-    by_field : (field : Option (ℕ × ℕ)) → assigned_field source left.0 ≡ field → Contains (assigned_parts (assigned_by left.0 field)) child → (given : Expr) × (expr_of source.body left.0 ≡ Some given) × Contains (children_of given) child
-    by_field (Some field) is inside =
-        let from = field_from (is_adjusted_twice source.infer (record { 0 = left.0 })) (field_named source.infer (record { 0 = left.0 })) (expr_of source.body left.0) field is in
-        (from.0, from.1, subst (λ held. Contains held child) (sym from.2) inside)
-    by_field None is inside = absurd (nothing_is_contained child inside)
+field_holds source e field is = field_from (is_adjusted_twice source.infer (record { 0 = e })) (field_named source.infer (record { 0 = e })) (expr_of source.body e) field is
+
+-- what the target of a compound assignment evaluates it holds
+assigned_part_is_child : (source : Source) (e : ℕ) (field : Option (ℕ × ℕ)) (child : ℕ) → assigned_field source e ≡ field → Contains (assigned_parts (assigned_by e field)) child →
+    (given : Expr) × (expr_of source.body e ≡ Some given) × Contains (children_of given) child
+assigned_part_is_child source e (Some field) child is within = let from = field_holds source e field is in (from.0, from.1, subst (λ held. Contains held child) (sym from.2) within)
+assigned_part_is_child source e None child is within = absurd (nothing_is_contained child within)
 
 node_from : (adjusted : Bool) (findings : Findings) (found : Option Expr) (core : CoreExpr) → if adjusted then None else option_and_then (core_of findings) found ≡ Some core → (e : Expr) × (found ≡ Some e) × (core_of findings e ≡ Some core)
 node_from true findings found core is = absurd cc
@@ -178,10 +176,10 @@ node_from false findings (Some e) core is = (e, refl, is)
 standing_is_below : (source : Source) → IsCheckedBody source.body source.infer → (e : ℕ) (given : Expr) → expr_of source.body e ≡ Some given → (child : ℕ) → StandsIn (findings source e) given child → child < e
 standing_is_below source checked e given is child (as_child within) = All-contains (λ other. other < e) (children_of given) child (checked.children e given is) within
 standing_is_below source checked e given is child (in_target k target holds within) =
-    let from = assignee_part_is_inner source target child within in
+    let from = assignee_part_is_inner source target.0 (pattern_expr source target.0) child refl within in
     All-contains (λ other. other < e) (inner_exprs_of from.0) child (checked.inside e given k target.0 from.0 is holds from.1) from.2
 standing_is_below source checked e given is child (in_left left holds within) =
-    let from = assigned_part_is_child source left child within in
+    let from = assigned_part_is_child source left.0 (assigned_field source left.0) child refl within in
     let lower : child < left.0 = All-contains (λ other. other < left.0) (children_of from.0) child (checked.children left.0 from.0 from.1) from.2 in
     let earlier : left.0 < e = All-contains (λ other. other < e) (children_of given) left.0 (checked.children e given is) holds in
     omega (arith, lower, earlier)
