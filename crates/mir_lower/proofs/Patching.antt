@@ -162,23 +162,20 @@ whole-patched memory cell old bytes all found fits = by_test (eqb (length bytes)
 abbrev ends-in : Interval → Option ℕ → Option ℕ → Option Interval
 ends-in cell size offset = option_and_then (λ at. option_and_then (part_of_cell cell at) size) offset
 
+part-within : (bytes old all : List ℕ) (offset : ℕ) → bytes_with_part offset bytes old ≡ Some all → offset + length bytes ≤ length old
+unfolding bytes_with_part
+part-within bytes old all offset made = (kept-some (offset + length bytes) (length old) (replaced old offset bytes) all made).0
+
 -- so many bytes from an offset on, where as many are written
 pub part-patched : (memory : Memory) (cell : Interval) (old bytes all : List ℕ) → cell_bytes memory cell ≡ Some old → (size offset : Option ℕ) →
     option_and_then (λ at. option_and_then (λ count. cond (eqb (length bytes) count) (bytes_with_part at bytes old) None) size) offset ≡ Some all →
     (part : Interval) × (option_and_then (λ at. option_and_then (part_of_cell cell at) size) offset ≡ Some part) × IsPatched memory cell bytes all part
 part-patched memory cell old bytes all found (Some count) (Some at) fits = by_test (eqb (length bytes) count) refl fits
   where
-    within : length bytes ≡ count → bytes_with_part at bytes old ≡ Some all → at + count ≤ cell.size
-    unfolding bytes_with_part
-    within equal same =
-        let kept = (kept-some (at + length bytes) (length old) (replaced old at bytes) all same).0 in
-        let long = length-cell_bytes memory cell old found in
-        omega arith
-
     by_test : (test : Bool) → eqb (length bytes) count ≡ test → cond test (bytes_with_part at bytes old) None ≡ Some all → (part : Interval) × (ends-in cell (Some count) (Some at) ≡ Some part) × IsPatched memory cell bytes all part
     by_test true is same =
         let equal = eqb-true (length bytes) count is in
-        let inside = within equal same in
+        let inside : at + count ≤ cell.size = (let fits = part-within bytes old all at same in let long = length-cell_bytes memory cell old found in omega arith) in
         let part : Interval = record { addr = moved cell.addr at; size = count } in
         let written = part-written memory cell old bytes all at found same in (
           part,
