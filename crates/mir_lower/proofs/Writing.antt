@@ -71,7 +71,8 @@ module _ (source : Source) (whole : Shape) (frame : Frame) (place : GraphPlace) 
       let later = patched.later in
       record {
         shows = λ d k h. ⊎_elim
-            (λ one. let equal : local ≡ k = (let h' : local_of whole at.cell ≡ Some k = ap (local_of whole) one.0 ∙ h in let h'' = same.found in cc) in
+            (λ one. let both : Some local ≡ Some k = sym same.found ∙ ap (local_of whole) one.0 ∙ h in
+            let equal : local ≡ k = cc in
             ap (local_bytes frame later) (sym equal)
             ∙ local_bytes-at frame later local cell there
             ∙ patched.read
@@ -106,7 +107,7 @@ module _ (source : Source) (whole : Shape) (frame : Frame) (place : GraphPlace) 
   place-there store memory holds bytes found =
       option_and_then_some (cell_bytes memory) (place_cell frame.program.world frame.body frame.cells place) bytes
       ((place-fits source whole frame place at sound is world same).bytes store memory holds ∙ found)
-      (λ cell there read. (cell, there))
+      (λ cell there found. (cell, there))
 
 -- an assignment to a place, of bytes or of what an operation answers
 module _ (source : Source) (s whole : Shape) (frame : Frame) (place : GraphPlace) (at : Place) (rvalue : Rvalue) (span : MirSpan) (opened : IsOpen s) (sound : IsSound source whole) (is : IsFrameOf whole frame) (world : frame.program.world ≡ source.world) (lands : Landings) (grows : Grows (with_statement (record { kind = Assign place rvalue; span = span }) s) whole) (same : IsAt whole place at) (store : Store) (memory : Memory) (holds : Holds whole frame store memory) where
