@@ -22,10 +22,10 @@ use Rattle.mir.specs.Places as graph
 use Rattle.mir.specs.Places.{part_of_cell, cell_at, cell_behind, place_cell}
 use Rattle.mir.specs.Run.{Frame, after_statement, bad_write, copied, operand_bytes as mir_bytes, read, rvalue_bytes}
 use Rattle.source_meaning.specs.Core.{Operation}
-use Rattle.source_meaning.specs.Meaning.{Value, answer_at, answered, answered_for, copy_at, put_all, put_at}
+use Rattle.source_meaning.specs.Meaning.{Value, answer_at, answered, answered_for, copy_at, operand_kind, put_all, put_at, values_of}
 use Rattle.source_meaning.specs.Places as source_place
 use Rattle.source_meaning.specs.Places.{bytes_with, cell_with, place_bytes}
-use Rattle.source_meaning.specs.Source.{Source, Store, cell_type, PlaceElem, Place, with_cell_bytes}
+use Rattle.source_meaning.specs.Source.{Source, Store, cell_type, PlaceElem, Place, Operand, At, with_cell_bytes}
 use Rattle.mir_lower.specs.Does.{here, Holds, IsAt, IsFrameOf, Landings, Nothing, Reaches, elements_of}
 use Rattle.mir_lower.specs.Graph.{Shape, local_of, with_statement}
 use Rattle.mir_lower.specs.Growth.{Grows, IsOpen, IsSound}
@@ -109,10 +109,26 @@ module _ (source : Source) (whole : Shape) (frame : Frame) (place : GraphPlace) 
       ((place-fits source whole frame place at sound is world same).bytes store memory holds ∙ found)
       (λ cell there found. (cell, there))
 
+-- the statement that assigns to a place
+abbrev pub writing : GraphPlace → Rvalue → MirSpan → Statement
+writing place rvalue span = record { kind = Assign place rvalue; span = span }
+
+-- where operands have values, a place that is the first of them has bytes
+pub first-bytes : (source : Source) (store : Store) (at : Place) (rest : List Operand) (given : List Value) → values_of source store (At at ∷ rest) ≡ Some given → (bytes : List ℕ) × (place_bytes source store at ≡ Some bytes)
+unfolding values_of
+first-bytes source store at rest given have = by_bytes (place_bytes source store at) refl have
+  where
+    made : List ℕ → Value
+    made bytes = record { kind = operand_kind source (At at); bytes = bytes }
+
+    by_bytes : (found : Option (List ℕ)) → place_bytes source store at ≡ found → option_and_then (λ (value : Value). option_map (λ (others : List Value). value ∷ others) (values_of source store rest)) (option_map (λ (bytes : List ℕ). made bytes) found) ≡ Some given → (bytes : List ℕ) × (place_bytes source store at ≡ Some bytes)
+    by_bytes (Some bytes) found same = (bytes, found)
+    by_bytes None found same = absurd cc
+
 -- an assignment to a place, of bytes or of what an operation answers
-module _ (source : Source) (s whole : Shape) (frame : Frame) (place : GraphPlace) (at : Place) (rvalue : Rvalue) (span : MirSpan) (opened : IsOpen s) (sound : IsSound source whole) (is : IsFrameOf whole frame) (world : frame.program.world ≡ source.world) (lands : Landings) (grows : Grows (with_statement (record { kind = Assign place rvalue; span = span }) s) whole) (same : IsAt whole place at) (store : Store) (memory : Memory) (holds : Holds whole frame store memory) where
+module _ (source : Source) (s whole : Shape) (frame : Frame) (place : GraphPlace) (rvalue : Rvalue) (span : MirSpan) (opened : IsOpen s) (sound : IsSound source whole) (is : IsFrameOf whole frame) (world : frame.program.world ≡ source.world) (lands : Landings) (grows : Grows (with_statement (writing place rvalue span) s) whole) (at : Place) (same : IsAt whole place at) (store : Store) (memory : Memory) (holds : Holds whole frame store memory) where
   abbrev added : Statement
-  added = record { kind = Assign place rvalue; span = span }
+  added = writing place rvalue span
 
   after-write : (bytes : List ℕ) (cell : Interval) (later : Memory) → rvalue_bytes frame memory rvalue ≡ Ok bytes → place_cell frame.program.world frame.body frame.cells place ≡ Some cell → with_bytes memory cell.addr bytes ≡ Some later → after_statement frame memory (Assign place rvalue) ≡ Ok later
   unfolding after_statement copied
