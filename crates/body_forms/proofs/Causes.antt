@@ -1,17 +1,13 @@
 -- A form that is built isn't refused: no cause of a refusal holds there but for the layout of a number.
-use Rattle.std.proofs.Common.{◌≡◌, ℕ, Bool, true, false, List, Option, Some, None, option_and_then, ⊎_elim, refl, sym, ap, ◌∙◌, subst}
+use Rattle.std.proofs.Common.{◌≡◌, ℕ, true, false, List, Option, Some, None, option_and_then, ⊎_elim, refl, sym, ap, ◌∙◌, subst}
 use Rattle.std.proofs.lemmas.Bool.{false≢true}
 use Rattle.std.proofs.lemmas.List.Elements.{All-contains}
-use Rattle.either.specs.declared.Either.{Either}
-use Rattle.source_meaning.specs.Built.{AssignsBinding, CombinesBinding, CallsFunction, is_direct, IsBuiltStatement, IsBuiltForm}
-use Rattle.source_meaning.specs.Core.{CoreExpr, Operation, Negate, Invert, Keep, Convert, Combine, MakeTuple, MakeArray, Repeat, core_of, local_named}
+use Rattle.source_meaning.specs.Built.{AssignsBinding, CombinesBinding, CallsFunction, is_direct, IsBuiltAssigned, IsBuiltAssignee, IsBuiltStatement, IsBuiltForm}
+use Rattle.source_meaning.specs.Core.{Assigned, Assignee, ByField, ByPath, ByPattern, ByPlace, CoreExpr, Findings, Negate, Invert, Keep, Convert, Combine, MakeTuple, MakeArray, Repeat, core_of, local_named}
 use Rattle.source_meaning.specs.Core as expr
 use Rattle.source_meaning.specs.Source.{Source, node, target_path, pattern_named_by, compound_path, named_by, binding_type}
 use Rattle.types.specs.declared.ids.BindingId.{BindingId}
-use Rattle.types.specs.declared.ids.ExprId.{ExprId}
-use Rattle.types.specs.declared.ids.FieldId.{FieldId}
 use Rattle.types.specs.declared.ids.FunctionId.{FunctionId}
-use Rattle.types.specs.declared.ids.TupleFieldId.{TupleFieldId}
 use Rattle.world.specs.declared.body.Statement.{Statement}
 use Rattle.world.specs.declared.body.Statement.TheVariants as statement
 use Rattle.world.specs.declared.expr.Expr.{Expr}
@@ -19,18 +15,18 @@ use Rattle.world.specs.declared.expr.Expr.TheVariants as whole
 use Rattle.world.specs.declared.infer.ValueNs.{ValueNs}
 use Rattle.world.specs.declared.infer.ValueNs.TheVariants.{LocalBinding}
 use Rattle.world.specs.Lookups.{function_row}
-use Rattle.body_forms.specs.Refusals.{IsIncomplete, LacksPart, IsUnbuiltForm, IsUnbuiltStatement, IsUnbuiltTarget, IsUnbuiltOperand, IsUnbuiltCall, IsUnbuilt, LetBindsNone, LacksLocal, IsNoArray, IsUnresolved}
+use Rattle.body_forms.specs.Refusals.{IsIncomplete, LacksPart, IsUnbuiltForm, IsUnbuiltStatement, IsUnbuiltTarget, IsUnbuiltOperand, IsUnbuiltAssigned, IsUnbuiltAssignee, IsUnbuiltCall, IsUnbuilt, LetBindsNone, AssignedLacks, AssigneeLacks, LacksLocal, IsNoArray, AssignedIsUnresolved, AssigneeIsUnresolved, IsUnresolved}
 use Rattle.body_forms.proofs.Forms.{node-plain}
 
-incomplete-core : (item : Bool) (casts : ExprId → Option Operation) (field : Option (Either FieldId TupleFieldId)) (e : Expr) → IsIncomplete e → core_of item casts field e ≡ None
-incomplete-core item casts field whole.Missing lacks = refl
-incomplete-core item casts field (whole.BinaryOp lhs rhs None) lacks = refl
-incomplete-core item casts field (whole.BinaryOp lhs rhs (Some op)) lacks = absurd lacks
-incomplete-core item casts field _ lacks = absurd lacks
+incomplete-core : (found : Findings) (e : Expr) → IsIncomplete e → core_of found e ≡ None
+incomplete-core found whole.Missing lacks = refl
+incomplete-core found (whole.BinaryOp lhs rhs None) lacks = refl
+incomplete-core found (whole.BinaryOp lhs rhs (Some op)) lacks = absurd lacks
+incomplete-core found _ lacks = absurd lacks
 
 -- an incomplete expression has no form with a meaning
 incomplete-node : (source : Source) (e : ℕ) → LacksPart source e → node source e ≡ None
-incomplete-node source e lacks = node-plain source e lacks.expr lacks.plain lacks.stands ∙ incomplete-core _ _ _ lacks.expr lacks.lacks
+incomplete-node source e lacks = node-plain source e lacks.expr lacks.plain lacks.stands ∙ incomplete-core _ lacks.expr lacks.lacks
 
 -- an incomplete expression is no unbuilt form
 pub incomplete-is-no-unbuilt : (source : Source) (e : ℕ) → LacksPart source e → IsUnbuiltForm source e → ⊥
@@ -53,17 +49,27 @@ target-names : (source : Source) (assigned : ℕ) (binding : BindingId) (path : 
 target-names source assigned binding (Some name) named is = (λ none. absurd cc, is)
 target-names source assigned binding None named is = absurd cc
 
--- the target of an assignment that is built is a path that names a binding
+-- the path to which an assignment by a pattern is built names a binding
 target-is-no-unbuilt : (source : Source) (assigned : ℕ) → AssignsBinding source assigned → IsUnbuiltTarget source assigned → ⊥
 target-is-no-unbuilt source assigned built unbuilt =
     let names = target-names source assigned built.binding (target_path source assigned) (pattern_named_by source assigned) built.names in
     ⊎_elim names.0 (λ other. let one = ap (option_and_then local_named) (sym other.1) ∙ names.1 in let none = other.2 in absurd cc) unbuilt
 
--- and so is that of a compound one
+-- and so does that of a compound one
 operand-is-no-unbuilt : (source : Source) (assigned : ℕ) → CombinesBinding source assigned → IsUnbuiltOperand source assigned → ⊥
 operand-is-no-unbuilt source assigned built unbuilt =
     let names = target-names source assigned built.binding (compound_path source assigned) (named_by source assigned) built.names in
     ⊎_elim names.0 (λ other. let one = ap (option_and_then local_named) (sym other.1) ∙ names.1 in let none = other.2 in absurd cc) unbuilt
+
+-- the target of an assignment that is built isn't refused
+assignee-is-no-unbuilt : (source : Source) (to : Assignee) → IsBuiltAssignee source to → IsUnbuiltAssignee source to → ⊥
+assignee-is-no-unbuilt source (ByPattern pat) built unbuilt = target-is-no-unbuilt source pat built unbuilt
+assignee-is-no-unbuilt source (ByPlace e) built unbuilt = false≢true (sym unbuilt ∙ built)
+
+-- and neither is that of a compound one
+assigned-is-no-unbuilt : (source : Source) (to : Assigned) → IsBuiltAssigned source to → IsUnbuiltAssigned source to → ⊥
+assigned-is-no-unbuilt source (ByPath e) built unbuilt = operand-is-no-unbuilt source e built unbuilt
+assigned-is-no-unbuilt source (ByField base index) built unbuilt = unbuilt
 
 -- a call that is built names a function, and enters its own body
 call-is-no-unbuilt : (source : Source) (e : ℕ) (callee : Option ℕ) → CallsFunction source e callee → IsUnbuiltCall source e callee → ⊥
@@ -87,8 +93,8 @@ built-is-no-unbuilt source e (Some (expr.Field base field)) built unbuilt = unbu
 built-is-no-unbuilt source e (Some (expr.Strict operation operands)) built unbuilt = unbuilt
 built-is-no-unbuilt source e (Some (expr.Logic op left right)) built unbuilt = unbuilt
 built-is-no-unbuilt source e (Some (expr.If condition then_branch else_branch)) built unbuilt = unbuilt
-built-is-no-unbuilt source e (Some (expr.Assign assigned value)) built unbuilt = target-is-no-unbuilt source assigned built unbuilt
-built-is-no-unbuilt source e (Some (expr.Compound op assigned value)) built unbuilt = operand-is-no-unbuilt source assigned built unbuilt
+built-is-no-unbuilt source e (Some (expr.Assign to value)) built unbuilt = assignee-is-no-unbuilt source to built unbuilt
+built-is-no-unbuilt source e (Some (expr.Compound op to value)) built unbuilt = assigned-is-no-unbuilt source to built unbuilt
 built-is-no-unbuilt source e (Some (expr.Block statements tail)) built unbuilt =
     built-statement source unbuilt.0 (All-contains (IsBuiltStatement source) statements unbuilt.0 built unbuilt.1) unbuilt.2
 built-is-no-unbuilt source e (Some (expr.Labelled label statements tail)) built unbuilt =
@@ -114,13 +120,21 @@ statement-binds source (statement.Let pat None other) built lacks = built
 statement-binds source (statement.Expr e has_semi) built lacks = lacks
 statement-binds source statement.Item built lacks = lacks
 
+assignee-has-local : (source : Source) (to : Assignee) → IsBuiltAssignee source to → AssigneeLacks source to → ⊥
+assignee-has-local source (ByPattern pat) built lacks =
+    one-binding source built.binding lacks.0 built.there.ty (let one = built.names in let other = lacks.1 in let same : built.binding ≡ lacks.0 = cc in same) built.there.typed lacks.2
+assignee-has-local source (ByPlace e) built lacks = lacks
+
+assigned-has-local : (source : Source) (to : Assigned) → IsBuiltAssigned source to → AssignedLacks source to → ⊥
+assigned-has-local source (ByPath e) built lacks =
+    one-binding source built.binding lacks.0 built.there.ty (let one = built.names in let other = lacks.1 in let same : built.binding ≡ lacks.0 = cc in same) built.there.typed lacks.2
+assigned-has-local source (ByField base index) built lacks = lacks
+
 pub built-has-local : (source : Source) (e : ℕ) (form : Option CoreExpr) → IsBuiltForm source e form → LacksLocal source e form → ⊥
 built-has-local source e (Some (expr.Path name)) built lacks =
     one-binding source built.binding lacks.0 built.there.ty (let one = built.named in let other = lacks.1 in let same : built.binding ≡ lacks.0 = cc in same) built.there.typed lacks.2
-built-has-local source e (Some (expr.Assign assigned value)) built lacks =
-    one-binding source built.binding lacks.0 built.there.ty (let one = built.names in let other = lacks.1 in let same : built.binding ≡ lacks.0 = cc in same) built.there.typed lacks.2
-built-has-local source e (Some (expr.Compound op assigned value)) built lacks =
-    one-binding source built.binding lacks.0 built.there.ty (let one = built.names in let other = lacks.1 in let same : built.binding ≡ lacks.0 = cc in same) built.there.typed lacks.2
+built-has-local source e (Some (expr.Assign to value)) built lacks = assignee-has-local source to built lacks
+built-has-local source e (Some (expr.Compound op to value)) built lacks = assigned-has-local source to built lacks
 built-has-local source e (Some (expr.Block statements tail)) built lacks =
     statement-binds source lacks.0 (All-contains (IsBuiltStatement source) statements lacks.0 built lacks.1) lacks.2
 built-has-local source e (Some (expr.Labelled label statements tail)) built lacks =
@@ -137,17 +151,26 @@ built-has-local source e (Some (expr.Logic op left right)) built lacks = lacks
 built-has-local source e (Some (expr.If condition then_branch else_branch)) built lacks = lacks
 built-has-local source e None built lacks = lacks
 
+-- a target that is built is resolved, where it is a path
+assignee-is-resolved : (source : Source) (to : Assignee) (name : List ℕ) → IsBuiltAssignee source to → AssigneeIsUnresolved source to name → ⊥
+assignee-is-resolved source (ByPattern pat) name built unresolved =
+    let names = target-names source pat built.binding (target_path source pat) (pattern_named_by source pat) built.names in
+    let none = ap (option_and_then local_named) (sym unresolved.1) ∙ names.1 in
+    absurd cc
+assignee-is-resolved source (ByPlace e) name built unresolved = unresolved
+
+assigned-is-resolved : (source : Source) (to : Assigned) (name : List ℕ) → IsBuiltAssigned source to → AssignedIsUnresolved source to name → ⊥
+assigned-is-resolved source (ByPath e) name built unresolved =
+    let names = target-names source e built.binding (compound_path source e) (named_by source e) built.names in
+    let none = ap (option_and_then local_named) (sym unresolved.1) ∙ names.1 in
+    absurd cc
+assigned-is-resolved source (ByField base index) name built unresolved = unresolved
+
 -- a path that is built is resolved, and so is the target of an assignment
 pub built-is-resolved : (source : Source) (e : ℕ) (form : Option CoreExpr) (name : List ℕ) → IsBuiltForm source e form → IsUnresolved source e form name → ⊥
 built-is-resolved source e (Some (expr.Path given)) name built unresolved = let is = built.named in let none = unresolved.1 in absurd cc
-built-is-resolved source e (Some (expr.Assign assigned value)) name built unresolved =
-    let names = target-names source assigned built.binding (target_path source assigned) (pattern_named_by source assigned) built.names in
-    let none = ap (option_and_then local_named) (sym unresolved.1) ∙ names.1 in
-    absurd cc
-built-is-resolved source e (Some (expr.Compound op assigned value)) name built unresolved =
-    let names = target-names source assigned built.binding (compound_path source assigned) (named_by source assigned) built.names in
-    let none = ap (option_and_then local_named) (sym unresolved.1) ∙ names.1 in
-    absurd cc
+built-is-resolved source e (Some (expr.Assign to value)) name built unresolved = assignee-is-resolved source to name built unresolved
+built-is-resolved source e (Some (expr.Compound op to value)) name built unresolved = assigned-is-resolved source to name built unresolved
 built-is-resolved source e (Some (expr.Literal l)) name built unresolved = unresolved
 built-is-resolved source e (Some (expr.Field base field)) name built unresolved = unresolved
 built-is-resolved source e (Some (expr.Strict operation operands)) name built unresolved = unresolved
@@ -177,8 +200,8 @@ built-has-array source e (Some (expr.Path name)) text built none = none
 built-has-array source e (Some (expr.Field base field)) text built none = none
 built-has-array source e (Some (expr.Logic op left right)) text built none = none
 built-has-array source e (Some (expr.If condition then_branch else_branch)) text built none = none
-built-has-array source e (Some (expr.Assign assigned value)) text built none = none
-built-has-array source e (Some (expr.Compound op assigned value)) text built none = none
+built-has-array source e (Some (expr.Assign to value)) text built none = none
+built-has-array source e (Some (expr.Compound op to value)) text built none = none
 built-has-array source e (Some (expr.Block statements tail)) text built none = none
 built-has-array source e (Some (expr.Labelled label statements tail)) text built none = none
 built-has-array source e (Some (expr.Loop label body)) text built none = none

@@ -1,11 +1,8 @@
 -- The form of an expression, by its variant and by how its value is adjusted.
-use Rattle.std.proofs.Common.{◌≡◌, ℕ, Bool, true, false, ◌&&◌, cond, if◌then◌else◌, Option, Some, None, option_and_then, refl, ap, ◌∙◌, inl, inr}
-use Rattle.either.specs.declared.Either.{Either}
-use Rattle.source_meaning.specs.Core.{Operation, Keep, Convert, cast_operation, core_of, field_named, is_adjusted_otherwise, is_coercion, is_number_type, is_literal, is_place, names_item, value_type}
-use Rattle.source_meaning.specs.Source.{Source, diverges, node, unadjusted}
+use Rattle.std.proofs.Common.{◌≡◌, ℕ, Bool, true, false, ◌&&◌, cond, if◌then◌else◌, Some, None, option_and_then, refl, ap, ◌∙◌, inl, inr}
+use Rattle.source_meaning.specs.Core.{Findings, Keep, Convert, cast_operation, core_of, is_adjusted_otherwise, is_coercion, is_number_type, is_literal, is_place, value_type}
+use Rattle.source_meaning.specs.Source.{Source, diverges, findings, node, unadjusted}
 use Rattle.types.specs.declared.ids.ExprId.{ExprId}
-use Rattle.types.specs.declared.ids.FieldId.{FieldId}
-use Rattle.types.specs.declared.ids.TupleFieldId.{TupleFieldId}
 use Rattle.world.specs.declared.expr.Expr.{Expr}
 use Rattle.world.specs.declared.expr.Expr.TheVariants as whole
 use Rattle.world.specs.declared.infer.InferenceResult.{InferenceResult}
@@ -15,48 +12,48 @@ use Rattle.body_forms.specs.declared.form.Form.TheVariants as form
 use Rattle.body_forms.specs.Form.{IsFormOf, IsCauseAt, HasForm, core_form}
 
 -- an expression of none of the forms that have a meaning
-pub otherwise : (item : Bool) (casts : ExprId → Option Operation) (field : Option (Either FieldId TupleFieldId)) (e : Expr) → ((l : _) → e ≡ whole.Literal l → ⊥) → ((name : _) → e ≡ whole.Path name → ⊥) → ((base : _) (name : _) → e ≡ whole.Field base name → ⊥) → ((operand : _) (op : _) → e ≡ whole.UnaryOp operand op → ⊥) → ((operand : _) → e ≡ whole.Cast operand → ⊥) → ((lhs : _) (rhs : _) (op : _) → e ≡ whole.BinaryOp lhs rhs op → ⊥) → ((condition : _) (then_branch : _) (else_branch : _) → e ≡ whole.If condition then_branch else_branch → ⊥) → ((target : _) (value : _) → e ≡ whole.Assignment target value → ⊥) → ((statements : _) (tail : _) (label : _) → e ≡ whole.Block statements tail label → ⊥) → ((body : _) (label : _) → e ≡ whole.Loop body label → ⊥) → ((value : _) (label : _) → e ≡ whole.Break value label → ⊥) → ((label : _) → e ≡ whole.Continue label → ⊥) → ((value : _) → e ≡ whole.Return value → ⊥) → ((callee : _) (args : _) → e ≡ whole.Call callee args → ⊥) → ((receiver : _) (args : _) (name : _) → e ≡ whole.MethodCall receiver args name → ⊥) → ((parts : _) → e ≡ whole.Tuple parts → ⊥) → ((elements : _) → e ≡ whole.Array elements → ⊥) → ((initializer : _) → e ≡ whole.Repeat initializer → ⊥) → (e ≡ whole.Missing → ⊥) → IsFormOf item casts field e form.Unbuilt
-otherwise item casts field (whole.Literal l) literal path part unary cast binary either assigned block loop break continue return call method tuple array repeat missing = absurd (literal l refl)
-otherwise item casts field (whole.Path name) literal path part unary cast binary either assigned block loop break continue return call method tuple array repeat missing = absurd (path name refl)
-otherwise item casts field (whole.Field base name) literal path part unary cast binary either assigned block loop break continue return call method tuple array repeat missing = absurd (part base name refl)
-otherwise item casts field (whole.UnaryOp operand op) literal path part unary cast binary either assigned block loop break continue return call method tuple array repeat missing = absurd (unary operand op refl)
-otherwise item casts field (whole.Cast operand) literal path part unary cast binary either assigned block loop break continue return call method tuple array repeat missing = absurd (cast operand refl)
-otherwise item casts field (whole.BinaryOp lhs rhs op) literal path part unary cast binary either assigned block loop break continue return call method tuple array repeat missing = absurd (binary lhs rhs op refl)
-otherwise item casts field (whole.If condition then_branch else_branch) literal path part unary cast binary either assigned block loop break continue return call method tuple array repeat missing = absurd (either condition then_branch else_branch refl)
-otherwise item casts field (whole.Assignment target value) literal path part unary cast binary either assigned block loop break continue return call method tuple array repeat missing = absurd (assigned target value refl)
-otherwise item casts field (whole.Block statements tail label) literal path part unary cast binary either assigned block loop break continue return call method tuple array repeat missing = absurd (block statements tail label refl)
-otherwise item casts field (whole.Loop body label) literal path part unary cast binary either assigned block loop break continue return call method tuple array repeat missing = absurd (loop body label refl)
-otherwise item casts field (whole.Break value label) literal path part unary cast binary either assigned block loop break continue return call method tuple array repeat missing = absurd (break value label refl)
-otherwise item casts field (whole.Continue label) literal path part unary cast binary either assigned block loop break continue return call method tuple array repeat missing = absurd (continue label refl)
-otherwise item casts field (whole.Return value) literal path part unary cast binary either assigned block loop break continue return call method tuple array repeat missing = absurd (return value refl)
-otherwise item casts field (whole.Call callee args) literal path part unary cast binary either assigned block loop break continue return call method tuple array repeat missing = absurd (call callee args refl)
-otherwise item casts field (whole.MethodCall receiver args name) literal path part unary cast binary either assigned block loop break continue return call method tuple array repeat missing = absurd (method receiver args name refl)
-otherwise item casts field (whole.Tuple parts) literal path part unary cast binary either assigned block loop break continue return call method tuple array repeat missing = absurd (tuple parts refl)
-otherwise item casts field (whole.Array elements) literal path part unary cast binary either assigned block loop break continue return call method tuple array repeat missing = absurd (array elements refl)
-otherwise item casts field (whole.Repeat initializer) literal path part unary cast binary either assigned block loop break continue return call method tuple array repeat missing = absurd (repeat initializer refl)
-otherwise item casts field whole.Missing literal path part unary cast binary either assigned block loop break continue return call method tuple array repeat missing = absurd (missing refl)
-otherwise item casts field _ literal path part unary cast binary either assigned block loop break continue return call method tuple array repeat missing = record { core = refl; cause = λ lacks. lacks }
+pub otherwise : (found : Findings) (e : Expr) → ((l : _) → e ≡ whole.Literal l → ⊥) → ((name : _) → e ≡ whole.Path name → ⊥) → ((base : _) (name : _) → e ≡ whole.Field base name → ⊥) → ((operand : _) (op : _) → e ≡ whole.UnaryOp operand op → ⊥) → ((operand : _) → e ≡ whole.Cast operand → ⊥) → ((lhs : _) (rhs : _) (op : _) → e ≡ whole.BinaryOp lhs rhs op → ⊥) → ((condition : _) (then_branch : _) (else_branch : _) → e ≡ whole.If condition then_branch else_branch → ⊥) → ((target : _) (value : _) → e ≡ whole.Assignment target value → ⊥) → ((statements : _) (tail : _) (label : _) → e ≡ whole.Block statements tail label → ⊥) → ((body : _) (label : _) → e ≡ whole.Loop body label → ⊥) → ((value : _) (label : _) → e ≡ whole.Break value label → ⊥) → ((label : _) → e ≡ whole.Continue label → ⊥) → ((value : _) → e ≡ whole.Return value → ⊥) → ((callee : _) (args : _) → e ≡ whole.Call callee args → ⊥) → ((receiver : _) (args : _) (name : _) → e ≡ whole.MethodCall receiver args name → ⊥) → ((parts : _) → e ≡ whole.Tuple parts → ⊥) → ((elements : _) → e ≡ whole.Array elements → ⊥) → ((initializer : _) → e ≡ whole.Repeat initializer → ⊥) → (e ≡ whole.Missing → ⊥) → IsFormOf found e form.Unbuilt
+otherwise found (whole.Literal l) literal path part unary cast binary either assigned block loop break continue return call method tuple array repeat missing = absurd (literal l refl)
+otherwise found (whole.Path name) literal path part unary cast binary either assigned block loop break continue return call method tuple array repeat missing = absurd (path name refl)
+otherwise found (whole.Field base name) literal path part unary cast binary either assigned block loop break continue return call method tuple array repeat missing = absurd (part base name refl)
+otherwise found (whole.UnaryOp operand op) literal path part unary cast binary either assigned block loop break continue return call method tuple array repeat missing = absurd (unary operand op refl)
+otherwise found (whole.Cast operand) literal path part unary cast binary either assigned block loop break continue return call method tuple array repeat missing = absurd (cast operand refl)
+otherwise found (whole.BinaryOp lhs rhs op) literal path part unary cast binary either assigned block loop break continue return call method tuple array repeat missing = absurd (binary lhs rhs op refl)
+otherwise found (whole.If condition then_branch else_branch) literal path part unary cast binary either assigned block loop break continue return call method tuple array repeat missing = absurd (either condition then_branch else_branch refl)
+otherwise found (whole.Assignment target value) literal path part unary cast binary either assigned block loop break continue return call method tuple array repeat missing = absurd (assigned target value refl)
+otherwise found (whole.Block statements tail label) literal path part unary cast binary either assigned block loop break continue return call method tuple array repeat missing = absurd (block statements tail label refl)
+otherwise found (whole.Loop body label) literal path part unary cast binary either assigned block loop break continue return call method tuple array repeat missing = absurd (loop body label refl)
+otherwise found (whole.Break value label) literal path part unary cast binary either assigned block loop break continue return call method tuple array repeat missing = absurd (break value label refl)
+otherwise found (whole.Continue label) literal path part unary cast binary either assigned block loop break continue return call method tuple array repeat missing = absurd (continue label refl)
+otherwise found (whole.Return value) literal path part unary cast binary either assigned block loop break continue return call method tuple array repeat missing = absurd (return value refl)
+otherwise found (whole.Call callee args) literal path part unary cast binary either assigned block loop break continue return call method tuple array repeat missing = absurd (call callee args refl)
+otherwise found (whole.MethodCall receiver args name) literal path part unary cast binary either assigned block loop break continue return call method tuple array repeat missing = absurd (method receiver args name refl)
+otherwise found (whole.Tuple parts) literal path part unary cast binary either assigned block loop break continue return call method tuple array repeat missing = absurd (tuple parts refl)
+otherwise found (whole.Array elements) literal path part unary cast binary either assigned block loop break continue return call method tuple array repeat missing = absurd (array elements refl)
+otherwise found (whole.Repeat initializer) literal path part unary cast binary either assigned block loop break continue return call method tuple array repeat missing = absurd (repeat initializer refl)
+otherwise found whole.Missing literal path part unary cast binary either assigned block loop break continue return call method tuple array repeat missing = absurd (missing refl)
+otherwise found _ literal path part unary cast binary either assigned block loop break continue return call method tuple array repeat missing = record { core = refl; cause = λ lacks. lacks }
 
 node-adjusted : (source : Source) (e : ℕ) → is_adjusted_otherwise source.infer (record { 0 = e }) ≡ true → node source e ≡ None
 unfolding node
-node-adjusted source e is = ap (λ adjusted. if adjusted then None else option_and_then (core_of (names_item source.infer (record { 0 = e })) (cast_operation source.infer (record { 0 = e })) (field_named source.infer (record { 0 = e }))) (expr_of source.body e)) is
+node-adjusted source e is = ap (λ adjusted. if adjusted then None else option_and_then (core_of (findings source e)) (expr_of source.body e)) is
 
-pub node-plain : (source : Source) (e : ℕ) (given : Expr) → is_adjusted_otherwise source.infer (record { 0 = e }) ≡ false → expr_of source.body e ≡ Some given → node source e ≡ core_of (names_item source.infer (record { 0 = e })) (cast_operation source.infer (record { 0 = e })) (field_named source.infer (record { 0 = e })) given
+pub node-plain : (source : Source) (e : ℕ) (given : Expr) → is_adjusted_otherwise source.infer (record { 0 = e }) ≡ false → expr_of source.body e ≡ Some given → node source e ≡ core_of (findings source e) given
 unfolding node
 node-plain source e given is there =
-    ap (λ adjusted. if adjusted then None else option_and_then (core_of (names_item source.infer (record { 0 = e })) (cast_operation source.infer (record { 0 = e })) (field_named source.infer (record { 0 = e }))) (expr_of source.body e)) is
-    ∙ ap (option_and_then (core_of (names_item source.infer (record { 0 = e })) (cast_operation source.infer (record { 0 = e })) (field_named source.infer (record { 0 = e })))) there
+    ap (λ adjusted. if adjusted then None else option_and_then (core_of (findings source e)) (expr_of source.body e)) is
+    ∙ ap (option_and_then (core_of (findings source e))) there
 
 -- an expression whose value is adjusted otherwise than by `NeverToAny` isn't built
 pub form-adjusted : (source : Source) (e : ℕ) → is_adjusted_otherwise source.infer (record { 0 = e }) ≡ true → HasForm source e form.Unbuilt
 form-adjusted source e is = record { core = node-adjusted source e is; cause = inl is }
 
 -- any other has the form of its variant
-pub form-plain : (source : Source) (e : ℕ) (given : Expr) (f : Form) → is_adjusted_otherwise source.infer (record { 0 = e }) ≡ false → expr_of source.body e ≡ Some given → IsFormOf (names_item source.infer (record { 0 = e })) (cast_operation source.infer (record { 0 = e })) (field_named source.infer (record { 0 = e })) given f → HasForm source e f
+pub form-plain : (source : Source) (e : ℕ) (given : Expr) (f : Form) → is_adjusted_otherwise source.infer (record { 0 = e }) ≡ false → expr_of source.body e ≡ Some given → IsFormOf (findings source e) given f → HasForm source e f
 form-plain source e given f is there of =
     record { core = node-plain source e given is there ∙ of.core; cause = by-form f of }
   where
-    by-form : (f : Form) → IsFormOf (names_item source.infer (record { 0 = e })) (cast_operation source.infer (record { 0 = e })) (field_named source.infer (record { 0 = e })) given f → IsCauseAt source e f
+    by-form : (f : Form) → IsFormOf (findings source e) given f → IsCauseAt source e f
     by-form form.Incomplete of = record { expr = given; stands = there; plain = is; lacks = of.cause }
     by-form form.Unbuilt of = inr (record { expr = given; stands = there; no_form = of.core; complete = of.cause })
     by-form _ of = tt

@@ -2,13 +2,13 @@
 
 ghost use Rattle.std.specs.Prelude.{◌≡◌, ◌<◌, ℕ, List, false, length, Some, None, IfSome, IfNone};
 ghost use Rattle.std.specs.Option.{option_and_then, option_copied};
-ghost use Rattle.source_meaning.specs.Core.{are_many, are_other_steps, cast_operation, field_named, is_adjusted_otherwise, is_adjusted_twice, is_adjusted_pattern, is_by_reference, is_dereferenced_pattern, is_positive, is_literal, name_of, named_path, names_item, path_of, pattern_names_item};
+ghost use Rattle.source_meaning.specs.Core.{are_many, are_other_steps, cast_operation, expr_in, field_named, is_adjusted_otherwise, is_adjusted_twice, is_adjusted_pattern, is_by_reference, is_dereferenced_pattern, is_positive, is_literal, name_of, named_path, names_item, part_in, path_of, pattern_names_item, tuple_part};
 ghost use Rattle.source_meaning.specs.Core as expr;
-ghost use Rattle.source_meaning.specs.Source.{compound_path, pattern, target_path, unadjusted};
+ghost use Rattle.source_meaning.specs.Source.{assigned, assigned_by, assignee, compound_path, findings, pattern, pattern_expr, target_path, unadjusted};
 ghost use Rattle.world.specs.declared.expr.Expr.TheVariants as whole;
 ghost use Rattle.world.specs.Lookups.{expr_of};
 ghost use Rattle.body_forms.specs.Contexts.{source_of};
-ghost use Rattle.body_forms.specs.Form.{IsFormOf, IsPlaceForm, HasForm, core_value, no_casts};
+ghost use Rattle.body_forms.specs.Form.{IsFormOf, IsPlaceForm, HasForm, core_assigned, core_assignee, core_value, no_findings};
 
 use crate::context::Context;
 use crate::inferred::{diverges, is_coercion, is_conversion, step_target};
@@ -19,6 +19,24 @@ use world::{
     Adjustment, BinaryOp, BindingId, BindingMode, Expr, ExprId, FieldId, LabelId, List, Literal,
     LogicOp, Pat, PatId, Statement, Text, TupleFieldId, UnaryOp,
 };
+
+/// What an assignment writes to, by the pattern that its target is.
+#[derive(Clone, Copy)]
+pub enum Assignee {
+    /// The binding that the path names which the pattern is.
+    Pattern(PatId),
+    /// The place of the expression which the pattern holds.
+    Place(ExprId),
+}
+
+/// The place that a compound assignment reads and writes.
+#[derive(Clone, Copy)]
+pub enum Assigned {
+    /// The binding that the path names which the left operand is.
+    Path(ExprId),
+    /// A part of a tuple: its base, and the part's index.
+    Field(ExprId, u32),
+}
 
 /// What lowering does with an expression. Its variants are the forms that have a meaning, and two for the others.
 #[derive(Clone, Copy)]
@@ -39,8 +57,8 @@ pub enum Form<'a> {
     Binary(BinOp, ExprId, ExprId),
     Logic(LogicOp, ExprId, ExprId),
     If(ExprId, ExprId, Option<ExprId>),
-    Assign(PatId, ExprId),
-    Compound(BinOp, ExprId, ExprId),
+    Assign(Assignee, ExprId),
+    Compound(BinOp, Assigned, ExprId),
     Block(&'a List<Statement>, Option<ExprId>),
     Labelled(LabelId, &'a List<Statement>, Option<ExprId>),
     Loop(Option<LabelId>, ExprId),
@@ -56,7 +74,7 @@ pub enum Form<'a> {
 }
 
 fn literal_form<'a>(literal: &Literal) -> Form<'a>
-    ensures { IsFormOf false no_casts None (whole.Literal literal.now) result }
+    ensures { IsFormOf no_findings (whole.Literal literal.now) result }
 {
     match literal {
         Literal::Bool(test) => Form::Literal(LiteralValue::Truth(*test)),
@@ -68,7 +86,7 @@ fn literal_form<'a>(literal: &Literal) -> Form<'a>
 }
 
 fn unary_form<'a>(e: ExprId, op: UnaryOp) -> Form<'a>
-    ensures { IsFormOf false no_casts None (whole.UnaryOp e op) result }
+    ensures { IsFormOf no_findings (whole.UnaryOp e op) result }
 {
     match op {
         UnaryOp::Neg => Form::Unary(UnOp::Neg, e),
@@ -77,14 +95,22 @@ fn unary_form<'a>(e: ExprId, op: UnaryOp) -> Form<'a>
     }
 }
 
-fn binary_form<'a>(lhs: ExprId, rhs: ExprId, op: Option<BinaryOp>) -> Form<'a>
-    ensures { IsFormOf false no_casts None (whole.BinaryOp lhs rhs op) result }
+/// The form of an operator on two operands, the left of which may be the target of an assignment.
+fn binary_form<'a>(
+    context: &Context<'_>,
+    lhs: ExprId,
+    rhs: ExprId,
+    op: Option<BinaryOp>,
+) -> Form<'a>
+    ensures { IsFormOf (record no_findings { assigned = assigned (source_of context.now) }) (whole.BinaryOp lhs rhs op) result }
 {
     match op {
         Some(BinaryOp::ArithOp(op)) => Form::Binary(BinOp::from(op), lhs, rhs),
         Some(BinaryOp::CmpOp(op)) => Form::Binary(BinOp::from(op), lhs, rhs),
         Some(BinaryOp::LogicOp(op)) => Form::Logic(op, lhs, rhs),
-        Some(BinaryOp::Assignment { op: Some(op) }) => Form::Compound(BinOp::from(op), lhs, rhs),
+        Some(BinaryOp::Assignment { op: Some(op) }) => {
+            Form::Compound(BinOp::from(op), assigned(context, lhs), rhs)
+        }
         Some(BinaryOp::Assignment { op: None }) => Form::Unbuilt,
         None => Form::Incomplete,
     }
@@ -92,7 +118,7 @@ fn binary_form<'a>(lhs: ExprId, rhs: ExprId, op: Option<BinaryOp>) -> Form<'a>
 
 /// The form of a path, which is resolved to an item or not.
 fn path_form<'a>(names_item: bool, name: &'a Text) -> Form<'a>
-    ensures { IsFormOf names_item no_casts None (whole.Path name.now) result }
+    ensures { IsFormOf (record no_findings { names_item = names_item }) (whole.Path name.now) result }
 {
     if names_item {
         Form::Unbuilt
@@ -103,7 +129,7 @@ fn path_form<'a>(names_item: bool, name: &'a Text) -> Form<'a>
 
 /// The form of a field of a base, by what it is resolved to: a part of a tuple is built so far.
 fn field_form<'a>(base: ExprId, named: Option<&Either<FieldId, TupleFieldId>>) -> Form<'a>
-    ensures { (name : List ℕ) → IsFormOf false no_casts (option_copied named.entry) (whole.Field base name) result }
+    ensures { (name : List ℕ) → IsFormOf (record no_findings { field = option_copied named.entry }) (whole.Field base name) result }
 {
     match named {
         Some(Either::Right(field)) => Form::Field(base, field.index),
@@ -117,7 +143,7 @@ fn block_form<'a>(
     tail: Option<ExprId>,
     label: Option<LabelId>,
 ) -> Form<'a>
-    ensures { IsFormOf false no_casts None (whole.Block statements.now tail label) result }
+    ensures { IsFormOf no_findings (whole.Block statements.now tail label) result }
 {
     match label {
         None => Form::Block(statements, tail),
@@ -127,7 +153,7 @@ fn block_form<'a>(
 
 /// The form of a cast: it is a coercion, or one between integers, `bool` and `char`.
 fn cast_form<'a>(context: &Context<'_>, cast: ExprId, operand: ExprId) -> Form<'a>
-    ensures { IsFormOf false (cast_operation context.now.infer.now cast) None (whole.Cast operand) result }
+    ensures { IsFormOf (record no_findings { casts = cast_operation context.now.infer.now cast }) (whole.Cast operand) result }
 {
     if is_coercion(context, operand) {
         Form::Coercion(operand)
@@ -140,7 +166,7 @@ fn cast_form<'a>(context: &Context<'_>, cast: ExprId, operand: ExprId) -> Form<'
 
 /// The form of an expression, as it is before its value is adjusted.
 fn form_of<'a>(context: &Context<'a>, e: ExprId, expr: &'a Expr) -> Form<'a>
-    ensures { IsFormOf (names_item context.now.infer.now e) (cast_operation context.now.infer.now e) (field_named context.now.infer.now e) expr.now result }
+    ensures { IsFormOf (findings (source_of context.now) e.0) expr.now result }
 {
     match expr {
         Expr::Literal(literal) => literal_form(literal),
@@ -148,13 +174,13 @@ fn form_of<'a>(context: &Context<'a>, e: ExprId, expr: &'a Expr) -> Form<'a>
         Expr::Field { expr, .. } => field_form(*expr, field_named(context, e)),
         Expr::UnaryOp { expr, op } => unary_form(*expr, *op),
         Expr::Cast { expr } => cast_form(context, e, *expr),
-        Expr::BinaryOp { lhs, rhs, op } => binary_form(*lhs, *rhs, *op),
+        Expr::BinaryOp { lhs, rhs, op } => binary_form(context, *lhs, *rhs, *op),
         Expr::If {
             condition,
             then_branch,
             else_branch,
         } => Form::If(*condition, *then_branch, *else_branch),
-        Expr::Assignment { target, value } => Form::Assign(*target, *value),
+        Expr::Assignment { target, value } => Form::Assign(assignee(context, *target), *value),
         Expr::Block {
             statements,
             tail,
@@ -325,6 +351,38 @@ fn is_dereferenced_pattern(context: &Context<'_>, pat: PatId) -> bool
     is_positive(context.infer.pat_adjustments.get(&pat))
 }
 
+/// The expression that a pattern holds as the target of an assignment.
+fn expr_in(pat: Option<&Pat>) -> Option<ExprId>
+    ensures { result ≡ option_and_then expr_in (option_copied pat.entry) }
+{
+    match pat {
+        Some(Pat::Expr(e)) => Some(*e),
+        _ => None,
+    }
+}
+
+/// The expression that a pattern holds as the target of an assignment, where it isn't dereferenced.
+#[tactic(auto, unfolding(source_meaning::specs::Source::pattern_expr))]
+fn pattern_expr(context: &Context<'_>, pat: PatId) -> Option<ExprId>
+    ensures { result ≡ pattern_expr (source_of context.now) pat.0 }
+{
+    if is_dereferenced_pattern(context, pat) {
+        None
+    } else {
+        expr_in(context.body.pats.get(pat.0 as u64))
+    }
+}
+
+/// What a pattern is as the target of an assignment.
+fn assignee(context: &Context<'_>, pat: PatId) -> Assignee
+    ensures { core_assignee result ≡ assignee (source_of context.now) pat }
+{
+    match pattern_expr(context, pat) {
+        Some(e) => Assignee::Place(e),
+        None => Assignee::Pattern(pat),
+    }
+}
+
 /// Whether a pattern is a path that is resolved to an associated item or a variant.
 #[tactic(auto, unfolding(source_meaning::specs::Core::pattern_names_item))]
 fn pattern_names_item(context: &Context<'_>, pat: PatId) -> bool
@@ -376,6 +434,50 @@ fn is_adjusted_twice(context: &Context<'_>, e: ExprId) -> bool
     ensures { result ≡ is_adjusted_twice context.now.infer.now e }
 {
     are_many(context.infer.expr_adjustments.get(&e))
+}
+
+/// What a field of a base is as the target of a compound assignment, by what it is resolved to.
+fn field_assigned(
+    e: ExprId,
+    base: ExprId,
+    named: Option<&Either<FieldId, TupleFieldId>>,
+) -> Assigned
+    ensures { core_assigned result ≡ assigned_by e.0 (tuple_part base.0 (option_copied named.entry)) }
+{
+    match named {
+        Some(Either::Right(field)) => Assigned::Field(base, field.index),
+        _ => Assigned::Path(e),
+    }
+}
+
+/// What an expression is as the target of a compound assignment, by what it is resolved to as a field.
+fn assigned_in(
+    e: ExprId,
+    named: Option<&Either<FieldId, TupleFieldId>>,
+    expr: Option<&Expr>,
+) -> Assigned
+    ensures { core_assigned result ≡ assigned_by e.0 (option_and_then (part_in (option_copied named.entry)) (option_copied expr.entry)) }
+{
+    match expr {
+        Some(Expr::Field { expr, .. }) => field_assigned(e, *expr, named),
+        _ => Assigned::Path(e),
+    }
+}
+
+/// What an expression is as the target of a compound assignment.
+#[tactic(auto, unfolding(source_meaning::specs::Source::assigned_field))]
+fn assigned(context: &Context<'_>, e: ExprId) -> Assigned
+    ensures { core_assigned result ≡ assigned (source_of context.now) e }
+{
+    if is_adjusted_twice(context, e) {
+        Assigned::Path(e)
+    } else {
+        assigned_in(
+            e,
+            field_named(context, e),
+            context.body.exprs.get(e.0 as u64),
+        )
+    }
 }
 
 /// The text of an expression that is a path.

@@ -1,13 +1,13 @@
 -- Where the parts of tuples and of arrays lie in a world that passed the check.
-use Rattle.std.proofs.Common.{◌≡◌, ℕ, Some, refl, sym, subst}
+use Rattle.std.proofs.Common.{◌≡◌, ℕ, Some, refl, subst}
 use Rattle.types.specs.declared.ty.Ty.{Ty}
 use Rattle.types.specs.declared.ty.Ty.TheVariants.{Array, Tuple}
 use Rattle.world.specs.Lookups.{layout_of}
 use Rattle.world.specs.declared.database.HirDatabase.{HirDatabase}
-use Rattle.world_check.specs.Laid.{AreElements, AreInside, LiesInside}
+use Rattle.world_check.specs.Laid.{LiesInside}
 use Rattle.world_check.specs.Rows.{Holds}
 use Rattle.world_check.proofs.Laid.{laid_out}
-use Rattle.source_meaning.specs.Aggregates.{HasAggregates, HasElements, HasParts, IsPartInside}
+use Rattle.source_meaning.specs.Aggregates.{HasAggregates, IsPartInside}
 
 lies-inside : (world : HirDatabase) (size offset : ℕ) (ty : Ty) → LiesInside world size offset (Some ty) → IsPartInside world size offset ty
 lies-inside world size offset ty lies =

@@ -156,8 +156,8 @@ named-target source outer label (Some (expr.Field base field)) jumps fits lacks 
 named-target source outer label (Some (expr.Strict operation operands)) jumps fits lacks = jumps
 named-target source outer label (Some (expr.Logic op left right)) jumps fits lacks = jumps
 named-target source outer label (Some (expr.If condition then_branch else_branch)) jumps fits lacks = jumps
-named-target source outer label (Some (expr.Assign assigned value)) jumps fits lacks = jumps
-named-target source outer label (Some (expr.Compound op assigned value)) jumps fits lacks = jumps
+named-target source outer label (Some (expr.Assign to value)) jumps fits lacks = jumps
+named-target source outer label (Some (expr.Compound op to value)) jumps fits lacks = jumps
 named-target source outer label (Some (expr.Block statements tail)) jumps fits lacks = jumps
 named-target source outer label (Some (expr.Labelled own statements tail)) jumps fits lacks = jumps
 named-target source outer label (Some (expr.Loop own body)) jumps fits lacks = jumps

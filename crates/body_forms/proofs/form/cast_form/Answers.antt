@@ -1,5 +1,5 @@
 -- What a cast computes, by whether it is a coercion, and whether it is between numbers.
-use Rattle.std.proofs.Common.{◌≡◌, sym, ap, ◌∙◌}
+use Rattle.std.proofs.Common.{sym, ap, ◌∙◌}
 use Rattle.source_meaning.specs.Core.{unary_form}
 use Rattle.body_forms.proofs.Forms.{cast-keeps, cast-converts, cast-of-none}
 use Rattle.body_forms.proofs.form.cast_form.Goals as goal

@@ -1,19 +1,19 @@
 -- A field's form is by what it is resolved to. The other variants have no form with a meaning.
 use Rattle.std.proofs.Common.{sym, ap, ◌∙◌, subst}
-use Rattle.source_meaning.specs.Core.{cast_operation, field_form, field_named, names_item}
+use Rattle.source_meaning.specs.Core.{field_form}
+use Rattle.source_meaning.specs.Source.{findings}
 use Rattle.world.specs.declared.expr.Expr.{Expr}
+use Rattle.body_forms.specs.Contexts.{source_of}
 use Rattle.body_forms.specs.Form.{IsFormOf}
 use Rattle.body_forms.proofs.Forms.{otherwise}
 use Rattle.body_forms.proofs.form.form_of.Goals as goal
 
 pub returns-in-Field : goal.returns-in-Field
 returns-in-Field c =
-    let infer = c.args.context.now.infer.now in
-    let e = c.args.e in
     let given = c.field_form.ensures c.in-Field.name in
-    subst (λ (x : Expr). IsFormOf (names_item infer e) (cast_operation infer e) (field_named infer e) x c.field_form.result) (sym c.in-Field.is)
+    subst (λ (x : Expr). IsFormOf (findings (source_of c.args.context.now) c.args.e.0) x c.field_form.result) (sym c.in-Field.is)
     (record { core = ap (field_form c.in-Field.expr.0) (sym c.field_named.ensures) ∙ given.core; cause = given.cause })
 
 pub returns-in_default : goal.returns-in_default
 returns-in_default c =
-    otherwise _ _ _ c.args.expr.now c.in_default.not-Literal c.in_default.not-Path c.in_default.not-Field c.in_default.not-UnaryOp c.in_default.not-Cast c.in_default.not-BinaryOp c.in_default.not-If c.in_default.not-Assignment c.in_default.not-Block c.in_default.not-Loop c.in_default.not-Break c.in_default.not-Continue c.in_default.not-Return c.in_default.not-Call c.in_default.not-MethodCall c.in_default.not-Tuple c.in_default.not-Array c.in_default.not-Repeat c.in_default.not-Missing
+    otherwise _ c.args.expr.now c.in_default.not-Literal c.in_default.not-Path c.in_default.not-Field c.in_default.not-UnaryOp c.in_default.not-Cast c.in_default.not-BinaryOp c.in_default.not-If c.in_default.not-Assignment c.in_default.not-Block c.in_default.not-Loop c.in_default.not-Break c.in_default.not-Continue c.in_default.not-Return c.in_default.not-Call c.in_default.not-MethodCall c.in_default.not-Tuple c.in_default.not-Array c.in_default.not-Repeat c.in_default.not-Missing
