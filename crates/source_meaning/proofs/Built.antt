@@ -7,10 +7,10 @@ use Rattle.world.specs.declared.body.Statement.TheVariants as statement
 use Rattle.world.specs.declared.items.FunctionRow.{FunctionRow}
 use Rattle.world.specs.declared.items.Special.{Special}
 use Rattle.types.specs.declared.ty.Ty.{Ty}
-use Rattle.source_meaning.specs.Built.{are_none, is_direct, IsBuiltStatement, IsBuiltStrict, IsBuiltForm}
-use Rattle.source_meaning.specs.Core.{CoreExpr, Operation, Negate, Invert, Keep, Convert, Combine, MakeTuple, MakeArray, Repeat, Literal, Path, Field, Strict, Logic, If, Assign, Compound, Block, Labelled, Loop, Break, Continue, Return, Call}
+use Rattle.source_meaning.specs.Built.{are_none, is_direct, IsBuiltAssigned, IsBuiltAssignee, IsBuiltStatement, IsBuiltStrict, IsBuiltForm}
+use Rattle.source_meaning.specs.Core.{Assigned, Assignee, ByField, ByPath, ByPattern, ByPlace, CoreExpr, Operation, Negate, Invert, Keep, Convert, Combine, MakeTuple, MakeArray, Repeat, Literal, Path, Field, Strict, Logic, If, Assign, Compound, Block, Labelled, Loop, Break, Continue, Return, Call}
 use Rattle.source_meaning.specs.Source.{Source, node, own_type}
-use Rattle.source_meaning.specs.Valid.{IsTyped, IsPlainStatement, HasPlainForm, IsPlainNode}
+use Rattle.source_meaning.specs.Valid.{IsTyped, IsPlainAssigned, IsPlainAssignee, IsPlainStatement, HasPlainForm, IsPlainNode}
 
 plain_statement_is_built : (source : Source) (one : Statement) → IsPlainStatement source one → IsBuiltStatement source one
 plain_statement_is_built source (statement.Let pat (Some e) None) plain =
@@ -39,6 +39,15 @@ plain_strict_is_built source e Repeat [] ty has typed = absurd typed
 plain_strict_is_built source e Repeat (one ∷ []) ty has typed = record { element = one; len = typed.len; typed = has ∙ ap Some typed.is }
 plain_strict_is_built source e Repeat (one ∷ other ∷ rest) ty has typed = absurd typed
 
+-- the target of an assignment, and of a compound one
+plain_assignee_is_built : (source : Source) (to : Assignee) (ty : Ty) → IsPlainAssignee source to ty → IsBuiltAssignee source to
+plain_assignee_is_built source (ByPattern pat) ty plain = record { binding = plain.binding; names = plain.names; there = record { ty = ty; typed = plain.binding_has } }
+plain_assignee_is_built source (ByPlace e) ty plain = plain.place
+
+plain_assigned_is_built : (source : Source) (to : Assigned) (ty : Ty) → IsPlainAssigned source to ty → IsBuiltAssigned source to
+plain_assigned_is_built source (ByPath e) ty plain = record { binding = plain.binding; names = plain.names; there = record { ty = ty; typed = plain.binding_has } }
+plain_assigned_is_built source (ByField base index) ty plain = tt
+
 plain_form_is_built : (source : Source) (e : ℕ) (form : Option CoreExpr) (ty : Ty) → own_type source e ≡ Some ty → HasPlainForm source e form ty → IsBuiltForm source e form
 plain_form_is_built source e (Some (Literal given)) ty has plain = tt
 plain_form_is_built source e (Some (Path name)) ty has plain =
@@ -47,10 +56,8 @@ plain_form_is_built source e (Some (Field base field)) ty has plain = tt
 plain_form_is_built source e (Some (Strict operation operands)) ty has plain = plain_strict_is_built source e operation plain.types ty has plain.typed
 plain_form_is_built source e (Some (Logic op left right)) ty has plain = tt
 plain_form_is_built source e (Some (If condition then_branch else_branch)) ty has plain = tt
-plain_form_is_built source e (Some (Assign assigned value)) ty has plain =
-    record { binding = plain.binding; names = plain.names; there = record { ty = plain.ty; typed = plain.binding_has } }
-plain_form_is_built source e (Some (Compound op assigned value)) ty has plain =
-    record { binding = plain.binding; names = plain.names; there = record { ty = plain.ty; typed = plain.binding_has } }
+plain_form_is_built source e (Some (Assign to value)) ty has plain = plain_assignee_is_built source to plain.ty plain.assignee
+plain_form_is_built source e (Some (Compound op to value)) ty has plain = plain_assigned_is_built source to plain.ty plain.assigned
 plain_form_is_built source e (Some (Block statements tail)) ty has plain = λ k d less. plain_statement_is_built source (get_or statements k d) (plain.0 k d less)
 plain_form_is_built source e (Some (Labelled label statements tail)) ty has plain = λ k d less. plain_statement_is_built source (get_or statements k d) (plain.0 k d less)
 plain_form_is_built source e (Some (Loop label body)) ty has plain = tt

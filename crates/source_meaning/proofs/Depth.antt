@@ -8,12 +8,12 @@ use Rattle.types.specs.declared.operators.LogicOp.{LogicOp}
 use Rattle.world.specs.Checked.{IsCheckedBody}
 use Rattle.world.specs.Nodes.{optional}
 use Rattle.numbers.specs.declared.operator.Operator.{Operator}
-use Rattle.source_meaning.specs.Core.{Operation, Field, Strict, Logic, If, Assign, Compound, Block, Call}
+use Rattle.source_meaning.specs.Core.{Assigned, Assignee, Operation, Field, Strict, Logic, If, Assign, Compound, Block, Call}
 use Rattle.source_meaning.specs.Source.{Source, node}
-use Rattle.source_meaning.specs.Steps.{parts_of, statement_parts}
+use Rattle.source_meaning.specs.Steps.{parts_of, assigned_parts, assignee_parts, statement_parts}
 use Rattle.source_meaning.specs.Valid.{Evaluates, itself, part, NeedsLayout, own, inside}
 use Rattle.source_meaning.proofs.Core.{part_is_below}
-use Rattle.source_meaning.proofs.Parts.{among, first_is_contained, strict_parts, if_parts, block_parts, call_parts, sized_part_is_part}
+use Rattle.source_meaning.proofs.Parts.{among, first_is_contained, rest_is_contained, strict_parts, if_parts, compound_parts, block_parts, call_parts, sized_part_is_part}
 
 -- what is evaluated where an expression is comes no later than it
 pub evaluated_is_no_later : (source : Source) → IsCheckedBody source.body source.infer → {e f : ℕ} → Evaluates source e f → f ≤ e
@@ -55,12 +55,24 @@ if_part_is_part source e condition then_branch else_branch child is within =
     subst (λ form. Contains (parts_of form) child) (sym is) (subst (λ parts. Contains parts child) (sym (if_parts condition then_branch else_branch)) within)
 
 -- an assignment evaluates its value
-pub assigned_is_part : (source : Source) (e assigned value : ℕ) → node source e ≡ Some (Assign assigned value) → Contains (parts_of (node source e)) value
-assigned_is_part source e assigned value is = subst (λ form. Contains (parts_of form) value) (sym is) (first_is_contained value [])
+pub assigned_is_part : (source : Source) (e : ℕ) (to : Assignee) (value : ℕ) → node source e ≡ Some (Assign to value) → Contains (parts_of (node source e)) value
+assigned_is_part source e to value is = subst (λ form. Contains (parts_of form) value) (sym is) (first_is_contained value (assignee_parts to))
 
--- and a compound one too
-pub combined_is_part : (source : Source) (e : ℕ) (op : Operator) (assigned value : ℕ) → node source e ≡ Some (Compound op assigned value) → Contains (parts_of (node source e)) value
-combined_is_part source e op assigned value is = subst (λ form. Contains (parts_of form) value) (sym is) (first_is_contained value [])
+-- and the expression that its target is
+pub assignee_is_part : (source : Source) (e : ℕ) (to : Assignee) (value child : ℕ) → node source e ≡ Some (Assign to value) → Contains (assignee_parts to) child → Contains (parts_of (node source e)) child
+assignee_is_part source e to value child is within = subst (λ form. Contains (parts_of form) child) (sym is) (rest_is_contained value (assignee_parts to) child within)
+
+-- a compound assignment evaluates its value
+pub combined_is_part : (source : Source) (e : ℕ) (op : Operator) (to : Assigned) (value : ℕ) → node source e ≡ Some (Compound op to value) → Contains (parts_of (node source e)) value
+combined_is_part source e op to value is =
+    subst (λ form. Contains (parts_of form) value) (sym is) (subst (λ parts. Contains parts value) (sym (compound_parts op to value))
+    (Contains-append_right (assigned_parts to) (value ∷ []) value (first_is_contained value [])))
+
+-- and the base of the field that its target is
+pub combined_target_is_part : (source : Source) (e : ℕ) (op : Operator) (to : Assigned) (value child : ℕ) → node source e ≡ Some (Compound op to value) → Contains (assigned_parts to) child → Contains (parts_of (node source e)) child
+combined_target_is_part source e op to value child is within =
+    subst (λ form. Contains (parts_of form) child) (sym is) (subst (λ parts. Contains parts child) (sym (compound_parts op to value))
+    (Contains-append_left (assigned_parts to) (value ∷ []) child within))
 
 -- a block evaluates what its statements do
 pub statement_part_is_part : (source : Source) (e : ℕ) (statements : List Statement) (tail : Option ExprId) (one : Statement) (child : ℕ) → node source e ≡ Some (Block statements tail) → Contains statements one → Contains (statement_parts one) child → Contains (parts_of (node source e)) child

@@ -12,11 +12,11 @@ use Rattle.world.specs.declared.body.Statement.{Statement}
 use Rattle.world.specs.declared.body.Statement.TheVariants as statement
 use Rattle.world.specs.Checked.{IsCheckedBody}
 use Rattle.numbers.specs.declared.operator.Operator.{Operator}
-use Rattle.source_meaning.specs.Core.{CoreExpr, CoreLiteral, Operation, Literal, Path, Field, Strict, Logic, If, Assign, Compound, Block, Labelled, Loop, Break, Continue, Return, Call, is_literal, is_path, is_place}
-use Rattle.source_meaning.specs.Events.{Event, Opens, Marks, Closes, own_mark, place_events, operand_events, step_events, form_events, events_in, events, events_through, Scopes, after_event, scopes_after, innermost, marks_of, marked, marked_itself, marked_as_place, marked_as_operand, marked_by_statement, marked_by_tail, marked_in_block}
+use Rattle.source_meaning.specs.Core.{Assigned, Assignee, ByField, ByPath, ByPattern, ByPlace, CoreExpr, CoreLiteral, Operation, Literal, Path, Field, Strict, Logic, If, Assign, Compound, Block, Labelled, Loop, Break, Continue, Return, Call, is_literal, is_path, is_place}
+use Rattle.source_meaning.specs.Events.{Event, Opens, Marks, Closes, own_mark, place_events, operand_events, step_events, form_events, events_in, events, events_through, Scopes, after_event, scopes_after, innermost, marks_of, marked, marked_itself, marked_as_place, marked_as_operand, marked_by_assigned, marked_by_assignee, marked_by_statement, marked_by_tail, marked_in_block}
 use Rattle.source_meaning.specs.Laws.{ScopesNest}
 use Rattle.source_meaning.specs.Source.{Source, Cell, Node, Binding, Never, node, unadjusted, diverges, never_marks, pattern, bound_by}
-use Rattle.source_meaning.specs.Steps.{Step, Operand, Place, Into, Bind, Open, Close, statement_steps, tail_steps, block_steps, steps_of, step_part, parts_of}
+use Rattle.source_meaning.specs.Steps.{Step, Operand, Place, Into, Bind, Open, Close, statement_steps, tail_steps, block_steps, assigned_steps, assignee_steps, steps_of, step_part, parts_of}
 use Rattle.source_meaning.proofs.Core.{part_is_below}
 use Rattle.source_meaning.proofs.Never.{unadjusted-plain}
 use Rattle.source_meaning.proofs.Parts.{first_is_contained}
@@ -136,8 +136,29 @@ module _ (source : Source) (below : ℕ → List Event) (closed : (e : ℕ) → 
   if_is_closed condition then_branch else_branch =
       append_is_closed (operand_events source below condition) (flat_map (step_events source below) (Into then_branch ∷ tail_steps else_branch)) (operand_is_closed condition) (branches_are_closed then_branch else_branch)
 
-  assign_is_closed : (value : ℕ) → IsClosed (flat_map (step_events source below) (Place value ∷ []))
-  assign_is_closed value = append_is_closed (place_events source below value) [] (place_is_closed value) none_is_closed
+  base_is_closed : (base : ℕ) → IsClosed (flat_map (step_events source below) (Place base ∷ []))
+  base_is_closed base = append_is_closed (place_events source below base) [] (place_is_closed base) none_is_closed
+
+  assignee_is_closed : (to : Assignee) → IsClosed (flat_map (step_events source below) (assignee_steps to))
+  assignee_is_closed (ByPattern pat) = none_is_closed
+  assignee_is_closed (ByPlace e) = base_is_closed e
+
+  assigned_is_closed : (to : Assigned) → IsClosed (flat_map (step_events source below) (assigned_steps to))
+  assigned_is_closed (ByPath e) = none_is_closed
+  assigned_is_closed (ByField base index) = base_is_closed base
+
+  assign_is_closed : (to : Assignee) (value : ℕ) → IsClosed (flat_map (step_events source below) (Place value ∷ assignee_steps to))
+  assign_is_closed to value = append_is_closed (place_events source below value) (flat_map (step_events source below) (assignee_steps to)) (place_is_closed value) (assignee_is_closed to)
+
+  -- the events of a compound assignment
+  compound_events_are : (op : Operator) (to : Assigned) (value : ℕ) →
+      form_events source below (Some (Compound op to value)) ≡ flat_map (step_events source below) (assigned_steps to) ++ flat_map (step_events source below) (map Operand (value ∷ []))
+  compound_events_are op to value = flat_map-append (step_events source below) (assigned_steps to) (Operand value ∷ [])
+
+  compound_is_closed : (op : Operator) (to : Assigned) (value : ℕ) → IsClosed (form_events source below (Some (Compound op to value)))
+  compound_is_closed op to value =
+      subst IsClosed (sym (compound_events_are op to value))
+      (append_is_closed (flat_map (step_events source below) (assigned_steps to)) (flat_map (step_events source below) (map Operand (value ∷ []))) (assigned_is_closed to) (operands_are_closed (value ∷ [])))
 
   inner_is_closed : (statements : List Statement) (tail : Option ExprId) → IsClosed (flat_map (step_events source below) (block_steps statements tail))
   inner_is_closed statements tail =
@@ -151,12 +172,12 @@ module _ (source : Source) (below : ℕ → List Event) (closed : (e : ℕ) → 
   form_is_closed : (form : Option CoreExpr) → IsClosed (form_events source below form)
   form_is_closed (Some (Literal given)) = none_is_closed
   form_is_closed (Some (Path name)) = none_is_closed
-  form_is_closed (Some (Field base field)) = assign_is_closed base
+  form_is_closed (Some (Field base field)) = base_is_closed base
   form_is_closed (Some (Strict operation operands)) = operands_are_closed operands
   form_is_closed (Some (Logic op left right)) = logic_is_closed left right
   form_is_closed (Some (If condition then_branch else_branch)) = if_is_closed condition then_branch else_branch
-  form_is_closed (Some (Assign assigned value)) = assign_is_closed value
-  form_is_closed (Some (Compound op assigned value)) = operands_are_closed (value ∷ [])
+  form_is_closed (Some (Assign to value)) = assign_is_closed to value
+  form_is_closed (Some (Compound op to value)) = compound_is_closed op to value
   form_is_closed (Some (Block statements tail)) =
       subst IsClosed (sym (block_events_are statements tail)) (scope_is_closed (flat_map (step_events source below) (block_steps statements tail)) (inner_is_closed statements tail))
   form_is_closed (Some (Labelled label statements tail)) =
@@ -350,13 +371,23 @@ module _ (source : Source) (checked : IsCheckedBody source.body source.infer) (e
       ∙ ap (λ cells. marks_of (operand_events source (events source) condition) ++ cells)
       (marks-append (events source then_branch) (events_through source (tail_steps else_branch)) (events_are_closed source then_branch) (tail_is_closed source (events source) (events_are_closed source) else_branch))
 
-  pub assign_marks : (assigned value : ℕ) → node source e ≡ Some (Assign assigned value) → marked_itself source e ≡ marked_as_place source value
-  unfolding marked_as_place
-  assign_marks assigned value is = form_marks (Some (Assign assigned value)) is ∙ ap marks_of (append-nil (place_events source (events source) value))
+  -- an assignment marks what its value does as a place, and then what its target does
+  pub assign_marks : (to : Assignee) (value : ℕ) → node source e ≡ Some (Assign to value) → marked_itself source e ≡ marked_as_place source value ++ marked_by_assignee source to
+  unfolding marked_as_place marked_by_assignee
+  assign_marks to value is =
+      form_marks (Some (Assign to value)) is
+      ∙ marks-append (place_events source (events source) value) (events_through source (assignee_steps to)) (place_is_closed source (events source) (events_are_closed source) value)
+      (assignee_is_closed source (events source) (events_are_closed source) to)
 
-  pub compound_marks : (op : Operator) (assigned value : ℕ) → node source e ≡ Some (Compound op assigned value) → marked_itself source e ≡ marked_as_operand source value
-  unfolding marked_as_operand
-  compound_marks op assigned value is = form_marks (Some (Compound op assigned value)) is ∙ ap marks_of (append-nil (operand_events source (events source) value))
+  -- a compound assignment marks what its target does, and then what its value does as an operand
+  pub compound_marks : (op : Operator) (to : Assigned) (value : ℕ) → node source e ≡ Some (Compound op to value) → marked_itself source e ≡ marked_by_assigned source to ++ marked_as_operand source value
+  unfolding marked_as_operand marked_by_assigned
+  compound_marks op to value is =
+      form_marks (Some (Compound op to value)) is
+      ∙ ap marks_of (compound_events_are source (events source) (events_are_closed source) op to value)
+      ∙ marks-append (events_through source (assigned_steps to)) (events_through source (map Operand (value ∷ []))) (assigned_is_closed source (events source) (events_are_closed source) to)
+      (operands_are_closed source (events source) (events_are_closed source) (value ∷ []))
+      ∙ ap (λ inside. marks_of (events_through source (assigned_steps to)) ++ marks_of inside) (append-nil (operand_events source (events source) value))
 
   pub block_marks : (statements : List Statement) (tail : Option ExprId) → node source e ≡ Some (Block statements tail) → marked_itself source e ≡ []
   block_marks statements tail is =
@@ -381,6 +412,24 @@ module _ (source : Source) (checked : IsCheckedBody source.body source.infer) (e
   pub return_marks : (value : Option ExprId) → node source e ≡ Some (Return value) → marked_itself source e ≡ marked_by_tail source value
   unfolding marked_by_tail
   return_marks value is = form_marks (Some (Return value)) is
+
+-- the target of an assignment marks nothing where it is a path, and else what its expression does as a place
+pub pattern_target_marks : (source : Source) (pat : ℕ) → marked_by_assignee source (ByPattern pat) ≡ []
+unfolding marked_by_assignee
+pattern_target_marks source pat = no_marks
+
+pub place_target_marks : (source : Source) (e : ℕ) → marked_by_assignee source (ByPlace e) ≡ marked_as_place source e
+unfolding marked_by_assignee marked_as_place
+place_target_marks source e = ap marks_of (append-nil (place_events source (events source) e))
+
+-- that of a compound assignment marks nothing where it is a path, and else what the base of the field does as a place
+pub path_target_marks : (source : Source) (e : ℕ) → marked_by_assigned source (ByPath e) ≡ []
+unfolding marked_by_assigned
+path_target_marks source e = no_marks
+
+pub field_target_marks : (source : Source) (base index : ℕ) → marked_by_assigned source (ByField base index) ≡ marked_as_place source base
+unfolding marked_by_assigned marked_as_place
+field_target_marks source base index = ap marks_of (append-nil (place_events source (events source) base))
 
 pub let_marks : (source : Source) (pat : PatId) (e : ExprId) → marked_by_statement source (statement.Let pat (Some e) None) ≡ marked_as_place source e.0 ++ bound_by (pattern source pat.0)
 unfolding marked_by_statement marked_as_place

@@ -8,9 +8,10 @@ use Rattle.types.specs.declared.ids.ExprId.{ExprId}
 use Rattle.types.specs.declared.operators.LogicOp.{LogicOp}
 use Rattle.world.specs.declared.body.Statement.TheVariants as statement
 use Rattle.world.specs.Nodes.{optional}
-use Rattle.source_meaning.specs.Core.{CoreExpr, Operation, Strict, Logic, If, Block, Call, is_truth}
+use Rattle.numbers.specs.declared.operator.Operator.{Operator}
+use Rattle.source_meaning.specs.Core.{Assigned, Assignee, ByField, ByPath, ByPattern, ByPlace, CoreExpr, Operation, Strict, Logic, If, Assign, Compound, Block, Call, is_truth}
 use Rattle.source_meaning.specs.Source.{Source, unadjusted}
-use Rattle.source_meaning.specs.Steps.{Step, Operand, Place, Into, Bind, Open, Close, statement_steps, tail_steps, block_steps, steps_of, step_part, parts_of, statement_parts}
+use Rattle.source_meaning.specs.Steps.{Step, Operand, Place, Into, Bind, Open, Close, statement_steps, tail_steps, block_steps, assigned_steps, assignee_steps, steps_of, step_part, parts_of, assigned_parts, assignee_parts, statement_parts}
 use Rattle.source_meaning.specs.Valid.{sized_part, sized_parts}
 
 -- a list has its first element, and what the rest has
@@ -63,6 +64,10 @@ tail_part None = refl
 -- an `if` evaluates its condition and its branches
 pub if_parts : (condition then_branch : ℕ) (else_branch : Option ExprId) → parts_of (Some (If condition then_branch else_branch)) ≡ condition ∷ then_branch ∷ optional else_branch
 if_parts condition then_branch else_branch = ap (λ rest. condition ∷ then_branch ∷ rest) (tail_part else_branch)
+
+-- a compound assignment evaluates what its target is found by, and its value
+pub compound_parts : (op : Operator) (to : Assigned) (value : ℕ) → parts_of (Some (Compound op to value)) ≡ assigned_parts to ++ value ∷ []
+compound_parts op to value = flat_map-append step_part (assigned_steps to) (Operand value ∷ [])
 
 -- what is made from the steps inside a block's scope
 pub inner_parts : (statements : List Statement) (tail : Option ExprId) → flat_map step_part (block_steps statements tail) ≡ flat_map statement_parts statements ++ optional tail
@@ -128,6 +133,36 @@ pub branch_is_sized : (source : Source) (condition then_branch : ℕ) (else_bran
 branch_is_sized source condition then_branch else_branch child within =
     Contains-append_right (sized_part source (Operand condition)) (flat_map (sized_part source) (Into then_branch ∷ tail_steps else_branch)) child
     (subst (λ parts. Contains parts child) (sym (branches_are_sized source then_branch else_branch)) within)
+
+-- the value of an assignment needs a layout, and so does what its target is
+pub assigned_value_is_sized : (source : Source) (to : Assignee) (value : ℕ) → Contains (sized_parts source (Some (Assign to value))) value
+assigned_value_is_sized source to value = first_is_contained value (flat_map (sized_part source) (assignee_steps to))
+
+sized_assignee_part : (source : Source) (to : Assignee) (child : ℕ) → Contains (assignee_parts to) child → Contains (flat_map (sized_part source) (assignee_steps to)) child
+sized_assignee_part source (ByPattern pat) child within = within
+sized_assignee_part source (ByPlace e) child within = within
+
+pub assignee_is_sized : (source : Source) (to : Assignee) (value child : ℕ) → Contains (assignee_parts to) child → Contains (sized_parts source (Some (Assign to value))) child
+assignee_is_sized source to value child within = rest_is_contained value (flat_map (sized_part source) (assignee_steps to)) child (sized_assignee_part source to child within)
+
+-- so does what the target of a compound assignment is found by, and its value, where that is no truth value
+sized_compound_parts : (source : Source) (op : Operator) (to : Assigned) (value : ℕ) →
+    sized_parts source (Some (Compound op to value)) ≡ flat_map (sized_part source) (assigned_steps to) ++ flat_map (sized_part source) (Operand value ∷ [])
+sized_compound_parts source op to value = flat_map-append (sized_part source) (assigned_steps to) (Operand value ∷ [])
+
+sized_assigned_part : (source : Source) (to : Assigned) (child : ℕ) → Contains (assigned_parts to) child → Contains (flat_map (sized_part source) (assigned_steps to)) child
+sized_assigned_part source (ByPath e) child within = within
+sized_assigned_part source (ByField base index) child within = within
+
+pub assigned_is_sized : (source : Source) (op : Operator) (to : Assigned) (value child : ℕ) → Contains (assigned_parts to) child → Contains (sized_parts source (Some (Compound op to value))) child
+assigned_is_sized source op to value child within =
+    subst (λ parts. Contains parts child) (sym (sized_compound_parts source op to value))
+    (Contains-append_left (flat_map (sized_part source) (assigned_steps to)) (flat_map (sized_part source) (Operand value ∷ [])) child (sized_assigned_part source to child within))
+
+pub combined_value_is_sized : (source : Source) (op : Operator) (to : Assigned) (value : ℕ) → is_truth (unadjusted source value) ≡ false → Contains (sized_parts source (Some (Compound op to value))) value
+combined_value_is_sized source op to value is =
+    subst (λ parts. Contains parts value) (sym (sized_compound_parts source op to value))
+    (Contains-append_right (flat_map (sized_part source) (assigned_steps to)) (flat_map (sized_part source) (Operand value ∷ [])) value (first_is_sized source value [] is))
 
 -- what a block evaluates needs layouts as it is evaluated, since none of it is an operand
 sized_statement_part : (source : Source) (one : Statement) (child : ℕ) → Contains (statement_parts one) child → Contains (flat_map (sized_part source) (statement_steps one)) child
