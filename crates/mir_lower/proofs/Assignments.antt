@@ -12,8 +12,11 @@ use Rattle.mir.specs.declared.operand.Operand.{Operand as MirOperand}
 use Rattle.mir.specs.declared.operand.OperandKind.TheVariants.{Copy}
 use Rattle.mir.specs.declared.ids.LocalId.{LocalId}
 use Rattle.mir.specs.declared.operand.Place.{Place as GraphPlace}
+use Rattle.mir.specs.declared.operand.Rvalue.{Rvalue}
 use Rattle.mir.specs.declared.operand.Rvalue.TheVariants.{Use}
 use Rattle.mir.specs.declared.span.MirSpan.{MirSpan}
+use Rattle.mir.specs.declared.statement.Statement.{Statement}
+use Rattle.mir.specs.declared.statement.StatementKind.TheVariants.{Assign}
 use Rattle.mir.specs.WholePlaces.{whole_place}
 use Rattle.source_meaning.specs.Ends.{Stuck, then_do}
 use Rattle.source_meaning.specs.Events.{marked_as_place, marked_by_assignee}
@@ -38,14 +41,17 @@ use Rattle.mir_lower.proofs.Reaching.{comes-refl, reaches-then}
 use Rattle.mir_lower.proofs.Sparing.{spares-refl, spares-trans}
 use Rattle.mir_lower.proofs.Standing.{marking-fits, stands-in, stands-with}
 use Rattle.mir_lower.proofs.Steps.{reaches-from, does-form}
-use Rattle.mir_lower.proofs.Writing.{writing, written-copy}
+use Rattle.mir_lower.proofs.Writing.{written-copy}
+
+abbrev pub writing : GraphPlace → Rvalue → MirSpan → Statement
+writing to rvalue span = record { kind = Assign to rvalue; span = span }
 
 -- the value is a part, and so is the expression that the target is
 pub value-part : (source : Source) (e : ℕ) (to : Assignee) (value : ℕ) → node source e ≡ Some (expr.Assign to value) → Contains (parts_of (node source e)) value
 value-part source e to value form = assigned_is_part source e to value form
 
-pub target-part : (source : Source) (e target value : ℕ) → node source e ≡ Some (expr.Assign (ByPlace target) value) → Contains (parts_of (node source e)) target
-target-part source e target value form = assignee_is_part source e (ByPlace target) value target form (0, omega arith, refl)
+pub target-part : (source : Source) (e held value : ℕ) → node source e ≡ Some (expr.Assign (ByPlace held) value) → Contains (parts_of (node source e)) held
+target-part source e held value form = assignee_is_part source e (ByPlace held) value held form (0, omega arith, refl)
 
 -- a target that is a path to a binding names it
 pub names-target : (source : Source) (p : ℕ) (name : List ℕ) (named : ValueNs) (binding : BindingId) → Some name ≡ target_path source p → Some named ≡ pattern_named_by source p → named ≡ LocalBinding binding → target source p ≡ Some binding
@@ -109,7 +115,7 @@ assigns-place source s new to from operand span sound opened copies same place a
       does = record {
         reaches = λ whole frame grows whole-sound is lands around stands fuel serves store memory holds.
             let grown : Grows s whole = grows-trans s (with_statement st s) whole (with_statement-grows st s opened) grows in
-            written-copy source s whole frame to (Use operand) span opened whole-sound is serves.world lands grows place (at-later s whole grown to place is-to) store memory holds (place_bytes source store at)
+            written-copy source s whole frame to place (Use operand) span opened whole-sound is serves.world lands grows (at-later s whole grown to place is-to) store memory holds (place_bytes source store at)
             (copy-computes source whole frame from at operand copies whole-sound is serves.world (at-later s whole grown from at is-from) store memory holds);
       };
     })
