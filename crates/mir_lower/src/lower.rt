@@ -33,8 +33,9 @@ use crate::locals::{
     assign, bind, combined_local, fake_read, named_local, new_never, new_temp, target_local, write,
 };
 use body_forms::{
-    Assigned, Assignee, Context, Form, LiteralValue, PlaceForm, Several, Single, diverges, form_at, form_not_built,
-    kind_of, literal_at, lower_callee, lower_literal, made_of, method_args, place_form_at,
+    Assigned, Assignee, Context, Form, LiteralValue, PlaceForm, Several, Single, diverges, form_at,
+    form_not_built, kind_of, literal_at, lower_callee, lower_literal, made_of, method_args,
+    place_form_at,
 };
 use either::Either;
 use mir::{BinOp, LocalId, MirLowerError, MirSpan, Operand, OperandKind, Place, PlaceElem, Rvalue};
