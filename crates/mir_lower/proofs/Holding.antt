@@ -59,7 +59,7 @@ pub interval-of : (frame : Frame) (memory : Memory) (l : ℕ) (bytes : List ℕ)
 unfolding local_bytes
 interval-of frame memory l bytes h = option_and_then_some (cell_bytes memory) (slice_get frame.cells l) bytes h (λ cell found at. (cell, found, at))
 
-local_bytes-at : (frame : Frame) (memory : Memory) (l : ℕ) (cell : Interval) → slice_get frame.cells l ≡ Some cell → local_bytes frame memory l ≡ cell_bytes memory cell
+pub local_bytes-at : (frame : Frame) (memory : Memory) (l : ℕ) (cell : Interval) → slice_get frame.cells l ≡ Some cell → local_bytes frame memory l ≡ cell_bytes memory cell
 unfolding local_bytes
 local_bytes-at frame memory l cell found = ap (option_and_then (cell_bytes memory)) found
 

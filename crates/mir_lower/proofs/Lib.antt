@@ -30,6 +30,7 @@ pub mod Needed
 pub mod Operands
 pub mod Operations
 pub mod Parameters
+pub mod Patching
 pub mod Placing
 pub mod Projecting
 pub mod Reaching
@@ -51,3 +52,4 @@ pub mod Stopping
 pub mod Strict
 pub mod Taking
 pub mod Whole
+pub mod Writing

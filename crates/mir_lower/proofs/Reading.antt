@@ -142,7 +142,7 @@ spot-read memory cell bytes found (Some count) (Some at) = cell-part memory cell
 spot-read memory cell bytes found None (Some at) = refl
 spot-read memory cell bytes found size None = refl
 
-abbrev size_at : HirDatabase → Option Ty → Option ℕ
+abbrev pub size_at : HirDatabase → Option Ty → Option ℕ
 size_at world ty = option_map (λ (layout : Layout). layout.size) (option_and_then (layout_of world) ty)
 
 -- what elements lead to in a cell has the bytes that they lead to in the cell's bytes
@@ -156,10 +156,10 @@ behind-read world memory cell bytes found (elem ∷ rest) ty =
 
 -- A place of the graph that is one of the source has its bytes, whenever store and memory agree, and its type.
 module _ (source : Source) (whole : Shape) (frame : Frame) (place : GraphPlace) (at : Place) (sound : IsSound source whole) (is : IsFrameOf whole frame) (world : frame.program.world ≡ source.world) (same : IsAt whole place at) where
-  found-elements : graph.elements_of frame.body place ≡ Some (elements_of at.projection)
+  pub found-elements : graph.elements_of frame.body place ≡ Some (elements_of at.projection)
   found-elements = ap (λ kept. elements_in kept place.projection) is.projections ∙ same.elements
 
-  local-type : graph.local_type frame.body place.local ≡ cell_type source at.cell
+  pub local-type : graph.local_type frame.body place.local ≡ cell_type source at.cell
   local-type =
       let there = sound.allotted.typed at.cell place.local.0 same.found in
       ap (λ locals. option_map (λ (l : Local). l.ty) (slice_get locals place.local.0)) is.locals
