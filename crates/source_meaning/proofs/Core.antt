@@ -1,26 +1,29 @@
 -- Each expression that an expression evaluates stands before it.
 use Rattle.std.specs.Prelude.{flat_map, Contains}
-use Rattle.std.proofs.Common.{⊎_elim, ◌≡◌, ℕ, ◌<◌, Bool, true, false, List, [], ◌∷◌, ◌++◌, Option, Some, None, option_map, option_and_then, if◌then◌else◌, refl, sym, ap, ◌∙◌, subst}
+use Rattle.std.proofs.Common.{⊎_elim, ◌≡◌, ℕ, ◌<◌, Bool, true, false, List, [], ◌∷◌, ◌++◌, Option, Some, None, option_map, option_and_then, slice_get, if◌then◌else◌, refl, sym, ap, ◌∙◌, subst, arith}
 use Rattle.std.proofs.lemmas.List.Elements.{All-contains, Contains-append_left, Contains-append_right, Contains-append_cases}
 use Rattle.world.specs.declared.body.Statement.{Statement}
 use Rattle.world.specs.declared.body.Statement.TheVariants as statement
 use Rattle.world.specs.declared.expr.Expr.TheVariants as whole
 use Rattle.world.specs.declared.expr.Expr.{Expr}
+use Rattle.world.specs.declared.pat.Pat.TheVariants as pat
+use Rattle.world.specs.declared.pat.Pat.{Pat}
 use Rattle.world.specs.Lookups.{expr_of}
 use Rattle.world.specs.Checked.{IsCheckedBody}
-use Rattle.world.specs.Nodes.{optional, expr_numbers, children_of, statement_children}
+use Rattle.world.specs.Nodes.{optional, expr_numbers, children_of, inner_exprs_of, patterns_of, statement_children}
 use Rattle.either.specs.declared.Either.{Either}
 use Rattle.either.specs.declared.Either.TheVariants.{Left, Right}
 use Rattle.types.specs.declared.ids.ExprId.{ExprId}
 use Rattle.types.specs.declared.ids.FieldId.{FieldId}
+use Rattle.types.specs.declared.ids.PatId.{PatId}
 use Rattle.types.specs.declared.ids.TupleFieldId.{TupleFieldId}
 use Rattle.types.specs.declared.operators.BinaryOp.{BinaryOp}
 use Rattle.types.specs.declared.operators.BinaryOp.TheVariants as binary
 use Rattle.numbers.specs.Operators.{of_arith, of_compare}
-use Rattle.source_meaning.specs.Core.{CoreExpr, Operation, MakeTuple, MakeArray, Repeat, Literal, Path, Field, Strict, Logic, If, Assign, Compound, Block, Labelled, Loop, Break, Continue, Return, Call, core_literal, unary_operation, cast_operation, unary_form, eager_form, binary_form, field_form, core_of, field_named, is_adjusted_otherwise, names_item}
-use Rattle.source_meaning.specs.Source.{Source, node}
-use Rattle.source_meaning.specs.Steps.{parts_of, statement_parts}
-use Rattle.source_meaning.proofs.Parts.{nothing_is_contained, rest_is_contained, among_more, strict_parts, if_parts, block_parts, tail_part, call_parts}
+use Rattle.source_meaning.specs.Core.{CoreExpr, Findings, Operation, MakeTuple, MakeArray, Repeat, Literal, Path, Field, Strict, Logic, If, Assign, Compound, Block, Labelled, Loop, Break, Continue, Return, Call, core_literal, unary_operation, unary_form, eager_form, binary_form, field_form, core_of, expr_in, field_named, is_adjusted_otherwise, is_adjusted_twice, is_dereferenced_pattern, part_in, tuple_part}
+use Rattle.source_meaning.specs.Source.{Source, assigned_by, assigned_field, assignee_by, findings, node, pattern_expr}
+use Rattle.source_meaning.specs.Steps.{parts_of, assigned_parts, assignee_parts, statement_parts}
+use Rattle.source_meaning.proofs.Parts.{first_is_contained, nothing_is_contained, rest_is_contained, among_more, strict_parts, if_parts, compound_parts, block_parts, tail_part, call_parts}
 
 mapped : {A B : Type 0} (f : A → B) (given : Option A) (y : B) → option_map f given ≡ Some y → (x : A) × (given ≡ Some x) × (f x ≡ y)
 mapped f (Some x) y is = (x, refl, (let same : f x ≡ y = cc in same))
@@ -34,18 +37,9 @@ statement_part_is_child (statement.Let pat None other) child within = absurd (no
 statement_part_is_child (statement.Expr e has_semi) child within = within
 statement_part_is_child statement.Item child within = within
 
--- an operator evaluates its operands
+-- an operator evaluates its operand
 unary_parts : (e : ℕ) (given : Option Operation) (core : CoreExpr) → unary_form e given ≡ Some core → parts_of (Some core) ≡ e ∷ []
 unary_parts e given core is = let from = mapped (λ op. Strict op (e ∷ [])) given core is in ap (λ c. parts_of (Some c)) (sym from.2)
-
-binary_part : (lhs rhs : ℕ) (op : BinaryOp) (core : CoreExpr) → binary_form lhs rhs op ≡ Some core → (child : ℕ) → Contains (parts_of (Some core)) child → Contains (lhs ∷ rhs ∷ []) child
-binary_part lhs rhs (binary.ArithOp op) core is child within = let same : core ≡ eager_form lhs rhs (of_arith op) = cc in subst (λ c. Contains (parts_of (Some c)) child) same within
-binary_part lhs rhs (binary.CmpOp op) core is child within = let same : core ≡ eager_form lhs rhs (of_compare op) = cc in subst (λ c. Contains (parts_of (Some c)) child) same within
-binary_part lhs rhs (binary.LogicOp op) core is child within = let same : core ≡ Logic op lhs rhs = cc in subst (λ c. Contains (parts_of (Some c)) child) same within
-binary_part lhs rhs (binary.Assignment (Some op)) core is child within =
-    let same : core ≡ Compound (of_arith op) lhs rhs = cc in
-    rest_is_contained lhs (rhs ∷ []) child (subst (λ c. Contains (parts_of (Some c)) child) same within)
-binary_part lhs rhs (binary.Assignment None) core is child within = absurd cc
 
 -- a field evaluates its base
 field_part : (base : ℕ) (field : Option (Either FieldId TupleFieldId)) (core : CoreExpr) → field_form base field ≡ Some core → (child : ℕ) → Contains (parts_of (Some core)) child → Contains (base ∷ []) child
@@ -59,68 +53,142 @@ block_part_is_child statements tail child within =
     (λ there. Contains-append_right (flat_map statement_children statements) (optional tail) child there)
     (Contains-append_cases (flat_map statement_parts statements) (optional tail) child (subst (λ parts. Contains parts child) (block_parts statements tail) within))
 
--- what an expression evaluates it holds
-part_is_child : (item : Bool) (casts : ExprId → Option Operation) (field : Option (Either FieldId TupleFieldId)) (e : Expr) (core : CoreExpr) → core_of item casts field e ≡ Some core → (child : ℕ) → Contains (parts_of (Some core)) child → Contains (children_of e) child
-part_is_child item casts field (whole.Literal given) core is child within =
+-- An expression stands where another does: the other holds it, it is in the target of an assignment that the other is, or the base of the
+-- field that the left operand of the other is.
+data StandsIn (found : Findings) (e : Expr) (child : ℕ) : Type 0 where
+  as_child : Contains (children_of e) child → StandsIn found e child
+  in_target : (k : ℕ) (target : PatId) → slice_get (patterns_of e) k ≡ Some target.0 → Contains (assignee_parts (found.assignee target)) child → StandsIn found e child
+  in_left : (left : ExprId) → Contains (children_of e) left.0 → Contains (assigned_parts (found.assigned left)) child → StandsIn found e child
+
+binary_part : (found : Findings) (lhs rhs : ExprId) (op : BinaryOp) (core : CoreExpr) → binary_form (found.assigned lhs) lhs.0 rhs.0 op ≡ Some core → (child : ℕ) → Contains (parts_of (Some core)) child → StandsIn found (whole.BinaryOp lhs rhs (Some op)) child
+binary_part found lhs rhs (binary.ArithOp op) core is child within = let same : core ≡ eager_form lhs.0 rhs.0 (of_arith op) = cc in as_child (subst (λ c. Contains (parts_of (Some c)) child) same within)
+binary_part found lhs rhs (binary.CmpOp op) core is child within = let same : core ≡ eager_form lhs.0 rhs.0 (of_compare op) = cc in as_child (subst (λ c. Contains (parts_of (Some c)) child) same within)
+binary_part found lhs rhs (binary.LogicOp op) core is child within = let same : core ≡ Logic op lhs.0 rhs.0 = cc in as_child (subst (λ c. Contains (parts_of (Some c)) child) same within)
+binary_part found lhs rhs (binary.Assignment (Some op)) core is child within =
+    let same : core ≡ Compound (of_arith op) (found.assigned lhs) rhs.0 = cc in
+    ⊎_elim (λ here. in_left lhs (first_is_contained lhs.0 (rhs.0 ∷ [])) here)
+    (λ there. as_child (rest_is_contained lhs.0 (rhs.0 ∷ []) child there))
+    (Contains-append_cases (assigned_parts (found.assigned lhs)) (rhs.0 ∷ []) child
+    (subst (λ parts. Contains parts child) (ap (λ c. parts_of (Some c)) same ∙ compound_parts (of_arith op) (found.assigned lhs) rhs.0) within))
+binary_part found lhs rhs (binary.Assignment None) core is child within = absurd cc
+
+-- an assignment evaluates its value, and what its target is
+assignment_part : (found : Findings) (target : PatId) (value : ExprId) (child : ℕ) → Contains (parts_of (Some (Assign (found.assignee target) value.0))) child → StandsIn found (whole.Assignment target value) child
+assignment_part found target value child within =
+    ⊎_elim (λ here. as_child here) (λ there. in_target 0 target refl there) (Contains-append_cases (value.0 ∷ []) (assignee_parts (found.assignee target)) child within)
+
+name_has_no_parts : (item : Bool) (name : List ℕ) (core : CoreExpr) → if item then None else Some (Path name) ≡ Some core → (child : ℕ) → Contains (parts_of (Some core)) child → ⊥
+name_has_no_parts true name core is child within = absurd cc
+name_has_no_parts false name core is child within =
+    let same : Path name ≡ core = cc in nothing_is_contained child (subst (λ c. Contains (parts_of (Some c)) child) (sym same) within)
+
+-- what an expression evaluates stands in it
+part_stands : (found : Findings) (e : Expr) (core : CoreExpr) → core_of found e ≡ Some core → (child : ℕ) → Contains (parts_of (Some core)) child → StandsIn found e child
+part_stands found (whole.Literal given) core is child within =
     let from = mapped Literal (core_literal given) core is in
     absurd (nothing_is_contained child (subst (λ c. Contains (parts_of (Some c)) child) (sym from.2) within))
-part_is_child true casts field (whole.Path name) core is child within = absurd cc
-part_is_child false casts field (whole.Path name) core is child within =
-    let same : Path name ≡ core = cc in absurd (nothing_is_contained child (subst (λ c. Contains (parts_of (Some c)) child) (sym same) within))
-part_is_child item casts field (whole.Field base name) core is child within = field_part base.0 field core is child within
-part_is_child item casts field (whole.UnaryOp e op) core is child within = subst (λ parts. Contains parts child) (unary_parts e.0 (unary_operation op) core is) within
-part_is_child item casts field (whole.Cast e) core is child within = subst (λ parts. Contains parts child) (unary_parts e.0 (casts e) core is) within
-part_is_child item casts field (whole.BinaryOp lhs rhs (Some op)) core is child within = binary_part lhs.0 rhs.0 op core is child within
-part_is_child item casts field (whole.BinaryOp lhs rhs None) core is child within = absurd cc
-part_is_child item casts field (whole.If condition then_branch else_branch) core is child within =
+part_stands found (whole.Path name) core is child within = absurd (name_has_no_parts found.names_item name core is child within)
+part_stands found (whole.Field base name) core is child within = as_child (field_part base.0 found.field core is child within)
+part_stands found (whole.UnaryOp e op) core is child within = as_child (subst (λ parts. Contains parts child) (unary_parts e.0 (unary_operation op) core is) within)
+part_stands found (whole.Cast e) core is child within = as_child (subst (λ parts. Contains parts child) (unary_parts e.0 (found.casts e) core is) within)
+part_stands found (whole.BinaryOp lhs rhs (Some op)) core is child within = binary_part found lhs rhs op core is child within
+part_stands found (whole.BinaryOp lhs rhs None) core is child within = absurd cc
+part_stands found (whole.If condition then_branch else_branch) core is child within =
     let same : core ≡ If condition.0 then_branch.0 else_branch = cc in
-    subst (λ parts. Contains parts child) (ap (λ c. parts_of (Some c)) same ∙ if_parts condition.0 then_branch.0 else_branch) within
-part_is_child item casts field (whole.Assignment target value) core is child within =
-    let same : Assign target.0 value.0 ≡ core = cc in subst (λ c. Contains (parts_of (Some c)) child) (sym same) within
-part_is_child item casts field (whole.Block statements tail None) core is child within =
-    let same : Block statements tail ≡ core = cc in block_part_is_child statements tail child (subst (λ c. Contains (parts_of (Some c)) child) (sym same) within)
-part_is_child item casts field (whole.Block statements tail (Some label)) core is child within =
-    let same : Labelled label statements tail ≡ core = cc in block_part_is_child statements tail child (subst (λ c. Contains (parts_of (Some c)) child) (sym same) within)
-part_is_child item casts field (whole.Loop body label) core is child within =
-    let same : Loop label body.0 ≡ core = cc in subst (λ c. Contains (parts_of (Some c)) child) (sym same) within
-part_is_child item casts field (whole.Break value label) core is child within =
+    as_child (subst (λ parts. Contains parts child) (ap (λ c. parts_of (Some c)) same ∙ if_parts condition.0 then_branch.0 else_branch) within)
+part_stands found (whole.Assignment target value) core is child within =
+    let same : Assign (found.assignee target) value.0 ≡ core = cc in assignment_part found target value child (subst (λ c. Contains (parts_of (Some c)) child) (sym same) within)
+part_stands found (whole.Block statements tail None) core is child within =
+    let same : Block statements tail ≡ core = cc in as_child (block_part_is_child statements tail child (subst (λ c. Contains (parts_of (Some c)) child) (sym same) within))
+part_stands found (whole.Block statements tail (Some label)) core is child within =
+    let same : Labelled label statements tail ≡ core = cc in as_child (block_part_is_child statements tail child (subst (λ c. Contains (parts_of (Some c)) child) (sym same) within))
+part_stands found (whole.Loop body label) core is child within =
+    let same : Loop label body.0 ≡ core = cc in as_child (subst (λ c. Contains (parts_of (Some c)) child) (sym same) within)
+part_stands found (whole.Break value label) core is child within =
     let same : core ≡ Break label value = cc in
-    subst (λ parts. Contains parts child) (ap (λ c. parts_of (Some c)) same ∙ tail_part value) within
-part_is_child item casts field (whole.Continue label) core is child within =
+    as_child (subst (λ parts. Contains parts child) (ap (λ c. parts_of (Some c)) same ∙ tail_part value) within)
+part_stands found (whole.Continue label) core is child within =
     let same : Continue label ≡ core = cc in absurd (nothing_is_contained child (subst (λ c. Contains (parts_of (Some c)) child) (sym same) within))
-part_is_child item casts field (whole.Return value) core is child within =
+part_stands found (whole.Return value) core is child within =
     let same : core ≡ Return value = cc in
-    subst (λ parts. Contains parts child) (ap (λ c. parts_of (Some c)) same ∙ tail_part value) within
-part_is_child item casts field (whole.Call callee args) core is child within =
+    as_child (subst (λ parts. Contains parts child) (ap (λ c. parts_of (Some c)) same ∙ tail_part value) within)
+part_stands found (whole.Call callee args) core is child within =
     let same : core ≡ Call (Some callee.0) (expr_numbers args) = cc in
-    rest_is_contained callee.0 (expr_numbers args) child (subst (λ parts. Contains parts child) (ap (λ c. parts_of (Some c)) same ∙ call_parts (Some callee.0) (expr_numbers args)) within)
-part_is_child item casts field (whole.MethodCall receiver args name) core is child within =
+    as_child (rest_is_contained callee.0 (expr_numbers args) child (subst (λ parts. Contains parts child) (ap (λ c. parts_of (Some c)) same ∙ call_parts (Some callee.0) (expr_numbers args)) within))
+part_stands found (whole.MethodCall receiver args name) core is child within =
     let same : core ≡ Call None (receiver.0 ∷ expr_numbers args) = cc in
-    subst (λ parts. Contains parts child) (ap (λ c. parts_of (Some c)) same ∙ call_parts None (receiver.0 ∷ expr_numbers args)) within
-part_is_child item casts field (whole.Tuple parts) core is child within =
+    as_child (subst (λ parts. Contains parts child) (ap (λ c. parts_of (Some c)) same ∙ call_parts None (receiver.0 ∷ expr_numbers args)) within)
+part_stands found (whole.Tuple parts) core is child within =
     let same : core ≡ Strict MakeTuple (expr_numbers parts) = cc in
-    subst (λ given. Contains given child) (ap (λ c. parts_of (Some c)) same ∙ strict_parts MakeTuple (expr_numbers parts)) within
-part_is_child item casts field (whole.Array elements) core is child within =
+    as_child (subst (λ given. Contains given child) (ap (λ c. parts_of (Some c)) same ∙ strict_parts MakeTuple (expr_numbers parts)) within)
+part_stands found (whole.Array elements) core is child within =
     let same : core ≡ Strict MakeArray (expr_numbers elements) = cc in
-    subst (λ parts. Contains parts child) (ap (λ c. parts_of (Some c)) same ∙ strict_parts MakeArray (expr_numbers elements)) within
-part_is_child item casts field (whole.Repeat initializer) core is child within =
-    let same : core ≡ Strict Repeat (initializer.0 ∷ []) = cc in subst (λ c. Contains (parts_of (Some c)) child) same within
-part_is_child item casts field _ core is child within = absurd cc
+    as_child (subst (λ parts. Contains parts child) (ap (λ c. parts_of (Some c)) same ∙ strict_parts MakeArray (expr_numbers elements)) within)
+part_stands found (whole.Repeat initializer) core is child within =
+    let same : core ≡ Strict Repeat (initializer.0 ∷ []) = cc in as_child (subst (λ c. Contains (parts_of (Some c)) child) same within)
+part_stands found _ core is child within = absurd cc
 
-node_from : (adjusted item : Bool) (casts : ExprId → Option Operation) (field : Option (Either FieldId TupleFieldId)) (found : Option Expr) (core : CoreExpr) → if adjusted then None else option_and_then (core_of item casts field) found ≡ Some core →
-    (e : Expr) × (found ≡ Some e) × (core_of item casts field e ≡ Some core)
-node_from true item casts field found core is = absurd cc
-node_from false item casts field None core is = absurd cc
-node_from false item casts field (Some e) core is = (e, refl, is)
+-- the pattern that holds an expression as the target of an assignment
+held_from : (dereferenced : Bool) (found : Option Pat) (e : ExprId) → if dereferenced then None else option_and_then expr_in found ≡ Some e → (given : Pat) × (found ≡ Some given) × (inner_exprs_of given ≡ e.0 ∷ [])
+held_from true found e is = absurd cc
+held_from false None e is = absurd cc
+held_from false (Some (pat.Expr held)) e is = (pat.Expr held, refl, (let same : held ≡ e = cc in ap (λ (one : ExprId). one.0 ∷ []) same))
+held_from false (Some _) e is = absurd cc
+
+pattern_holds : (source : Source) (p : ℕ) (e : ExprId) → pattern_expr source p ≡ Some e → (given : Pat) × (slice_get source.body.pats p ≡ Some given) × (inner_exprs_of given ≡ e.0 ∷ [])
+unfolding pattern_expr
+pattern_holds source p e is = held_from (is_dereferenced_pattern source.infer (record { 0 = p })) (slice_get source.body.pats p) e is
+
+-- what the target of an assignment evaluates its pattern holds
+assignee_part_is_inner : (source : Source) (p : ℕ) (held : Option ExprId) (child : ℕ) → pattern_expr source p ≡ held → Contains (assignee_parts (assignee_by p held)) child →
+    (given : Pat) × (slice_get source.body.pats p ≡ Some given) × Contains (inner_exprs_of given) child
+assignee_part_is_inner source p (Some e) child is within = let from = pattern_holds source p e is in (from.0, from.1, subst (λ inner. Contains inner child) (sym from.2) within)
+assignee_part_is_inner source p None child is within = absurd (nothing_is_contained child within)
+
+-- the field that an expression is as the target of a compound assignment
+tuple_part_base : (base : ℕ) (named : Option (Either FieldId TupleFieldId)) (field : ℕ × ℕ) → tuple_part base named ≡ Some field → base ≡ field.0
+tuple_part_base base (Some (Right named)) field is = let same : field ≡ (base, named.index) = cc in sym (ap (λ (f : ℕ × ℕ). f.0) same)
+tuple_part_base base (Some (Left named)) field is = absurd cc
+tuple_part_base base None field is = absurd cc
+
+field_from : (twice : Bool) (named : Option (Either FieldId TupleFieldId)) (found : Option Expr) (field : ℕ × ℕ) → if twice then None else option_and_then (part_in named) found ≡ Some field → (given : Expr) × (found ≡ Some given) × (children_of given ≡ field.0 ∷ [])
+field_from true named found field is = absurd cc
+field_from false named None field is = absurd cc
+field_from false named (Some (whole.Field base name)) field is = (whole.Field base name, refl, ap (λ b. b ∷ []) (tuple_part_base base.0 named field is))
+field_from false named (Some _) field is = absurd cc
+
+field_holds : (source : Source) (e : ℕ) (field : ℕ × ℕ) → assigned_field source e ≡ Some field → (given : Expr) × (expr_of source.body e ≡ Some given) × (children_of given ≡ field.0 ∷ [])
+unfolding assigned_field
+field_holds source e field is = field_from (is_adjusted_twice source.infer (record { 0 = e })) (field_named source.infer (record { 0 = e })) (expr_of source.body e) field is
+
+-- what the target of a compound assignment evaluates it holds
+assigned_part_is_child : (source : Source) (e : ℕ) (field : Option (ℕ × ℕ)) (child : ℕ) → assigned_field source e ≡ field → Contains (assigned_parts (assigned_by e field)) child →
+    (given : Expr) × (expr_of source.body e ≡ Some given) × Contains (children_of given) child
+assigned_part_is_child source e (Some field) child is within = let from = field_holds source e field is in (from.0, from.1, subst (λ held. Contains held child) (sym from.2) within)
+assigned_part_is_child source e None child is within = absurd (nothing_is_contained child within)
+
+node_from : (adjusted : Bool) (findings : Findings) (found : Option Expr) (core : CoreExpr) → if adjusted then None else option_and_then (core_of findings) found ≡ Some core → (e : Expr) × (found ≡ Some e) × (core_of findings e ≡ Some core)
+node_from true findings found core is = absurd cc
+node_from false findings None core is = absurd cc
+node_from false findings (Some e) core is = (e, refl, is)
+
+-- what stands in an expression has a lower number
+standing_is_below : (source : Source) → IsCheckedBody source.body source.infer → (e : ℕ) (given : Expr) → expr_of source.body e ≡ Some given → (child : ℕ) → StandsIn (findings source e) given child → child < e
+standing_is_below source checked e given is child (as_child within) = All-contains (λ other. other < e) (children_of given) child (checked.children e given is) within
+standing_is_below source checked e given is child (in_target k target holds within) =
+    let from = assignee_part_is_inner source target.0 (pattern_expr source target.0) child refl within in
+    All-contains (λ other. other < e) (inner_exprs_of from.0) child (checked.inside e given k target.0 from.0 is holds from.1) from.2
+standing_is_below source checked e given is child (in_left left holds within) =
+    let from = assigned_part_is_child source left.0 (assigned_field source left.0) child refl within in
+    let lower : child < left.0 = All-contains (λ other. other < left.0) (children_of from.0) child (checked.children left.0 from.0 from.1) from.2 in
+    let earlier : left.0 < e = All-contains (λ other. other < e) (children_of given) left.0 (checked.children e given is) holds in
+    omega (arith, lower, earlier)
 
 part_of_form_is_below : (source : Source) → IsCheckedBody source.body source.infer → (e child : ℕ) (form : Option CoreExpr) → node source e ≡ form → Contains (parts_of form) child → child < e
 unfolding node
 part_of_form_is_below source checked e child (Some core) is within =
-    let item = names_item source.infer (record { 0 = e }) in
-    let casts = cast_operation source.infer (record { 0 = e }) in
-    let field = field_named source.infer (record { 0 = e }) in
-    let from = node_from (is_adjusted_otherwise source.infer (record { 0 = e })) item casts field (expr_of source.body e) core is in
-    All-contains (λ other. other < e) (children_of from.0) child (checked.children e from.0 from.1) (part_is_child item casts field from.0 core from.2 child within)
+    let from = node_from (is_adjusted_otherwise source.infer (record { 0 = e })) (findings source e) (expr_of source.body e) core is in
+    standing_is_below source checked e from.0 from.1 child (part_stands (findings source e) from.0 core from.2 child within)
 part_of_form_is_below source checked e child None is within = absurd (nothing_is_contained child within)
 
 -- what is evaluated where an expression is has a lower number

@@ -10,10 +10,10 @@ use Rattle.numbers.specs.declared.operator.Operator.{Operator}
 use Rattle.source_meaning.specs.Around.{Around, Target, at_root, marking, inside, target_of}
 use Rattle.source_meaning.specs.Calls.{source_called, must_not_return, parameter_cells, started}
 use Rattle.source_meaning.specs.Core as expr
-use Rattle.source_meaning.specs.Core.{CoreExpr, Operation}
+use Rattle.source_meaning.specs.Core.{Assigned, Assignee, ByField, ByPath, ByPattern, ByPlace, CoreExpr, Operation, is_place}
 use Rattle.source_meaning.specs.Ends.{Cost, turns_alone, End, Go, Jumps, Break, Continue, Return, Faults, Stuck, More, IsOver, after, then_do}
-use Rattle.source_meaning.specs.Events.{marked, marked_as_operand, marked_by_statement}
-use Rattle.source_meaning.specs.Meaning.{Levels, Callees, no_fuel, field_place, field_into, place_of, operand_of, operands_of, strict_into, is_byte, deciding_byte, decided_into, branched, logic_into, tail_into, branch_into, if_into, assign_into, compound_into, statement_of, statements_of, block_into, caught, again_into, labelled_into, turn_of, loop_into, break_to, return_into, call_returned, call_diverged, call_ended, entered_from, entered_into, into_of, level_above, level_at, returned, body_meaning, callees_at, meaning_from}
+use Rattle.source_meaning.specs.Events.{marked, marked_as_operand, marked_as_place, marked_by_assigned, marked_by_statement}
+use Rattle.source_meaning.specs.Meaning.{Levels, Callees, no_fuel, field_place, field_into, place_of, operand_of, operands_of, strict_into, is_byte, deciding_byte, decided_into, branched, logic_into, tail_into, branch_into, if_into, assignee_place, assign_into, assigned_place, compound_into, statement_of, statements_of, block_into, caught, again_into, labelled_into, turn_of, loop_into, break_to, return_into, call_returned, call_diverged, call_ended, entered_from, entered_into, into_of, level_above, level_at, returned, body_meaning, callees_at, meaning_from}
 use Rattle.source_meaning.specs.Places.{operand_bytes, operands_bytes}
 use Rattle.source_meaning.specs.Source.{Source, Store, Path, Result, Node, Operand, zeroed, node, unadjusted, never_marks, own_path, target, root}
 
@@ -38,6 +38,11 @@ then_do_agrees (More cost) second next other same rest over = absurd over
 
 after_agrees : {A : Type 0} (cost : Cost) (first second : End A) → (IsOver first → second ≡ first) → IsOver (after cost first) → after cost second ≡ after cost first
 after_agrees cost first second same over = ap (after cost) (same (over_before cost first over))
+
+-- where an evaluation agrees with another, so do those that are stuck without a test
+where_agrees : {A : Type 0} (test : Bool) (first second : End A) → (IsOver first → second ≡ first) → IsOver (if test then first else Stuck) → (if test then second else Stuck) ≡ (if test then first else Stuck)
+where_agrees true first second same over = same over
+where_agrees false first second same over = refl
 
 -- where a branch agrees with another, so do the whole ones
 branched_agrees : (first second : End (Unit {0})) → (IsOver first → second ≡ first) → IsOver (branched first) → branched second ≡ branched first
@@ -181,11 +186,25 @@ module _ (source : Source) (below above : Levels) (agrees : Agrees below above) 
   field_agrees around base field path store over =
       then_do_agrees (field_place (below around) base field store) (field_place (above around) base field store) _ _ (field_place_agrees around base field store) (λ place later o. refl) over
 
-  compound_agrees : (around : Around) (op : Operator) (assigned value : ℕ) (store : Store) → IsOver (compound_into source (below around) op assigned value store) → compound_into source (above around) op assigned value store ≡ compound_into source (below around) op assigned value store
-  compound_agrees around op assigned value store over = then_do_agrees ((below around).operand value store) ((above around).operand value store) _ _ (agrees.operand around value store) (λ given later o. refl) over
+  assigned_place_agrees : (around : Around) (to : Assigned) (store : Store) → IsOver (assigned_place source (below around) to store) → assigned_place source (above around) to store ≡ assigned_place source (below around) to store
+  assigned_place_agrees around (ByPath e) store over = refl
+  assigned_place_agrees around (ByField base index) store over = field_place_agrees around base index store over
 
-  assign_agrees : (around : Around) (assigned value : ℕ) (store : Store) → IsOver (assign_into source (below around) assigned value store) → assign_into source (above around) assigned value store ≡ assign_into source (below around) assigned value store
-  assign_agrees around assigned value store over = then_do_agrees ((below around).place value store) ((above around).place value store) _ _ (agrees.place around value store) (λ from later o. refl) over
+  compound_agrees : (around : Around) (op : Operator) (to : Assigned) (value : ℕ) (store : Store) → IsOver (compound_into source below around op to value store) → compound_into source above around op to value store ≡ compound_into source below around op to value store
+  compound_agrees around op to value store over =
+      let behind = marking (marked_by_assigned source to) around in
+      then_do_agrees (assigned_place source (below around) to store) (assigned_place source (above around) to store) _ _ (assigned_place_agrees around to store) (λ place later o.
+      then_do_agrees ((below behind).operand value later) ((above behind).operand value later) _ _ (agrees.operand behind value later) (λ given last o'. refl) o) over
+
+  assignee_place_agrees : (around : Around) (to : Assignee) (store : Store) → IsOver (assignee_place source (below around) to store) → assignee_place source (above around) to store ≡ assignee_place source (below around) to store
+  assignee_place_agrees around (ByPattern pat) store over = refl
+  assignee_place_agrees around (ByPlace e) store over = where_agrees (is_place (unadjusted source e)) ((below around).place e store) ((above around).place e store) (agrees.place around e store) over
+
+  assign_agrees : (around : Around) (to : Assignee) (value : ℕ) (store : Store) → IsOver (assign_into source below around to value store) → assign_into source above around to value store ≡ assign_into source below around to value store
+  assign_agrees around to value store over =
+      let behind = marking (marked_as_place source value) around in
+      then_do_agrees ((below around).place value store) ((above around).place value store) _ _ (agrees.place around value store) (λ from later o.
+      then_do_agrees (assignee_place source (below behind) to later) (assignee_place source (above behind) to later) _ _ (assignee_place_agrees behind to later) (λ place last o'. refl) o) over
 
   block_agrees : (around : Around) (statements : List Statement) (tail : Option ExprId) (path : Path) (store : Store) → IsOver (block_into source below around statements tail path store) → block_into source above around statements tail path store ≡ block_into source below around statements tail path store
   block_agrees around statements tail path store over =
@@ -226,8 +245,8 @@ module _ (source : Source) (below above : Levels) (agrees : Agrees below above) 
     into_agrees around e (Some (expr.Strict operation operands)) path store over = strict_agrees around e operation operands path store over
     into_agrees around e (Some (expr.Logic op left right)) path store over = logic_agrees around op left right path store over
     into_agrees around e (Some (expr.If condition then_branch else_branch)) path store over = if_agrees around condition then_branch else_branch path store over
-    into_agrees around e (Some (expr.Assign assigned value)) path store over = assign_agrees around assigned value store over
-    into_agrees around e (Some (expr.Compound op assigned value)) path store over = compound_agrees around op assigned value store over
+    into_agrees around e (Some (expr.Assign to value)) path store over = assign_agrees around to value store over
+    into_agrees around e (Some (expr.Compound op to value)) path store over = compound_agrees around op to value store over
     into_agrees around e (Some (expr.Block statements tail)) path store over = block_agrees around statements tail path store over
     into_agrees around e (Some (expr.Labelled label statements tail)) path store over = labelled_agrees around e label statements tail path store over
     into_agrees around e (Some (expr.Loop label body)) path store over = loop_agrees around e label body path store over

@@ -19,19 +19,19 @@ use Rattle.numbers.specs.Operators.{Answer, Computes, Panics, Undefined}
 use Rattle.source_meaning.specs.Around.{Around, Target, at_root, marking, inside, target_of}
 use Rattle.source_meaning.specs.Calls.{source_at, source_called, must_not_return, parameter_cells, started}
 use Rattle.source_meaning.specs.Core as expr
-use Rattle.source_meaning.specs.Core.{CoreExpr}
+use Rattle.source_meaning.specs.Core.{Assigned, Assignee, ByField, ByPath, ByPattern, ByPlace, CoreExpr, is_place}
 use Rattle.source_meaning.specs.Ends.{Cost, plus, turns_alone, End, Go, Jumps, Break, Continue, Return, Faults, Stuck, More, GoesOn, after, then_do}
 use Rattle.source_meaning.specs.Entering.{entering}
-use Rattle.source_meaning.specs.Events.{marked, marked_as_operand, marked_by_statement}
-use Rattle.source_meaning.specs.Meaning.{Levels, Callees, constant_cost, put, copy_to, put_literal, put_answer, literal_operand, literal_bytes, named_place, named_into, bind, combine_into, field_place, place_of, operand_of, operands_of, is_byte, deciding_byte, reading_cost, decided_into, branched, logic_into, tail_into, branch_into, if_into, statement_of, statements_of, block_into, caught, again_into, turn_of, break_to, continue_to, return_into, call_returned, call_diverged, call_ended, entered_from, entered_into, into_of, level_at, returned, body_meaning, callees_at, meaning_from}
-use Rattle.source_meaning.specs.Places.{place_bytes, operand_bytes, operands_bytes}
-use Rattle.source_meaning.specs.Source.{Source, Store, Path, Place, Result, Node, Binding, Operand, Literally, zeroed, node, unadjusted, never_marks, own_path, own_type, named_by, pattern, target, compound_target, root}
-use Rattle.source_meaning.specs.Steps.{parts_of, statement_parts}
+use Rattle.source_meaning.specs.Events.{marked, marked_as_operand, marked_as_place, marked_by_assigned, marked_by_statement}
+use Rattle.source_meaning.specs.Meaning.{Levels, Callees, constant_cost, put, copy_to, put_literal, put_answer, literal_operand, literal_bytes, named_place, named_into, bind, put_all, put_at, copy_at, answer_at, bound_place, assignee_place, assign_into, assigned_place, compound_into, field_place, place_of, operand_of, operands_of, is_byte, deciding_byte, reading_cost, decided_into, branched, logic_into, tail_into, branch_into, if_into, statement_of, statements_of, block_into, caught, again_into, turn_of, break_to, continue_to, return_into, call_returned, call_diverged, call_ended, entered_from, entered_into, into_of, level_at, returned, body_meaning, callees_at, meaning_from}
+use Rattle.source_meaning.specs.Places.{cell_with, place_bytes, operand_bytes, operands_bytes}
+use Rattle.source_meaning.specs.Source.{Source, Store, Path, Place, Cell, Result, Node, Binding, Operand, Literally, zeroed, node, unadjusted, never_marks, own_path, own_type, named_by, pattern, target, compound_target, root}
+use Rattle.source_meaning.specs.Steps.{parts_of, assigned_parts, assignee_parts, statement_parts}
 use Rattle.source_meaning.proofs.Calls.{called_row, above_roots, root_is_below}
 use Rattle.source_meaning.proofs.Core.{part_is_below}
 use Rattle.source_meaning.proofs.Depth.{field_base_is_part}
 use Rattle.source_meaning.proofs.Never.{unadjusted-plain}
-use Rattle.source_meaning.proofs.Parts.{first_is_contained, rest_is_contained, strict_parts, if_parts, block_parts, tail_part, call_parts}
+use Rattle.source_meaning.proofs.Parts.{first_is_contained, rest_is_contained, strict_parts, if_parts, compound_parts, block_parts, tail_part, call_parts}
 
 -- an end, or a lack of fuel after at least `limit` blocks
 abbrev Lasts : {A : Type 0} → ℕ → End A → Type 0
@@ -160,6 +160,26 @@ module _ (limit : ℕ) where
   bind_lasts : (source : Source) (pat : Option BindingId) (place : Place) (store : Store) → Lasts limit (bind source pat place store)
   bind_lasts source (Some id) place store = copy_lasts store (record { cell = Binding id.0 }) (place_bytes source store place)
   bind_lasts source None place store = tt
+
+  put_all_lasts : (store : Store) (cell : Cell) (bytes : Option (List ℕ)) → Lasts limit (put_all store cell bytes)
+  put_all_lasts store cell (Some bytes) = tt
+  put_all_lasts store cell None = tt
+
+  put_at_lasts : (source : Source) (store : Store) (place : Place) (bytes : List ℕ) → Lasts limit (put_at source store place bytes)
+  put_at_lasts source store place bytes = put_all_lasts store place.cell (cell_with source store place bytes)
+
+  copy_at_lasts : (source : Source) (store : Store) (place : Place) (bytes : Option (List ℕ)) → Lasts limit (copy_at source store place bytes)
+  copy_at_lasts source store place (Some bytes) = put_at_lasts source store place bytes
+  copy_at_lasts source store place None = tt
+
+  answer_at_lasts : (source : Source) (store : Store) (place : Place) (answer : Answer) → Lasts limit (answer_at source store place answer)
+  answer_at_lasts source store place (Computes bytes) = put_at_lasts source store place bytes
+  answer_at_lasts source store place (Panics word) = tt
+  answer_at_lasts source store place Undefined = tt
+
+  bound_place_lasts : (named : Option BindingId) (store : Store) → Lasts limit (bound_place named store)
+  bound_place_lasts (Some id) store = tt
+  bound_place_lasts None store = tt
 
   -- a call lasts where its callee does
   call_returned_lasts : (path : Path) (store : Store) (end : End (List ℕ)) → Lasts limit end → Lasts limit (call_returned path store end)
@@ -292,9 +312,30 @@ module _ (limit : ℕ) where
     continue_lasts around (Some target) store = tt
     continue_lasts around None store = tt
 
-    combined_lasts : (op : Operator) (assigned : Option BindingId) (given : Operand) (store : Store) → Lasts limit (combine_into source op assigned given store)
-    combined_lasts op (Some id) given store = put_answer_lasts store (record { cell = Binding id.0 }) _
-    combined_lasts op None given store = tt
+    assignee_place_lasts : (around : Around) (to : Assignee) (store : Store) → ((child : ℕ) → Contains (assignee_parts to) child → LastsIn below child) → Lasts limit (assignee_place source (below around) to store)
+    assignee_place_lasts around (ByPattern pat) store ends = bound_place_lasts (target source pat) store
+    assignee_place_lasts around (ByPlace e) store ends =
+        let target_ends = ends e (first_is_contained e []) in either_lasts limit (is_place (unadjusted source e)) ((below around).place e store) Stuck (target_ends.place around store) tt
+
+    assign_lasts : (around : Around) (to : Assignee) (value : ℕ) (store : Store) → ((child : ℕ) → Contains (value ∷ assignee_parts to) child → LastsIn below child) → Lasts limit (assign_into source below around to value store)
+    assign_lasts around to value store ends =
+        let value_ends = ends value (first_is_contained value (assignee_parts to)) in
+        let behind = marking (marked_as_place source value) around in
+        then_do_lasts ((below around).place value store) _ (value_ends.place around store) (λ from later.
+        then_do_lasts (assignee_place source (below behind) to later) _ (assignee_place_lasts behind to later (λ child within. ends child (rest_is_contained value (assignee_parts to) child within))) (λ place last.
+        copy_at_lasts source last place (place_bytes source last from)))
+
+    assigned_place_lasts : (around : Around) (to : Assigned) (store : Store) → ((child : ℕ) → Contains (assigned_parts to) child → LastsIn below child) → Lasts limit (assigned_place source (below around) to store)
+    assigned_place_lasts around (ByPath e) store ends = bound_place_lasts (compound_target source e) store
+    assigned_place_lasts around (ByField base index) store ends =
+        let base_ends = ends base (first_is_contained base []) in field_place_lasts below around base index store (base_ends.place around store)
+
+    compound_lasts : (around : Around) (op : Operator) (to : Assigned) (value : ℕ) (store : Store) → ((child : ℕ) → Contains (assigned_parts to ++ value ∷ []) child → LastsIn below child) → Lasts limit (compound_into source below around op to value store)
+    compound_lasts around op to value store ends =
+        let value_ends = ends value (Contains-append_right (assigned_parts to) (value ∷ []) value (first_is_contained value [])) in
+        let behind = marking (marked_by_assigned source to) around in
+        then_do_lasts (assigned_place source (below around) to store) _ (assigned_place_lasts around to store (λ child within. ends child (Contains-append_left (assigned_parts to) (value ∷ []) child within))) (λ place later.
+        then_do_lasts ((below behind).operand value later) _ (value_ends.operand behind later) (λ given last. answer_at_lasts source last place _))
 
     return_lasts : (around : Around) (value : Option ExprId) (store : Store) → ((child : ℕ) → Contains (optional value) child → LastsIn below child) → Lasts limit (return_into source below around value store)
     return_lasts around value store ends = then_do_lasts (tail_into (below around) value around.result store) _ (tail_lasts around value around.result store ends) (λ done later. tt)
@@ -311,12 +352,9 @@ module _ (limit : ℕ) where
     into_lasts callees around e (Some (expr.Logic op left right)) path store is repeats enters ends = logic_lasts around op left right path store ends
     into_lasts callees around e (Some (expr.If condition then_branch else_branch)) path store is repeats enters ends =
         if_lasts around condition then_branch else_branch path store (λ child within. ends child (subst (λ parts. Contains parts child) (sym (if_parts condition then_branch else_branch)) within))
-    into_lasts callees around e (Some (expr.Assign assigned value)) path store is repeats enters ends =
-        let value_ends = ends value (first_is_contained value []) in
-        then_do_lasts ((below around).place value store) _ (value_ends.place around store) (λ from later. bind_lasts source (target source assigned) from later)
-    into_lasts callees around e (Some (expr.Compound op assigned value)) path store is repeats enters ends =
-        let value_ends = ends value (first_is_contained value []) in
-        then_do_lasts ((below around).operand value store) _ (value_ends.operand around store) (λ given later. combined_lasts op (compound_target source assigned) given later)
+    into_lasts callees around e (Some (expr.Assign to value)) path store is repeats enters ends = assign_lasts around to value store ends
+    into_lasts callees around e (Some (expr.Compound op to value)) path store is repeats enters ends =
+        compound_lasts around op to value store (λ child within. ends child (subst (λ parts. Contains parts child) (sym (compound_parts op to value)) within))
     into_lasts callees around e (Some (expr.Block statements tail)) path store is repeats enters ends =
         block_lasts around statements tail path store (λ child within. ends child (subst (λ parts. Contains parts child) (sym (block_parts statements tail)) within))
     into_lasts callees around e (Some (expr.Labelled label statements tail)) path store is repeats enters ends =

@@ -1,6 +1,6 @@
 -- What lies at a place: as many bytes as its type's layout says, which are all inside the cell. So an operand has a value of its type
 -- when the operation runs.
-use Rattle.std.proofs.Common.{⊎_elim, ◌⊎◌, inl, ◌≡◌, ℕ, ◌+◌, ◌≤◌, ◌==◌, Bool, List, [], ◌∷◌, ◌++◌, length, take, drop, slice_get, get_or, if◌then◌else◌, Option, Some, None, unwrap_or, option_map, option_and_then, refl, sym, ap, ◌∙◌, subst, rules, arith, le-leb, length-drop, length-take-le}
+use Rattle.std.proofs.Common.{⊎_elim, ◌⊎◌, inl, ◌≡◌, ℕ, ◌+◌, ◌≤◌, ◌==◌, Bool, List, [], ◌∷◌, ◌++◌, length, take, drop, slice_get, get_or, if◌then◌else◌, Option, Some, None, unwrap_or, option_map, option_and_then, refl, sym, ap, ◌∙◌, subst, rules, arith, le-leb, eq-eqb, length-drop, length-take-le}
 use Rattle.std.proofs.lemmas.Option.{slice_get_within, slice_get-get_or}
 use Rattle.types.specs.declared.ty.Const.TheFolds.{the_lemmas}
 use Rattle.types.specs.declared.ty.Ty.{Ty, Bool as BoolTy}
@@ -8,13 +8,14 @@ use Rattle.types.specs.declared.ty.Ty.TheVariants.{Tuple}
 use Rattle.world.specs.declared.database.HirDatabase.{HirDatabase}
 use Rattle.world.specs.Checked.{IsChecked}
 use Rattle.world.specs.Lookups.{layout_of}
+use Rattle.numbers.specs.Aggregates.{with_part}
 use Rattle.numbers.specs.Operators.{kind_of}
 use Rattle.source_meaning.specs.Aggregates.{HasAggregates}
 use Rattle.source_meaning.specs.Meaning.{Value, operand_kind, values_of, is_byte}
-use Rattle.source_meaning.specs.Places.{elem_type, elem_offset, type_behind, added, offset_behind, part_of, bytes_behind, place_type, place_bytes, operand_bytes, operands_bytes}
+use Rattle.source_meaning.specs.Places.{elem_type, elem_offset, type_behind, added, offset_behind, part_of, bytes_behind, bytes_with, place_type, place_bytes, cell_with, operand_bytes, operands_bytes}
 use Rattle.source_meaning.specs.Source.{Source, Store, IsSized, Cell, PlaceElem, Part, Place, whole, projected, Binding, Operand, Literally, At, node_type, binding_type, cell_type, cell_size}
 use Rattle.source_meaning.specs.Valid.{IsNumber, IsBool, HaveTypes, AreBound, IsLaidOut, AreLaidOut}
-use Rattle.source_meaning.proofs.Aggregates.{AreBytes}
+use Rattle.source_meaning.proofs.Aggregates.{AreBytes, with_part-there}
 use Rattle.source_meaning.proofs.Calls.{AreFor}
 use Rattle.source_meaning.proofs.Layouts.{bool_is_number, bool_length_is_one}
 use Rattle.source_meaning.proofs.Operators.{IsLengthOf}
@@ -146,12 +147,41 @@ module _ (source : Source) where
         long = there.long;
       }
 
+  -- bytes of the size of what lies behind elements can be put there, and the value has as many bytes as before
+  behind-put : (elems : List PlaceElem) (from ty : Option Ty) (offset : ℕ) (put bytes : List ℕ) → type_behind elems from ≡ ty → IsLaidOut source ty → offset_behind source.world elems from ≡ Some offset →
+      offset + size_at source ty ≤ length bytes → length bytes ≡ size_at source from → length put ≡ size_at source ty → AreBytes (length bytes) (bytes_with source.world elems from put bytes)
+  unfolding bytes_with type_behind
+  behind-put [] from ty offset put bytes typed laid begins ends long fits =
+      let same : length put ≡ length bytes = fits ∙ sym (long ∙ ap (size_at source) typed) in
+      record { bytes = put; is = ap (λ test. if test then Some put else None) (eq-eqb (length put) (length bytes) same); long = same }
+  behind-put (elem ∷ rest) from ty offset put bytes typed laid begins ends long fits =
+      let size : option_map (λ layout. layout.size) (option_and_then (layout_of source.world) ty) ≡ Some (size_at source ty) =
+      ap (option_map (λ layout. layout.size)) laid.found ∙ ap Some (sym (ap (λ given. unwrap_or (option_map (λ layout. layout.size) given) 0) laid.found)) in
+      let there = with_part-there offset put bytes (omega (arith, ends, fits)) in
+      record {
+        bytes = there.bytes;
+        is = ap (option_and_then (λ start. option_and_then (λ count. if length put == count then with_part start put bytes else None) (option_map (λ layout. layout.size) (option_and_then (layout_of source.world) (type_behind (elem ∷ rest) from))))) begins
+            ∙ ap (λ given. option_and_then (λ count. if length put == count then with_part offset put bytes else None) (option_map (λ layout. layout.size) (option_and_then (layout_of source.world) given))) typed
+            ∙ ap (option_and_then (λ count. if length put == count then with_part offset put bytes else None)) size
+            ∙ ap (λ test. if test then with_part offset put bytes else None) (eq-eqb (length put) (size_at source ty) fits)
+            ∙ there.is;
+        long = there.long;
+      }
+
   -- what lies at a place of a type has the size of the type
   pub place_has_bytes : (store : Store) (place : Place) (ty : Option Ty) → IsSized source store → IsPlaceOf source place ty → AreBytes (size_at source ty) (place_bytes source store place)
   unfolding place_bytes place_type
   place_has_bytes store place ty sized fits =
       let all = sized.holds_all place.cell in
       behind-there place.projection (cell_type source place.cell) ty fits.offset (store place.cell) fits.typed fits.laid fits.begins (omega (arith, fits.ends, all)) all
+
+  -- and bytes of that size can be put there, so that the cell has as many bytes as its type has
+  pub place_takes_bytes : (store : Store) (place : Place) (ty : Option Ty) (put : List ℕ) → IsSized source store → IsPlaceOf source place ty → length put ≡ size_at source ty → AreBytes (cell_size source place.cell) (cell_with source store place put)
+  unfolding cell_with place_type
+  place_takes_bytes store place ty put sized fits long =
+      let all = sized.holds_all place.cell in
+      subst (λ size. AreBytes size (bytes_with source.world place.projection (cell_type source place.cell) put (store place.cell))) all
+      (behind-put place.projection (cell_type source place.cell) ty fits.offset put (store place.cell) fits.typed fits.laid fits.begins (omega (arith, fits.ends, all)) all long)
 
   -- which is a value of it
   pub place_has_value : IsChecked source.world → (store : Store) (place : Place) (ty : Ty) → IsSized source store → IsPlaceOf source place (Some ty) → HasValue source store (At place) ty

@@ -6,6 +6,7 @@ use Rattle.std.proofs.lemmas.List.{length-replicate}
 use Rattle.std.proofs.lemmas.List.Elements.{All-head, All-tail, Contains-append_left, Contains-append_right, Contains-append_cases}
 use Rattle.world.specs.declared.body.Statement.{Statement}
 use Rattle.world.specs.declared.body.Statement.TheVariants as statement
+use Rattle.types.specs.declared.ids.BindingId.{BindingId}
 use Rattle.types.specs.declared.ids.ExprId.{ExprId}
 use Rattle.types.specs.declared.ids.LabelId.{LabelId}
 use Rattle.types.specs.declared.operators.LogicOp.{LogicOp}
@@ -20,24 +21,24 @@ use Rattle.source_meaning.specs.Aggregates.{HasAggregates}
 use Rattle.source_meaning.specs.Around.{Opened, Target, Around, at_root, marking, entered, inside as inside_of, is_meant, meant, target_of}
 use Rattle.source_meaning.specs.Calls.{must_not_return, parameter_cells, parameters}
 use Rattle.source_meaning.specs.Core as expr
-use Rattle.source_meaning.specs.Core.{CoreExpr, CoreLiteral, Truth, Number, Character, Operation, Combine, is_truth}
+use Rattle.source_meaning.specs.Core.{Assigned, Assignee, ByField, ByPath, ByPattern, ByPlace, CoreExpr, CoreLiteral, Truth, Number, Character, Operation, Combine, is_truth}
 use Rattle.source_meaning.specs.Ends.{Cost, no_cost, turns_alone, plus, End, Go, Jumps, Jump, Break, Continue, Return, Faults, Stuck, More, JumpsNowhere, after, then_do}
 use Rattle.source_meaning.specs.Entering.{entering}
-use Rattle.source_meaning.specs.Events.{marked, marked_as_operand, marked_by_statement}
-use Rattle.source_meaning.specs.Meaning.{Level, Levels, Callees, Value, operand_kind, values_of, answered, answered_for, truth_byte, literal_bytes, constant_cost, put, copy_to, put_literal, put_answer, literal_operand, named_place, named_into, field_place, bind, operands_of, strict_into, deciding_byte, reading_cost, decided_into, branched, logic_into, tail_into, branch_into, if_into, assign_into, combine_into, compound_into, statement_of, statements_of, block_into, caught, again_into, labelled_into, turn_of, loop_into, break_to, break_into, continue_to, continue_into, return_into, call_ended, entered_from, entered_into, call_into, no_fuel, place_of, operand_of, into_of, level_above, level_at, returned, body_meaning, callees_at, meaning_from}
-use Rattle.source_meaning.specs.Places.{place_bytes, operand_bytes, operands_bytes}
-use Rattle.source_meaning.specs.Source.{Source, Store, IsSized, Path, Part, Place, whole, projected, Cell, Result, Node, Binding, Operand, Literally, At, zeroed, node, unadjusted, never_marks, own_path, own_type, node_type, own_layout, pattern, target, compound_target, root, cell_type, binding_type, cell_size}
-use Rattle.source_meaning.specs.Steps.{parts_of, statement_parts, tail_steps}
+use Rattle.source_meaning.specs.Events.{marked, marked_as_operand, marked_as_place, marked_by_assigned, marked_by_statement}
+use Rattle.source_meaning.specs.Meaning.{Level, Levels, Callees, Value, operand_kind, values_of, answered, answered_for, truth_byte, literal_bytes, constant_cost, put, copy_to, put_literal, put_answer, literal_operand, named_place, named_into, field_place, bind, operands_of, strict_into, deciding_byte, reading_cost, decided_into, branched, logic_into, tail_into, branch_into, if_into, put_all, put_at, copy_at, answer_at, bound_place, assignee_place, assign_into, assigned_place, compound_into, statement_of, statements_of, block_into, caught, again_into, labelled_into, turn_of, loop_into, break_to, break_into, continue_to, continue_into, return_into, call_ended, entered_from, entered_into, call_into, no_fuel, place_of, operand_of, into_of, level_above, level_at, returned, body_meaning, callees_at, meaning_from}
+use Rattle.source_meaning.specs.Places.{cell_with, place_bytes, operand_bytes, operands_bytes}
+use Rattle.source_meaning.specs.Source.{Source, Store, IsSized, Path, Place, whole, Cell, Result, Node, Binding, Operand, Literally, At, zeroed, node, unadjusted, never_marks, own_path, own_type, node_type, own_layout, pattern, target, compound_target, root, cell_type, binding_type, cell_size}
+use Rattle.source_meaning.specs.Steps.{parts_of, assigned_parts, assignee_parts, statement_parts, tail_steps}
 use Rattle.source_meaning.specs.Steps as step
-use Rattle.source_meaning.specs.Valid.{Evaluates, itself, part, IsNumber, IsBool, IsPlainLiteral, IsPlainLet, IsPlainStatement, IsPlainTail, IsPlainAssign, IsPlainCompound, HasPlainForm, IsPlainNode, EvaluatesIn, itself_in, part_in, opened_in, HasPlainTarget, HasOpenTarget, FitsAround, JumpsFit, IsPlain, IsLaidOut, IsLaidOutNode, sized_parts, NeedsLayout, own, inside, AreLaidOut, Calls, through, at_once, IsPlainThroughout, AreLaidOutThroughout}
+use Rattle.source_meaning.specs.Valid.{Evaluates, itself, part, IsNumber, IsBool, IsPlainLiteral, IsPlainLet, IsPlainStatement, IsPlainTail, IsCombined, IsPlainAssigned, IsPlainAssignee, IsPlainField, HasPlainForm, IsPlainNode, EvaluatesIn, itself_in, part_in, opened_in, HasPlainTarget, HasOpenTarget, FitsAround, JumpsFit, IsPlain, IsLaidOut, IsLaidOutNode, sized_parts, NeedsLayout, own, inside, AreLaidOut, Calls, through, at_once, IsPlainThroughout, AreLaidOutThroughout}
 use Rattle.source_meaning.proofs.Aggregates.{AreBytes}
 use Rattle.source_meaning.proofs.Calls.{called_world, called_by_name, AreFor, started_is_sized}
-use Rattle.source_meaning.proofs.Depth.{evaluates_then, operand_is_part, argument_is_part, logic_operand_is_part, if_part_is_part}
+use Rattle.source_meaning.proofs.Depth.{evaluates_then, operand_is_part, argument_is_part, logic_operand_is_part, if_part_is_part, combined_is_part}
 use Rattle.source_meaning.proofs.Layouts.{bool_is_number, bool_length_is_one}
 use Rattle.source_meaning.proofs.Never.{undiverted-type, own_path-fits, unadjusted-plain}
 use Rattle.source_meaning.proofs.Operators.{Fits, IsLengthOf}
-use Rattle.source_meaning.proofs.Parts.{first_is_contained, rest_is_contained, operand_is_sized, first_is_sized, right_is_sized, branch_is_sized, sized_part_is_part, sized_block_parts, sized_tail}
-use Rattle.source_meaning.proofs.Places.{IsPlaceOf, IsLiteralOf, IsOperandOf, AreOperandsOf, byte_decides, whole_is_place, part_is_place, place_has_bytes, place_has_value, values_of-more, same_size, operand_is_value, truth_has_byte, operands_are_values, arguments_fit}
+use Rattle.source_meaning.proofs.Parts.{first_is_contained, rest_is_contained, operand_is_sized, first_is_sized, right_is_sized, branch_is_sized, assigned_value_is_sized, assignee_is_sized, assigned_is_sized, combined_value_is_sized, sized_part_is_part, sized_block_parts, sized_tail}
+use Rattle.source_meaning.proofs.Places.{IsPlaceOf, IsLiteralOf, IsOperandOf, AreOperandsOf, byte_decides, whole_is_place, part_is_place, place_has_bytes, place_takes_bytes, place_has_value, values_of-more, same_size, operand_is_value, truth_has_byte, operands_are_values, arguments_fit}
 use Rattle.source_meaning.proofs.Stores.{with_bytes_is_sized}
 use Rattle.source_meaning.proofs.Values.{size_at, combined_fits, number_is_long, typed_fits}
 
@@ -99,6 +100,25 @@ put_answer_is_sound : (source : Source) (targets : List Target) (store : Store) 
 put_answer_is_sound source targets store path (Computes bytes) sized fits = put_is_sound source targets store path bytes sized fits
 put_answer_is_sound source targets store path (Panics word) sized fits = tt
 put_answer_is_sound source targets store path Undefined sized fits = fits
+
+-- all bytes of a cell are replaced by as many
+put_all_is_sound : (source : Source) (targets : List Target) (store : Store) (cell : Cell) (given : Option (List ℕ)) → IsSized source store → AreBytes (cell_size source cell) given → IsSound source targets Nothing (put_all store cell given)
+put_all_is_sound source targets store cell given sized there =
+    subst (λ bytes. IsSound source targets Nothing (put_all store cell bytes)) (sym there.is) (with_bytes_is_sized source store cell there.bytes sized there.long, tt)
+
+-- bytes of the size of a place's type are put there
+put_at_is_sound : (source : Source) (targets : List Target) (store : Store) (place : Place) (ty : Option Ty) (bytes : List ℕ) → IsSized source store → IsPlaceOf source place ty → length bytes ≡ size_at source ty → IsSound source targets Nothing (put_at source store place bytes)
+put_at_is_sound source targets store place ty bytes sized fits long =
+    put_all_is_sound source targets store place.cell (cell_with source store place bytes) sized (place_takes_bytes source store place ty bytes sized fits long)
+
+copy_at_is_sound : (source : Source) (targets : List Target) (store : Store) (place : Place) (ty : Option Ty) (given : Option (List ℕ)) → IsSized source store → IsPlaceOf source place ty → AreBytes (size_at source ty) given → IsSound source targets Nothing (copy_at source store place given)
+copy_at_is_sound source targets store place ty given sized fits there =
+    subst (λ bytes. IsSound source targets Nothing (copy_at source store place bytes)) (sym there.is) (put_at_is_sound source targets store place ty there.bytes sized fits there.long)
+
+answer_at_is_sound : (source : Source) (targets : List Target) (store : Store) (place : Place) (ty : Option Ty) (answer : Answer) → IsSized source store → IsPlaceOf source place ty → Fits (size_at source ty) answer → IsSound source targets Nothing (answer_at source store place answer)
+answer_at_is_sound source targets store place ty (Computes bytes) sized fits long = put_at_is_sound source targets store place ty bytes sized fits long
+answer_at_is_sound source targets store place ty (Panics word) sized fits long = tt
+answer_at_is_sound source targets store place ty Undefined sized fits long = long
 
 -- the end of a body that is neither stuck nor a jump; a value has as many bytes as the result's cell
 abbrev pub IsSettled : Source → End (List ℕ) → Type 0
@@ -304,11 +324,12 @@ module _ (source : Source) (checked : IsChecked source.world) where
       subst (λ given. IsSound source targets Nothing (bind source given place store)) (sym plain.binds)
       (copied_is_sound targets place (node_type source e) (record { cell = Binding plain.binding.0 }) store sized fits (plain.binding_has ∙ sym plain.initializer_has))
 
-  -- the binding that a plain assignment names has the value's type
-  assigned_is_sound : (targets : List Target) (assigned value : ℕ) (place : Place) (store : Store) → IsPlainAssign source assigned value → IsSized source store → PlaceFits value place → IsSound source targets Nothing (bind source (target source assigned) place store)
-  assigned_is_sound targets assigned value place store plain sized fits =
-      subst (λ given. IsSound source targets Nothing (bind source given place store)) (sym plain.names)
-      (copied_is_sound targets place (node_type source value) (record { cell = Binding plain.binding.0 }) store sized fits (plain.binding_has ∙ sym plain.value_has))
+  -- the place of a binding of a type
+  bound_place_is_sound : (targets : List Target) (named : Option BindingId) (binding : BindingId) (ty : Ty) (store : Store) → AreBindingsLaidOut source → named ≡ Some binding → binding_type source binding.0 ≡ Some ty → IsSized source store →
+      IsSound source targets (λ place. IsPlaceOf source place (Some ty)) (bound_place named store)
+  bound_place_is_sound targets named binding ty store laid is has sized =
+      subst (λ given. IsSound source targets (λ place. IsPlaceOf source place (Some ty)) (bound_place given store)) (sym is)
+      (sized, whole_is_place source (Binding binding.0) (Some ty) has (laid binding.0 ty has))
 
   -- what the node of a fine expression is
   form_of : (e : ℕ) (form : Option CoreExpr) → node source e ≡ form → (plain : IsPlainNode source e) → HasPlainForm source e form plain.ty
@@ -326,18 +347,23 @@ module _ (source : Source) (checked : IsChecked source.world) where
       part_is_fine outer e child (Some (expr.Block statements tail)) is (sized_block_parts source statements tail child within) fine
 
   module _ (aggregates : HasAggregates source.world) (below : Levels) (sound : (outer : List Opened) (around : Around) → Stands outer around → IsSoundLevel outer around.targets (below around)) where
+    -- the part of a tuple whose place a base is
+    part_place_is_sound : (outer : List Opened) (around : Around) (stands : Stands outer around) (base index : ℕ) (ty : Ty) (store : Store) → IsPlainField source base index ty → IsFine source outer base → IsSized source store →
+        IsSound source around.targets (λ place. IsPlaceOf source place (Some ty)) (field_place (below around) base index store)
+    part_place_is_sound outer around stands base index ty store plain fine sized =
+        then_do_is_sound source around.targets (PlaceFits base) (λ place. IsPlaceOf source place (Some ty)) ((below around).place base store) _ ((sound outer around stands).place base store fine sized) (λ place later sized' fits. (
+          sized',
+          part_is_place source aggregates place plain.parts index ty (subst (IsPlaceOf source place) plain.base_has fits) plain.part_has,
+        ))
+
     -- a field is a part of its base's place, and has its own type
     field_is_sound : (outer : List Opened) (around : Around) (stands : Stands outer around) (e base : ℕ) (field : ℕ) (store : Store) → node source e ≡ Some (expr.Field base field) → IsFine source outer e → IsSized source store →
         IsSound source around.targets (λ place. IsPlaceOf source place (own_type source e)) (field_place (below around) base field store)
     field_is_sound outer around stands e base field store is fine sized =
         let plain = fine.plain e itself in
-        let form = form_of e _ is plain in
         let base_is_fine = part_is_fine outer e base (Some (expr.Field base field)) is (first_is_contained base []) fine in
-        then_do_is_sound source around.targets (PlaceFits base) (λ place. IsPlaceOf source place (own_type source e)) ((below around).place base store) _ ((sound outer around stands).place base store base_is_fine sized) (λ place later sized' fits. (
-          sized',
-          subst (IsPlaceOf source (projected (Part field) place)) (sym plain.has_type)
-              (part_is_place source aggregates place form.parts field plain.ty (subst (IsPlaceOf source place) form.base_has fits) form.part_has),
-        ))
+        subst (λ ty. IsSound source around.targets (λ place. IsPlaceOf source place ty) (field_place (below around) base field store)) (sym plain.has_type)
+        (part_place_is_sound outer around stands base field plain.ty store (form_of e _ is plain) base_is_fine sized)
 
     place_is_sound : (outer : List Opened) (around : Around) (stands : Stands outer around) (e : ℕ) (form : Option CoreExpr) (store : Store) → unadjusted source e ≡ form → IsFine source outer e → IsSized source store → IsSound source around.targets (PlaceFits e) (place_of source below around e form store)
     place_is_sound outer around stands e (Some (expr.Path name)) store is fine sized =
@@ -384,8 +410,8 @@ module _ (source : Source) (checked : IsChecked source.world) where
     operand_is_sound outer around stands e (Some (expr.Strict operation operands)) store is fine sized = as_place_is_sound outer around stands e store (ap is_truth is) fine sized
     operand_is_sound outer around stands e (Some (expr.Logic op left right)) store is fine sized = as_place_is_sound outer around stands e store (ap is_truth is) fine sized
     operand_is_sound outer around stands e (Some (expr.If condition then_branch else_branch)) store is fine sized = as_place_is_sound outer around stands e store (ap is_truth is) fine sized
-    operand_is_sound outer around stands e (Some (expr.Assign assigned value)) store is fine sized = as_place_is_sound outer around stands e store (ap is_truth is) fine sized
-    operand_is_sound outer around stands e (Some (expr.Compound op assigned value)) store is fine sized = as_place_is_sound outer around stands e store (ap is_truth is) fine sized
+    operand_is_sound outer around stands e (Some (expr.Assign to value)) store is fine sized = as_place_is_sound outer around stands e store (ap is_truth is) fine sized
+    operand_is_sound outer around stands e (Some (expr.Compound op to value)) store is fine sized = as_place_is_sound outer around stands e store (ap is_truth is) fine sized
     operand_is_sound outer around stands e (Some (expr.Block statements tail)) store is fine sized = as_place_is_sound outer around stands e store (ap is_truth is) fine sized
     operand_is_sound outer around stands e (Some (expr.Labelled label statements tail)) store is fine sized = as_place_is_sound outer around stands e store (ap is_truth is) fine sized
     operand_is_sound outer around stands e (Some (expr.Loop label body)) store is fine sized = as_place_is_sound outer around stands e store (ap is_truth is) fine sized
@@ -481,37 +507,55 @@ module _ (source : Source) (checked : IsChecked source.world) where
         (branch_is_sound outer behind (marks_stand _ stands) then_branch else_branch holds.0 plain.ty path later form.then_has form.else_has (fits ∙ plain.has_type) (λ child within.
         part_is_fine outer e child whole is (branch_is_sized source condition then_branch else_branch child within) fine) sized')))
 
-    assign_is_sound : (outer : List Opened) (around : Around) (stands : Stands outer around) (e assigned value : ℕ) (store : Store) → node source e ≡ Some (expr.Assign assigned value) → IsFine source outer e → IsSized source store → IsSound source around.targets Nothing (assign_into source (below around) assigned value store)
-    assign_is_sound outer around stands e assigned value store is fine sized =
-        let form = form_of e _ is (fine.plain e itself) in
-        let value_is_fine = part_is_fine outer e value (Some (expr.Assign assigned value)) is (first_is_contained value []) fine in
-        then_do_is_sound source around.targets (PlaceFits value) Nothing ((below around).place value store) _ ((sound outer around stands).place value store value_is_fine sized) (λ place later sized' fits. assigned_is_sound around.targets assigned value place later form sized' fits)
+    -- the target of an assignment is a place of its type
+    assignee_is_sound : (outer : List Opened) (around : Around) (stands : Stands outer around) (to : Assignee) (ty : Ty) (store : Store) → IsPlainAssignee source to ty → AreBindingsLaidOut source → ((child : ℕ) → Contains (assignee_parts to) child → IsFine source outer child) → IsSized source store →
+        IsSound source around.targets (λ place. IsPlaceOf source place (Some ty)) (assignee_place source (below around) to store)
+    assignee_is_sound outer around stands (ByPattern pat) ty store plain laid parts sized = bound_place_is_sound around.targets (target source pat) plain.binding ty store laid plain.names plain.binding_has sized
+    assignee_is_sound outer around stands (ByPlace e) ty store plain laid parts sized =
+        subst (λ test. IsSound source around.targets (λ place. IsPlaceOf source place (Some ty)) (if test then (below around).place e store else Stuck)) (sym plain.place)
+        (subst (λ t. IsSound source around.targets (λ place. IsPlaceOf source place t) ((below around).place e store)) plain.has ((sound outer around stands).place e store (parts e (first_is_contained e [])) sized))
 
-    -- what an operator makes of a local and a value has the size of the local
-    combined_is_sound : (targets : List Target) (op : Operator) (assigned value : ℕ) (given : Operand) (store : Store) → IsPlainCompound source op assigned value → AreBindingsLaidOut source → IsSized source store → OperandFits value given → IsSound source targets Nothing (combine_into source op (compound_target source assigned) given store)
+    assign_is_sound : (outer : List Opened) (around : Around) (stands : Stands outer around) (e : ℕ) (to : Assignee) (value : ℕ) (store : Store) → node source e ≡ Some (expr.Assign to value) → IsFine source outer e → IsSized source store → IsSound source around.targets Nothing (assign_into source below around to value store)
+    assign_is_sound outer around stands e to value store is fine sized =
+        let form = form_of e _ is (fine.plain e itself) in
+        let whole = Some (expr.Assign to value) in
+        let value_is_fine = part_is_fine outer e value whole is (assigned_value_is_sized source to value) fine in
+        let behind = marking (marked_as_place source value) around in
+        then_do_is_sound source around.targets (PlaceFits value) Nothing ((below around).place value store) _ ((sound outer around stands).place value store value_is_fine sized) (λ from later sized' fits.
+        then_do_is_sound source around.targets (λ place. IsPlaceOf source place (Some form.ty)) Nothing (assignee_place source (below behind) to later) _
+        (assignee_is_sound outer behind (marks_stand _ stands) to form.ty later form.assignee fine.bindings (λ child within. part_is_fine outer e child whole is (assignee_is_sized source to value child within) fine) sized') (λ place last sized'' fits'.
+        copy_at_is_sound source around.targets last place (Some form.ty) (place_bytes source last from) sized'' fits' (place_has_bytes source last from (Some form.ty) sized'' (subst (IsPlaceOf source from) form.value_has fits))))
+
+    -- and so is that of a compound assignment
+    assigned_place_is_sound : (outer : List Opened) (around : Around) (stands : Stands outer around) (to : Assigned) (ty : Ty) (store : Store) → IsPlainAssigned source to ty → AreBindingsLaidOut source → ((child : ℕ) → Contains (assigned_parts to) child → IsFine source outer child) → IsSized source store →
+        IsSound source around.targets (λ place. IsPlaceOf source place (Some ty)) (assigned_place source (below around) to store)
+    assigned_place_is_sound outer around stands (ByPath e) ty store plain laid parts sized = bound_place_is_sound around.targets (compound_target source e) plain.binding ty store laid plain.names plain.binding_has sized
+    assigned_place_is_sound outer around stands (ByField base index) ty store plain laid parts sized = part_place_is_sound outer around stands base index ty store plain (parts base (first_is_contained base [])) sized
+
+    -- what an operator makes of what lies at a place and a value has the size of the place's type
+    combined_is_sound : (targets : List Target) (op : Operator) (ty other_ty : Ty) (value : ℕ) (place : Place) (given : Operand) (store : Store) → IsCombined op ty other_ty ty → node_type source value ≡ Some other_ty → IsSized source store → IsPlaceOf source place (Some ty) → OperandFits value given →
+        IsSound source targets Nothing (answer_at source store place (answered_for source.world None (Combine op) (values_of source store (At place ∷ given ∷ []))))
     unfolding answered values_of
-    combined_is_sound targets op assigned value given store plain laid sized fits =
-        let own = laid plain.binding.0 plain.ty plain.binding_has in
-        let cell : Cell = Binding plain.binding.0 in
-        let left = place_has_value source checked store (whole cell) plain.ty sized (whole_is_place source cell (Some plain.ty) plain.binding_has own) in
-        let right = operand_is_value source checked value plain.other given store sized plain.value_has fits in
-        let one : Value = record { kind = operand_kind source (At (whole cell)); bytes = left.bytes } in
+    combined_is_sound targets op ty other_ty value place given store typed has sized fits fits' =
+        let left = place_has_value source checked store place ty sized fits in
+        let right = operand_is_value source checked value other_ty given store sized has fits' in
+        let one : Value = record { kind = operand_kind source (At place); bytes = left.bytes } in
         let other : Value = record { kind = operand_kind source given; bytes = right.bytes } in
-        let read = values_of-more source store (At (whole cell)) (given ∷ []) left.bytes (other ∷ []) left.is (values_of-more source store given [] right.bytes [] right.is refl) in
-        subst (λ target. IsSound source targets Nothing (combine_into source op target given store)) (sym plain.names)
-        (put_answer_is_sound source targets store (record { cell = cell }) _ sized
-        (subst (λ values. Fits (cell_size source cell) (answered_for source.world None (Combine op) values)) (sym read)
-        (subst (λ size. Fits size (answered source.world None (Combine op) (one ∷ other ∷ []))) (sym (ap (size_at source) plain.binding_has))
-        (combined_fits source op plain.ty plain.other plain.ty one other plain.typed (λ number. scalar_size plain.ty own number) left.value right.value))))
+        let read = values_of-more source store (At place) (given ∷ []) left.bytes (other ∷ []) left.is (values_of-more source store given [] right.bytes [] right.is refl) in
+        answer_at_is_sound source targets store place (Some ty) _ sized fits
+        (subst (λ values. Fits (size_at source (Some ty)) (answered_for source.world None (Combine op) values)) (sym read)
+        (combined_fits source op ty other_ty ty one other typed (λ number. scalar_size ty fits.laid number) left.value right.value))
 
-    compound_is_sound : (outer : List Opened) (around : Around) (stands : Stands outer around) (e : ℕ) (op : Operator) (assigned value : ℕ) (store : Store) → node source e ≡ Some (expr.Compound op assigned value) → IsFine source outer e → IsSized source store → IsSound source around.targets Nothing (compound_into source (below around) op assigned value store)
-    compound_is_sound outer around stands e op assigned value store is fine sized =
+    compound_is_sound : (outer : List Opened) (around : Around) (stands : Stands outer around) (e : ℕ) (op : Operator) (to : Assigned) (value : ℕ) (store : Store) → node source e ≡ Some (expr.Compound op to value) → IsFine source outer e → IsSized source store → IsSound source around.targets Nothing (compound_into source below around op to value store)
+    compound_is_sound outer around stands e op to value store is fine sized =
         let form = form_of e _ is (fine.plain e itself) in
-        let whole = Some (expr.Compound op assigned value) in
-        let part_is = subst (λ form. Contains (parts_of form) value) (sym is) (first_is_contained value []) in
-        then_do_is_sound source around.targets (OperandFits value) Nothing ((below around).operand value store) _ ((sound outer around stands).operand value store
-        (operand_is_fine outer e value whole is part_is (operand_is_sized source (value ∷ []) value (first_is_contained value [])) fine) sized) (λ given later sized' fits.
-        combined_is_sound around.targets op assigned value given later form fine.bindings sized' fits)
+        let whole = Some (expr.Compound op to value) in
+        let behind = marking (marked_by_assigned source to) around in
+        let value_is_fine = operand_is_fine outer e value whole is (combined_is_part source e op to value is) (combined_value_is_sized source op to value) fine in
+        then_do_is_sound source around.targets (λ place. IsPlaceOf source place (Some form.ty)) Nothing (assigned_place source (below around) to store) _
+        (assigned_place_is_sound outer around stands to form.ty store form.assigned fine.bindings (λ child within. part_is_fine outer e child whole is (assigned_is_sized source op to value child within) fine) sized) (λ place later sized' fits.
+        then_do_is_sound source around.targets (OperandFits value) Nothing ((below behind).operand value later) _ ((sound outer behind (marks_stand _ stands)).operand value later value_is_fine sized') (λ given last sized'' fits'.
+        combined_is_sound around.targets op form.ty form.other value place given last form.typed form.value_has sized'' fits fits'))
 
     -- what stands in a block, inside its scope
     inner_is_sound : (outer : List Opened) (around : Around) (stands : Stands outer around) (statements : List Statement) (tail : Option ExprId) (ty : Ty) (path : Path) (store : Store) → All (IsPlainStatement source) statements × IsPlainTail source tail ty → cell_type source path.cell ≡ Some ty → ((child : ℕ) → Contains (flat_map statement_parts statements ++ optional tail) child → IsFine source outer child) → IsSized source store → IsSound source around.targets Nothing (block_into source below around statements tail path store)
@@ -646,8 +690,8 @@ module _ (source : Source) (checked : IsChecked source.world) where
     into_is_sound callees callees_are outer around stands e (Some (expr.Strict operation operands)) path store is fine sized fits = strict_is_sound outer around stands e operation operands path store is fine sized fits
     into_is_sound callees callees_are outer around stands e (Some (expr.Logic op left right)) path store is fine sized fits = logic_is_sound outer around stands e op left right path store is fine sized fits
     into_is_sound callees callees_are outer around stands e (Some (expr.If condition then_branch else_branch)) path store is fine sized fits = if_is_sound outer around stands e condition then_branch else_branch path store is fine sized fits
-    into_is_sound callees callees_are outer around stands e (Some (expr.Assign assigned value)) path store is fine sized fits = assign_is_sound outer around stands e assigned value store is fine sized
-    into_is_sound callees callees_are outer around stands e (Some (expr.Compound op assigned value)) path store is fine sized fits = compound_is_sound outer around stands e op assigned value store is fine sized
+    into_is_sound callees callees_are outer around stands e (Some (expr.Assign to value)) path store is fine sized fits = assign_is_sound outer around stands e to value store is fine sized
+    into_is_sound callees callees_are outer around stands e (Some (expr.Compound op to value)) path store is fine sized fits = compound_is_sound outer around stands e op to value store is fine sized
     into_is_sound callees callees_are outer around stands e (Some (expr.Block statements tail)) path store is fine sized fits = block_is_sound outer around stands e statements tail path store is fine sized fits
     into_is_sound callees callees_are outer around stands e (Some (expr.Labelled label statements tail)) path store is fine sized fits = labelled_is_sound outer around stands e label statements tail path store is fine sized fits
     into_is_sound callees callees_are outer around stands e (Some (expr.Break label value)) path store is fine sized fits = break_is_sound outer around stands e label value store is fine sized
