@@ -109,7 +109,7 @@ fn binary_form<'a>(
         Some(BinaryOp::CmpOp(op)) => Form::Binary(BinOp::from(op), lhs, rhs),
         Some(BinaryOp::LogicOp(op)) => Form::Logic(op, lhs, rhs),
         Some(BinaryOp::Assignment { op: Some(op) }) => {
-            Form::Compound(BinOp::from(op), assigned(context, lhs), rhs)
+            Form::Compound(BinOp::from(op), assigned_of(context, lhs), rhs)
         }
         Some(BinaryOp::Assignment { op: None }) => Form::Unbuilt,
         None => Form::Incomplete,
@@ -180,7 +180,7 @@ fn form_of<'a>(context: &Context<'a>, e: ExprId, expr: &'a Expr) -> Form<'a>
             then_branch,
             else_branch,
         } => Form::If(*condition, *then_branch, *else_branch),
-        Expr::Assignment { target, value } => Form::Assign(assignee(context, *target), *value),
+        Expr::Assignment { target, value } => Form::Assign(assignee_of(context, *target), *value),
         Expr::Block {
             statements,
             tail,
@@ -374,7 +374,7 @@ fn pattern_expr(context: &Context<'_>, pat: PatId) -> Option<ExprId>
 }
 
 /// What a pattern is as the target of an assignment.
-fn assignee(context: &Context<'_>, pat: PatId) -> Assignee
+fn assignee_of(context: &Context<'_>, pat: PatId) -> Assignee
     ensures { core_assignee result ≡ assignee (source_of context.now) pat }
 {
     match pattern_expr(context, pat) {
@@ -466,7 +466,7 @@ fn assigned_in(
 
 /// What an expression is as the target of a compound assignment.
 #[tactic(auto, unfolding(source_meaning::specs::Source::assigned_field))]
-fn assigned(context: &Context<'_>, e: ExprId) -> Assigned
+fn assigned_of(context: &Context<'_>, e: ExprId) -> Assigned
     ensures { core_assigned result ≡ assigned (source_of context.now) e }
 {
     if is_adjusted_twice(context, e) {
