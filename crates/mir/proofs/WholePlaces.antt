@@ -1,7 +1,6 @@
 -- A place with the empty projection is the whole local.
-use Rattle.std.proofs.Common.{◌≡◌, ℕ, List, [], Option, Some, slice_get, ap}
+use Rattle.std.proofs.Common.{◌≡◌, List, [], Option, Some, slice_get, ap}
 use Rattle.std.specs.Prelude.{◌==◌, if◌then◌else◌}
-use Rattle.types.specs.declared.ty.Ty.{Ty}
 use Rattle.world.specs.declared.database.HirDatabase.{HirDatabase}
 use Rattle.mir.specs.declared.address.Interval.{Interval}
 use Rattle.mir.specs.declared.body.MirBody.{MirBody}

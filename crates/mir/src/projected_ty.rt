@@ -40,7 +40,7 @@ impl<V: PartialEq> ProjectionElem<V> {
         match self {
             ProjectionElem::Deref => copied(alloc, pointee(db, base)),
             ProjectionElem::Field(Either::Left(field)) => field_ty(alloc, db, base, *field),
-            ProjectionElem::Field(Either::Right(field)) => copied(alloc, part(base, *field)),
+            ProjectionElem::Field(Either::Right(field)) => copied(alloc, tuple_part(base, *field)),
             ProjectionElem::ClosureField(index) => match base {
                 Ty::Closure(id, args) => closure_field(*id, args, *index),
                 _ => Ok(Ty::Error),
@@ -112,7 +112,7 @@ fn field_ty(alloc: Global, db: &HirDatabase, ty: &Ty, field: FieldId) -> Result<
 }
 
 /// The type of a part of a tuple.
-fn part(ty: &Ty, field: TupleFieldId) -> Option<&Ty>
+pub fn tuple_part(ty: &Ty, field: TupleFieldId) -> Option<&Ty>
     ensures { option_copied result ≡ part_type field ty.now }
 {
     match ty {

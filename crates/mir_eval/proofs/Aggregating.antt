@@ -1,5 +1,5 @@
 -- Values that are made of operands.
-use Rattle.std.proofs.Common.{◌≡◌, ℕ, zero, suc, ◌+◌, ◌*◌, ◌<◌, ◌≤◌, Bool, true, false, List, [], ◌∷◌, ◌++◌, length, take, drop, slice_get, Option, Some, None, Result, Ok, Err, refl, sym, ap, ◌∙◌, arith, append-nil, append_assoc}
+use Rattle.std.proofs.Common.{◌≡◌, ℕ, zero, suc, ◌+◌, ◌≤◌, Bool, true, List, [], ◌∷◌, ◌++◌, length, take, drop, slice_get, Option, Some, None, Result, Ok, Err, refl, sym, ap, ◌∙◌, arith, append-nil, append_assoc}
 use Rattle.std.specs.Prelude.{is_some, option_map}
 use Rattle.std.specs.List.{concat}
 use Rattle.std.proofs.lemmas.List.{drop_all}
@@ -10,7 +10,7 @@ use Rattle.mir.specs.declared.operand.AggregateKind.TheVariants.{Array}
 use Rattle.mir.specs.declared.operand.Operand.{Operand}
 use Rattle.mir.specs.Memory.{Memory}
 use Rattle.mir.specs.Run.{Frame, aggregated, bad_read, before, operand_bytes, operands_bytes}
-use Rattle.mir_mem.proofs.Placed.{drop-some, slice_get-at}
+use Rattle.mir_mem.proofs.Placed.{drop-some}
 
 -- bytes that others stand behind
 pub take-front : (n : ℕ) (bytes more : List ℕ) → length bytes ≡ n → take n (bytes ++ more) ≡ bytes

@@ -1,15 +1,14 @@
 -- A `usize` stands for the address behind each cell of a memory whose stack keeps to its limit.
-use Rattle.std.proofs.Common.{◌≡◌, ℕ, zero, suc, ◌+◌, ◌-◌, ◌^◌, ◌<◌, ◌≤◌, Bool, true, false, List, [], ◌∷◌, ◌++◌, length, Option, Some, None, Result, Ok, Err, refl, ap, subst, arith, leb-true}
-use Rattle.std.specs.Prelude.{IfSome, if◌then◌else◌, nat_le, slice_get}
+use Rattle.std.proofs.Common.{◌≡◌, ℕ, zero, suc, ◌+◌, ◌-◌, ◌^◌, ◌≤◌, Bool, true, false, List, [], ◌∷◌, ◌++◌, length, Option, Some, None, Result, Ok, Err, refl, ap, subst, arith, leb-true}
+use Rattle.std.specs.Prelude.{IfSome, if◌then◌else◌, nat_le}
 use Rattle.std.specs.Option.{option_to_list}
 use Rattle.std.proofs.lemmas.Option.{same_Some}
 use Rattle.mir.specs.declared.address.CellSize.{CellSize}
 use Rattle.mir.specs.declared.address.Interval.{Interval}
-use Rattle.mir.specs.declared.mem_fault.MemFault.{MemFault}
 use Rattle.mir.specs.declared.mem_fault.MemFault.TheVariants.{MemoryLimitExceeded}
 use Rattle.mir.specs.declared.errors.MirEvalError.{MirEvalError}
-use Rattle.mir.specs.Areas.{Areas, IsBounded, after_push, cells_behind, end_behind, grown_to, length_behind, start_behind}
-use Rattle.mir.specs.Memory.{Memory, pushed}
+use Rattle.mir.specs.Areas.{Areas, IsBounded, after_push, cells_behind, end_behind, grown_to, length_behind}
+use Rattle.mir.specs.Memory.{pushed}
 use Rattle.mir_mem.proofs.Bounds.{length_behind-ge}
 use Rattle.mir_rows.specs.Places.{HasEnd, HaveEnds}
 

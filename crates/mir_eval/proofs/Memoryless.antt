@@ -1,5 +1,5 @@
 -- Statements, blocks and runs in which memory ran out.
-use Rattle.std.proofs.Common.{◌≡◌, ℕ, zero, suc, ◌-◌, ◌<◌, ◌≤◌, slice_get, arith, ◌⊎◌, inl, inr, ⊎_elim, Option, Some, None, Result, Ok, Err, refl, sym, ap, ◌∙◌, subst}
+use Rattle.std.proofs.Common.{◌≡◌, ℕ, zero, suc, ◌-◌, ◌<◌, slice_get, arith, inl, inr, Option, Some, Result, Ok, Err, sym, ap, ◌∙◌, subst}
 use Rattle.types.specs.declared.ty.Const.{Const}
 use Rattle.mir.specs.declared.body.Terminator.{Terminator}
 use Rattle.mir.specs.declared.errors.MirEvalError.{MirEvalError}
@@ -14,7 +14,7 @@ use Rattle.mir_eval.specs.declared.runs.Run.{Run}
 use Rattle.mir_eval.specs.declared.runs.Went.{Went}
 use Rattle.mir_eval.specs.declared.runs.Went.TheVariants as went
 use Rattle.mir_eval.specs.declared.steps.Halt.{Halt}
-use Rattle.mir_eval.specs.Machine.{Entry, AtCall, Position, State, Going, Asking, Over, LeadsTo, StepsTo, outcome_of}
+use Rattle.mir_eval.specs.Machine.{Entry, AtCall, Going, Asking, Over, LeadsTo, StepsTo, outcome_of}
 use Rattle.mir_eval.specs.Phases.{Leads, frame_in, position_at, state_after}
 use Rattle.mir_eval.specs.Steps.{OrNoMemory, halt_of}
 

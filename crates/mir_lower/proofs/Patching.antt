@@ -159,8 +159,9 @@ whole-patched memory cell old bytes all found fits = by_test (eqb (length bytes)
         record { later = can.0; written = can.1; long = long; read = read-written memory can.0 cell bytes can.1 long ∙ same; apart = λ other is-apart. is-apart }
     by_test false is same = absurd cc
 
-abbrev ends-in : Interval → Option ℕ → Option ℕ → Option Interval
-ends-in cell size offset = option_and_then (λ at. option_and_then (part_of_cell cell at) size) offset
+-- where so many bytes from an offset on lie in a cell
+abbrev lies-in : Interval → Option ℕ → Option ℕ → Option Interval
+lies-in cell size offset = option_and_then (λ at. option_and_then (part_of_cell cell at) size) offset
 
 part-within : (bytes old all : List ℕ) (offset : ℕ) → bytes_with_part offset bytes old ≡ Some all → offset + length bytes ≤ length old
 unfolding bytes_with_part
@@ -172,7 +173,7 @@ pub part-patched : (memory : Memory) (cell : Interval) (old bytes all : List ℕ
     (part : Interval) × (option_and_then (λ at. option_and_then (part_of_cell cell at) size) offset ≡ Some part) × IsPatched memory cell bytes all part
 part-patched memory cell old bytes all found (Some count) (Some at) fits = by_test (eqb (length bytes) count) refl fits
   where
-    by_test : (test : Bool) → eqb (length bytes) count ≡ test → cond test (bytes_with_part at bytes old) None ≡ Some all → (part : Interval) × (ends-in cell (Some count) (Some at) ≡ Some part) × IsPatched memory cell bytes all part
+    by_test : (test : Bool) → eqb (length bytes) count ≡ test → cond test (bytes_with_part at bytes old) None ≡ Some all → (part : Interval) × (lies-in cell (Some count) (Some at) ≡ Some part) × IsPatched memory cell bytes all part
     by_test true is same =
         let equal = eqb-true (length bytes) count is in
         let inside : at + count ≤ cell.size = (let fits = part-within bytes old all at same in let long = length-cell_bytes memory cell old found in omega arith) in

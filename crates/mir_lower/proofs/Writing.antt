@@ -1,17 +1,14 @@
 -- What an assignment to a place of the graph writes: what the source writes to its place.
-use Rattle.std.proofs.Common.{◌≡◌, ℕ, ⊎_elim, inr, cond, List, [], ◌∷◌, Option, Some, None, Ok, Err, option_and_then, option_map, refl, sym, ap, ◌∙◌, subst}
+use Rattle.std.proofs.Common.{◌≡◌, ℕ, ⊎_elim, inr, cond, List, [], ◌∷◌, Option, Some, None, Ok, Err, option_and_then, option_map, refl, sym, ap, ◌∙◌}
 use Rattle.std.specs.Prelude.{slice_get}
 use Rattle.std.proofs.lemmas.Option.{option_and_then_some}
 use Rattle.types.specs.declared.ty.Ty.{Ty}
 use Rattle.world.specs.declared.database.HirDatabase.{HirDatabase}
-use Rattle.world.specs.declared.layout.Layout.{Layout}
-use Rattle.world.specs.Lookups.{layout_of}
 use Rattle.numbers.specs.Operators.{Answer, Computes, Panics, Undefined}
 use Rattle.mir.specs.Areas.{with_bytes}
 use Rattle.mir.specs.declared.address.Interval.{Interval}
 use Rattle.mir.specs.declared.errors.MirEvalError.{MirEvalError}
 use Rattle.mir.specs.declared.errors.MirEvalError as error
-use Rattle.mir.specs.declared.operand.OperandKind.TheVariants.{Copy}
 use Rattle.mir.specs.declared.operand.Place.{Place as GraphPlace}
 use Rattle.mir.specs.declared.operand.Rvalue.{Rvalue}
 use Rattle.mir.specs.declared.span.MirSpan.{MirSpan}

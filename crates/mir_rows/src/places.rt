@@ -8,7 +8,7 @@ ghost use Rattle.world.specs.Lookups.{layout_of};
 ghost use Rattle.mir_rows.specs.Places.{HasEnd, HaveEnds};
 
 use either::Either;
-use mir::{Interner, Interval, LocalId, MirBody, Place, PlaceElem, ProjectionElem};
+use mir::{Interner, Interval, LocalId, MirBody, Place, PlaceElem, ProjectionElem, tuple_part};
 use world::{HirDatabase, Ty};
 
 /// The type of a local.
@@ -27,10 +27,7 @@ fn elem_type<'a>(elem: &PlaceElem, ty: &'a Ty) -> Option<&'a Ty>
     ensures { option_copied result ≡ elem_type elem.now ty.now }
 {
     match elem {
-        ProjectionElem::Field(Either::Right(field)) => match ty {
-            Ty::Tuple(parts) => parts.get(field.index as u64),
-            _ => None,
-        },
+        ProjectionElem::Field(Either::Right(field)) => tuple_part(ty, *field),
         _ => None,
     }
 }
@@ -145,7 +142,7 @@ fn cell_of(cells: &[Interval], local: LocalId) -> Option<Interval>
     }
 }
 
-/// Where a place's value lies whose projection is looked up.
+/// Where a place's value lies, by the elements that the id of its projection stands for.
 #[inline(never)]
 fn cell_at(db: &HirDatabase, body: &MirBody, cells: &[Interval], place: Place) -> Option<Interval>
     requires { HaveEnds cells.now }
@@ -180,7 +177,7 @@ pub fn place_cell(
     }
 }
 
-/// The type of a place's value whose projection is looked up.
+/// The type of a place's value, by the elements that the id of its projection stands for.
 #[inline(never)]
 fn type_at(body: &MirBody, place: Place) -> Option<&Ty>
     ensures { option_copied result ≡ type_at body.now place (projection_of body.now.projection_store.projections place.projection) }

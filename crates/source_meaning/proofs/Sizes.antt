@@ -27,7 +27,7 @@ use Rattle.source_meaning.specs.Entering.{entering}
 use Rattle.source_meaning.specs.Events.{marked, marked_as_operand, marked_as_place, marked_by_assigned, marked_by_statement}
 use Rattle.source_meaning.specs.Meaning.{Level, Levels, Callees, Value, operand_kind, values_of, answered, answered_for, truth_byte, literal_bytes, constant_cost, put, copy_to, put_literal, put_answer, literal_operand, named_place, named_into, field_place, bind, operands_of, strict_into, deciding_byte, reading_cost, decided_into, branched, logic_into, tail_into, branch_into, if_into, put_all, put_at, copy_at, answer_at, bound_place, assignee_place, assign_into, assigned_place, compound_into, statement_of, statements_of, block_into, caught, again_into, labelled_into, turn_of, loop_into, break_to, break_into, continue_to, continue_into, return_into, call_ended, entered_from, entered_into, call_into, no_fuel, place_of, operand_of, into_of, level_above, level_at, returned, body_meaning, callees_at, meaning_from}
 use Rattle.source_meaning.specs.Places.{cell_with, place_bytes, operand_bytes, operands_bytes}
-use Rattle.source_meaning.specs.Source.{Source, Store, IsSized, Path, Place, whole, Cell, Result, Node, Binding, Operand, Literally, At, zeroed, node, unadjusted, never_marks, own_path, own_type, node_type, own_layout, pattern, target, compound_target, root, cell_type, binding_type, cell_size}
+use Rattle.source_meaning.specs.Source.{Source, Store, IsSized, Path, Place, Cell, Result, Node, Binding, Operand, Literally, At, zeroed, node, unadjusted, never_marks, own_path, own_type, node_type, own_layout, pattern, target, compound_target, root, cell_type, binding_type, cell_size}
 use Rattle.source_meaning.specs.Steps.{parts_of, assigned_parts, assignee_parts, statement_parts, tail_steps}
 use Rattle.source_meaning.specs.Steps as step
 use Rattle.source_meaning.specs.Valid.{Evaluates, itself, part, IsNumber, IsBool, IsPlainLiteral, IsPlainLet, IsPlainStatement, IsPlainTail, IsCombined, IsPlainAssigned, IsPlainAssignee, IsPlainField, HasPlainForm, IsPlainNode, EvaluatesIn, itself_in, part_in, opened_in, HasPlainTarget, HasOpenTarget, FitsAround, JumpsFit, IsPlain, IsLaidOut, IsLaidOutNode, sized_parts, NeedsLayout, own, inside, AreLaidOut, Calls, through, at_once, IsPlainThroughout, AreLaidOutThroughout}

@@ -51,7 +51,7 @@ abbrev pub IsBuiltAssignee : Source → Assignee → Type 0
 IsBuiltAssignee source (ByPattern pat) = AssignsBinding source pat
 IsBuiltAssignee source (ByPlace e) = is_place (unadjusted source e) ≡ true
 
--- the target of a compound assignment that is built: a path to a binding of the body, or a field
+-- the target of a compound assignment that is built: a path to a binding of the body, or a part of a tuple
 abbrev pub IsBuiltAssigned : Source → Assigned → Type 0
 IsBuiltAssigned source (ByPath e) = CombinesBinding source e
 IsBuiltAssigned source (ByField base index) = Unit {0}

@@ -59,14 +59,15 @@ pub data Operation : Type 0 where
   MakeArray : Operation
   Repeat : Operation
 
--- What an assignment writes to, by the pattern that its target is: the binding that the path names which the pattern is, or the place of the
--- expression which the pattern holds.
+-- What an assignment writes to, which is its assignee in the Rust Reference, by the pattern that its target is: the place of the expression
+-- that the pattern holds, or what any other pattern says. So far only a path to a binding says something.
 pub data Assignee : Type 0 where
   ByPattern : (pat : ℕ) → Assignee
   ByPlace : (e : ℕ) → Assignee
 
--- The place that a compound assignment reads and writes, by the expression that its left operand is: the binding that the path names which
--- the expression is, or a part of a tuple, by its base and its index.
+-- What a compound assignment reads and writes, which is its assigned operand in the Rust Reference, by the expression that its left operand
+-- is: a part of a tuple, by the tuple and the part's index, or what any other expression names. So far only a path to a binding names
+-- something.
 pub data Assigned : Type 0 where
   ByPath : (e : ℕ) → Assigned
   ByField : (base index : ℕ) → Assigned

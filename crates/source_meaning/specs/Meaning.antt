@@ -244,7 +244,7 @@ statement_of source below (statement.Expr e has_semi) store =
     then_do (below.place e.0 store) (λ _ later. Go tt later (turns_alone (drops source (marked_as_place source e.0))))
 statement_of source below _ store = Stuck
 
--- all bytes of a cell are replaced, where there are some to put there
+-- all bytes of a cell are replaced, where it is known by which
 abbrev pub put_all : Store → Cell → Option (List ℕ) → End (Unit {0})
 put_all store cell (Some bytes) = Go tt (with_cell_bytes store cell bytes) no_cost
 put_all store cell None = Stuck
@@ -258,7 +258,7 @@ abbrev pub copy_at : Source → Store → Place → Option (List ℕ) → End (U
 copy_at source store place (Some bytes) = put_at source store place bytes
 copy_at source store place None = Stuck
 
--- what an operation makes is put there
+-- what an operation answers is put there, where it answers something for its operands
 abbrev pub answer_at : Source → Store → Place → Answer → End (Unit {0})
 answer_at source store place (Computes bytes) = put_at source store place bytes
 answer_at source store place (Panics word) = Faults (Panic word) no_cost
@@ -275,7 +275,8 @@ abbrev pub assignee_place : Source → Level → Assignee → Store → End Plac
 assignee_place source below (ByPattern pat) store = bound_place (target source pat) store
 assignee_place source below (ByPlace e) store = if is_place (unadjusted source e) then below.place e store else Stuck
 
--- the value's place, then that of the target, and then the value's bytes are copied; nothing is written where the assignment itself would be
+-- The value's place, then that of the target, and then the value's bytes are copied. The assignment's own value is `()`, so the path that it is
+-- evaluated into isn't written.
 abbrev pub assign_into : Source → Levels → Around → Assignee → (value : ℕ) → Store → End (Unit {0})
 assign_into source below around to value store =
     then_do ((below around).place value store) (λ from later.
@@ -287,8 +288,8 @@ abbrev pub assigned_place : Source → Level → Assigned → Store → End Plac
 assigned_place source below (ByPath e) store = bound_place (compound_target source e) store
 assigned_place source below (ByField base index) store = field_place below base index store
 
--- The target's place, then the value's operand, and then one operation that reads both and writes to the place; nothing is written where the
--- assignment itself would be.
+-- The target's place, then the value's operand, and then one operation that reads both and writes to the place. The path that the assignment is
+-- evaluated into isn't written, as for any assignment.
 abbrev pub compound_into : Source → Levels → Around → Operator → Assigned → (value : ℕ) → Store → End (Unit {0})
 compound_into source below around op to value store =
     then_do (assigned_place source (below around) to store) (λ place later.

@@ -34,8 +34,8 @@ assignee_by p None = ByPattern p
 abbrev pub assignee : Source → PatId → Assignee
 assignee source p = assignee_by p.0 (pattern_expr source p.0)
 
--- The base and the index of the part of a tuple that an expression is, where it is one. The one adjustment by which an operator's method would
--- borrow it isn't looked at.
+-- The base and the index of the part of a tuple that an expression is as the left operand of a compound assignment, where it is one. One
+-- adjustment, of whatever kind, isn't looked at: inference adds one there, by which an operator's method would borrow the operand.
 unfoldable pub assigned_field : Source → ℕ → Option (ℕ × ℕ)
 assigned_field source e =
     if is_adjusted_twice source.infer (record { 0 = e }) then None

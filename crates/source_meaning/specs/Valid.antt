@@ -189,14 +189,14 @@ abbrev pub IsPlainAssignee : Source → Assignee → Ty → Type 0
 IsPlainAssignee source (ByPattern pat) ty = IsPlainTarget source pat ty
 IsPlainAssignee source (ByPlace e) ty = IsPlainPlace source e ty
 
--- which is the value's
+-- the target of an assignment is a place of the value's type
 pub record IsPlainAssign (source : Source) (to : Assignee) (value : ℕ) : Type 0 where
   pub ty : Ty
   pub assignee : IsPlainAssignee source to ty
   pub value_has : node_type source value ≡ Some ty
 
 -- the path that the target of a compound assignment is names a binding of a type
-pub record IsPlainOwn (source : Source) (e : ℕ) (ty : Ty) : Type 0 where
+pub record IsPlainNamed (source : Source) (e : ℕ) (ty : Ty) : Type 0 where
   pub binding : BindingId
   pub names : compound_target source e ≡ Some binding
   pub binding_has : binding_type source binding.0 ≡ Some ty
@@ -215,10 +215,11 @@ pub record IsPlainField (source : Source) (base index : ℕ) (ty : Ty) : Type 0 
 
 -- the target of a compound assignment is a place of a type
 abbrev pub IsPlainAssigned : Source → Assigned → Ty → Type 0
-IsPlainAssigned source (ByPath e) ty = IsPlainOwn source e ty
+IsPlainAssigned source (ByPath e) ty = IsPlainNamed source e ty
 IsPlainAssigned source (ByField base index) ty = IsPlainField source base index ty
 
--- which has the operator and takes its result, with a value of the other operand's
+-- The target of a compound assignment is a place of a type whose values the operator takes as its left operands and gives as results. The
+-- value has the type of its right operand.
 pub record IsPlainCompound (source : Source) (op : Operator) (to : Assigned) (value : ℕ) : Type 0 where
   pub ty : Ty
   pub other : Ty

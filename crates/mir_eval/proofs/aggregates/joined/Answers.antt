@@ -1,4 +1,4 @@
-use Rattle.std.proofs.Common.{◌≡◌, ◌+◌, ◌++◌, List, ℕ, drop, Ok, inl, inr, refl, sym, ap, ◌∙◌, rules}
+use Rattle.std.proofs.Common.{◌≡◌, ◌+◌, ◌++◌, List, ℕ, drop, Ok, inl, sym, ap, ◌∙◌, rules}
 use Rattle.std.specs.List.{concat}
 use Rattle.mir.specs.Run.{operands_bytes}
 use Rattle.mir_mem.proofs.Placed.{slice_get-at}

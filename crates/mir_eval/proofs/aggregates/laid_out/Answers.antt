@@ -1,4 +1,4 @@
-use Rattle.std.proofs.Common.{◌≡◌, ◌+◌, ◌++◌, ◌≤◌, List, ℕ, length, take, drop, slice_get, Ok, Err, inl, inr, ⊎_elim, refl, sym, ap, ◌∙◌, arith}
+use Rattle.std.proofs.Common.{◌≡◌, ◌+◌, ◌++◌, ◌≤◌, length, take, drop, slice_get, Ok, inl, inr, ⊎_elim, refl, sym, ap, ◌∙◌, arith}
 use Rattle.mir.specs.declared.operand.Operand.{Operand}
 use Rattle.mir.specs.Run.{operand_bytes, placed_parts}
 use Rattle.mir_mem.specs.Construction.{placed_at}

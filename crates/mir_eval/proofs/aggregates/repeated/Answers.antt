@@ -1,4 +1,4 @@
-use Rattle.std.proofs.Common.{◌≡◌, ◌*◌, ◌<◌, ℕ, length, Some, Ok, inl, sym, ap, subst}
+use Rattle.std.proofs.Common.{◌*◌, ◌<◌, ℕ, length, Some, inl, sym, ap, subst}
 use Rattle.std.specs.List.{concat}
 use Rattle.mir.specs.Run.{copied}
 use Rattle.mir_eval.proofs.TooLong.{repeated-too-long, repeats-none, repeats-some, repeats-unread}

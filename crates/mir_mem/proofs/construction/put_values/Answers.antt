@@ -1,4 +1,4 @@
-use Rattle.std.proofs.Common.{◌≡◌, List, ℕ, Some, slice_get, inl, inr, ⊎_elim, sym, ap, ◌∙◌}
+use Rattle.std.proofs.Common.{Some, inl, inr, ⊎_elim, sym, ap, ◌∙◌}
 use Rattle.mir_mem.proofs.Placed.{placed-last, placed-next, placed-refused, slice_get-at}
 use Rattle.mir_mem.proofs.construction.put_values.Goals as goal
 

@@ -1,9 +1,9 @@
-use Rattle.std.proofs.Common.{◌≡◌, ℕ, ◌+◌, ◌^◌, ◌<◌, drop, Option, Some, Bor, sym, ap, ◌∙◌, arith, rules}
+use Rattle.std.proofs.Common.{◌+◌, ◌^◌, ◌<◌, drop, Option, Some, Bor, sym, ap, ◌∙◌, arith, rules}
 use Rattle.std.specs.Prelude.{option_and_then}
 use Rattle.std.specs.Option.{option_copied}
 use Rattle.types.specs.declared.ty.Ty.{Ty}
-use Rattle.mir.specs.Places.{added, elem_offset, elem_type, offset_behind}
-use Rattle.mir_rows.proofs.Walks.{added-zero, offset-last, offset-missing, offset-more, seen-next}
+use Rattle.mir.specs.Places.{added, elem_offset, offset_behind}
+use Rattle.mir_rows.proofs.Walks.{offset-last, offset-missing, offset-more, seen-next}
 use Rattle.mir_rows.proofs.places.offset_behind.Goals as goal
 
 pub returns-in_default : goal.returns-in_default
