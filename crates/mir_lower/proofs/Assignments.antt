@@ -41,10 +41,7 @@ use Rattle.mir_lower.proofs.Reaching.{comes-refl, reaches-then}
 use Rattle.mir_lower.proofs.Sparing.{spares-refl, spares-trans}
 use Rattle.mir_lower.proofs.Standing.{marking-fits, stands-in, stands-with}
 use Rattle.mir_lower.proofs.Steps.{reaches-from, does-form}
-use Rattle.mir_lower.proofs.Writing.{written-copy}
-
-abbrev pub writing : GraphPlace → Rvalue → MirSpan → Statement
-writing to rvalue span = record { kind = Assign to rvalue; span = span }
+use Rattle.mir_lower.proofs.Writing.{writing, written-copy}
 
 -- the value is a part, and so is the expression that the target is
 pub value-part : (source : Source) (e : ℕ) (to : Assignee) (value : ℕ) → node source e ≡ Some (expr.Assign to value) → Contains (parts_of (node source e)) value
@@ -115,7 +112,7 @@ assigns-place source s new to from operand span sound opened copies same place a
       does = record {
         reaches = λ whole frame grows whole-sound is lands around stands fuel serves store memory holds.
             let grown : Grows s whole = grows-trans s (with_statement st s) whole (with_statement-grows st s opened) grows in
-            written-copy source s whole frame to place (Use operand) span opened whole-sound is serves.world lands grows (at-later s whole grown to place is-to) store memory holds (place_bytes source store at)
+            written-copy source s whole frame to (Use operand) span opened whole-sound is serves.world lands grows place (at-later s whole grown to place is-to) store memory holds (place_bytes source store at)
             (copy-computes source whole frame from at operand copies whole-sound is serves.world (at-later s whole grown from at is-from) store memory holds);
       };
     })

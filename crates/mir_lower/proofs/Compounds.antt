@@ -38,7 +38,7 @@ use Rattle.mir_lower.specs.Graph.{Shape, with_statement}
 use Rattle.mir_lower.specs.Growth.{Grows, IsSound, IsOpen, IsReady}
 use Rattle.mir_lower.specs.Lowered.{IsCombinedIn, Keeps, LaysOut, LowersAssigned, LowersField, LowersOwn, LowersOperand}
 use Rattle.mir_lower.specs.Refusals.{RefusesAt, RefusesCombined}
-use Rattle.mir_lower.proofs.Assignments.{keeps-none, writing}
+use Rattle.mir_lower.proofs.Assignments.{keeps-none}
 use Rattle.mir_lower.proofs.Growing.{grows-trans, with_statement-grows}
 use Rattle.mir_lower.proofs.Laid.{layouts-before, plain-part, one-of}
 use Rattle.mir_lower.proofs.Projecting.{at-later}
@@ -50,7 +50,7 @@ use Rattle.mir_lower.proofs.Sparing.{spares-trans, with_statement-spares}
 use Rattle.mir_lower.proofs.Standing.{marking-fits}
 use Rattle.mir_lower.proofs.Steps.{does-form}
 use Rattle.mir_lower.proofs.Rvalues.{binary-agrees, read-all}
-use Rattle.mir_lower.proofs.Writing.{written-values}
+use Rattle.mir_lower.proofs.Writing.{first-bytes, writing, written-values}
 
 -- the value is a part, and so is the base of the field that the target is
 pub combined-part : (source : Source) (e : ℕ) (op : Operator) (to : Assigned) (value : ℕ) → node source e ≡ Some (expr.Compound op to value) → Contains (parts_of (node source e)) value
@@ -108,18 +108,6 @@ lays-compound source s0 s1 s2 new e op to value place form assigned below grows1
     (subst (λ c. is_truth (unadjusted source c) ≡ false → LaysOut source s2 c) (one-of value child operand.0) below) operand.1 part (layouts-before source s2 new grows2 layouts) f rest)
     (sized-either source to value child (subst (λ n. Contains (sized_parts source n) child) form within))
 
--- what lies at a place is known where an operation reads it
-first-there : (source : Source) (store : Store) (at : Place) (rest : List Operand) (given : List Value) → values_of source store (At at ∷ rest) ≡ Some given → (bytes : List ℕ) × (place_bytes source store at ≡ Some bytes)
-unfolding values_of
-first-there source store at rest given is = by_bytes (place_bytes source store at) refl is
-  where
-    made-value : List ℕ → Value
-    made-value b = record { kind = operand_kind source (At at); bytes = b }
-
-    by_bytes : (found : Option (List ℕ)) → place_bytes source store at ≡ found → option_and_then (λ (value : Value). option_map (λ (others : List Value). value ∷ others) (values_of source store rest)) (option_map (λ (b : List ℕ). made-value b) found) ≡ Some given → (bytes : List ℕ) × (place_bytes source store at ≡ Some bytes)
-    by_bytes (Some bytes) found same = (bytes, found)
-    by_bytes None found same = absurd cc
-
 -- a compound assignment was lowered: the place of its target, its value, and then one assignment
 pub lowers-compound : (source : Source) (s0 s1 s2 new : Shape) (e : ℕ) (op : Operator) (to : Assigned) (value : ℕ) (left right : MirOperand) (place : GraphPlace) (span : MirSpan) (c : Cell) → IsReady source s0 e → node source e ≡ Some (expr.Compound op to value) → LowersAssigned source s0 s1 to place → LowersOperand source s1 s2 value right.kind → left.kind ≡ Copy place →
     new ≡ with_statement (writing place (CheckedBinaryOp op left right) span) s2 → LowersOwn source s0 new e c
@@ -162,12 +150,12 @@ lowers-compound source s0 s1 s2 new e op to value left right place span c ready 
           (reaches-then source whole lands frame (here s1) (here s2) (here (with_statement st s2)) memory1 (Fits source right.kind whole frame) (Nothing whole frame) ((below around1).operand value store1) _
           (given.does.reaches whole frame grown2 sound frame-is lands around1 (marking-fits assigned.keeps around stands) fuel serves store1 memory1 claims1.0)
           (λ v store2 memory2 claims2.
-          written-values source s2 whole frame place at (CheckedBinaryOp op left right) span opened sound frame-is serves.world lands grows is-at store2 memory2 claims2.0 None (Combine op) (values_of source store2 (At at ∷ v ∷ []))
+          written-values source s2 whole frame place (CheckedBinaryOp op left right) span opened sound frame-is serves.world lands grows at is-at store2 memory2 claims2.0 None (Combine op) (values_of source store2 (At at ∷ v ∷ []))
           (λ both have.
           let own-fits = subst (λ kind. Fits source kind whole frame (At at)) (sym copies) (place-fits source whole frame place at sound frame-is serves.world is-at) in
           binary-agrees source.world None op left right frame both memory2
           (read-all source whole frame store2 memory2 claims2.0 (left ∷ right ∷ []) (At at ∷ v ∷ []) (own-fits, (claims2.1, tt)) both have))
-          (λ both have. first-there source store2 at (v ∷ []) both have))))
+          (λ both have. first-bytes source store2 at (v ∷ []) both have))))
 
 -- the refusal of the target of a compound assignment that is a path
 pub refuses-combined : (source : Source) (e : ℕ) (error : MirLowerError) (op : Operator) (path value : ℕ) → node source e ≡ Some (expr.Compound op (ByPath path) value) → RefusesCombined source path error → RefusesAt source e error

@@ -511,14 +511,6 @@ fn lower_assigned(
     }
 }
 
-/// The expression that is named where the value of a compound assignment's target is read: the path, or the base of the field.
-fn assigned_expr(to: Assigned) -> ExprId {
-    match to {
-        Assigned::Path(target) => target,
-        Assigned::Field(base, _) => base,
-    }
-}
-
 /// A compound assignment: the target's place, the value's operand, and then the place is assigned what the operator makes of both.
 /// The assignment itself is `()`, of which nothing is written.
 #[cycle(lower)]
@@ -538,7 +530,10 @@ fn lower_compound(
 {
     let place = lower_assigned(context, graph, e, to)?;
     let given = lower_operand(context, graph, value)?;
-    let own = copied(place, assigned_expr(to));
+    let own = Operand {
+        kind: OperandKind::Copy(place),
+        span: None,
+    };
     write(
         graph,
         place,
