@@ -849,7 +849,7 @@ pub lower_compound-returns-clause-lowered : goal.lower_compound-returns-clause-l
 lower_compound-returns-clause-lowered t c =
     let source = source_of c.args.context.now in
     on_ok_weaker c.write.result
-    (λ added cell. lowers-compound source (shape c.args.graph.now) (shape c.lower_assigned.new.graph) (shape c.lower_operand.new.graph) (shape c.write.new.graph) c.args.e.0 c.args.op (core_assigned c.args.to) c.args.value.0 c.copied-own.result c.in_ok-given.given c.in_ok-place.place (ExprId c.args.e) cell c.requires.ready c.requires.form c.in_ok-place.ensures.lowered c.in_ok-given.ensures.lowered c.copied-own.ensures added)
+    (λ added cell. lowers-compound source (shape c.args.graph.now) (shape c.lower_assigned.new.graph) (shape c.lower_operand.new.graph) (shape c.write.new.graph) c.args.e.0 c.args.op (core_assigned c.args.to) c.args.value.0 _ c.in_ok-given.given c.in_ok-place.place (ExprId c.args.e) cell c.requires.ready c.requires.form c.in_ok-place.ensures.lowered c.in_ok-given.ensures.lowered refl added)
     c.write.ensures.added
 
 pub lower_compound-returns-clause-built : goal.lower_compound-returns-clause-built
