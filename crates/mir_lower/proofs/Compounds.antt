@@ -1,6 +1,6 @@
 -- Compound assignments: the place of the target, the value's operand, and then one operation that reads both and writes to the place.
-use Rattle.std.proofs.Common.{◌≡◌, ℕ, ◌⊎◌, inl, inr, ⊎_elim, List, [], ◌∷◌, ◌++◌, Contains, Option, Some, None, option_and_then, refl, sym, ap, ◌∙◌, subst, append_assoc, false, arith}
-use Rattle.std.specs.Prelude.{flat_map, option_map}
+use Rattle.std.proofs.Common.{◌≡◌, ℕ, ◌⊎◌, inr, ⊎_elim, List, [], ◌∷◌, ◌++◌, Contains, Option, Some, None, option_and_then, refl, sym, ap, ◌∙◌, subst, append_assoc, false, arith}
+use Rattle.std.specs.Prelude.{flat_map}
 use Rattle.std.proofs.lemmas.List.Elements.{Contains-append_cases}
 use Rattle.types.specs.declared.ids.BindingId.{BindingId}
 use Rattle.numbers.specs.declared.operator.Operator.{Operator}
@@ -22,9 +22,8 @@ use Rattle.source_meaning.specs.Core.{Assigned, ByField, ByPath, Combine, is_tru
 use Rattle.source_meaning.specs.Core as expr
 use Rattle.source_meaning.specs.Ends.{then_do}
 use Rattle.source_meaning.specs.Events.{marked_as_operand, marked_by_assigned}
-use Rattle.source_meaning.specs.Meaning.{Value, level_at, callees_at, answer_at, answered_for, assigned_place, bound_place, operand_kind, values_of, into_of}
-use Rattle.source_meaning.specs.Places.{place_bytes}
-use Rattle.source_meaning.specs.Source.{Source, node, unadjusted, named_by, compound_path, compound_target, Cell, Binding, Place, whole as place_of_cell, Operand, Store, At}
+use Rattle.source_meaning.specs.Meaning.{level_at, callees_at, answer_at, answered_for, assigned_place, bound_place, values_of, into_of}
+use Rattle.source_meaning.specs.Source.{Source, node, unadjusted, named_by, compound_path, compound_target, Cell, Binding, Place, whole as place_of_cell, Store, At}
 use Rattle.source_meaning.specs.Steps.{assigned_parts, assigned_steps, parts_of}
 use Rattle.source_meaning.specs.Steps as step
 use Rattle.source_meaning.specs.Valid.{own, inside, sized_part, sized_parts, IsLaidOutNode}

@@ -16,7 +16,7 @@ use Rattle.mir_lower.specs.Lowered.{HasStatements, LowersAssigned, LowersAssigne
 use Rattle.mir.specs.declared.operand.Operand.{Operand}
 use Rattle.mir.specs.declared.operand.OperandKind.{OperandKind}
 use Rattle.mir.specs.declared.operand.Place.{Place}
-use Rattle.mir.specs.declared.operand.Rvalue.TheVariants.{Aggregate, CheckedBinaryOp, Use}
+use Rattle.mir.specs.declared.operand.Rvalue.TheVariants.{Aggregate, CheckedBinaryOp}
 use Rattle.source_meaning.specs.Core as expr
 use Rattle.source_meaning.specs.Core.{ByPath, ByPattern, Combine}
 use Rattle.body_forms.specs.Form.{IsPlaceForm, core_assigned, core_assignee, core_value}
