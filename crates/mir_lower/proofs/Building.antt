@@ -4,12 +4,12 @@ use Rattle.std.specs.Prelude.{All, flat_map, if◌then◌else◌, option_map}
 use Rattle.std.proofs.lemmas.List.Elements.{All-nil, All-cons, All-append, All-contains, All-weaker, All-head, All-tail}
 use Rattle.mir.specs.declared.ids.LocalId.{LocalId}
 use Rattle.source_meaning.specs.Around.{is_meant, meant}
-use Rattle.source_meaning.specs.Built.{IsBinding, NamesBinding, AssignsBinding, CombinesBinding, CallsFunction, IsBuiltStatement, IsBuiltStrict}
+use Rattle.source_meaning.specs.Built.{IsBinding, NamesBinding, CallsFunction, IsBuiltAssigned, IsBuiltAssignee, IsBuiltStatement, IsBuiltStrict}
 use Rattle.numbers.specs.declared.operator.Operator.{Operator}
-use Rattle.source_meaning.specs.Core.{CoreExpr, CoreLiteral, Operation}
+use Rattle.source_meaning.specs.Core.{Assigned, Assignee, ByField, ByPath, CoreExpr, CoreLiteral, Operation}
 use Rattle.source_meaning.specs.Core as expr
 use Rattle.source_meaning.specs.Source.{Source, Binding, node}
-use Rattle.source_meaning.specs.Steps.{parts_of, statement_parts}
+use Rattle.source_meaning.specs.Steps.{assigned_parts, assignee_parts, parts_of, statement_parts}
 use Rattle.source_meaning.specs.Valid.{Evaluates, itself, part}
 use Rattle.source_meaning.proofs.Parts.{strict_parts, call_parts, if_parts, block_parts, tail_part}
 use Rattle.types.specs.declared.ids.BindingId.{BindingId}
@@ -76,11 +76,17 @@ built-if source e condition then_branch else_branch is test one other =
     (subst (All (IsBuilt source)) (sym (if_parts condition then_branch else_branch))
     (All-cons (IsBuilt source) condition (then_branch ∷ optional else_branch) test (All-cons (IsBuilt source) then_branch (optional else_branch) one other)))
 
-pub built-assign : (source : Source) (e assigned value : ℕ) → node source e ≡ Some (expr.Assign assigned value) → AssignsBinding source assigned → IsBuilt source value → IsBuilt source e
-built-assign source e assigned value is names built = built-node source e (Some (expr.Assign assigned value)) is names (one-built source value built)
+pub built-assign : (source : Source) (e : ℕ) (to : Assignee) (value : ℕ) → node source e ≡ Some (expr.Assign to value) → IsBuiltAssignee source to → All (IsBuilt source) (assignee_parts to) → IsBuilt source value → IsBuilt source e
+built-assign source e to value is own parts built =
+    built-node source e (Some (expr.Assign to value)) is own (All-cons (IsBuilt source) value (assignee_parts to) built parts)
 
-pub built-compound : (source : Source) (e : ℕ) (op : Operator) (assigned value : ℕ) → node source e ≡ Some (expr.Compound op assigned value) → CombinesBinding source assigned → IsBuilt source value → IsBuilt source e
-built-compound source e op assigned value is names built = built-node source e (Some (expr.Compound op assigned value)) is names (one-built source value built)
+compound-built : (source : Source) (to : Assigned) (value : ℕ) (op : Operator) → All (IsBuilt source) (assigned_parts to) → IsBuilt source value → All (IsBuilt source) (parts_of (Some (expr.Compound op to value)))
+compound-built source (ByPath e) value op parts built = one-built source value built
+compound-built source (ByField base index) value op parts built = two-built source base value (All-head (IsBuilt source) base [] parts) built
+
+pub built-compound : (source : Source) (e : ℕ) (op : Operator) (to : Assigned) (value : ℕ) → node source e ≡ Some (expr.Compound op to value) → IsBuiltAssigned source to → All (IsBuilt source) (assigned_parts to) → IsBuilt source value → IsBuilt source e
+built-compound source e op to value is own parts built =
+    built-node source e (Some (expr.Compound op to value)) is own (compound-built source to value op parts built)
 
 -- the expressions that statements evaluate
 through-parts : (source : Source) (statements : List Statement) → All (IsBuiltThrough source) statements → All (IsBuilt source) (flat_map statement_parts statements)

@@ -3,7 +3,7 @@ use Rattle.std.proofs.Common.{◌≡◌, ℕ, ◌<◌, Bool, true, false, Contai
 use Rattle.std.specs.Prelude.{codes, IfErr, IsErrAnd, flat_map, if◌then◌else◌}
 use Rattle.std.proofs.lemmas.Result.{err_from_is_err_and}
 use Rattle.source_meaning.specs.Core as expr
-use Rattle.source_meaning.specs.Core.{CoreExpr}
+use Rattle.source_meaning.specs.Core.{ByPattern, CoreExpr}
 use Rattle.world.specs.declared.body.Statement.{Statement}
 use Rattle.world.specs.declared.body.Statement.TheVariants as statement
 use Rattle.types.specs.declared.ids.ExprId.{ExprId}
@@ -121,22 +121,22 @@ refuses-pattern source e refusal.BreakWithoutLoop pat init stands refuses = absu
 refuses-pattern source e refusal.UnresolvedLabel pat init stands refuses = absurd refuses
 refuses-pattern source e (refusal.TypeError text) pat init stands refuses = absurd refuses
 
--- the refusal of the target of an assignment
-pub refuses-target : (source : Source) (e : ℕ) (error : MirLowerError) (assigned value : ℕ) → node source e ≡ Some (expr.Assign assigned value) → RefusesTarget source assigned error → RefusesAt source e error
-refuses-target source e (refusal.NotSupported text) assigned value form refuses =
+-- the refusal of the target of an assignment that is a path
+pub refuses-target : (source : Source) (e : ℕ) (error : MirLowerError) (pat value : ℕ) → node source e ≡ Some (expr.Assign (ByPattern pat) value) → RefusesTarget source pat error → RefusesAt source e error
+refuses-target source e (refusal.NotSupported text) pat value form refuses =
     refuses-here source e (refusal.NotSupported text) (refuses.0, subst (IsUnbuilt source e) (sym form) refuses.1)
-refuses-target source e (refusal.UnresolvedName name) assigned value form refuses =
+refuses-target source e (refusal.UnresolvedName name) pat value form refuses =
     refuses-here source e (refusal.UnresolvedName name) (subst (λ n. IsUnresolved source e n name) (sym form) refuses)
-refuses-target source e refusal.InaccessibleLocal assigned value form refuses =
+refuses-target source e refusal.InaccessibleLocal pat value form refuses =
     refuses-here source e refusal.InaccessibleLocal (subst (LacksLocal source e) (sym form) refuses)
-refuses-target source e refusal.NoMemory assigned value form refuses = refuses-no-memory source e refusal.NoMemory refl
-refuses-target source e (refusal.LayoutError l) assigned value form refuses = absurd refuses
-refuses-target source e refusal.IncompleteExpr assigned value form refuses = absurd refuses
-refuses-target source e refusal.HasErrors assigned value form refuses = absurd refuses
-refuses-target source e refusal.ContinueWithoutLoop assigned value form refuses = absurd refuses
-refuses-target source e refusal.BreakWithoutLoop assigned value form refuses = absurd refuses
-refuses-target source e refusal.UnresolvedLabel assigned value form refuses = absurd refuses
-refuses-target source e (refusal.TypeError text) assigned value form refuses = absurd refuses
+refuses-target source e refusal.NoMemory pat value form refuses = refuses-no-memory source e refusal.NoMemory refl
+refuses-target source e (refusal.LayoutError l) pat value form refuses = absurd refuses
+refuses-target source e refusal.IncompleteExpr pat value form refuses = absurd refuses
+refuses-target source e refusal.HasErrors pat value form refuses = absurd refuses
+refuses-target source e refusal.ContinueWithoutLoop pat value form refuses = absurd refuses
+refuses-target source e refusal.BreakWithoutLoop pat value form refuses = absurd refuses
+refuses-target source e refusal.UnresolvedLabel pat value form refuses = absurd refuses
+refuses-target source e (refusal.TypeError text) pat value form refuses = absurd refuses
 
 -- what a `?` returns is what refused
 pub refused-exit : {T : Type 0} (P Q : MirLowerError → Type 0) (r : Result T MirLowerError) → IsErrAnd r Q → ((error : MirLowerError) → Q error → P error) → IfErr r P

@@ -13,7 +13,7 @@ use Rattle.mir.specs.declared.span.MirSpan.{MirSpan}
 use Rattle.mir.specs.declared.statement.Statement.{Statement}
 use Rattle.mir.specs.declared.statement.StatementKind.TheVariants.{Assign}
 use Rattle.mir.specs.Memory.{Memory}
-use Rattle.mir.specs.Run.{Frame, after_statement, copied, read, rvalue_bytes, answered}
+use Rattle.mir.specs.Run.{Frame, after_statement, copied, read, rvalue_bytes}
 use Rattle.source_meaning.specs.Around.{Around}
 use Rattle.source_meaning.specs.Ends.{no_cost, End, Go, Stuck}
 use Rattle.source_meaning.specs.Meaning.{Value, answered as answered_to, answered_for, copy_to, level_at, callees_at, put, put_answer, into_of}
@@ -70,12 +70,6 @@ module _ (source : Source) (s whole : Shape) (frame : Frame) (to : LocalId) (rva
   faults e err =
       let at = interval-of frame memory to.0 (store c) (holds.shows c to.0 local) in
       ap (λ o. copied memory o (rvalue_bytes frame memory rvalue)) at.1 ∙ ap (λ r. copied memory (Some at.0) r) err
-
-  pub assigned-answer : (answer : Answer) → rvalue_bytes frame memory rvalue ≡ answered answer → Reaches source whole lands frame (here s) (here (with_statement added s)) memory (Nothing whole frame) (put_answer store (record { cell = c }) answer)
-  unfolding answered
-  assigned-answer (Computes bytes) computes = assigned-bytes bytes computes
-  assigned-answer (Panics word) computes = inr (ends-statement added s whole frame memory opened grows is (error.Panic word) (faults (error.Panic word) computes))
-  assigned-answer Undefined computes = inr tt
 
   pub assigned-agreeing : (answer : Answer) → Agrees answer (rvalue_bytes frame memory rvalue) → Reaches source whole lands frame (here s) (here (with_statement added s)) memory (Nothing whole frame) (put_answer store (record { cell = c }) answer)
   assigned-agreeing (Computes bytes) computes = assigned-bytes bytes computes

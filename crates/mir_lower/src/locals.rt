@@ -12,7 +12,7 @@ ghost use Rattle.mir.specs.WholePlaces.{whole_place};
 ghost use Rattle.mir_lower.specs.Graph.{shape, with_statement, local_of};
 ghost use Rattle.mir_lower.specs.Does.{IsAt};
 ghost use Rattle.mir_lower.specs.Growth.{IsSound, IsOpen, IsReady, IsReadyPart};
-ghost use Rattle.mir_lower.specs.Lowered.{IsGiven, IsNamed, Binds, IsCombinedIn, IsTargeted, Assigns};
+ghost use Rattle.mir_lower.specs.Lowered.{IsGiven, IsNamed, Binds, IsCombinedIn, IsTargeted};
 ghost use Rattle.source_meaning.specs.Built.{AssignsBinding, BindsBinding, CombinesBinding, NamesBinding};
 ghost use Rattle.mir_lower.specs.Refusals.{RefusesCombined, RefusesPattern, RefusesTarget};
 ghost use Rattle.body_forms.specs.Refusals.{RefusesNode};
@@ -26,6 +26,24 @@ use mir::{
 };
 use world::{BindingId, ExprId, PatId, Text, TryClone, ValueNs};
 
+/// Adds an assignment to a place.
+pub(crate) fn write(
+    graph: &mut Graph,
+    to: Place,
+    rvalue: Rvalue,
+    span: MirSpan,
+) -> Result<(), MirLowerError>
+    requires { IsOpen (shape graph.old) }
+    ensures added { OnOk result (shape graph.new ≡ with_statement (record { kind = Assign to rvalue; span = span }) (shape graph.old)) }
+    ensures refused { IfErr result (λ error. error ≡ refusal.NoMemory) }
+{
+    graph.push_statement(Statement {
+        kind: StatementKind::Assign(to, rvalue),
+        span,
+    })?;
+    Ok(())
+}
+
 /// Adds an assignment to a local.
 pub(crate) fn assign(
     graph: &mut Graph,
@@ -37,11 +55,7 @@ pub(crate) fn assign(
     ensures added { OnOk result (shape graph.new ≡ with_statement (record { kind = Assign (whole_place to) rvalue; span = span }) (shape graph.old)) }
     ensures refused { IfErr result (λ error. error ≡ refusal.NoMemory) }
 {
-    graph.push_statement(Statement {
-        kind: StatementKind::Assign(Place::from(to), rvalue),
-        span,
-    })?;
-    Ok(())
+    write(graph, Place::from(to), rvalue, span)
 }
 
 /// The refusal of a path that names nothing.
@@ -192,8 +206,12 @@ pub(crate) fn bind(
     assign(graph, local, Rvalue::Use(operand), MirSpan::PatId(pat))
 }
 
-/// The local that the target of an assignment names: that of a binding.
-fn target_local(context: &Context<'_>, graph: &Graph, pat: PatId) -> Result<LocalId, MirLowerError>
+/// The local that the path names which the target of an assignment is: that of a binding.
+pub(crate) fn target_local(
+    context: &Context<'_>,
+    graph: &Graph,
+    pat: PatId,
+) -> Result<LocalId, MirLowerError>
     requires { IsSound (source_of context.now) (shape graph.now) }
     ensures lowered { IfOk result (λ local. IsTargeted (source_of context.now) (shape graph.now) pat.0 local.0) }
     ensures built { OnOk result (AssignsBinding (source_of context.now) pat.0) }
@@ -214,7 +232,7 @@ fn target_local(context: &Context<'_>, graph: &Graph, pat: PatId) -> Result<Loca
     }
 }
 
-/// The local that the target of a compound assignment names: that of a binding.
+/// The local that the path names which the target of a compound assignment is: that of a binding.
 pub(crate) fn combined_local(
     context: &Context<'_>,
     graph: &Graph,
@@ -238,26 +256,4 @@ pub(crate) fn combined_local(
         },
         None => Err(form_not_built(context.alloc)),
     }
-}
-
-/// The target of an assignment is assigned: the bytes of a place are copied to the local of the binding that it names.
-pub(crate) fn assign_target(
-    context: &Context<'_>,
-    graph: &mut Graph,
-    pat: PatId,
-    from: Place,
-) -> Result<(), MirLowerError>
-    requires sound { IsSound (source_of context.now) (shape graph.old) }
-    requires opened { IsOpen (shape graph.old) }
-    ensures lowered { OnOk result ((at : SourcePlace) → IsAt (shape graph.old) from at
-        → Assigns (source_of context.now) (shape graph.old) (shape graph.new) pat.0 at) }
-    ensures built { OnOk result (AssignsBinding (source_of context.now) pat.0) }
-    ensures refused { IfErr result (RefusesTarget (source_of context.now) pat.0) }
-{
-    let local = target_local(context, graph, pat)?;
-    let operand = Operand {
-        kind: OperandKind::Copy(from),
-        span: None,
-    };
-    assign(graph, local, Rvalue::Use(operand), MirSpan::PatId(pat))
 }

@@ -1,22 +1,24 @@
 //! Lowering expressions: as an operand, to a place, and into a local.
 
-ghost use Rattle.std.specs.Prelude.{◌≡◌, ◌<◌, ◌∷◌, false, length, [], IfOk, IfErr, OnOk, Some, None};
+ghost use Rattle.std.specs.Prelude.{◌≡◌, ◌<◌, ◌∷◌, ℕ, false, length, [], IfOk, IfErr, OnOk, Some, None};
 ghost use Rattle.mir.specs.declared.errors.MirLowerError.TheVariants as refusal;
+ghost use Rattle.numbers.specs.declared.operator.Operator.{Operator};
 ghost use Rattle.world.specs.Checked.{IsCheckedBody};
 ghost use Rattle.mir.specs.declared.operand.OperandKind.TheVariants.{Copy};
 ghost use Rattle.source_meaning.specs.Source.{Cell, node, unadjusted};
 ghost use Rattle.source_meaning.specs.Core.{Combine, is_place};
 ghost use Rattle.source_meaning.specs.Core as expr;
 ghost use Rattle.source_meaning.specs.Meaning.{deciding_byte};
-ghost use Rattle.source_meaning.specs.Steps.{parts_of};
+ghost use Rattle.source_meaning.specs.Built.{IsBuiltAssigned, IsBuiltAssignee};
+ghost use Rattle.source_meaning.specs.Steps.{assigned_parts, assignee_parts, parts_of};
 ghost use Rattle.world.specs.declared.body.Statement.TheVariants as statement_kind;
 ghost use Rattle.body_forms.specs.Callees.{callee_number};
 ghost use Rattle.body_forms.specs.Contexts.{source_of};
-ghost use Rattle.body_forms.specs.Form.{core_value};
+ghost use Rattle.body_forms.specs.Form.{core_assigned, core_assignee, core_value};
 ghost use Rattle.mir_lower.specs.Graph.{shape, local_of};
 ghost use Rattle.mir_lower.specs.Growth.{IsPlaced, IsReady, ArePartsReady, IsReadyPart};
 ghost use Rattle.body_forms.specs.Operations.{several_operation, single_operation};
-ghost use Rattle.mir_lower.specs.Lowered.{HasStatements, LowersInto, LowersField, LowersPlace, LowersOperand, LowersOperands, LowersStatements, LowersTail, IsStatementOf, LowersOwn};
+ghost use Rattle.mir_lower.specs.Lowered.{HasStatements, LowersAssigned, LowersAssignee, LowersInto, LowersField, LowersPlace, LowersOperand, LowersOperands, LowersStatements, LowersTail, IsStatementOf, LowersOwn};
 ghost use Rattle.mir_lower.specs.Built.{IsBuilt, IsBuiltThrough};
 ghost use Rattle.mir_lower.specs.Refusals.{RefusesAt};
 ghost use Rattle.std.specs.Prelude.{All, Contains, IfSome, map};
@@ -28,11 +30,12 @@ use crate::graph::Graph;
 use crate::jump::{enter_loop, jump, leave_loop, return_from, target_of_jump};
 use crate::leave::leave_scope;
 use crate::locals::{
-    assign, assign_target, bind, combined_local, fake_read, named_local, new_never, new_temp,
+    assign, bind, combined_local, fake_read, named_local, new_never, new_temp, target_local, write,
 };
 use body_forms::{
-    Context, Form, LiteralValue, PlaceForm, Several, Single, diverges, form_at, form_not_built,
-    kind_of, literal_at, lower_callee, lower_literal, made_of, method_args, place_form_at,
+    Assigned, Assignee, Context, Form, LiteralValue, PlaceForm, Several, Single, diverges, form_at,
+    form_not_built, kind_of, literal_at, lower_callee, lower_literal, made_of, method_args,
+    place_form_at,
 };
 use either::Either;
 use mir::{BinOp, LocalId, MirLowerError, MirSpan, Operand, OperandKind, Place, PlaceElem, Rvalue};
@@ -137,7 +140,8 @@ fn lower_place(context: &Context<'_>, graph: &mut Graph, e: ExprId) -> Result<Pl
     }
 }
 
-/// A field's place: its base's place, with one more element.
+/// A field's place: its base's place, with one more element. The base is a part of the given expression, which is the field, or has it as
+/// its target.
 #[cycle(lower)]
 fn lower_field(
     context: &Context<'_>,
@@ -147,7 +151,7 @@ fn lower_field(
     index: u32,
 ) -> Result<Place, MirLowerError>
     requires ready { ArePartsReady (source_of context.now) (shape graph.old) e.0 }
-    requires form { node (source_of context.now) e.0 ≡ Some (expr.Field base.0 index) }
+    requires part { Contains (parts_of (node (source_of context.now) e.0)) base.0 }
     ensures lowered { IfOk result (λ place. LowersField (source_of context.now) (shape graph.old) (shape graph.new) base.0 index place) }
     ensures built { OnOk result (IsBuilt (source_of context.now) base.0) }
     ensures refused { IfErr result (RefusesAt (source_of context.now) e.0) }
@@ -257,10 +261,8 @@ fn lower_own(
         Form::If(condition, then_branch, else_branch) => {
             lower_if(context, graph, e, condition, then_branch, else_branch, to)
         }
-        Form::Assign(target, value) => lower_assignment(context, graph, e, target, value),
-        Form::Compound(op, target, value) => {
-            lower_compound(context, graph, e, op, target, value)
-        }
+        Form::Assign(to, value) => lower_assignment(context, graph, e, to, value),
+        Form::Compound(op, to, value) => lower_compound(context, graph, e, op, to, value),
         Form::Block(statements, tail) => lower_block(context, graph, e, statements, tail, to),
         Form::Labelled(label, statements, tail) => {
             lower_labelled(context, graph, e, label, statements, tail, to)
@@ -414,28 +416,102 @@ fn lower_if(
     Ok(())
 }
 
-/// An assignment: the value's place, and then the name that is the target is assigned. The assignment itself is `()`, of
-/// which nothing is written.
+/// Whether an expression that isn't adjusted is a path or a field.
+fn names_place(context: &Context<'_>, e: ExprId) -> bool
+    requires { e.0 < length context.now.body.now.exprs }
+    ensures { result ≡ is_place (unadjusted (source_of context.now) e.0) }
+{
+    match place_form_at(context, e) {
+        PlaceForm::Path(_) => true,
+        PlaceForm::Field(..) => true,
+        PlaceForm::Value => false,
+    }
+}
+
+/// The place that an assignment writes to: the local that a path names, or the place of an expression. An expression that names no
+/// place has none but a local of its own, which isn't assigned.
+#[cycle(lower)]
+fn lower_assignee(
+    context: &Context<'_>,
+    graph: &mut Graph,
+    e: ExprId,
+    to: Assignee,
+) -> Result<Place, MirLowerError>
+    requires ready { ArePartsReady (source_of context.now) (shape graph.old) e.0 }
+    requires form { (value : ℕ) × (node (source_of context.now) e.0 ≡ Some (expr.Assign (core_assignee to) value)) }
+    ensures lowered { IfOk result (λ place. LowersAssignee (source_of context.now) (shape graph.old) (shape graph.new) (core_assignee to) place) }
+    ensures built { OnOk result (IsBuiltAssignee (source_of context.now) (core_assignee to)) }
+    ensures parts { OnOk result (All (IsBuilt (source_of context.now)) (assignee_parts (core_assignee to))) }
+    ensures refused { IfErr result (RefusesAt (source_of context.now) e.0) }
+{
+    match to {
+        Assignee::Pattern(pat) => Ok(Place::from(target_local(context, graph, pat)?)),
+        Assignee::Place(target) => {
+            if names_place(context, target) {
+                lower_place(context, graph, target)
+            } else {
+                Err(form_not_built(context.alloc))
+            }
+        }
+    }
+}
+
+/// The span of the target of an assignment.
+fn assignee_span(to: Assignee) -> MirSpan {
+    match to {
+        Assignee::Pattern(pat) => MirSpan::PatId(pat),
+        Assignee::Place(target) => MirSpan::ExprId(target),
+    }
+}
+
+/// An assignment: the value's place, that of the target, and then the value's bytes are copied there. The assignment itself is `()`,
+/// of which nothing is written.
 #[cycle(lower)]
 fn lower_assignment(
     context: &Context<'_>,
     graph: &mut Graph,
     e: ExprId,
-    target: PatId,
+    to: Assignee,
     value: ExprId,
 ) -> Result<(), MirLowerError>
     requires ready { IsReady (source_of context.now) (shape graph.old) e.0 }
-    requires form { node (source_of context.now) e.0 ≡ Some (expr.Assign target.0 value.0) }
+    requires form { node (source_of context.now) e.0 ≡ Some (expr.Assign (core_assignee to) value.0) }
     ensures lowered { OnOk result ((cell : Cell) → LowersOwn (source_of context.now) (shape graph.old) (shape graph.new) e.0 cell) }
     ensures built { OnOk result (IsBuilt (source_of context.now) e.0) }
     ensures refused { IfErr result (RefusesAt (source_of context.now) e.0) }
 {
-    let place = lower_place(context, graph, value)?;
-    fake_read(graph, place, value)?;
-    assign_target(context, graph, target, place)
+    let from = lower_place(context, graph, value)?;
+    fake_read(graph, from, value)?;
+    let place = lower_assignee(context, graph, e, to)?;
+    let operand = Operand {
+        kind: OperandKind::Copy(from),
+        span: None,
+    };
+    write(graph, place, Rvalue::Use(operand), assignee_span(to))
 }
 
-/// A compound assignment: the value's operand, and then the local that is the target is assigned what the operator makes of both.
+/// The place that a compound assignment reads and writes: the local that a path names, or a field's place.
+#[cycle(lower)]
+fn lower_assigned(
+    context: &Context<'_>,
+    graph: &mut Graph,
+    e: ExprId,
+    to: Assigned,
+) -> Result<Place, MirLowerError>
+    requires ready { ArePartsReady (source_of context.now) (shape graph.old) e.0 }
+    requires form { (op : Operator) × (value : ℕ) × (node (source_of context.now) e.0 ≡ Some (expr.Compound op (core_assigned to) value)) }
+    ensures lowered { IfOk result (λ place. LowersAssigned (source_of context.now) (shape graph.old) (shape graph.new) (core_assigned to) place) }
+    ensures built { OnOk result (IsBuiltAssigned (source_of context.now) (core_assigned to)) }
+    ensures parts { OnOk result (All (IsBuilt (source_of context.now)) (assigned_parts (core_assigned to))) }
+    ensures refused { IfErr result (RefusesAt (source_of context.now) e.0) }
+{
+    match to {
+        Assigned::Path(target) => Ok(Place::from(combined_local(context, graph, target)?)),
+        Assigned::Field(base, index) => lower_field(context, graph, e, base, index),
+    }
+}
+
+/// A compound assignment: the target's place, the value's operand, and then the place is assigned what the operator makes of both.
 /// The assignment itself is `()`, of which nothing is written.
 #[cycle(lower)]
 fn lower_compound(
@@ -443,21 +519,24 @@ fn lower_compound(
     graph: &mut Graph,
     e: ExprId,
     op: BinOp,
-    target: ExprId,
+    to: Assigned,
     value: ExprId,
 ) -> Result<(), MirLowerError>
     requires ready { IsReady (source_of context.now) (shape graph.old) e.0 }
-    requires form { node (source_of context.now) e.0 ≡ Some (expr.Compound op target.0 value.0) }
+    requires form { node (source_of context.now) e.0 ≡ Some (expr.Compound op (core_assigned to) value.0) }
     ensures lowered { OnOk result ((cell : Cell) → LowersOwn (source_of context.now) (shape graph.old) (shape graph.new) e.0 cell) }
     ensures built { OnOk result (IsBuilt (source_of context.now) e.0) }
     ensures refused { IfErr result (RefusesAt (source_of context.now) e.0) }
 {
+    let place = lower_assigned(context, graph, e, to)?;
     let given = lower_operand(context, graph, value)?;
-    let to = combined_local(context, graph, target)?;
-    let own = copied(Place::from(to), target);
-    assign(
+    let own = Operand {
+        kind: OperandKind::Copy(place),
+        span: None,
+    };
+    write(
         graph,
-        to,
+        place,
         Rvalue::CheckedBinaryOp(op, own, given),
         MirSpan::ExprId(e),
     )

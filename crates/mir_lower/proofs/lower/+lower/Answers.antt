@@ -12,15 +12,17 @@ use Rattle.body_forms.specs.Contexts.{source_of}
 use Rattle.mir_lower.specs.Graph.{shape, target_of_blocks}
 use Rattle.mir_lower.specs.Growth.{Grows, IsPlaced, IsInside}
 use Rattle.source_meaning.specs.Valid.{opened_in}
-use Rattle.mir_lower.specs.Lowered.{HasStatements, LowersPlace, LowersOperand, LowersOperands, LowersStatements, LowersTail}
+use Rattle.mir_lower.specs.Lowered.{HasStatements, LowersAssigned, LowersAssignee, LowersPlace, LowersOperand, LowersOperands, LowersStatements, LowersTail}
 use Rattle.mir.specs.declared.operand.Operand.{Operand}
 use Rattle.mir.specs.declared.operand.OperandKind.{OperandKind}
-use Rattle.mir.specs.declared.operand.OperandKind.TheVariants.{Copy}
 use Rattle.mir.specs.declared.operand.Place.{Place}
-use Rattle.mir.specs.declared.operand.Rvalue.TheVariants.{Aggregate, CheckedBinaryOp, Use}
+use Rattle.mir.specs.declared.operand.Rvalue.TheVariants.{Aggregate, CheckedBinaryOp}
 use Rattle.source_meaning.specs.Core as expr
-use Rattle.source_meaning.specs.Core.{Combine}
-use Rattle.body_forms.specs.Form.{IsPlaceForm, core_value}
+use Rattle.source_meaning.specs.Core.{ByPath, ByPattern, Combine}
+use Rattle.body_forms.specs.Form.{IsPlaceForm, core_assigned, core_assignee, core_value}
+use Rattle.body_forms.specs.Refusals.{IsUnbuilt}
+use Rattle.body_forms.specs.declared.form.Assigned.{Assigned}
+use Rattle.body_forms.specs.declared.form.Assignee.{Assignee}
 use Rattle.world.specs.declared.body.Statement.{Statement}
 use Rattle.mir_lower.specs.Refusals.{RefusesAt}
 use Rattle.std.specs.Prelude.{All, Contains, IfSome, ℕ}
@@ -29,11 +31,11 @@ use Rattle.world.specs.Nodes.{optional}
 use Rattle.mir_lower.specs.Built.{IsBuilt, IsBuiltThrough}
 use Rattle.mir_lower.proofs.Building.{built-field, built-return, has-target, built-labelled, built-loop, built-break, built-literal, built-path, built-strict, built-call, built-logic, built-if, built-assign, built-compound, built-block, one-built, two-built}
 use Rattle.mir_lower.proofs.Adjusting.{lowers-undiverted, lowers-diverted}
-use Rattle.mir_lower.proofs.Assignments.{value-part, lowers-assign}
+use Rattle.mir_lower.proofs.Assignments.{assigns-place, value-part, target-part, lowers-target-path, lowers-target-place, lowers-assign}
 use Rattle.mir_lower.proofs.Calls.{Collects, argument-in, arguments-from, built-arguments, collects-none, collects-more, collects-all, has-called, lowers-call}
 use Rattle.source_meaning.proofs.Parts.{call_parts, strict_parts}
 use Rattle.world.specs.Nodes.{expr_numbers}
-use Rattle.mir_lower.proofs.Compounds.{combined-part, lowers-compound, refuses-combined}
+use Rattle.mir_lower.proofs.Compounds.{combined-part, combined-base-part, lowers-own-path, lowers-own-field, lowers-compound, refuses-combined}
 use Rattle.mir_lower.proofs.Blocks.{idles-read, lowers-none, lowers-more, lowers-let, lowers-expr-statement, lowers-tail, lowers-no-tail, block-inner, lowers-block}
 use Rattle.mir_lower.proofs.Drops.{opened-within, scope-left}
 use Rattle.mir_lower.proofs.Fields.{base-part, finds-field, lowers-field, lowers-field-into}
@@ -42,7 +44,7 @@ use Rattle.mir_lower.proofs.Operands.{lowers-literal-operand, lowers-place-opera
 use Rattle.mir_lower.proofs.Rvalues.{is-aggregate}
 use Rattle.mir_lower.proofs.Strict.{lowers-strict, lowers-one, lowers-two, first-part, second-part}
 use Rattle.body_forms.specs.Operations.{several_operation, single_operation}
-use Rattle.mir_lower.proofs.Refused.{refuses-here, refuses-no-memory, refuses-part, refuses-unbuilt-form, refuses-statement, without-initializer, with-else, item-is-unbuilt, refuses-pattern, refuses-target, refused-exit, part-below, part-of-statement, refuses-break}
+use Rattle.mir_lower.proofs.Refused.{refuses-here, refuses-no-memory, refuses-part, refuses-unbuilt, refuses-unbuilt-form, refuses-statement, without-initializer, with-else, item-is-unbuilt, refuses-pattern, refuses-target, refused-exit, part-below, part-of-statement, refuses-break}
 use Rattle.mir_lower.proofs.Growing.{grows-trans}
 use Rattle.mir_lower.proofs.Steps.{local_of-grows, placed-later}
 use Rattle.mir_lower.proofs.Branches.{reserved-spared, other-reserved, join-reserved}
@@ -55,7 +57,8 @@ use Rattle.mir_lower.proofs.Sparing.{spares-trans, scoped-spares}
 use Rattle.mir_lower.proofs.Conditions.{left-part, right-part, condition-part, then-part, else-part, tail-part, lowers-if, keeps-decided, lowers-logic}
 use Rattle.mir_lower.specs.Branches.{IsForked}
 use Rattle.source_meaning.specs.Meaning.{deciding_byte}
-use Rattle.source_meaning.specs.Steps.{parts_of}
+use Rattle.source_meaning.specs.Built.{IsBuiltAssigned, IsBuiltAssignee}
+use Rattle.source_meaning.specs.Steps.{assigned_parts, assignee_parts, parts_of}
 use Rattle.mir_lower.proofs.lower.+lower.Goals as goal
 
 -- an operand, and a place
@@ -110,7 +113,7 @@ lower_place-lower_field-requires t c =
     let source = source_of c.args.context.now in
     let form : unadjusted source c.args.e.0 ≡ Some (expr.Field c.in-Field.base.0 c.in-Field.index) = subst (IsPlaceForm source c.args.e.0) c.in-Field.is c.place_form_at.ensures in
     let node-is = (unadjusted-plain source c.args.e.0 _ form).1 in
-    (omega arith, (parts-ready source (shape c.args.graph.now) c.args.e.0 (λ outer. ap (λ n. opened_in c.args.e.0 n outer) node-is) c.requires.ready, node-is))
+    (omega arith, (parts-ready source (shape c.args.graph.now) c.args.e.0 (λ outer. ap (λ n. opened_in c.args.e.0 n outer) node-is) c.requires.ready, base-part source c.args.e.0 c.in-Field.base.0 c.in-Field.index node-is))
 
 pub lower_place-returns-in-Field-clause-lowered : goal.lower_place-returns-in-Field-clause-lowered
 lower_place-returns-in-Field-clause-lowered t c =
@@ -131,15 +134,14 @@ lower_place-returns-in-Field-clause-built t c =
 pub lower_field-lower_place-requires : goal.lower_field-lower_place-requires
 lower_field-lower_place-requires t c =
     let source = source_of c.args.context.now in
-    let is = base-part source c.args.e.0 c.args.base.0 c.args.index c.requires.form in
-    let below = part-below source c.args.e.0 c.args.base.0 c.requires.ready.checked is in
-    (omega (arith, below), part-ready source (shape c.args.graph.now) c.args.e.0 c.args.base.0 c.requires.ready is)
+    let below = part-below source c.args.e.0 c.args.base.0 c.requires.ready.checked c.requires.part in
+    (omega (arith, below), part-ready source (shape c.args.graph.now) c.args.e.0 c.args.base.0 c.requires.ready c.requires.part)
 
 pub lower_field-returns-in_err-place-clause-refused : goal.lower_field-returns-in_err-place-clause-refused
 lower_field-returns-in_err-place-clause-refused t c =
     let source = source_of c.args.context.now in
     refused-exit (RefusesAt source c.args.e.0) _ c.from_residual.result c.from_residual.ensures.1
-    (λ error same. subst (RefusesAt source c.args.e.0) (sym same) (refuses-part source c.args.e.0 c.args.base.0 _ (base-part source c.args.e.0 c.args.base.0 c.args.index c.requires.form) c.in_err-place.ensures.refused))
+    (λ error same. subst (RefusesAt source c.args.e.0) (sym same) (refuses-part source c.args.e.0 c.args.base.0 _ c.requires.part c.in_err-place.ensures.refused))
 
 pub lower_field-project-requires : goal.lower_field-project-requires
 lower_field-project-requires t c = place-known (shape c.lower_place.new.graph) c.lower_place.new.graph.projections.law c.in_ok-place.place c.in_ok-place.ensures.lowered.does.at c.in_ok-place.ensures.lowered.does.is
@@ -159,7 +161,7 @@ lower_field-returns-clause-lowered t c =
 pub field_into-lower_field-requires : goal.field_into-lower_field-requires
 field_into-lower_field-requires t c =
     let source = source_of c.args.context.now in
-    (omega arith, (parts-ready source (shape c.args.graph.now) c.args.e.0 (λ outer. ap (λ n. opened_in c.args.e.0 n outer) c.requires.form) c.requires.ready, c.requires.form))
+    (omega arith, (parts-ready source (shape c.args.graph.now) c.args.e.0 (λ outer. ap (λ n. opened_in c.args.e.0 n outer) c.requires.form) c.requires.ready, base-part source c.args.e.0 c.args.base.0 c.args.index c.requires.form))
 
 pub field_into-returns-clause-lowered : goal.field_into-returns-clause-lowered
 field_into-returns-clause-lowered t c =
@@ -621,20 +623,96 @@ lower_logic-returns-clause-lowered t c =
     lowers-logic source s0 s1 s2 s3 s4 s5 s6 c.args.e.0 c.args.op c.args.lhs.0 c.args.rhs.0 left c.args.to (ExprId c.args.e) branches.other.0 branches.join.0 cell c.requires.form test c.in_ok-assign.ensures.added two
     (record { test = test.keeps; forked = forked; one = one; one_ended = gone; two = two.keeps; two_ended = c.go_on-2.ensures source two.keeps.sound }) c.requires.ready found
 
+-- the target of an assignment
+
+pub lower_assignee-returns-in_err-target_local-in-Pattern-clause-refused : goal.lower_assignee-returns-in_err-target_local-in-Pattern-clause-refused
+lower_assignee-returns-in_err-target_local-in-Pattern-clause-refused t c =
+    let source = source_of c.args.context.now in
+    let form = subst (λ (to : Assignee). node source c.args.e.0 ≡ Some (expr.Assign (core_assignee to) c.requires.form.0)) c.in-Pattern.is c.requires.form.1 in
+    refused-exit (RefusesAt source c.args.e.0) _ c.from_residual.result c.from_residual.ensures.1
+    (λ error same. subst (RefusesAt source c.args.e.0) (sym same) (refuses-target source c.args.e.0 _ c.in-Pattern.pat.0 c.requires.form.0 form c.in_err-target_local-in-Pattern.ensures.refused))
+
+pub lower_assignee-returns-in_ok-target_local-in-Pattern : goal.lower_assignee-returns-in_ok-target_local-in-Pattern
+lower_assignee-returns-in_ok-target_local-in-Pattern t c =
+    let source = source_of c.args.context.now in
+    let s = shape c.args.graph.now in
+    let local = c.in_ok-target_local-in-Pattern.field-0 in
+    record {
+      lowered = subst (λ (to : Assignee). LowersAssignee source s s (core_assignee to) c.from.result) (sym c.in-Pattern.is)
+          (subst (λ (place : Place). LowersAssignee source s s (ByPattern c.in-Pattern.pat.0) place) (sym c.from.ensures)
+          (lowers-target-path source s c.in-Pattern.pat.0 local c.requires.ready.sound c.requires.ready.«open» c.in_ok-target_local-in-Pattern.ensures.lowered));
+      built = subst (λ (to : Assignee). IsBuiltAssignee source (core_assignee to)) (sym c.in-Pattern.is) c.in_ok-target_local-in-Pattern.ensures.built;
+      parts = subst (λ (to : Assignee). All (IsBuilt source) (assignee_parts (core_assignee to))) (sym c.in-Pattern.is) (All-nil (IsBuilt source));
+      refused = tt;
+    }
+
+-- which is a part, where it is an expression
+pub lower_assignee-names_place-requires : goal.lower_assignee-names_place-requires
+lower_assignee-names_place-requires t c =
+    let source = source_of c.args.context.now in
+    let form = subst (λ (to : Assignee). node source c.args.e.0 ≡ Some (expr.Assign (core_assignee to) c.requires.form.0)) c.in-Place.is c.requires.form.1 in
+    (part-ready source (shape c.args.graph.now) c.args.e.0 c.in-Place.target.0 c.requires.ready (target-part source c.args.e.0 c.in-Place.target.0 c.requires.form.0 form)).ready.within
+
+pub lower_assignee-lower_place-requires : goal.lower_assignee-lower_place-requires
+lower_assignee-lower_place-requires t c =
+    let source = source_of c.args.context.now in
+    let form = subst (λ (to : Assignee). node source c.args.e.0 ≡ Some (expr.Assign (core_assignee to) c.requires.form.0)) c.in-Place.is c.requires.form.1 in
+    let is = target-part source c.args.e.0 c.in-Place.target.0 c.requires.form.0 form in
+    let below = part-below source c.args.e.0 c.in-Place.target.0 c.requires.ready.checked is in
+    (omega (arith, below), part-ready source (shape c.args.graph.now) c.args.e.0 c.in-Place.target.0 c.requires.ready is)
+
+pub lower_assignee-returns-then-names_place-clause-lowered : goal.lower_assignee-returns-if-names_place-clause-lowered
+lower_assignee-returns-then-names_place-clause-lowered t c =
+    let source = source_of c.args.context.now in
+    let s0 = shape c.args.graph.now in
+    let s1 = shape c.lower_place.new.graph in
+    IfOk-weaker c.lower_place.result _ _
+    (λ place lowered. subst (λ (to : Assignee). LowersAssignee source s0 s1 (core_assignee to) place) (sym c.in-Place.is)
+    (lowers-target-place source s0 s1 c.in-Place.target.0 place (sym c.names_place.ensures ∙ c.if-names_place.true) lowered))
+    c.lower_place.ensures.lowered
+
+pub lower_assignee-returns-then-names_place-clause-built : goal.lower_assignee-returns-if-names_place-clause-built
+lower_assignee-returns-then-names_place-clause-built t c =
+    let source = source_of c.args.context.now in
+    on_ok_weaker c.lower_place.result
+    (λ built. subst (λ (to : Assignee). IsBuiltAssignee source (core_assignee to)) (sym c.in-Place.is) (sym c.names_place.ensures ∙ c.if-names_place.true))
+    c.lower_place.ensures.built
+
+pub lower_assignee-returns-then-names_place-clause-parts : goal.lower_assignee-returns-if-names_place-clause-parts
+lower_assignee-returns-then-names_place-clause-parts t c =
+    let source = source_of c.args.context.now in
+    on_ok_weaker c.lower_place.result
+    (λ built. subst (λ (to : Assignee). All (IsBuilt source) (assignee_parts (core_assignee to))) (sym c.in-Place.is) (one-built source c.in-Place.target.0 built))
+    c.lower_place.ensures.built
+
+pub lower_assignee-returns-then-names_place-clause-refused : goal.lower_assignee-returns-if-names_place-clause-refused
+lower_assignee-returns-then-names_place-clause-refused t c =
+    let source = source_of c.args.context.now in
+    let form = subst (λ (to : Assignee). node source c.args.e.0 ≡ Some (expr.Assign (core_assignee to) c.requires.form.0)) c.in-Place.is c.requires.form.1 in
+    IfErr-weaker c.lower_place.result _ _
+    (λ error refused. refuses-part source c.args.e.0 c.in-Place.target.0 error (target-part source c.args.e.0 c.in-Place.target.0 c.requires.form.0 form) refused)
+    c.lower_place.ensures.refused
+
+pub lower_assignee-returns-else-names_place-clause-refused : goal.lower_assignee-returns-else-names_place-clause-refused
+lower_assignee-returns-else-names_place-clause-refused t c =
+    let source = source_of c.args.context.now in
+    let form = subst (λ (to : Assignee). node source c.args.e.0 ≡ Some (expr.Assign (core_assignee to) c.requires.form.0)) c.in-Place.is c.requires.form.1 in
+    refuses-unbuilt source c.args.e.0 c.form_not_built.result (subst (IsUnbuilt source c.args.e.0) (sym form) (sym c.names_place.ensures ∙ c.if-names_place.false)) c.form_not_built.ensures
+
 -- an assignment
 
 pub lower_assignment-lower_place-requires : goal.lower_assignment-lower_place-requires
 lower_assignment-lower_place-requires t c =
     let source = source_of c.args.context.now in
-    let is = value-part source c.args.e.0 c.args.target.0 c.args.value.0 c.requires.form in
+    let is = value-part source c.args.e.0 (core_assignee c.args.to) c.args.value.0 c.requires.form in
     let below = part-below source c.args.e.0 c.args.value.0 c.requires.ready.checked is in
     (omega (arith, below), part-ready source (shape c.args.graph.now) c.args.e.0 c.args.value.0 (parts-ready source (shape c.args.graph.now) c.args.e.0 (λ outer. ap (λ n. opened_in c.args.e.0 n outer) c.requires.form) c.requires.ready) is)
 
-pub lower_assignment-returns-in_err-place-clause-refused : goal.lower_assignment-returns-in_err-place-clause-refused
-lower_assignment-returns-in_err-place-clause-refused t c =
+pub lower_assignment-returns-in_err-from-clause-refused : goal.lower_assignment-returns-in_err-from-clause-refused
+lower_assignment-returns-in_err-from-clause-refused t c =
     let source = source_of c.args.context.now in
     refused-exit (RefusesAt source c.args.e.0) _ c.from_residual.result c.from_residual.ensures.1
-    (λ error same. subst (RefusesAt source c.args.e.0) (sym same) (refuses-part source c.args.e.0 c.args.value.0 _ (value-part source c.args.e.0 c.args.target.0 c.args.value.0 c.requires.form) c.in_err-place.ensures.refused))
+    (λ error same. subst (RefusesAt source c.args.e.0) (sym same) (refuses-part source c.args.e.0 c.args.value.0 _ (value-part source c.args.e.0 (core_assignee c.args.to) c.args.value.0 c.requires.form) c.in_err-from.ensures.refused))
 
 pub lower_assignment-returns-in_err-fake_read-clause-refused : goal.lower_assignment-returns-in_err-fake_read-clause-refused
 lower_assignment-returns-in_err-fake_read-clause-refused t c =
@@ -642,68 +720,145 @@ lower_assignment-returns-in_err-fake_read-clause-refused t c =
     refused-exit (RefusesAt source c.args.e.0) _ c.from_residual-in_err-fake_read.result c.from_residual-in_err-fake_read.ensures.1
     (λ error same. subst (RefusesAt source c.args.e.0) (sym same) (refuses-no-memory source c.args.e.0 _ c.in_err-fake_read.ensures.refused))
 
-pub lower_assignment-assign_target-requires-clause-sound : goal.lower_assignment-assign_target-requires-clause-sound
-lower_assignment-assign_target-requires-clause-sound t c =
-    let place = c.in_ok-place.ensures.lowered in
-    (idles-read (source_of c.args.context.now) (shape c.lower_place.new.graph) (shape c.fake_read.new.graph) c.in_ok-place.place (ExprId c.args.value) place.keeps.sound place.keeps.«open» c.in_ok-fake_read.ensures.added).sound
+pub lower_assignment-lower_assignee-requires : goal.lower_assignment-lower_assignee-requires
+lower_assignment-lower_assignee-requires t c =
+    let source = source_of c.args.context.now in
+    let s0 = shape c.args.graph.now in
+    let s1 = shape c.lower_place.new.graph in
+    let s2 = shape c.fake_read.new.graph in
+    let place = c.in_ok-from.ensures.lowered in
+    let idles = idles-read source s1 s2 c.in_ok-from.from (ExprId c.args.value) place.keeps.sound place.keeps.«open» c.in_ok-fake_read.ensures.added in (
+      omega arith,
+      (
+        parts-ready-in source s0 s2 c.args.e.0 (parts-ready source s0 c.args.e.0 (λ outer. ap (λ n. opened_in c.args.e.0 n outer) c.requires.form) c.requires.ready) (idles.spares.targets ∙ place.keeps.spares.targets) (grows-trans s0 s1 s2 place.keeps.grows idles.grows) idles.sound idles.«open»,
+        (c.args.value.0, c.requires.form),
+      ),
+    )
 
-pub lower_assignment-assign_target-requires-clause-opened : goal.lower_assignment-assign_target-requires-clause-opened
-lower_assignment-assign_target-requires-clause-opened t c =
-    let place = c.in_ok-place.ensures.lowered in
-    (idles-read (source_of c.args.context.now) (shape c.lower_place.new.graph) (shape c.fake_read.new.graph) c.in_ok-place.place (ExprId c.args.value) place.keeps.sound place.keeps.«open» c.in_ok-fake_read.ensures.added).«open»
+pub lower_assignment-returns-in_err-place-clause-refused : goal.lower_assignment-returns-in_err-place-clause-refused
+lower_assignment-returns-in_err-place-clause-refused t c =
+    let source = source_of c.args.context.now in
+    refused-exit (RefusesAt source c.args.e.0) _ c.from_residual-in_err-place.result c.from_residual-in_err-place.ensures.1
+    (λ error same. subst (RefusesAt source c.args.e.0) (sym same) c.in_err-place.ensures.refused)
 
 pub lower_assignment-returns-clause-lowered : goal.lower_assignment-returns-clause-lowered
 lower_assignment-returns-clause-lowered t c =
     let source = source_of c.args.context.now in
+    let s0 = shape c.args.graph.now in
+    let s1 = shape c.lower_place.new.graph in
+    let s2 = shape c.fake_read.new.graph in
+    let s3 = shape c.lower_assignee.new.graph in
+    let new = shape c.write.new.graph in
+    let from = c.in_ok-from.ensures.lowered in
     let place = c.in_ok-place.ensures.lowered in
-    on_ok_weaker c.assign_target.result
-    (λ assigning cell. lowers-assign source (shape c.args.graph.now) (shape c.lower_place.new.graph) (shape c.fake_read.new.graph) (shape c.assign_target.new.graph) c.args.e.0 c.args.target.0 c.args.value.0 c.in_ok-place.place cell c.requires.ready c.requires.form place
-    (idles-read source (shape c.lower_place.new.graph) (shape c.fake_read.new.graph) c.in_ok-place.place (ExprId c.args.value) place.keeps.sound place.keeps.«open» c.in_ok-fake_read.ensures.added) assigning)
-    c.assign_target.ensures.lowered
+    let idles = idles-read source s1 s2 c.in_ok-from.from (ExprId c.args.value) from.keeps.sound from.keeps.«open» c.in_ok-fake_read.ensures.added in
+    on_ok_weaker c.write.result
+    (λ added cell. lowers-assign source s0 s1 s2 s3 new c.args.e.0 (core_assignee c.args.to) c.args.value.0 c.in_ok-from.from c.in_ok-place.place cell c.requires.ready c.requires.form from idles place
+    (λ at other is-to is-from. assigns-place source s3 new c.in_ok-place.place c.in_ok-from.from _ c.assignee_span.result place.keeps.sound place.keeps.«open» refl added at other is-to is-from))
+    c.write.ensures.added
 
 pub lower_assignment-returns-clause-built : goal.lower_assignment-returns-clause-built
 lower_assignment-returns-clause-built t c =
-    on_ok_weaker c.assign_target.result (λ names. built-assign (source_of c.args.context.now) c.args.e.0 c.args.target.0 c.args.value.0 c.requires.form names c.in_ok-place.ensures.built) c.assign_target.ensures.built
+    on_ok_weaker c.write.result (λ added. built-assign (source_of c.args.context.now) c.args.e.0 (core_assignee c.args.to) c.args.value.0 c.requires.form c.in_ok-place.ensures.built c.in_ok-place.ensures.parts c.in_ok-from.ensures.built) c.write.ensures.added
 
 pub lower_assignment-returns-clause-refused : goal.lower_assignment-returns-clause-refused
 lower_assignment-returns-clause-refused t c =
-    IfErr-weaker c.assign_target.result _ _ (λ error refused. refuses-target (source_of c.args.context.now) c.args.e.0 error c.args.target.0 c.args.value.0 c.requires.form refused) c.assign_target.ensures.refused
+    IfErr-weaker c.write.result _ _ (λ error none. refuses-no-memory (source_of c.args.context.now) c.args.e.0 error none) c.write.ensures.refused
+
+-- the target of a compound assignment
+
+pub lower_assigned-returns-in_err-combined_local-in-Path-clause-refused : goal.lower_assigned-returns-in_err-combined_local-in-Path-clause-refused
+lower_assigned-returns-in_err-combined_local-in-Path-clause-refused t c =
+    let source = source_of c.args.context.now in
+    let form = subst (λ (to : Assigned). node source c.args.e.0 ≡ Some (expr.Compound c.requires.form.0 (core_assigned to) c.requires.form.1)) c.in-Path.is c.requires.form.2 in
+    refused-exit (RefusesAt source c.args.e.0) _ c.from_residual.result c.from_residual.ensures.1
+    (λ error same. subst (RefusesAt source c.args.e.0) (sym same) (refuses-combined source c.args.e.0 _ c.requires.form.0 c.in-Path.target.0 c.requires.form.1 form c.in_err-combined_local-in-Path.ensures.refused))
+
+pub lower_assigned-returns-in_ok-combined_local-in-Path : goal.lower_assigned-returns-in_ok-combined_local-in-Path
+lower_assigned-returns-in_ok-combined_local-in-Path t c =
+    let source = source_of c.args.context.now in
+    let s = shape c.args.graph.now in
+    let local = c.in_ok-combined_local-in-Path.field-0 in
+    record {
+      lowered = subst (λ (to : Assigned). LowersAssigned source s s (core_assigned to) c.from.result) (sym c.in-Path.is)
+          (subst (λ (place : Place). LowersAssigned source s s (ByPath c.in-Path.target.0) place) (sym c.from.ensures)
+          (lowers-own-path source s c.in-Path.target.0 local c.requires.ready.sound c.requires.ready.«open» c.in_ok-combined_local-in-Path.ensures.lowered));
+      built = subst (λ (to : Assigned). IsBuiltAssigned source (core_assigned to)) (sym c.in-Path.is) c.in_ok-combined_local-in-Path.ensures.built;
+      parts = subst (λ (to : Assigned). All (IsBuilt source) (assigned_parts (core_assigned to))) (sym c.in-Path.is) (All-nil (IsBuilt source));
+      refused = tt;
+    }
+
+pub lower_assigned-lower_field-requires : goal.lower_assigned-lower_field-requires
+lower_assigned-lower_field-requires t c =
+    let source = source_of c.args.context.now in
+    let form = subst (λ (to : Assigned). node source c.args.e.0 ≡ Some (expr.Compound c.requires.form.0 (core_assigned to) c.requires.form.1)) c.in-Field.is c.requires.form.2 in
+    (omega arith, (c.requires.ready, combined-base-part source c.args.e.0 c.requires.form.0 c.in-Field.base.0 c.in-Field.index c.requires.form.1 form))
+
+pub lower_assigned-returns-in-Field-clause-lowered : goal.lower_assigned-returns-in-Field-clause-lowered
+lower_assigned-returns-in-Field-clause-lowered t c =
+    let source = source_of c.args.context.now in
+    let s0 = shape c.args.graph.now in
+    let s1 = shape c.lower_field.new.graph in
+    IfOk-weaker c.lower_field.result _ _
+    (λ place lowered. subst (λ (to : Assigned). LowersAssigned source s0 s1 (core_assigned to) place) (sym c.in-Field.is)
+    (lowers-own-field source s0 s1 c.in-Field.base.0 c.in-Field.index place lowered))
+    c.lower_field.ensures.lowered
+
+pub lower_assigned-returns-in-Field-clause-built : goal.lower_assigned-returns-in-Field-clause-built
+lower_assigned-returns-in-Field-clause-built t c =
+    let source = source_of c.args.context.now in
+    on_ok_weaker c.lower_field.result (λ built. subst (λ (to : Assigned). IsBuiltAssigned source (core_assigned to)) (sym c.in-Field.is) tt) c.lower_field.ensures.built
+
+pub lower_assigned-returns-in-Field-clause-parts : goal.lower_assigned-returns-in-Field-clause-parts
+lower_assigned-returns-in-Field-clause-parts t c =
+    let source = source_of c.args.context.now in
+    on_ok_weaker c.lower_field.result
+    (λ built. subst (λ (to : Assigned). All (IsBuilt source) (assigned_parts (core_assigned to))) (sym c.in-Field.is) (one-built source c.in-Field.base.0 built))
+    c.lower_field.ensures.built
 
 -- a compound assignment
+
+pub lower_compound-lower_assigned-requires : goal.lower_compound-lower_assigned-requires
+lower_compound-lower_assigned-requires t c =
+    let source = source_of c.args.context.now in
+    (omega arith, (parts-ready source (shape c.args.graph.now) c.args.e.0 (λ outer. ap (λ n. opened_in c.args.e.0 n outer) c.requires.form) c.requires.ready, (c.args.op, c.args.value.0, c.requires.form)))
+
+pub lower_compound-returns-in_err-place-clause-refused : goal.lower_compound-returns-in_err-place-clause-refused
+lower_compound-returns-in_err-place-clause-refused t c =
+    let source = source_of c.args.context.now in
+    refused-exit (RefusesAt source c.args.e.0) _ c.from_residual.result c.from_residual.ensures.1
+    (λ error same. subst (RefusesAt source c.args.e.0) (sym same) c.in_err-place.ensures.refused)
 
 pub lower_compound-lower_operand-requires : goal.lower_compound-lower_operand-requires
 lower_compound-lower_operand-requires t c =
     let source = source_of c.args.context.now in
-    let is = combined-part source c.args.e.0 c.args.op c.args.target.0 c.args.value.0 c.requires.form in
+    let s0 = shape c.args.graph.now in
+    let s1 = shape c.lower_assigned.new.graph in
+    let is = combined-part source c.args.e.0 c.args.op (core_assigned c.args.to) c.args.value.0 c.requires.form in
     let below = part-below source c.args.e.0 c.args.value.0 c.requires.ready.checked is in
-    (omega (arith, below), part-ready source (shape c.args.graph.now) c.args.e.0 c.args.value.0 (parts-ready source (shape c.args.graph.now) c.args.e.0 (λ outer. ap (λ n. opened_in c.args.e.0 n outer) c.requires.form) c.requires.ready) is)
+    let keeps = c.in_ok-place.ensures.lowered.keeps in
+    (omega (arith, below), ready-part source s0 s1 c.args.e.0 c.args.value.0 (parts-ready source s0 c.args.e.0 (λ outer. ap (λ n. opened_in c.args.e.0 n outer) c.requires.form) c.requires.ready) is keeps.spares.targets keeps.grows keeps.sound keeps.«open»)
 
 pub lower_compound-returns-in_err-given-clause-refused : goal.lower_compound-returns-in_err-given-clause-refused
 lower_compound-returns-in_err-given-clause-refused t c =
     let source = source_of c.args.context.now in
-    refused-exit (RefusesAt source c.args.e.0) _ c.from_residual.result c.from_residual.ensures.1
-    (λ error same. subst (RefusesAt source c.args.e.0) (sym same) (refuses-part source c.args.e.0 c.args.value.0 _ (combined-part source c.args.e.0 c.args.op c.args.target.0 c.args.value.0 c.requires.form) c.in_err-given.ensures.refused))
-
-pub lower_compound-returns-in_err-to-clause-refused : goal.lower_compound-returns-in_err-to-clause-refused
-lower_compound-returns-in_err-to-clause-refused t c =
-    let source = source_of c.args.context.now in
-    refused-exit (RefusesAt source c.args.e.0) _ c.from_residual-in_err-to.result c.from_residual-in_err-to.ensures.1
-    (λ error same. subst (RefusesAt source c.args.e.0) (sym same) (refuses-combined source c.args.e.0 _ c.args.op c.args.target.0 c.args.value.0 c.requires.form c.in_err-to.ensures.refused))
+    refused-exit (RefusesAt source c.args.e.0) _ c.from_residual-in_err-given.result c.from_residual-in_err-given.ensures.1
+    (λ error same. subst (RefusesAt source c.args.e.0) (sym same) (refuses-part source c.args.e.0 c.args.value.0 _ (combined-part source c.args.e.0 c.args.op (core_assigned c.args.to) c.args.value.0 c.requires.form) c.in_err-given.ensures.refused))
 
 pub lower_compound-returns-clause-lowered : goal.lower_compound-returns-clause-lowered
 lower_compound-returns-clause-lowered t c =
     let source = source_of c.args.context.now in
-    on_ok_weaker c.assign.result
-    (λ added cell. lowers-compound source (shape c.args.graph.now) (shape c.lower_operand.new.graph) (shape c.assign.new.graph) c.args.e.0 c.args.op c.args.target.0 c.args.value.0 c.copied-own.result c.in_ok-given.given c.in_ok-to.to (ExprId c.args.e) cell c.requires.ready c.requires.form c.in_ok-given.ensures.lowered c.in_ok-to.ensures.lowered (c.copied-own.ensures ∙ ap Copy c.from.ensures) added)
-    c.assign.ensures.added
+    on_ok_weaker c.write.result
+    (λ added cell. lowers-compound source (shape c.args.graph.now) (shape c.lower_assigned.new.graph) (shape c.lower_operand.new.graph) (shape c.write.new.graph) c.args.e.0 c.args.op (core_assigned c.args.to) c.args.value.0 _ c.in_ok-given.given c.in_ok-place.place (ExprId c.args.e) cell c.requires.ready c.requires.form c.in_ok-place.ensures.lowered c.in_ok-given.ensures.lowered refl added)
+    c.write.ensures.added
 
 pub lower_compound-returns-clause-built : goal.lower_compound-returns-clause-built
 lower_compound-returns-clause-built t c =
-    on_ok_weaker c.assign.result (λ added. built-compound (source_of c.args.context.now) c.args.e.0 c.args.op c.args.target.0 c.args.value.0 c.requires.form c.in_ok-to.ensures.built c.in_ok-given.ensures.built) c.assign.ensures.added
+    on_ok_weaker c.write.result (λ added. built-compound (source_of c.args.context.now) c.args.e.0 c.args.op (core_assigned c.args.to) c.args.value.0 c.requires.form c.in_ok-place.ensures.built c.in_ok-place.ensures.parts c.in_ok-given.ensures.built) c.write.ensures.added
 
 pub lower_compound-returns-clause-refused : goal.lower_compound-returns-clause-refused
 lower_compound-returns-clause-refused t c =
-    IfErr-weaker c.assign.result _ _ (λ error none. refuses-no-memory (source_of c.args.context.now) c.args.e.0 error none) c.assign.ensures.refused
+    IfErr-weaker c.write.result _ _ (λ error none. refuses-no-memory (source_of c.args.context.now) c.args.e.0 error none) c.write.ensures.refused
 
 -- statements in order
 

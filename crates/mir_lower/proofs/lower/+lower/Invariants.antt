@@ -1,5 +1,6 @@
 -- A part has a lower number than its expression. At one expression the operand comes before the place, the place before
--- its local, that before what is evaluated into it, then the expression itself, the forms, the statements of a block, one of them, and its kind.
+-- its local, that before what is evaluated into it, then the expression itself, the forms, the targets of assignments, the
+-- statements of a block, one of them, and its kind.
 use Rattle.std.proofs.Common.{◌+◌, ◌*◌, drop, map, take}
 use Rattle.std.specs.Prelude.{All}
 use Rattle.types.specs.declared.ids.ExprId.{ExprId}
@@ -40,7 +41,10 @@ abbrev pub decreases-lower_aggregate : goal.decreases-lower_aggregate
 decreases-lower_aggregate l = 11 * l.e.0 + 4
 
 abbrev pub decreases-lower_compound : goal.decreases-lower_compound
-decreases-lower_compound l = 11 * l.e.0 + 4
+decreases-lower_compound l = 11 * l.e.0 + 5
+
+abbrev pub decreases-lower_assigned : goal.decreases-lower_assigned
+decreases-lower_assigned l = 11 * l.e.0 + 4
 
 abbrev pub decreases-lower_binary : goal.decreases-lower_binary
 decreases-lower_binary l = 11 * l.e.0 + 4
@@ -53,6 +57,9 @@ decreases-lower_if l = 11 * l.e.0 + 4
 
 abbrev pub decreases-lower_assignment : goal.decreases-lower_assignment
 decreases-lower_assignment l = 11 * l.e.0 + 4
+
+abbrev pub decreases-lower_assignee : goal.decreases-lower_assignee
+decreases-lower_assignee l = 11 * l.e.0 + 3
 
 abbrev pub decreases-lower_block : goal.decreases-lower_block
 decreases-lower_block l = 11 * l.e.0 + 4
