@@ -661,7 +661,7 @@ lower_assignee-lower_place-requires t c =
     let below = part-below source c.args.e.0 c.in-Place.target.0 c.requires.ready.checked is in
     (omega (arith, below), part-ready source (shape c.args.graph.now) c.args.e.0 c.in-Place.target.0 c.requires.ready is)
 
-pub lower_assignee-returns-then-names_place-clause-lowered : goal.lower_assignee-returns-if-names_place-clause-lowered
+pub lower_assignee-returns-then-names_place-clause-lowered : goal.lower_assignee-returns-then-names_place-clause-lowered
 lower_assignee-returns-then-names_place-clause-lowered t c =
     let source = source_of c.args.context.now in
     let s0 = shape c.args.graph.now in
@@ -671,21 +671,21 @@ lower_assignee-returns-then-names_place-clause-lowered t c =
     (lowers-target-place source s0 s1 c.in-Place.target.0 place (sym c.names_place.ensures ∙ c.if-names_place.true) lowered))
     c.lower_place.ensures.lowered
 
-pub lower_assignee-returns-then-names_place-clause-built : goal.lower_assignee-returns-if-names_place-clause-built
+pub lower_assignee-returns-then-names_place-clause-built : goal.lower_assignee-returns-then-names_place-clause-built
 lower_assignee-returns-then-names_place-clause-built t c =
     let source = source_of c.args.context.now in
     on_ok_weaker c.lower_place.result
     (λ built. subst (λ (to : Assignee). IsBuiltAssignee source (core_assignee to)) (sym c.in-Place.is) (sym c.names_place.ensures ∙ c.if-names_place.true))
     c.lower_place.ensures.built
 
-pub lower_assignee-returns-then-names_place-clause-parts : goal.lower_assignee-returns-if-names_place-clause-parts
+pub lower_assignee-returns-then-names_place-clause-parts : goal.lower_assignee-returns-then-names_place-clause-parts
 lower_assignee-returns-then-names_place-clause-parts t c =
     let source = source_of c.args.context.now in
     on_ok_weaker c.lower_place.result
     (λ built. subst (λ (to : Assignee). All (IsBuilt source) (assignee_parts (core_assignee to))) (sym c.in-Place.is) (one-built source c.in-Place.target.0 built))
     c.lower_place.ensures.built
 
-pub lower_assignee-returns-then-names_place-clause-refused : goal.lower_assignee-returns-if-names_place-clause-refused
+pub lower_assignee-returns-then-names_place-clause-refused : goal.lower_assignee-returns-then-names_place-clause-refused
 lower_assignee-returns-then-names_place-clause-refused t c =
     let source = source_of c.args.context.now in
     let form = subst (λ (to : Assignee). node source c.args.e.0 ≡ Some (expr.Assign (core_assignee to) c.requires.form.0)) c.in-Place.is c.requires.form.1 in
