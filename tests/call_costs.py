@@ -24,6 +24,9 @@ DEFAULT_LIMITS = {"blocks": 10000000, "nesting": 100, "bytes": 1000000000}
 INTEGERS = {"8": 1, "16": 2, "32": 4, "64": 8, "128": 16, "size": 8}
 SIZES = {"Bool": 1, "Char": 4}
 RESULT = ("result",)
+# The place of a part that a value lacks, and the faults of reading and writing there.
+NOWHERE = ("nowhere",)
+BAD_READ, BAD_WRITE = (f'UndefinedBehavior("out of bound memory {word}")' for word in ("read", "write"))
 # Calls nest in Python as they do in the world.
 STACK, DEPTH = 512 * 2**20, 10**6
 
@@ -434,16 +437,21 @@ class Reading:
             self.operand(part["rhs"])
 
     def compound(self, part, op):
-        """A compound assignment. One step in the adjustments of its target isn't looked at."""
+        """A compound assignment: its target, and then the right operand."""
         if op.get("op") is None:
             raise Refusal(NOT_BUILT)
+        self.compound_target(part["lhs"])
         self.operand(part["rhs"])
-        e = part["lhs"]
-        name, path = variant(self.exprs[e])
-        names_item = e in self.rows["assoc_res"] or e in self.rows["variant_res"]
-        if name != "Path" or names_item or len(self.rows["expr_adjustments"].get(e, [])) > 1:
+
+    def compound_target(self, e):
+        """The target of a compound assignment. One step in its adjustments isn't looked at."""
+        name, part = variant(self.exprs[e])
+        if len(self.rows["expr_adjustments"].get(e, [])) > 1 or name not in ("Path", "Field"):
             raise Refusal(NOT_BUILT)
-        self.named(self.rows["value_res"], e, path)
+        if name == "Field":
+            self.own_field(e, part)
+        else:
+            self.own_path(e, part)
 
     def own_if(self, e, part):
         self.operand(part["condition"])
@@ -452,12 +460,19 @@ class Reading:
 
     def own_assignment(self, e, part):
         self.place(part["value"])
-        pat = part["target"]
-        name, path = variant(self.pats[pat])
-        unplain = any(pat in self.rows[rows] for rows in ("pat_assoc_res", "pat_variant_res"))
-        if name != "Path" or unplain or self.rows["pat_adjustments"].get(pat, 0):
+        self.assigned(part["target"])
+
+    def assigned(self, pat):
+        """The target of an assignment: a pattern that is a path, or an expression that is a place."""
+        name, part = variant(self.pats[pat])
+        if self.rows["pat_adjustments"].get(pat, 0):
             raise Refusal(NOT_BUILT)
-        self.named(self.rows["pat_value_res"], pat, path)
+        if name == "Expr" and (self.is_a(part, "Path") or self.is_a(part, "Field")):
+            self.own(part)
+        elif name != "Path" or any(pat in self.rows[rows] for rows in ("pat_assoc_res", "pat_variant_res")):
+            raise Refusal(NOT_BUILT)
+        else:
+            self.named(self.rows["pat_value_res"], pat, part)
 
     def own_block(self, e, part):
         label = part.get("label")
@@ -734,12 +749,14 @@ class Run:
         return ("node", e)
 
     def part_of(self, frame, e, part):
-        """A part of a tuple: its base's place, and which of its bytes."""
+        """A part of a tuple: its base's place, and which of its bytes. A part that its base lacks is nowhere."""
         base = self.place(frame, part["expr"])
+        if base == NOWHERE:
+            return NOWHERE
         whole, number = self.place_type(frame, base), frame.body.rows["field_res"][e]["Right"]["index"]
         name, types = variant(whole)
         if name != "Tuple" or number >= len(types):
-            raise Unknown("a part that a type lacks")
+            return NOWHERE
         layouts = [self.layouts.get(key(ty)) for ty in (whole, types[number])]
         if None in layouts or number >= len(layouts[0].get("offsets", [])):
             raise Unknown("a part of a place without a layout")
@@ -760,6 +777,8 @@ class Run:
 
     def value(self, frame, operand):
         """The bytes of an operand now."""
+        if operand == NOWHERE:
+            raise Fault(BAD_READ, frame.trail)
         if isinstance(operand, Part):
             return self.value(frame, operand.base)[operand.start : operand.start + operand.size]
         return operand if isinstance(operand, bytes) else frame.cells[operand]
@@ -783,6 +802,21 @@ class Run:
         if len(frame.cells[cell]) != len(data):
             raise Unknown("a value that isn't as long as its cell")
         frame.cells[cell] = data
+
+    def needs_place(self, frame, place):
+        """A place that is written has to be there, before what goes there is read."""
+        if place == NOWHERE:
+            raise Fault(BAD_WRITE, frame.trail)
+
+    def write(self, frame, place, data):
+        """Writes a place. Around a part of a tuple everything stays as it is."""
+        if isinstance(place, Part):
+            if len(data) != place.size:
+                raise Unknown("a value that isn't as long as its part")
+            whole = self.value(frame, place.base)
+            self.write(frame, place.base, whole[: place.start] + data + whole[place.start + place.size :])
+        else:
+            self.put(frame, place, data)
 
     def own(self, frame, e, cell):
         name, part = self.form(frame, e)
@@ -881,12 +915,21 @@ class Run:
             raise Fault(UNDEFINED, frame.trail) from None
 
     def compound(self, frame, part, op):
-        """A compound assignment: once the right operand is evaluated, both are read, and the local is written."""
+        """A compound assignment: the target's place is found before the right operand is evaluated. Then both are read, and the place is
+        written."""
+        target = self.compound_place(frame, part["lhs"])
         given = self.operand(frame, part["rhs"])
-        binding = frame.body.rows["value_res"][part["lhs"]]["LocalBinding"]
-        cell, types = ("binding", binding), (frame.body.infer["binding_types"][binding], self.operand_type(frame, part["rhs"]))
-        kinds = [kind_of(ty) for ty in types]
-        self.put(frame, cell, self.combined(frame, op, kinds, frame.cells[cell], self.value(frame, given)))
+        self.needs_place(frame, target)
+        left, right = self.value(frame, target), self.value(frame, given)
+        kinds = [kind_of(ty) for ty in (self.place_type(frame, target), self.operand_type(frame, part["rhs"]))]
+        self.write(frame, target, self.combined(frame, op, kinds, left, right))
+
+    def compound_place(self, frame, e):
+        """The place that the target of a compound assignment is, whatever adjusts it."""
+        name, part = self.form(frame, e)
+        if name == "Field":
+            return self.part_of(frame, e, part)
+        return ("binding", frame.body.rows["value_res"][e]["LocalBinding"])
 
     def logic(self, frame, part, op, left, cell):
         self.enter(frame)
@@ -905,9 +948,15 @@ class Run:
         self.enter(frame)
 
     def own_assignment(self, frame, e, part, cell):
+        """An assignment: the value's place is found, and then the target's. Then the bytes are copied."""
         given = self.place(frame, part["value"])
-        target = frame.body.rows["pat_value_res"][part["target"]]["LocalBinding"]
-        self.put(frame, ("binding", target), self.value(frame, given))
+        name, inside = variant(frame.body.body["pats"][part["target"]])
+        if name == "Expr":
+            target = self.place(frame, inside)
+        else:
+            target = ("binding", frame.body.rows["pat_value_res"][part["target"]]["LocalBinding"])
+        self.needs_place(frame, target)
+        self.write(frame, target, self.value(frame, given))
 
     def own_block(self, frame, e, part, cell):
         if part.get("label") is None:
