@@ -31,7 +31,7 @@ use Rattle.source_meaning.proofs.Costs.{then-then, then-same, then-go}
 use Rattle.source_meaning.proofs.Marks.{let_marks, expression_marks, tail_marks, no_tail_marks, inner_marks, block_marks}
 use Rattle.source_meaning.proofs.Parts.{block_parts, sized_part_is_part}
 use Rattle.mir_lower.specs.Does.{here, IsAt, IsFrameOf, Reaches, Performs, Nothing, LeadsTo, DoesStatements}
-use Rattle.mir_lower.specs.Graph.{Shape, with_statement, with_scope, local_of}
+use Rattle.mir_lower.specs.Graph.{Shape, with_statement, with_scope}
 use Rattle.mir_lower.specs.Growth.{Grows, IsSound, IsOpen, IsReady}
 use Rattle.mir_lower.specs.Leaving.{Idles}
 use Rattle.mir_lower.specs.Lowered.{IsPlainWithin, Keeps, LaysOut, IsGiven, Binds, LowersInto, LowersPlace, LowersStatements, LowersTail, LowersOwn}

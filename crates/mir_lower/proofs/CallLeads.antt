@@ -1,5 +1,5 @@
 -- Where the terminator of a call leads, and where its callee's body goes back to.
-use Rattle.std.proofs.Common.{◌≡◌, ℕ, suc, Bool, cond, List, ◌∷◌, length, Option, Some, None, Result, Ok, Err, refl, ap, ◌∙◌}
+use Rattle.std.proofs.Common.{◌≡◌, ℕ, suc, Bool, cond, List, ◌∷◌, length, Option, Some, None, Result, Ok, Err, ap, ◌∙◌}
 use Rattle.std.specs.Prelude.{slice_get, filter, not, is_some, nat_le, if◌then◌else◌, option_and_then, codes}
 use Rattle.types.specs.declared.ids.FunctionId.{FunctionId}
 use Rattle.types.specs.declared.ty.GenericArgs.{GenericArgs}

@@ -17,7 +17,7 @@ use Rattle.source_meaning.specs.Built.{CallsFunction}
 use Rattle.source_meaning.specs.Calls.{must_not_return, source_called}
 use Rattle.source_meaning.specs.Core as expr
 use Rattle.source_meaning.specs.Core.{is_truth}
-use Rattle.source_meaning.specs.Ends.{End, Stuck}
+use Rattle.source_meaning.specs.Ends.{Stuck}
 use Rattle.source_meaning.specs.Meaning.{Callees, level_at, callees_at, operands_of, entered_into, into_of}
 use Rattle.source_meaning.specs.Places.{operands_bytes}
 use Rattle.source_meaning.specs.Source.{Source, node, unadjusted, Cell, Path, Store, Operand}

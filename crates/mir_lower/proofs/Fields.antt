@@ -1,12 +1,8 @@
 -- Fields: the place of a part, by the place of its base, and its bytes.
-use Rattle.std.proofs.Common.{◌≡◌, ℕ, ◌<◌, zero, suc, Bool, true, false, List, [], ◌∷◌, ◌++◌, length, map, Contains, Option, Some, None, option_and_then, inr, refl, sym, ap, ◌∙◌, subst, arith}
-use Rattle.std.specs.Prelude.{slice_get}
-use Rattle.std.proofs.lemmas.List.{map-append}
+use Rattle.std.proofs.Common.{◌≡◌, ℕ, ◌<◌, zero, suc, List, ◌++◌, length, Contains, Some, option_and_then, inr, sym, ap, ◌∙◌, subst}
 use Rattle.types.specs.declared.ty.Ty.{Ty}
 use Rattle.types.specs.declared.ty.Ty.TheVariants.{Tuple}
-use Rattle.world.specs.declared.layout.Layout.{Layout}
 use Rattle.world.specs.Lookups.{layout_of}
-use Rattle.mir.specs.Elements.{PlaceElem as GraphElem}
 use Rattle.mir.specs.declared.operand.Operand.{Operand as MirOperand}
 use Rattle.mir.specs.declared.operand.OperandKind.TheVariants.{Copy}
 use Rattle.mir.specs.declared.operand.Place.{Place as GraphPlace}
@@ -18,12 +14,10 @@ use Rattle.mir.specs.Run.{Frame}
 use Rattle.source_meaning.specs.Aggregates.{HasAggregates}
 use Rattle.source_meaning.specs.Around.{Around}
 use Rattle.source_meaning.specs.Core as expr
-use Rattle.source_meaning.specs.Core.{CoreExpr}
-use Rattle.source_meaning.specs.Ends.{no_cost, End, Go, then_do}
-use Rattle.source_meaning.specs.Events.{marked_as_place, marked_itself}
+use Rattle.source_meaning.specs.Ends.{no_cost, Go}
 use Rattle.source_meaning.specs.Meaning.{level_at, field_place, place_of, copy_to}
 use Rattle.source_meaning.specs.Places.{place_bytes}
-use Rattle.source_meaning.specs.Source.{Source, node, unadjusted, own_type, node_type, Cell, Place, Part, projected, Store}
+use Rattle.source_meaning.specs.Source.{Source, node, unadjusted, node_type, Cell, Place, Part, projected, Store}
 use Rattle.source_meaning.specs.Steps.{parts_of}
 use Rattle.source_meaning.specs.Valid.{EvaluatesIn, opened_in, itself, part, part_in, HasPlainForm, IsPlainField, IsPlainNode, IsLaidOut, IsLaidOutNode, NeedsLayout, own, inside, sized_parts}
 use Rattle.source_meaning.proofs.Depth.{field_base_is_part}
@@ -31,9 +25,9 @@ use Rattle.source_meaning.proofs.Marks.{field_marks, part_marks}
 use Rattle.source_meaning.proofs.Never.{unadjusted-plain}
 use Rattle.source_meaning.proofs.Parts.{sized_part_is_part}
 use Rattle.mir_lower.specs.Callees.{Serves}
-use Rattle.mir_lower.specs.Does.{here, Finds, Holds, IsAt, IsFrameOf, LeadsTo, Landings, Nothing, Reaches, Stands, DoesField, DoesPlace, elem_of, elements_of}
-use Rattle.mir_lower.specs.Graph.{Shape, IsProjected, elements_in, local_of, with_projections, with_statement}
-use Rattle.mir_lower.specs.Growth.{Grows, IsOpen, IsReady, IsSound, Spares}
+use Rattle.mir_lower.specs.Does.{here, Holds, IsFrameOf, LeadsTo, Landings, Nothing, Reaches, Stands, DoesField, elem_of}
+use Rattle.mir_lower.specs.Graph.{Shape, IsProjected, local_of, with_statement}
+use Rattle.mir_lower.specs.Growth.{Grows, IsReady, IsSound}
 use Rattle.mir_lower.specs.Lowered.{IsPlainWithin, LaysOut, LowersField, LowersOwn, LowersPlace, Keeps}
 use Rattle.mir_lower.specs.Runs.{run_from}
 use Rattle.mir_lower.proofs.Growing.{grows-trans, with_statement-grows}

@@ -1,5 +1,5 @@
 -- Why a callee's cells aren't placed, by what its source counts.
-use Rattle.std.proofs.Common.{◌≡◌, ℕ, ◌≤◌, ⊎_elim, Bool, true, false, cond, List, Option, Some, None, Result, Err, refl, sym, ap, ◌∙◌, subst, arith}
+use Rattle.std.proofs.Common.{◌≡◌, ℕ, ◌≤◌, ⊎_elim, Bool, true, false, cond, List, Option, Some, None, Err, refl, sym, ap, ◌∙◌, subst, arith}
 use Rattle.std.specs.Prelude.{map, sum}
 use Rattle.std.proofs.lemmas.List.Sums.{sum-map}
 use Rattle.types.specs.declared.ty.Ty.{Ty}

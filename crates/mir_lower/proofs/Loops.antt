@@ -23,7 +23,7 @@ use Rattle.mir_lower.specs.Growth.{Grows, Spares, IsInside, IsSound, IsReady}
 use Rattle.mir_lower.specs.Jumps.{IsEntered}
 use Rattle.mir_lower.specs.Leaving.{Idles}
 use Rattle.mir_lower.specs.Lowered.{IsPlainWithin, LaysOut, LowersOwn, LowersPlace, LowersStatements, LowersTail}
-use Rattle.mir_lower.specs.Runs.{Point, Entry, start_of, run_from, Comes}
+use Rattle.mir_lower.specs.Runs.{Point, Entry, start_of, Comes}
 use Rattle.mir_lower.proofs.Blocks.{scope-idles, does-block, lays-block}
 use Rattle.mir_lower.proofs.Growing.{grows-trans, with_scope-grows}
 use Rattle.mir_lower.proofs.Jumps.{with_targets-grows, here-targets, spares-retargeted}

@@ -1,6 +1,5 @@
 -- Literals, paths, and other expressions as operands and as places.
 use Rattle.std.proofs.Common.{◌≡◌, ℕ, zero, suc, false, List, [], ◌∷◌, ◌++◌, Option, Some, None, refl, sym, ap, ◌∙◌, subst, append_assoc, append-nil, inr}
-use Rattle.std.specs.Prelude.{slice_get, option_map}
 use Rattle.source_meaning.specs.Core.{CoreExpr, CoreLiteral, is_literal, is_path, is_place}
 use Rattle.source_meaning.specs.Core as expr
 use Rattle.world.specs.declared.infer.ValueNs.{ValueNs}
@@ -22,7 +21,7 @@ use Rattle.mir_lower.specs.Graph.{Shape}
 use Rattle.mir_lower.specs.Growth.{Grows, IsSound, IsOpen}
 use Rattle.body_forms.specs.Literals.{IsLiteral}
 use Rattle.mir_lower.specs.Lowered.{IsGiven, IsNamed, LowersInto, LowersPlace, LowersOperand, Keeps}
-use Rattle.mir_lower.specs.Runs.{run_from, local_bytes, Comes}
+use Rattle.mir_lower.specs.Runs.{run_from, Comes}
 use Rattle.mir_lower.proofs.Growing.{grows-refl, grows-trans}
 use Rattle.mir_lower.proofs.Laid.{lays-literal, lays-name, lays-temp}
 use Rattle.mir_lower.proofs.Projecting.{at-later}

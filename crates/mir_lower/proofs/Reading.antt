@@ -1,10 +1,10 @@
 -- What lies at a place of the graph: the bytes that the source has there.
-use Rattle.std.proofs.Common.{◌≡◌, ◌≢◌, ℕ, ◌+◌, ◌-◌, ◌≤◌, ◌⊎◌, inl, inr, Bool, true, false, cond, leb, List, [], ◌∷◌, length, take, drop, Option, Some, None, option_and_then, option_map, refl, sym, ap, ◌∙◌, subst, arith}
-use Rattle.std.specs.Prelude.{slice_get, nat_le}
+use Rattle.std.proofs.Common.{◌≡◌, ℕ, ◌+◌, ◌-◌, ◌≤◌, ◌⊎◌, inl, inr, Bool, true, false, cond, leb, List, [], ◌∷◌, length, take, drop, Option, Some, None, option_and_then, option_map, refl, sym, ap, ◌∙◌, arith}
+use Rattle.std.specs.Prelude.{slice_get}
 use Rattle.std.proofs.Math.Seq.{take-take}
 use Rattle.std.proofs.lemmas.Bool.{cases_eq}
 use Rattle.std.proofs.lemmas.List.{drop-drop, drop-take}
-use borrow.Author.Tests.{le-leb, leb-true}
+use borrow.Author.Tests.{leb-true}
 use Rattle.types.specs.declared.ty.ComplexMemoryMap.{ComplexMemoryMap}
 use Rattle.types.specs.declared.ty.Const.{Const}
 use Rattle.types.specs.declared.ty.Const.TheOpen as layer
@@ -24,13 +24,11 @@ use Rattle.mir.specs.declared.address.Address.{Address}
 use Rattle.mir.specs.declared.address.Address.TheVariants.{Stack, Heap, Invalid}
 use Rattle.mir.specs.declared.address.Interval.{Interval}
 use Rattle.mir.specs.declared.body.Local.{Local}
-use Rattle.mir.specs.declared.body.MirBody.{MirBody}
 use Rattle.mir.specs.declared.operand.OperandKind.TheVariants.{Copy}
 use Rattle.mir.specs.declared.operand.Place.{Place as GraphPlace}
 use Rattle.mir.specs.Memory.{Memory, cell_bytes}
 use Rattle.mir.specs.Places as graph
 use Rattle.mir.specs.Places.{part_of_cell, cell_at, cell_behind, place_cell, place_type, type_at}
-use Rattle.mir.specs.Projections.{Projection}
 use Rattle.mir.specs.Run.{Frame, operand_bytes as mir_bytes, operand_type as mir_type}
 use Rattle.mir_mem.proofs.Parts.{bytes_at-some, part_of-inside}
 use Rattle.mir_mem.proofs.Writing.{kept-some}

@@ -33,7 +33,7 @@ use Rattle.source_meaning.specs.Source.{Source, own_type, Store, Operand}
 use Rattle.source_meaning.proofs.Aggregates.{length_of_array}
 use Rattle.mir_lower.specs.Does.{Holds, Fits, FitAll}
 use Rattle.mir_lower.specs.Graph.{Shape}
-use Rattle.body_forms.specs.Operations.{IsArray, IsKindOf, IsMade, IsRepeat, IsRvalueOf, IsTuple, several_operation}
+use Rattle.body_forms.specs.Operations.{IsKindOf, IsRvalueOf, several_operation}
 use Rattle.body_forms.specs.declared.operation.Several.{Several}
 use Rattle.body_forms.specs.declared.operation.Several.TheVariants as several
 

@@ -1,5 +1,5 @@
 -- A run that stops at a call does so within what is counted from a point before, and within more.
-use Rattle.std.proofs.Common.{◌≡◌, ℕ, suc, ◌+◌, ◌<◌, ◌≤◌, ⊎_elim, inl, inr, Bool, true, false, refl, arith}
+use Rattle.std.proofs.Common.{◌≡◌, ℕ, ◌+◌, ◌<◌, ◌≤◌, ⊎_elim, inl, inr, Bool, true, false, refl, arith}
 use Rattle.std.specs.Prelude.{◌&&◌}
 use Rattle.types.specs.declared.ids.FunctionId.{FunctionId}
 use Rattle.mir.specs.declared.answers.Query.{Query}

@@ -1,13 +1,8 @@
 -- What lowering does to the graph.
 use Rattle.std.specs.Prelude.{◌≡◌, ℕ, false, List, ◌++◌, ◌∷◌, [], All, Contains, flat_map, Option, Some, slice_get}
 use Rattle.mir.specs.declared.body.Local.{Local}
-use Rattle.mir.specs.declared.operand.CastKind.TheVariants.{IntToInt}
-use Rattle.mir.specs.declared.operand.Operand.{Operand}
 use Rattle.mir.specs.declared.operand.Place.{Place as GraphPlace}
 use Rattle.mir.specs.declared.operand.OperandKind.{OperandKind}
-use Rattle.mir.specs.declared.operand.Rvalue.{Rvalue}
-use Rattle.mir.specs.declared.operand.Rvalue.TheVariants.{Cast}
-use Rattle.types.specs.declared.ty.Ty.{Ty}
 use Rattle.source_meaning.specs.Core as expr
 use Rattle.source_meaning.specs.Core.{Assigned, Assignee, CoreExpr, is_truth}
 use Rattle.world.specs.declared.body.Statement.{Statement}
