@@ -1,0 +1,36 @@
+//! Laws about places, for those who read what a field is and what an assignment writes. The meaning stands in the crate `source_meaning`;
+//! the functions here have no code: each is a law about it.
+#![tactic(auto)]
+
+ghost use Rattle.place_laws.specs.Parts.{FieldsAreParts, PartsAreRead, TuplesHaveTheirParts};
+ghost use Rattle.place_laws.specs.Writes.{WritesAreRead, WritesKeepOthers, WritesKeepTheRest};
+
+/// The bytes of a field lie in those of its base, from the field's offset on.
+pub fn fields_are_parts()
+    ensures { FieldsAreParts }
+{}
+
+/// Each part of a tuple's value is read where it was put, if no two parts share a byte.
+pub fn parts_are_read()
+    ensures { PartsAreRead }
+{}
+
+/// The field of a tuple at an index is the part that the tuple was made of at that index, if no two parts share a byte.
+pub fn tuples_have_their_parts()
+    ensures { TuplesHaveTheirParts }
+{}
+
+/// What is put at a place lies there afterwards.
+pub fn writes_are_read()
+    ensures { WritesAreRead }
+{}
+
+/// What is put at a place changes no other byte of the place's cell.
+pub fn writes_keep_the_rest()
+    ensures { WritesKeepTheRest }
+{}
+
+/// A part that lies apart from a place in its cell has the same bytes after something was put at the place.
+pub fn writes_keep_others()
+    ensures { WritesKeepOthers }
+{}
