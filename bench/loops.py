@@ -41,6 +41,11 @@ SOURCES = {
         "u64 = { let mut i = 0u64; let mut s = 0u64; while i < TURNS "
         "{ s = s + i; s = s % 1_000_003; s = s ^ i; s = s & 0xffff_ffff; i = i + 1; } s };",
     ),
+    "fields": (
+        "the same over parts of tuples",
+        "u64 = { let mut t = (0u64, (0u64, 0u8)); while t.0 < TURNS "
+        "{ t.1.0 = t.1.0 + t.0; t.1.0 %= 1_000_003; t.1.0 ^= t.0; t.1.0 &= 0xffff_ffff; t.0 += 1; } t.1.0 };",
+    ),
     "sum": (
         "three operators and a condition",
         "u64 = { let mut i = 0u64; let mut s = 0u64; while i < TURNS { s = (s ^ i) & 0xffff_ffff; i = i + 1; } s };",
