@@ -7,6 +7,7 @@
 mod adjust;
 mod body;
 mod closures;
+mod constants;
 mod database;
 mod expr;
 mod impls;
@@ -34,6 +35,10 @@ pub use closures::ClosureRow;
 pub use closures::FnTrait;
 pub use closures::HirPlaceProjection;
 pub use closures::MutBorrowKind;
+pub use constants::intern_const_ref;
+pub use constants::unknown_const;
+pub use constants::unknown_const_as_generic;
+pub use constants::usize_const;
 pub use database::BodyRow;
 pub use database::HirDatabase;
 pub use expr::Expr;
