@@ -1,9 +1,7 @@
 -- What is known of a row that a look-up finds.
-use Rattle.std.proofs.Common.{◌≡◌, ℕ, zero, suc, Bool, true, false, cond, List, [], ◌∷◌, Option, Some, None, slice_get, refl, sym, ap, ◌∙◌}
+use Rattle.std.proofs.Common.{◌≡◌, ℕ, suc, Bool, true, false, cond, List, [], ◌∷◌, Option, Some, None, slice_get, refl, sym, ap, ◌∙◌}
 use Rattle.std.specs.List.{find}
 use Rattle.std.specs.Option.{option_map}
-use Rattle.types.specs.Orders.{ty_cmp}
-use Rattle.types.specs.Places.{row_at}
 use Rattle.types.specs.SameType.{type_cmp_decides}
 use Rattle.types.specs.declared.ty.Ty.{Ty}
 use Rattle.world.specs.declared.database.HirDatabase.{HirDatabase}

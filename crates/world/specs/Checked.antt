@@ -1,5 +1,5 @@
 -- The facts that hold of a checked world.
-use Rattle.std.specs.Prelude.{◌≡◌, ℕ, ◌*◌, ◌^◌, ◌<◌, ◌≤◌, List, [], ◌∷◌, ◌++◌, length, Option, Some, None, slice_get, All, IfSome, flat_map}
+use Rattle.std.specs.Prelude.{◌≡◌, ℕ, ◌*◌, ◌^◌, ◌<◌, ◌≤◌, length, Option, Some, None, slice_get, All, IfSome}
 use Rattle.world.specs.declared.body.Body.{Body}
 use Rattle.world.specs.declared.expr.Expr.{Expr}
 use Rattle.world.specs.declared.pat.Pat.{Pat}

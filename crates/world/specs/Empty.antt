@@ -1,5 +1,5 @@
 -- Tables, bodies and results of inference with nothing in them.
-use Rattle.std.specs.Prelude.{ℕ, [], None, false}
+use Rattle.std.specs.Prelude.{[], None, false}
 use Rattle.types.specs.declared.ids.ExprId.{ExprId}
 use Rattle.world.specs.declared.body.Body.{Body}
 use Rattle.world.specs.declared.database.HirDatabase.{HirDatabase}

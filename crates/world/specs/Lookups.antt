@@ -3,7 +3,6 @@ use Rattle.std.specs.Prelude.{ℕ, Bool, List, Option, None, slice_get}
 use Rattle.std.specs.List.{list_any}
 use Rattle.std.specs.Option.{option_and_then, option_map}
 use Rattle.std.specs.Ordering.{ordering_then}
-use Rattle.std.specs.declared.cmp.Ordering.{Ordering}
 use Rattle.types.specs.Orders.{ty_eq, ty_cmp, args_cmp}
 use Rattle.types.specs.Places.{row_at}
 use Rattle.types.specs.contracts.ids.AliasIdOrd.TheImpl as AliasIdOrd
