@@ -10,6 +10,7 @@ use Rattle.types.specs.declared.ty.Ty.{FnDef}
 use Rattle.types.specs.declared.ty.Ty.TheVariants as type
 use Rattle.world.specs.declared.database.BodyRow.{BodyRow}
 use Rattle.world.specs.declared.database.HirDatabase.{HirDatabase}
+use Rattle.world.specs.Checked.{IsChecked, IsCheckedBody}
 use Rattle.world.specs.Lookups.{body_place, body_row}
 use Rattle.source_meaning.specs.Calls.{without_generics, function_of, function_in, function_called, source_at, source_of, source_called, parameters, filled, started}
 use Rattle.source_meaning.specs.Source.{Source, Store, IsSized, Result, Binding, cell_size, zeroed, with_cell_bytes}
@@ -45,6 +46,12 @@ called_row source e callee called is =
 -- a callee stands in the world of its caller
 pub called_world : (source : Source) (e : ℕ) (callee : Option ℕ) (called : Source) → source_called source e callee ≡ Some called → called.world ≡ source.world
 called_world source e callee called is = let from = called_row source e callee called is in ap (λ (s : Source). s.world) (sym from.3)
+
+-- and is checked in a checked one
+pub called_is_checked : (source : Source) (e : ℕ) (callee : Option ℕ) (called : Source) → IsChecked source.world → source_called source e callee ≡ Some called → IsCheckedBody called.body called.infer
+called_is_checked source e callee called checked is =
+    let from = called_row source e callee called is in
+    subst (λ (s : Source). IsCheckedBody s.body s.infer) from.3 (checked.bodies from.0 from.1 from.2)
 
 -- a call enters the body of the function that its callee names
 pub called_by_name : (source : Source) (e : ℕ) (callee : Option ℕ) (id : FunctionId) (called : Source) → function_called source e callee ≡ Some id → source_of source.world id ≡ Some called → source_called source e callee ≡ Some called

@@ -17,11 +17,12 @@ use Rattle.source_meaning.specs.Valid.{Evaluates, itself, part, HasSizedLayout, 
 use Rattle.source_meaning.proofs.Core.{part_is_below}
 use Rattle.source_meaning.proofs.Parts.{among, first_is_contained, rest_is_contained, nothing_is_contained}
 
-both : (one other : Bool) → one && other ≡ true → (one ≡ true) × (other ≡ true)
+-- a conjunction of tests, and its parts
+pub both : (one other : Bool) → one && other ≡ true → (one ≡ true) × (other ≡ true)
 both true other is = (refl, is)
 both false other is = absurd (false≢true is)
 
-both_hold : (one other : Bool) → one ≡ true → other ≡ true → one && other ≡ true
+pub both_hold : (one other : Bool) → one ≡ true → other ≡ true → one && other ≡ true
 both_hold true other is is' = is'
 both_hold false other is is' = is
 
@@ -48,25 +49,25 @@ sized_node_is source e sized =
     both_hold (is_sized_type source (own_type source e)) (is_sized_type source (node_type source e)) (sized_type_is source (own_type source e) sized.of_itself) (sized_type_is source (node_type source e) sized.of_value)
 
 -- the one element of a list
-only_one : {X : Type 0} (y z : X) → Contains (y ∷ []) z → y ≡ z
+pub only_one : {X : Type 0} (y z : X) → Contains (y ∷ []) z → y ≡ z
 only_one y z (zero, less, is) = is
 only_one y z (suc k, less, is) = absurd (omega arith)
 
 -- a test of all elements of a list
-all_of : {X : Type 0} (test : X → Bool) (xs : List X) (x : X) → list_all test xs ≡ true → Contains xs x → test x ≡ true
+pub all_of : {X : Type 0} (test : X → Bool) (xs : List X) (x : X) → list_all test xs ≡ true → Contains xs x → test x ≡ true
 all_of test [] x is within = absurd (let less = within.1 in omega arith)
 all_of test (first ∷ rest) x is within =
     let holds = both (test first) (list_all test rest) is in
     ⊎_elim (λ here. subst (λ y. test y ≡ true) (only_one first x here) holds.0) (λ there. all_of test rest x holds.1 there) (Contains-append_cases (first ∷ []) rest x within)
 
-all_from : {X : Type 0} (test : X → Bool) (xs : List X) → ((x : X) → Contains xs x → test x ≡ true) → list_all test xs ≡ true
+pub all_from : {X : Type 0} (test : X → Bool) (xs : List X) → ((x : X) → Contains xs x → test x ≡ true) → list_all test xs ≡ true
 all_from test [] each = refl
 all_from test (first ∷ rest) each =
     both_hold (test first) (list_all test rest) (each first (0, omega arith, refl))
     (all_from test rest (λ x within. each x (Contains-append_right (first ∷ []) rest x within)))
 
 -- an element of a list that was made from others was made from one of them
-made_from : (f : ℕ → List ℕ) (xs : List ℕ) (y : ℕ) → Contains (flat_map f xs) y → (x : ℕ) × Contains xs x × Contains (f x) y
+pub made_from : (f : ℕ → List ℕ) (xs : List ℕ) (y : ℕ) → Contains (flat_map f xs) y → (x : ℕ) × Contains xs x × Contains (f x) y
 made_from f [] y within = absurd (nothing_is_contained y within)
 made_from f (first ∷ rest) y within =
     ⊎_elim (λ here. (first, first_is_contained first rest, here))
@@ -92,7 +93,7 @@ evaluated_is_listed source checked (suc depth) less (part {e = e} {child = child
     (among (evaluated_in depth source) (parts_of (node source e)) child f within (evaluated_is_listed source checked depth (omega arith) rest))
 
 -- the numbers below a bound
-is_below : (n b : ℕ) → b < n → Contains (below n) b
+pub is_below : (n b : ℕ) → b < n → Contains (below n) b
 unfolding below
 is_below zero b less = absurd (omega arith)
 is_below (suc n) b less =
@@ -100,7 +101,7 @@ is_below (suc n) b less =
     ⊎_elim (λ same. (0, omega arith, sym same)) (λ lower. rest_is_contained n (below n) b (is_below n b lower)) (eq-or-lt_of_le at_most)
 
 -- a binding with a type is one of the body's
-typed_is_there : (source : Source) (b : ℕ) (ty : Ty) → binding_type source b ≡ Some ty → b < length source.body.bindings
+pub typed_is_there : (source : Source) (b : ℕ) (ty : Ty) → binding_type source b ≡ Some ty → b < length source.body.bindings
 unfolding binding_type
 typed_is_there source b ty is = found-below source.body.bindings b ty is
   where

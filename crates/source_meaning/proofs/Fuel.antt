@@ -13,7 +13,8 @@ use Rattle.source_meaning.specs.Core as expr
 use Rattle.source_meaning.specs.Core.{Assigned, Assignee, ByField, ByPath, ByPattern, ByPlace, CoreExpr, Operation, is_place}
 use Rattle.source_meaning.specs.Ends.{Cost, turns_alone, End, Go, Jumps, Break, Continue, Return, Faults, Stuck, More, IsOver, after, then_do}
 use Rattle.source_meaning.specs.Events.{marked, marked_as_operand, marked_as_place, marked_by_assigned, marked_by_statement}
-use Rattle.source_meaning.specs.Meaning.{Levels, Callees, no_fuel, field_place, field_into, place_of, operand_of, operands_of, strict_into, is_byte, deciding_byte, decided_into, branched, logic_into, tail_into, branch_into, if_into, assignee_place, assign_into, assigned_place, compound_into, statement_of, statements_of, block_into, caught, again_into, labelled_into, turn_of, loop_into, break_to, return_into, call_returned, call_diverged, call_ended, entered_from, entered_into, into_of, level_above, level_at, returned, body_meaning, callees_at, meaning_from}
+use Rattle.source_meaning.specs.Laid.{is_laid_out}
+use Rattle.source_meaning.specs.Meaning.{Levels, Callees, no_fuel, field_place, field_into, place_of, operand_of, operands_of, strict_into, is_byte, deciding_byte, decided_into, branched, logic_into, tail_into, branch_into, if_into, assignee_place, assign_into, assigned_place, compound_into, statement_of, statements_of, block_into, caught, again_into, labelled_into, turn_of, loop_into, break_to, return_into, call_returned, call_diverged, call_ended, entered_from, entered_into, into_of, level_above, level_at, returned, where_laid, body_meaning, callees_at, meaning_from}
 use Rattle.source_meaning.specs.Places.{operand_bytes, operands_bytes}
 use Rattle.source_meaning.specs.Source.{Source, Store, Path, Result, Node, Operand, zeroed, node, unadjusted, never_marks, own_path, target, root}
 
@@ -76,6 +77,11 @@ returned_agrees source (Jumps to store cost) second same over = ap (returned sou
 returned_agrees source (Faults fault cost) second same over = ap (returned source) (same tt)
 returned_agrees source Stuck second same over = ap (returned source) (same tt)
 returned_agrees source (More cost) second same over = absurd over
+
+-- and so do those that are kept from being entered for want of a layout
+where_laid_agrees : (laid : Bool) (first second : End (List ℕ)) → (IsOver first → second ≡ first) → IsOver (where_laid laid first) → where_laid laid second ≡ where_laid laid first
+where_laid_agrees true first second same over = same over
+where_laid_agrees false first second same over = refl
 
 -- where the end of a callee agrees with another, so do those of the calls
 call_returned_agrees : (path : Path) (store : Store) (first second : End (List ℕ)) → (IsOver first → second ≡ first) → IsOver (call_returned path store first) → call_returned path store second ≡ call_returned path store first
@@ -277,7 +283,7 @@ no_fuel_agrees above = record {
 body_agrees : (source : Source) (below above : Levels) → Agrees below above → (store : Store) → IsOver (body_meaning source below store) → body_meaning source above store ≡ body_meaning source below store
 body_agrees source below above agrees store over =
     let first = marking (parameter_cells source) (at_root (record { cell = Result })) in
-    after_agrees _ _ _ (returned_agrees source ((below first).into (root source) _ _) ((above first).into (root source) _ _) (agrees.into first (root source) _ _)) over
+    after_agrees _ _ _ (where_laid_agrees (is_laid_out source) _ _ (returned_agrees source ((below first).into (root source) _ _) ((above first).into (root source) _ _) (agrees.into first (root source) _ _))) over
 
 pub more_agrees : (source : Source) (fuel more : ℕ) → fuel ≤ more → Agrees (level_at source fuel) (level_at source more)
 unfolding level_at

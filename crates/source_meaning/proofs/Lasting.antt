@@ -20,10 +20,11 @@ use Rattle.source_meaning.specs.Around.{Around, Target, at_root, marking, inside
 use Rattle.source_meaning.specs.Calls.{source_at, source_called, must_not_return, parameter_cells, started}
 use Rattle.source_meaning.specs.Core as expr
 use Rattle.source_meaning.specs.Core.{Assigned, Assignee, ByField, ByPath, ByPattern, ByPlace, CoreExpr, is_place}
-use Rattle.source_meaning.specs.Ends.{Cost, plus, turns_alone, End, Go, Jumps, Break, Continue, Return, Faults, Stuck, More, GoesOn, after, then_do}
+use Rattle.source_meaning.specs.Ends.{Cost, no_cost, plus, turns_alone, End, Go, Jumps, Break, Continue, Return, Faults, NoLayout, Stuck, More, GoesOn, after, then_do}
 use Rattle.source_meaning.specs.Entering.{entering}
 use Rattle.source_meaning.specs.Events.{marked, marked_as_operand, marked_as_place, marked_by_assigned, marked_by_statement}
-use Rattle.source_meaning.specs.Meaning.{Levels, Callees, constant_cost, put, copy_to, put_literal, put_answer, literal_operand, literal_bytes, named_place, named_into, bind, put_all, put_at, copy_at, answer_at, bound_place, assignee_place, assign_into, assigned_place, compound_into, field_place, place_of, operand_of, operands_of, is_byte, deciding_byte, reading_cost, decided_into, branched, logic_into, tail_into, branch_into, if_into, statement_of, statements_of, block_into, caught, again_into, turn_of, break_to, continue_to, return_into, call_returned, call_diverged, call_ended, entered_from, entered_into, into_of, level_at, returned, body_meaning, callees_at, meaning_from}
+use Rattle.source_meaning.specs.Laid.{is_laid_out}
+use Rattle.source_meaning.specs.Meaning.{Levels, Callees, constant_cost, put, copy_to, put_literal, put_answer, literal_operand, literal_bytes, named_place, named_into, bind, put_all, put_at, copy_at, answer_at, bound_place, assignee_place, assign_into, assigned_place, compound_into, field_place, place_of, operand_of, operands_of, is_byte, deciding_byte, reading_cost, decided_into, branched, logic_into, tail_into, branch_into, if_into, statement_of, statements_of, block_into, caught, again_into, turn_of, break_to, continue_to, return_into, call_returned, call_diverged, call_ended, unfit_meaning, entered_from, entered_into, into_of, level_at, returned, where_laid, body_meaning, callees_at, meaning_from}
 use Rattle.source_meaning.specs.Places.{cell_with, place_bytes, operand_bytes, operands_bytes}
 use Rattle.source_meaning.specs.Source.{Source, Store, Path, Place, Cell, Result, Node, Binding, Operand, Literally, zeroed, node, unadjusted, never_marks, own_path, own_type, named_by, pattern, target, compound_target, root}
 use Rattle.source_meaning.specs.Steps.{parts_of, assigned_parts, assignee_parts, statement_parts}
@@ -200,9 +201,14 @@ module _ (limit : ℕ) where
   call_lasts true path store end lasts = call_diverged_lasts end lasts
   call_lasts false path store end lasts = call_returned_lasts path store end lasts
 
+  -- arguments that don't fit end the call
+  unfit_lasts : (laid : Bool) (callee : Source) → Lasts limit (unfit_meaning laid callee)
+  unfit_lasts true callee = tt
+  unfit_lasts false callee = lasts_after limit (entering callee) (Faults NoLayout no_cost) tt
+
   entered_from_lasts : (callees : Callees) (diverging : Bool) (callee : Source) (start : Option Store) (path : Path) (store : Store) → ((s : Store) → Lasts limit (callees callee s)) → Lasts limit (entered_from callees diverging callee start path store)
   entered_from_lasts callees diverging callee (Some start) path store lasts = call_lasts diverging path store (callees callee start) (lasts start)
-  entered_from_lasts callees diverging callee None path store lasts = tt
+  entered_from_lasts callees diverging callee None path store lasts = call_lasts diverging path store (unfit_meaning (is_laid_out callee) callee) (unfit_lasts (is_laid_out callee) callee)
 
   entered_lasts : (callees : Callees) (diverging : Bool) (callee : Option Source) (given : Option (List (List ℕ))) (path : Path) (store : Store) → ((called : Source) → callee ≡ Some called → (s : Store) → Lasts limit (callees called s)) → Lasts limit (entered_into callees diverging callee given path store)
   entered_lasts callees diverging (Some callee) (Some given) path store lasts =
@@ -400,6 +406,10 @@ returned_lasts source limit (Faults fault cost) lasts = tt
 returned_lasts source limit Stuck lasts = tt
 returned_lasts source limit (More cost) lasts = lasts
 
+where_laid_lasts : (limit : ℕ) (laid : Bool) (end : End (List ℕ)) → Lasts limit end → Lasts limit (where_laid laid end)
+where_laid_lasts limit true end lasts = lasts
+where_laid_lasts limit false end lasts = tt
+
 -- entering a body enters a block
 late_after_entering : (source : Source) (many : ℕ) (rest : Cost) → many ≤ rest.turns → suc many ≤ (plus (entering source) rest).turns
 unfolding plus entering
@@ -423,7 +433,7 @@ into_from_own limit source (suc fuel) e around path store lasts = lasts
 -- a body lasts for one block more than its root does
 body_lasts : (source : Source) (start : Store) (many fuel : ℕ) → ((around : Around) (path : Path) (store : Store) → Lasts many ((level_at source fuel around).own (root source) path store)) → Lasts (suc many) (body_meaning source (level_at source fuel) start)
 body_lasts source start many fuel lasts =
-    lasts_after_entering source many _ (returned_lasts source many _ (into_from_own many source fuel (root source) (first_around source) _ start (lasts _ _ start)))
+    lasts_after_entering source many _ (where_laid_lasts many (is_laid_out source) _ (returned_lasts source many _ (into_from_own many source fuel (root source) (first_around source) _ start (lasts _ _ start))))
 
 -- Where each expression numbered below `bound` lasts itself with enough fuel, so does each as a place: a field is the place of its base,
 -- which has a lower number, with one unit of fuel less.

@@ -6,6 +6,7 @@ pub mod Costs
 pub mod Defined
 pub mod Depth
 pub mod Fuel
+pub mod Laid
 pub mod Lasting
 pub mod Layouts
 pub mod Marks

@@ -217,7 +217,7 @@ module _ (source : Source) where
   same_size called same ty = ap (λ world. unwrap_or (option_map (λ layout. layout.size) (option_and_then (layout_of world) ty)) 0) same
 
   -- and with the same layouts
-  same_layout : (called : Source) → called.world ≡ source.world → (ty : Option Ty) → IsLaidOut called ty → IsLaidOut source ty
+  pub same_layout : (called : Source) → called.world ≡ source.world → (ty : Option Ty) → IsLaidOut called ty → IsLaidOut source ty
   same_layout called same ty laid = record { layout = laid.layout; found = ap (λ world. option_and_then (layout_of world) ty) (sym same) ∙ laid.found }
 
   module _ (checked : IsChecked source.world) where
@@ -253,6 +253,20 @@ module _ (source : Source) where
         let read = operand_is_value e ty one store sized have.0 fits.0 in
         let later = operands_are_values rest types others store sized have.1 fits.1 in
         (record { kind = operand_kind source one; bytes = read.bytes } ∷ later.0, values_of-more store one others read.bytes later.0 read.is later.1, (read.value, later.2))
+
+    -- operands have bytes when a call runs
+    pub operands_have_bytes : (types : List Ty) (args : List ℕ) (given : List Operand) (store : Store) → IsSized source store → HaveTypes source args types → AreOperandsOf source args given →
+        (all : List (List ℕ)) × (operands_bytes source store given ≡ Some all)
+    unfolding operands_bytes
+    operands_have_bytes [] [] [] store sized have fits = ([], refl)
+    operands_have_bytes [] [] (one ∷ others) store sized have fits = absurd fits
+    operands_have_bytes [] (e ∷ rest) given store sized have fits = absurd have
+    operands_have_bytes (ty ∷ types) [] given store sized have fits = absurd have
+    operands_have_bytes (ty ∷ types) (e ∷ rest) [] store sized have fits = absurd fits
+    operands_have_bytes (ty ∷ types) (e ∷ rest) (one ∷ others) store sized have fits =
+        let read = operand_is_value e ty one store sized have.0 fits.0 in
+        let later = operands_have_bytes types rest others store sized have.1 fits.1 in
+        (read.bytes ∷ later.0, operands_bytes-more store one others read.bytes later.0 read.is later.1)
 
     -- an argument has as many bytes as the cell of a parameter of its type
     argument_fits : (called : Source) → called.world ≡ source.world → AreLaidOut called → (e b : ℕ) (ty : Ty) (operand : Operand) (store : Store) → IsSized source store → node_type source e ≡ Some ty → binding_type called b ≡ Some ty → IsOperandOf source e operand →

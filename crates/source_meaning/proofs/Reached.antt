@@ -2,7 +2,7 @@
 use Rattle.std.proofs.Common.{subst}
 use Rattle.source_meaning.specs.Core.{IsNoCall}
 use Rattle.source_meaning.specs.Source.{Source}
-use Rattle.source_meaning.specs.Valid.{IsPlain, AreLaidOut, Calls, Reaches, at_once, through, IsPlainThroughout, AreLaidOutThroughout, HasNoCalls}
+use Rattle.source_meaning.specs.Valid.{IsPlain, Calls, Reaches, at_once, through, IsPlainThroughout, HasNoCalls}
 
 calls_none : (source called : Source) → HasNoCalls source → Calls source called → ⊥
 calls_none source called none calls = subst IsNoCall calls.is_call (none calls.e calls.evaluated)
@@ -14,6 +14,3 @@ holds_throughout P none (through {source = source} {called = called} calls on) h
 
 pub plain_throughout : (source : Source) → HasNoCalls source → IsPlain source → IsPlainThroughout source
 plain_throughout source none plain = record { each = λ reached on. holds_throughout IsPlain none on plain }
-
-pub laid_out_throughout : (source : Source) → HasNoCalls source → AreLaidOut source → AreLaidOutThroughout source
-laid_out_throughout source none laid_out = record { each = λ reached on. holds_throughout AreLaidOut none on laid_out }

@@ -6,7 +6,7 @@ use Rattle.source_meaning.specs.Ends.{Cost, plus, End, Go, Jumps, Faults, Stuck,
 use Rattle.source_meaning.specs.Entering.{run_cost}
 use Rattle.source_meaning.specs.Meaning.{meaning_from, meaning_of}
 use Rattle.source_meaning.specs.Source.{Source, zeroed}
-use Rattle.source_meaning.specs.Valid.{IsPlainThroughout, AreLaidOutThroughout}
+use Rattle.source_meaning.specs.Valid.{IsPlainThroughout}
 use Rattle.source_meaning.proofs.Lasting.{bodies_go_on}
 use Rattle.source_meaning.proofs.Sizes.{plain_is_never_stuck, plain_jumps_nowhere}
 use Rattle.source_meaning.proofs.Stores.{zeroed_is_sized}
@@ -42,11 +42,11 @@ module _ (source : Source) where
       let reached = bodies_go_on source (zeroed source) many world checked in
       (reached.0, goes_on_after many (run_cost source) (meaning_from source (zeroed source) reached.0) reached.1)
 
-  module _ (fuel : ℕ) (checked : IsChecked source.world) (aggregates : HasAggregates source.world) (body : IsCheckedBody source.body source.infer) (plain : IsPlainThroughout source) (laid_out : AreLaidOutThroughout source) where
+  module _ (fuel : ℕ) (checked : IsChecked source.world) (aggregates : HasAggregates source.world) (body : IsCheckedBody source.body source.infer) (plain : IsPlainThroughout source) where
     pub run_is_never_stuck : meaning_of source fuel ≢ Stuck
     run_is_never_stuck stuck =
-        plain_is_never_stuck source (zeroed source) fuel checked aggregates body plain laid_out (zeroed_is_sized source) (stuck_before (run_cost source) (meaning_from source (zeroed source) fuel) stuck)
+        plain_is_never_stuck source (zeroed source) fuel checked aggregates body plain (zeroed_is_sized source) (stuck_before (run_cost source) (meaning_from source (zeroed source) fuel) stuck)
 
     pub run_jumps_nowhere : JumpsNowhere (meaning_of source fuel)
     run_jumps_nowhere =
-        jumps_nowhere_after (run_cost source) (meaning_from source (zeroed source) fuel) (plain_jumps_nowhere source (zeroed source) fuel checked aggregates body plain laid_out (zeroed_is_sized source))
+        jumps_nowhere_after (run_cost source) (meaning_from source (zeroed source) fuel) (plain_jumps_nowhere source (zeroed source) fuel checked aggregates body plain (zeroed_is_sized source))

@@ -22,23 +22,25 @@ use Rattle.source_meaning.specs.Around.{Opened, Target, Around, at_root, marking
 use Rattle.source_meaning.specs.Calls.{must_not_return, parameter_cells, parameters}
 use Rattle.source_meaning.specs.Core as expr
 use Rattle.source_meaning.specs.Core.{Assigned, Assignee, ByField, ByPath, ByPattern, ByPlace, CoreExpr, CoreLiteral, Truth, Number, Character, Operation, Combine, is_truth}
-use Rattle.source_meaning.specs.Ends.{Cost, no_cost, turns_alone, plus, End, Go, Jumps, Jump, Break, Continue, Return, Faults, Stuck, More, JumpsNowhere, after, then_do}
+use Rattle.source_meaning.specs.Ends.{Cost, no_cost, turns_alone, plus, End, Go, Jumps, Jump, Break, Continue, Return, Faults, NoLayout, Stuck, More, JumpsNowhere, after, then_do}
 use Rattle.source_meaning.specs.Entering.{entering}
 use Rattle.source_meaning.specs.Events.{marked, marked_as_operand, marked_as_place, marked_by_assigned, marked_by_statement}
-use Rattle.source_meaning.specs.Meaning.{Level, Levels, Callees, Value, operand_kind, values_of, answered, answered_for, truth_byte, literal_bytes, constant_cost, put, copy_to, put_literal, put_answer, literal_operand, named_place, named_into, field_place, bind, operands_of, strict_into, deciding_byte, reading_cost, decided_into, branched, logic_into, tail_into, branch_into, if_into, put_all, put_at, copy_at, answer_at, bound_place, assignee_place, assign_into, assigned_place, compound_into, statement_of, statements_of, block_into, caught, again_into, labelled_into, turn_of, loop_into, break_to, break_into, continue_to, continue_into, return_into, call_ended, entered_from, entered_into, call_into, no_fuel, place_of, operand_of, into_of, level_above, level_at, returned, body_meaning, callees_at, meaning_from}
+use Rattle.source_meaning.specs.Laid.{is_laid_out}
+use Rattle.source_meaning.specs.Meaning.{Level, Levels, Callees, Value, operand_kind, values_of, answered, answered_for, truth_byte, literal_bytes, constant_cost, put, copy_to, put_literal, put_answer, literal_operand, named_place, named_into, field_place, bind, operands_of, strict_into, deciding_byte, reading_cost, decided_into, branched, logic_into, tail_into, branch_into, if_into, put_all, put_at, copy_at, answer_at, bound_place, assignee_place, assign_into, assigned_place, compound_into, statement_of, statements_of, block_into, caught, again_into, labelled_into, turn_of, loop_into, break_to, break_into, continue_to, continue_into, return_into, call_ended, unfit_meaning, entered_from, entered_into, call_into, no_fuel, place_of, operand_of, into_of, level_above, level_at, returned, where_laid, body_meaning, callees_at, meaning_from}
 use Rattle.source_meaning.specs.Places.{cell_with, place_bytes, operand_bytes, operands_bytes}
 use Rattle.source_meaning.specs.Source.{Source, Store, IsSized, Path, Place, Cell, Result, Node, Binding, Operand, Literally, At, zeroed, node, unadjusted, never_marks, own_path, own_type, node_type, own_layout, pattern, target, compound_target, root, cell_type, binding_type, cell_size}
 use Rattle.source_meaning.specs.Steps.{parts_of, assigned_parts, assignee_parts, statement_parts, tail_steps}
 use Rattle.source_meaning.specs.Steps as step
-use Rattle.source_meaning.specs.Valid.{Evaluates, itself, part, IsNumber, IsBool, IsPlainLiteral, IsPlainLet, IsPlainStatement, IsPlainTail, IsCombined, IsPlainAssigned, IsPlainAssignee, IsPlainField, HasPlainForm, IsPlainNode, EvaluatesIn, itself_in, part_in, opened_in, HasPlainTarget, HasOpenTarget, FitsAround, JumpsFit, IsPlain, IsLaidOut, IsLaidOutNode, sized_parts, NeedsLayout, own, inside, AreLaidOut, Calls, through, at_once, IsPlainThroughout, AreLaidOutThroughout}
+use Rattle.source_meaning.specs.Valid.{Evaluates, itself, part, IsNumber, IsBool, IsPlainLiteral, IsPlainLet, IsPlainStatement, IsPlainTail, IsCombined, IsPlainAssigned, IsPlainAssignee, IsPlainField, HasPlainForm, IsPlainNode, EvaluatesIn, itself_in, part_in, opened_in, HasPlainTarget, HasOpenTarget, FitsAround, JumpsFit, IsPlain, IsLaidOut, IsLaidOutNode, sized_parts, NeedsLayout, own, inside, Calls, through, at_once, IsPlainThroughout, IsPlainCall}
 use Rattle.source_meaning.proofs.Aggregates.{AreBytes}
-use Rattle.source_meaning.proofs.Calls.{called_world, called_by_name, AreFor, started_is_sized}
+use Rattle.source_meaning.proofs.Calls.{called_world, called_is_checked, called_by_name, AreFor, started_is_sized}
 use Rattle.source_meaning.proofs.Depth.{evaluates_then, operand_is_part, argument_is_part, logic_operand_is_part, if_part_is_part, combined_is_part}
+use Rattle.source_meaning.proofs.Laid.{layouts_are_tested}
 use Rattle.source_meaning.proofs.Layouts.{bool_is_number, bool_length_is_one}
 use Rattle.source_meaning.proofs.Never.{undiverted-type, own_path-fits, unadjusted-plain}
 use Rattle.source_meaning.proofs.Operators.{Fits, IsLengthOf}
 use Rattle.source_meaning.proofs.Parts.{first_is_contained, rest_is_contained, operand_is_sized, first_is_sized, right_is_sized, branch_is_sized, assigned_value_is_sized, assignee_is_sized, assigned_is_sized, combined_value_is_sized, sized_part_is_part, sized_block_parts, sized_tail}
-use Rattle.source_meaning.proofs.Places.{IsPlaceOf, IsLiteralOf, IsOperandOf, AreOperandsOf, byte_decides, whole_is_place, part_is_place, place_has_bytes, place_takes_bytes, place_has_value, values_of-more, same_size, operand_is_value, truth_has_byte, operands_are_values, arguments_fit}
+use Rattle.source_meaning.proofs.Places.{IsPlaceOf, IsLiteralOf, IsOperandOf, AreOperandsOf, byte_decides, whole_is_place, part_is_place, place_has_bytes, place_takes_bytes, place_has_value, values_of-more, same_size, operand_is_value, truth_has_byte, operands_are_values, operands_have_bytes, arguments_fit}
 use Rattle.source_meaning.proofs.Stores.{with_bytes_is_sized}
 use Rattle.source_meaning.proofs.Values.{size_at, combined_fits, number_is_long, typed_fits}
 
@@ -128,10 +130,28 @@ IsSettled source (Faults fault cost) = Unit {0}
 IsSettled source Stuck = ⊥
 IsSettled source (More cost) = Unit {0}
 
--- the callees of a body end well, from wherever they are entered, and their bindings have layouts
+after_is_settled : (source : Source) (cost : Cost) (end : End (List ℕ)) → IsSettled source end → IsSettled source (after cost end)
+unfolding after
+after_is_settled source cost (Go value store rest) settled = settled
+after_is_settled source cost (Jumps to store rest) settled = settled
+after_is_settled source cost (Faults fault rest) settled = tt
+after_is_settled source cost Stuck settled = settled
+after_is_settled source cost (More rest) settled = tt
+
+-- a body is settled from where its layouts are tested on, if it is where they are there: else its meaning is a fault
+where_laid_is_settled : (source : Source) (laid : Bool) (end : End (List ℕ)) → (laid ≡ true → IsSettled source end) → IsSettled source (where_laid laid end)
+where_laid_is_settled source true end settled = settled refl
+where_laid_is_settled source false end settled = tt
+
+-- arguments that don't fit are no matter where a callee can't be entered
+unfit_is_settled : (called : Source) (laid : Bool) → laid ≡ false → IsSettled called (unfit_meaning laid called)
+unfit_is_settled called true is = absurd (false≢true (sym is))
+unfit_is_settled called false is = after_is_settled called (entering called) (Faults NoLayout no_cost) tt
+
+-- the callees of a body end well, from wherever they are entered: where their types have layouts, from a store that fits them
 pub record AreSoundCallees (source : Source) (callees : Callees) : Type 0 where
   pub settle : (called : Source) → Calls source called → (start : Store) → IsSized called start → IsSettled called (callees called start)
-  pub laid_out : (called : Source) → Calls source called → AreLaidOut called
+  pub unlaid : (called : Source) → Calls source called → is_laid_out called ≡ false → (start : Store) → IsSettled called (callees called start)
 
 -- the type of each binding that no closure owns has a layout
 abbrev pub AreBindingsLaidOut : Source → Type 0
@@ -287,6 +307,31 @@ module _ (source : Source) (checked : IsChecked source.world) where
       let from = started_is_sized called bound (cond diverging (zeroed called Result) (store path.cell)) given binds (result_is_long called diverging path store sized same) fits in
       subst (λ start. IsSound source targets Nothing (entered_from callees diverging called start path store)) (sym from.1)
       (call_is_sound targets diverging called path store (callees called from.0) sized same (settle from.0 from.2))
+
+  -- a callee that can't be entered ends well, whatever its arguments are
+  unlaid_is_sound : (targets : List Target) (callees : Callees) (diverging : Bool) (called : Source) (start : Option Store) (path : Path) (store : Store) → IsSized source store → cell_size called Result ≡ cell_size source path.cell →
+      is_laid_out called ≡ false → ((from : Store) → IsSettled called (callees called from)) → IsSound source targets Nothing (entered_from callees diverging called start path store)
+  unlaid_is_sound targets callees diverging called (Some start) path store sized same unlaid settle = call_is_sound targets diverging called path store (callees called start) sized same (settle start)
+  unlaid_is_sound targets callees diverging called None path store sized same unlaid settle =
+      call_is_sound targets diverging called path store (unfit_meaning (is_laid_out called) called) sized same (unfit_is_settled called (is_laid_out called) unlaid)
+
+  -- the callee of a plain call ends well, from the arguments that the call's operands are
+  callee_is_sound : (callees : Callees) → AreSoundCallees source callees → (targets : List Target) (diverging : Bool) (e : ℕ) (callee : Option ℕ) (args : List ℕ) (ty : Ty) (form : IsPlainCall source e callee args ty) → Calls source form.called →
+      (given : List Operand) (path : Path) (store : Store) → IsSized source store → cell_size form.called Result ≡ cell_size source path.cell → OperandsFit args given →
+      IsSound source targets Nothing (entered_into callees diverging (Some form.called) (operands_bytes source store given) path store)
+  callee_is_sound callees callees_are targets diverging e callee args ty form calls given path store sized same fit = by_test (is_laid_out form.called) refl
+    where
+      by_test : (test : Bool) → is_laid_out form.called ≡ test → IsSound source targets Nothing (entered_into callees diverging (Some form.called) (operands_bytes source store given) path store)
+      by_test true laid =
+          let world = called_world source calls.e calls.callee form.called calls.enters in
+          let tested = layouts_are_tested form.called (called_is_checked source calls.e calls.callee form.called checked calls.enters) in
+          let read = arguments_fit source checked form.called world (tested.0 laid) form.row.sig.params args form.bound given store sized form.arguments_have form.parameters_have fit in
+          subst (λ bytes. IsSound source targets Nothing (entered_into callees diverging (Some form.called) bytes path store)) (sym read.1)
+          (entered_is_sound targets callees diverging form.called form.bound read.0 path store sized same form.binds read.2 (callees_are.settle form.called calls))
+      by_test false unlaid =
+          let read = operands_have_bytes source checked form.row.sig.params args given store sized form.arguments_have fit in
+          subst (λ bytes. IsSound source targets Nothing (entered_into callees diverging (Some form.called) bytes path store)) (sym read.1)
+          (unlaid_is_sound targets callees diverging form.called _ path store sized same unlaid (callees_are.unlaid form.called calls unlaid))
 
   -- a literal has the bytes of its type
   number_has_bytes : (outer : List Opened) (e : ℕ) (z : ℤ) → IsFine source outer e → (bytes : List ℕ) × (option_map (λ layout. low_bytes layout.size z) (own_layout source e) ≡ Some bytes) × (length bytes ≡ size_of source e)
@@ -669,10 +714,8 @@ module _ (source : Source) (checked : IsChecked source.world) where
         ap (size_at form.called) form.body_has ∙ same_size source form.called world (Some form.row.sig.ret) ∙ ap (size_at source) (sym (fits ∙ plain.has_type ∙ ap Some form.typed)) in
         then_do_is_sound source around.targets (OperandsFit args) Nothing (operands_of source below around args store) _ (operands_are_sound outer around stands args store (λ child within.
         operand_is_fine outer e child (Some (expr.Call callee args)) is (argument_is_part source e callee args child is within) (operand_is_sized source args child within) fine) sized) (λ given later sized' fit.
-        let read = arguments_fit source checked form.called world (callees_are.laid_out form.called calls) form.row.sig.params args form.bound given later sized' form.arguments_have form.parameters_have fit in
         subst (λ found. IsSound source around.targets Nothing (entered_into callees (must_not_return source e) found (operands_bytes source later given) path later)) (sym enters)
-        (subst (λ bytes. IsSound source around.targets Nothing (entered_into callees (must_not_return source e) (Some form.called) bytes path later)) (sym read.1)
-        (entered_is_sound around.targets callees (must_not_return source e) form.called form.bound read.0 path later sized' same form.binds read.2 (callees_are.settle form.called calls))))
+        (callee_is_sound callees callees_are around.targets (must_not_return source e) e callee args plain.ty form calls given path later sized' same fit))
 
     into_is_sound : (callees : Callees) → AreSoundCallees source callees → (outer : List Opened) (around : Around) (stands : Stands outer around) (e : ℕ) (form : Option CoreExpr) (path : Path) (store : Store) → node source e ≡ form → IsFine source outer e → IsSized source store → OwnFits e path → IsSound source around.targets Nothing (into_of source below callees around e form path store)
     into_is_sound callees callees_are outer around stands e (Some (expr.Literal given)) path store is fine sized fits =
@@ -716,14 +759,6 @@ module _ (source : Source) (checked : IsChecked source.world) where
 no_node : (node : ℕ) → IsNode [] node → ⊥
 no_node node is = let less = is.1.1 in omega arith
 
-after_is_settled : (source : Source) (cost : Cost) (end : End (List ℕ)) → IsSettled source end → IsSettled source (after cost end)
-unfolding after
-after_is_settled source cost (Go value store rest) settled = settled
-after_is_settled source cost (Jumps to store rest) settled = settled
-after_is_settled source cost (Faults fault rest) settled = tt
-after_is_settled source cost Stuck settled = settled
-after_is_settled source cost (More rest) settled = tt
-
 -- around a root nothing is open, so the only jump out of it is a `return`, which ends the body well
 returned_is_settled : (source : Source) (end : End (Unit {0})) → IsSound source [] Nothing end → IsSettled source (returned source end)
 unfolding after
@@ -735,21 +770,26 @@ returned_is_settled source (Faults fault cost) sound = tt
 returned_is_settled source Stuck sound = sound
 returned_is_settled source (More cost) sound = tt
 
--- a plain body ends well, where the levels of its expressions do
-body_is_settled : (source : Source) (checked : IsChecked source.world) (levels : Levels) → IsPlain source → AreLaidOut source →
+-- a plain body ends well, where the levels of its expressions do: where a type that it needs has no layout, it can't be entered
+body_is_settled : (source : Source) (checked : IsChecked source.world) → IsCheckedBody source.body source.infer → (levels : Levels) → IsPlain source →
     ((outer : List Opened) (around : Around) → Stands source checked outer around → IsSoundLevel source checked outer around.targets (levels around)) → (store : Store) → IsSized source store → IsSettled source (body_meaning source levels store)
-body_is_settled source checked levels plain laid_out sound store sized =
+body_is_settled source checked body levels plain sound store sized =
     let first = marking (parameter_cells source) (at_root (record { cell = Result })) in
-    let root_is_fine : IsFine source [] (root source) = record { evaluated = itself; jumps = plain.jumps; plain = plain.nodes; laid_out = laid_out.nodes; bindings = laid_out.bindings } in
     let level = sound [] first (root_stands source checked) in
-    after_is_settled source (entering source) _ (returned_is_settled source ((levels first).into (root source) _ _) (level.into (root source) _ _ root_is_fine sized refl))
+    after_is_settled source (entering source) _ (where_laid_is_settled source (is_laid_out source) _ (λ laid.
+    let tested = layouts_are_tested source body in
+    let laid_out = tested.0 laid in
+    let root_is_fine : IsFine source [] (root source) = record { evaluated = itself; jumps = plain.jumps; plain = plain.nodes; laid_out = laid_out.nodes; bindings = laid_out.bindings } in
+    returned_is_settled source ((levels first).into (root source) _ _) (level.into (root source) _ _ root_is_fine sized refl)))
+
+-- a body that can't be entered ends well from whatever store
+unlaid_is_settled : (source : Source) (levels : Levels) → is_laid_out source ≡ false → (store : Store) → IsSettled source (body_meaning source levels store)
+unlaid_is_settled source levels unlaid store =
+    after_is_settled source (entering source) _ (where_laid_is_settled source (is_laid_out source) _ (λ laid. absurd (false≢true (sym unlaid ∙ laid))))
 
 -- what is reached from a callee is reached from its caller
 plain_called : (source called : Source) → Calls source called → IsPlainThroughout source → IsPlainThroughout called
 plain_called source called calls plain = record { each = λ reached on. plain.each reached (through calls on) }
-
-laid_out_called : (source called : Source) → Calls source called → AreLaidOutThroughout source → AreLaidOutThroughout called
-laid_out_called source called calls laid_out = record { each = λ reached on. laid_out.each reached (through calls on) }
 
 checked_called : (source called : Source) → Calls source called → IsChecked source.world → IsChecked called.world
 checked_called source called calls checked = subst IsChecked (sym (called_world source calls.e calls.callee called calls.enters)) checked
@@ -757,29 +797,28 @@ checked_called source called calls checked = subst IsChecked (sym (called_world 
 aggregates_called : (source called : Source) → Calls source called → HasAggregates source.world → HasAggregates called.world
 aggregates_called source called calls aggregates = subst HasAggregates (sym (called_world source calls.e calls.callee called calls.enters)) aggregates
 
-level_is_sound : (fuel : ℕ) (source : Source) (checked : IsChecked source.world) → HasAggregates source.world → IsPlainThroughout source → AreLaidOutThroughout source → (outer : List Opened) (around : Around) → Stands source checked outer around → IsSoundLevel source checked outer around.targets (level_at source fuel around)
+level_is_sound : (fuel : ℕ) (source : Source) (checked : IsChecked source.world) → HasAggregates source.world → IsPlainThroughout source → (outer : List Opened) (around : Around) → Stands source checked outer around → IsSoundLevel source checked outer around.targets (level_at source fuel around)
 unfolding level_at
-level_is_sound zero source checked aggregates plain laid_out outer around stands = no_fuel_is_sound source checked outer around
-level_is_sound (suc fuel) source checked aggregates plain laid_out outer around stands =
-    above_is_sound source checked aggregates (level_at source fuel) (level_is_sound fuel source checked aggregates plain laid_out) (callees_at fuel)
+level_is_sound zero source checked aggregates plain outer around stands = no_fuel_is_sound source checked outer around
+level_is_sound (suc fuel) source checked aggregates plain outer around stands =
+    above_is_sound source checked aggregates (level_at source fuel) (level_is_sound fuel source checked aggregates plain) (callees_at fuel)
     (record {
       settle = λ called calls start sized.
           let checked' = checked_called source called calls checked in
-          let aggregates' = aggregates_called source called calls aggregates in
+          let body = called_is_checked source calls.e calls.callee called checked calls.enters in
           let plain' = plain_called source called calls plain in
-          let laid_out' = laid_out_called source called calls laid_out in
-          body_is_settled called checked' (level_at called fuel) (plain'.each called at_once) (laid_out'.each called at_once) (level_is_sound fuel called checked' aggregates' plain' laid_out') start sized;
-      laid_out = λ called calls. laid_out.each called (through calls at_once);
+          body_is_settled called checked' body (level_at called fuel) (plain'.each called at_once) (level_is_sound fuel called checked' (aggregates_called source called calls aggregates) plain') start sized;
+      unlaid = λ called calls unlaid start. unlaid_is_settled called (level_at called fuel) unlaid start;
     })
     outer around stands
 
-meaning_is_settled : (source : Source) (store : Store) (fuel : ℕ) → IsChecked source.world → HasAggregates source.world → IsPlainThroughout source → AreLaidOutThroughout source → IsSized source store → IsSettled source (meaning_from source store fuel)
+meaning_is_settled : (source : Source) (store : Store) (fuel : ℕ) → IsChecked source.world → HasAggregates source.world → IsCheckedBody source.body source.infer → IsPlainThroughout source → IsSized source store → IsSettled source (meaning_from source store fuel)
 unfolding meaning_from
-meaning_is_settled source store fuel checked aggregates plain laid_out sized =
-    body_is_settled source checked (level_at source fuel) (plain.each source at_once) (laid_out.each source at_once) (level_is_sound fuel source checked aggregates plain laid_out) store sized
+meaning_is_settled source store fuel checked aggregates body plain sized =
+    body_is_settled source checked body (level_at source fuel) (plain.each source at_once) (level_is_sound fuel source checked aggregates plain) store sized
 
-pub plain_is_never_stuck : (source : Source) (store : Store) (fuel : ℕ) → IsChecked source.world → HasAggregates source.world → IsCheckedBody source.body source.infer → IsPlainThroughout source → AreLaidOutThroughout source → IsSized source store → meaning_from source store fuel ≢ Stuck
-plain_is_never_stuck source store fuel checked aggregates body plain laid_out sized stuck = subst (IsSettled source) stuck (meaning_is_settled source store fuel checked aggregates plain laid_out sized)
+pub plain_is_never_stuck : (source : Source) (store : Store) (fuel : ℕ) → IsChecked source.world → HasAggregates source.world → IsCheckedBody source.body source.infer → IsPlainThroughout source → IsSized source store → meaning_from source store fuel ≢ Stuck
+plain_is_never_stuck source store fuel checked aggregates body plain sized stuck = subst (IsSettled source) stuck (meaning_is_settled source store fuel checked aggregates body plain sized)
 
 settled_jumps_nowhere : (source : Source) (end : End (List ℕ)) → IsSettled source end → JumpsNowhere end
 settled_jumps_nowhere source (Go value store cost) settled = tt
@@ -788,5 +827,5 @@ settled_jumps_nowhere source (Faults fault cost) settled = tt
 settled_jumps_nowhere source Stuck settled = tt
 settled_jumps_nowhere source (More cost) settled = tt
 
-pub plain_jumps_nowhere : (source : Source) (store : Store) (fuel : ℕ) → IsChecked source.world → HasAggregates source.world → IsCheckedBody source.body source.infer → IsPlainThroughout source → AreLaidOutThroughout source → IsSized source store → JumpsNowhere (meaning_from source store fuel)
-plain_jumps_nowhere source store fuel checked aggregates body plain laid_out sized = settled_jumps_nowhere source (meaning_from source store fuel) (meaning_is_settled source store fuel checked aggregates plain laid_out sized)
+pub plain_jumps_nowhere : (source : Source) (store : Store) (fuel : ℕ) → IsChecked source.world → HasAggregates source.world → IsCheckedBody source.body source.infer → IsPlainThroughout source → IsSized source store → JumpsNowhere (meaning_from source store fuel)
+plain_jumps_nowhere source store fuel checked aggregates body plain sized = settled_jumps_nowhere source (meaning_from source store fuel) (meaning_is_settled source store fuel checked aggregates body plain sized)

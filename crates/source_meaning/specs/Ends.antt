@@ -47,10 +47,12 @@ pub data Jump : Type 0 where
   Continue : (node : ℕ) → Jump
   Return : Jump
 
--- why an evaluation breaks off: a panic that says a word, or undefined behavior that a text names
+-- why an evaluation breaks off: a panic that says a word, undefined behavior that a text names, or a body that can't be entered, since a type
+-- that it needs has no layout
 pub data Fault : Type 0 where
   Panic : (word : List ℕ) → Fault
   Undefined : (text : List ℕ) → Fault
+  NoLayout : Fault
 
 -- How an evaluation ends: with a value, in a jump, in a fault, or without meaning. `More` is no end: the fuel ran out.
 pub data End (A : Type 0) : Type 0 where

@@ -8,25 +8,25 @@ use Rattle.source_meaning.specs.Entering.{is_cost_defined}
 use Rattle.source_meaning.specs.Events.{Event, Scopes, scopes_after, events, marked}
 use Rattle.source_meaning.specs.Meaning.{meaning_from}
 use Rattle.source_meaning.specs.Source.{Source, Cell, Store, IsSized, node}
-use Rattle.source_meaning.specs.Valid.{IsPlainNode, IsPlainThroughout, AreLaidOutThroughout, HasDefinedCost}
+use Rattle.source_meaning.specs.Laid.{is_laid_out}
+use Rattle.source_meaning.specs.Valid.{IsPlainNode, IsPlainThroughout, AreLaidOut, HasDefinedCost}
 
 -- from whatever store a body begins, more fuel changes nothing
 abbrev pub MoreFuelChangesNothing : Type 0
 MoreFuelChangesNothing = (source : Source) (store : Store) (fuel more : ℕ) → fuel ≤ more → IsOver (meaning_from source store fuel) →
     meaning_from source store more ≡ meaning_from source store fuel
 
--- A body of a checked world, in which tuples and arrays have room for their parts, that is plain, as are all that it reaches by calls, and
--- whose types have layouts, as have those of all that it reaches, is never stuck, where it begins with as many bytes in each cell as the
--- cell's type has.
+-- A body of a checked world, in which tuples and arrays have room for their parts, that is plain, as are all that it reaches by calls, is never
+-- stuck, where it begins with as many bytes in each cell as the cell's type has.
 abbrev pub PlainIsNeverStuck : Type 0
 PlainIsNeverStuck =
-    (source : Source) (store : Store) (fuel : ℕ) → IsChecked source.world → HasAggregates source.world → IsCheckedBody source.body source.infer → IsPlainThroughout source → AreLaidOutThroughout source →
+    (source : Source) (store : Store) (fuel : ℕ) → IsChecked source.world → HasAggregates source.world → IsCheckedBody source.body source.infer → IsPlainThroughout source →
     IsSized source store → meaning_from source store fuel ≢ Stuck
 
 -- and never ends in a jump
 abbrev pub PlainJumpsNowhere : Type 0
 PlainJumpsNowhere =
-    (source : Source) (store : Store) (fuel : ℕ) → IsChecked source.world → HasAggregates source.world → IsCheckedBody source.body source.infer → IsPlainThroughout source → AreLaidOutThroughout source →
+    (source : Source) (store : Store) (fuel : ℕ) → IsChecked source.world → HasAggregates source.world → IsCheckedBody source.body source.infer → IsPlainThroughout source →
     IsSized source store → JumpsNowhere (meaning_from source store fuel)
 
 -- From whatever store a checked body of a checked world begins, and for each number `many`, some amount of fuel gives an end, or has counted
@@ -54,3 +54,7 @@ pub record ScopesNest : Type 0 where
 -- the cost of a body is defined from entering it on just where the type of all that takes bytes has a size
 abbrev pub CostIsDefined : Type 0
 CostIsDefined = (source : Source) → IsCheckedBody source.body source.infer → (is_cost_defined source ≡ true) ↔ HasDefinedCost source
+
+-- the test of a body's layouts passes just where each type that the body needs has a layout
+abbrev pub LayoutsAreTested : Type 0
+LayoutsAreTested = (source : Source) → IsCheckedBody source.body source.infer → (is_laid_out source ≡ true) ↔ AreLaidOut source

@@ -22,8 +22,9 @@ use Rattle.source_meaning.specs.Aggregates.{array_length, laid_out, repeated_for
 use Rattle.source_meaning.specs.Calls.{source_called, must_not_return, parameter_cells, started}
 use Rattle.source_meaning.specs.Core as expr
 use Rattle.source_meaning.specs.Core.{Assigned, Assignee, ByField, ByPath, ByPattern, ByPlace, CoreExpr, CoreLiteral, Truth, Number, Character, Operation, Negate, Invert, Keep, Convert, Combine, MakeTuple, MakeArray, Repeat, is_place}
-use Rattle.source_meaning.specs.Ends.{Cost, no_cost, turns_alone, bytes_alone, plus, one_level_more, End, Go, Jumps, Break, Continue, Return, Faults, Panic, Undefined as UndefinedBehavior, Stuck, More, after, then_do, IsOver}
+use Rattle.source_meaning.specs.Ends.{Cost, no_cost, turns_alone, bytes_alone, plus, one_level_more, End, Go, Jumps, Break, Continue, Return, Faults, Panic, Undefined as UndefinedBehavior, NoLayout, Stuck, More, after, then_do, IsOver}
 use Rattle.source_meaning.specs.Entering.{room_of, entering, run_cost}
+use Rattle.source_meaning.specs.Laid.{is_laid_out}
 use Rattle.source_meaning.specs.Around.{Around, Target, at_root, marking, inside, target_of}
 use Rattle.source_meaning.specs.Events.{marked, marked_as_place, marked_as_operand, marked_by_assigned, marked_by_statement, marked_by_tail, marked_in_block}
 use Rattle.source_meaning.specs.Places.{cell_with, place_bytes, operand_type, operand_bytes, operands_bytes}
@@ -391,10 +392,19 @@ abbrev pub call_ended : (diverging : Bool) → Path → Store → End (List ℕ)
 call_ended true path store end = call_diverged end
 call_ended false path store end = call_returned path store end
 
+-- what a body means that can't be entered, since a type that it needs has no layout
+abbrev pub unlaid_meaning : Source → End (List ℕ)
+unlaid_meaning source = after (entering source) (Faults NoLayout no_cost)
+
+-- what a body means whose arguments don't fit its parameters: nothing, but where it can't be entered anyway
+abbrev pub unfit_meaning : (laid : Bool) → Source → End (List ℕ)
+unfit_meaning true source = Stuck
+unfit_meaning false source = unlaid_meaning source
+
 -- a callee's body is entered, where the arguments fit its parameters
 abbrev pub entered_from : Callees → (diverging : Bool) → (callee : Source) → Option Store → Path → Store → End (Unit {0})
 entered_from callees diverging callee (Some start) path store = call_ended diverging path store (callees callee start)
-entered_from callees diverging callee None path store = Stuck
+entered_from callees diverging callee None path store = call_ended diverging path store (unfit_meaning (is_laid_out callee) callee)
 
 -- The body that a call enters. Its return place is the call's destination, and holds what that holds; where the callee must not return,
 -- it is a new cell of the callee's result type.
@@ -449,12 +459,18 @@ returned source (Faults fault cost) = Faults fault cost
 returned source Stuck = Stuck
 returned source (More cost) = More cost
 
+-- what is evaluated in a body, if the types that it needs have layouts: else its cells can't be placed
+abbrev pub where_laid : (laid : Bool) → End (List ℕ) → End (List ℕ)
+where_laid true end = end
+where_laid false end = Faults NoLayout no_cost
+
 -- What a body means from a store on, by the meanings of its expressions: its root is evaluated into the result's cell, which is also the
 -- return path, and the bytes of that cell are the value. The parameters' cells are in use from the start on. No cell is zeroed: the
--- result's keeps its old bytes where nothing is written to it.
+-- result's keeps its old bytes where nothing is written to it. Nothing is evaluated where a type that the body needs has no layout.
 abbrev pub body_meaning : Source → Levels → Store → End (List ℕ)
 body_meaning source levels store =
-    after (entering source) (returned source ((levels (marking (parameter_cells source) (at_root (record { cell = Result })))).into (root source) (record { cell = Result }) store))
+    after (entering source) (where_laid (is_laid_out source)
+    (returned source ((levels (marking (parameter_cells source) (at_root (record { cell = Result })))).into (root source) (record { cell = Result }) store)))
 
 -- the meanings of a body's expressions at an amount of fuel; a callee has one unit less than its call
 unfoldable pub level_at : Source → ℕ → Levels

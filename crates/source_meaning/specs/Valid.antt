@@ -401,10 +401,6 @@ pub data Reaches : Source → Source → Type 0 where
 pub record IsPlainThroughout (source : Source) : Type 0 where
   pub each : (reached : Source) → Reaches source reached → IsPlain reached
 
--- each source that is reached has its types laid out
-pub record AreLaidOutThroughout (source : Source) : Type 0 where
-  pub each : (reached : Source) → Reaches source reached → AreLaidOut reached
-
 -- no expression that is evaluated is a call, so that a source reaches itself alone
 abbrev pub HasNoCalls : Source → Type 0
 HasNoCalls source = (e : ℕ) → Evaluates source (root source) e → IsNoCall (node source e)

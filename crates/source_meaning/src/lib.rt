@@ -2,15 +2,15 @@
 //! functions here have no code: each is a law about the definitions.
 #![tactic(auto)]
 
-ghost use Rattle.source_meaning.specs.Laws.{MoreFuelChangesNothing, PlainIsNeverStuck, PlainJumpsNowhere, BodiesGoOn, PlainIsBuilt, CostsAdd, ScopesNest, CostIsDefined};
+ghost use Rattle.source_meaning.specs.Laws.{MoreFuelChangesNothing, PlainIsNeverStuck, PlainJumpsNowhere, BodiesGoOn, PlainIsBuilt, CostsAdd, ScopesNest, CostIsDefined, LayoutsAreTested};
 
 /// More fuel changes no end.
 pub fn more_fuel_changes_nothing()
     ensures { MoreFuelChangesNothing }
 {}
 
-/// A body of a checked world, in which tuples and arrays have room for their parts, always has a meaning, if it is plain and its types
-/// have layouts, as those that it calls.
+/// A body of a checked world, in which tuples and arrays have room for their parts, always has a meaning, if it is plain, as those that it
+/// calls. Where a type that a body needs has no layout, its meaning is that it can't be entered.
 pub fn plain_is_never_stuck()
     ensures { PlainIsNeverStuck }
 {}
@@ -43,4 +43,9 @@ pub fn scopes_nest()
 /// When the cost of a body is defined.
 pub fn cost_is_defined()
     ensures { CostIsDefined }
+{}
+
+/// When the types that a body needs have layouts, so that it can be entered.
+pub fn layouts_are_tested()
+    ensures { LayoutsAreTested }
 {}
