@@ -1,8 +1,9 @@
 -- What the end of a call counts: at least what entering its callee does.
 use Rattle.std.proofs.Common.{◌≡◌, ℕ, ◌⊎◌, ⊎_elim, inl, inr, Bool, true, false, cond, List, length, refl, sym, subst, arith, eqb}
-use Rattle.source_meaning.specs.Ends.{Cost, no_cost, turns_alone, one_level_more, plus, End, Go, Jumps, Faults, Stuck, More, after, then_do}
-use Rattle.source_meaning.specs.Meaning.{put, call_returned, call_diverged}
-use Rattle.source_meaning.specs.Source.{Path, Store, with_cell_bytes}
+use Rattle.source_meaning.specs.Ends.{Cost, no_cost, turns_alone, one_level_more, plus, End, Go, Jumps, Faults, NoLayout, Stuck, More, after, then_do}
+use Rattle.source_meaning.specs.Entering.{entering as entering_cost}
+use Rattle.source_meaning.specs.Meaning.{put, call_returned, call_diverged, unfit_meaning}
+use Rattle.source_meaning.specs.Source.{Source, Path, Store, with_cell_bytes}
 use Rattle.mir_lower.proofs.Stopping.{IsPart, first-part}
 
 by_test : {A : Type 0} (fits not : A) (b : Bool) → (cond b fits not ≡ fits) ⊎ (cond b fits not ≡ not)
@@ -40,6 +41,11 @@ covers-after cost (Jumps to store then) = first-part cost then
 covers-after cost (Faults fault then) = first-part cost then
 covers-after cost Stuck = tt
 covers-after cost (More then) = first-part cost then
+
+-- so does a callee that can't be entered
+pub covers-unfit : (called : Source) (laid : Bool) → Covers (entering_cost called) (unfit_meaning laid called)
+covers-unfit called true = tt
+covers-unfit called false = covers-after (entering_cost called) (Faults NoLayout no_cost)
 
 -- the end of a call counts what that of its callee's body does
 pub covers-on : (least : Cost) (path : Path) (store : Store) (end : End (List ℕ)) → Covers least end → Covers least (call_returned path store end)

@@ -5,7 +5,6 @@ use borrow.Author.Tests.{leb-false}
 use Rattle.std.proofs.lemmas.List.{length-replicate}
 use Rattle.types.specs.declared.ids.FunctionId.{FunctionId}
 use Rattle.types.specs.declared.ty.Ty.{Ty}
-use Rattle.world.specs.Checked.{IsChecked, IsCheckedBody}
 use Rattle.world.specs.declared.database.HirDatabase.{HirDatabase}
 use Rattle.mir.specs.Projections.{empty_id}
 use Rattle.mir.specs.Answers.{answer_to}
@@ -20,28 +19,30 @@ use Rattle.mir.specs.Memory.{Memory, cell_bytes}
 use Rattle.mir.specs.Run.{Program, Frame, Calling, Ending, Faulted, Asked, Ended, operand_type as mir_type, body_query, trail_of, levels_over, entry_of, callee_error, called_cells, called as mir_called, called_by, calls, entered, going_on}
 use Rattle.source_meaning.specs.Around.{at_root, marking}
 use Rattle.source_meaning.specs.Calls.{function_called, function_in, source_of, source_called, parameter_cells, filled, started}
-use Rattle.source_meaning.specs.Ends.{Cost, cost_of, no_cost, turns_alone, one_level_more, plus, End, Go, Jumps, Faults, Stuck, More, after, then_do}
-use Rattle.source_meaning.specs.Entering.{body_room, entering as entering_cost}
-use Rattle.source_meaning.specs.Meaning.{put, call_returned, call_diverged, entered_from, entered_into, level_at, callees_at, meaning_from, returned}
+use Rattle.source_meaning.specs.Ends.{Cost, no_cost, turns_alone, one_level_more, plus, End, Fault, Panic, Undefined, NoLayout, Go, Jumps, Faults, Stuck, More, after, then_do}
+use Rattle.source_meaning.specs.Entering.{body_room, entering as entering_cost, is_cost_defined}
+use Rattle.source_meaning.specs.Laid.{is_laid_out}
+use Rattle.source_meaning.specs.Meaning.{put, call_returned, call_diverged, call_ended, entered_from, entered_into, level_at, callees_at, meaning_from, returned, unfit_meaning, where_laid}
 use Rattle.source_meaning.specs.Source.{Source, Cell, Result as Slot, Binding, cell_size, Path, Store, root, zeroed, with_cell_bytes}
 use Rattle.source_meaning.specs.Valid.{Calls, at_once, through}
-use Rattle.source_meaning.proofs.Calls.{called_by_name, called_row, called_world}
+use Rattle.source_meaning.proofs.Calls.{called_by_name, called_is_checked, called_world}
 use Rattle.mir_lower.specs.Callees.{RunsAs, DoesBelow, Serves, cost_once_placed, once_placed}
 use Rattle.mir_lower.specs.Does.{IsFrameOf, Holds, Landings, Reaches, Nothing}
 use Rattle.mir_lower.specs.Graph.{Shape, local_of}
 use Rattle.mir_lower.specs.Growth.{IsSound}
-use Rattle.mir_lower.specs.Runs.{Point, Entry, Exit, start_of, run_from, local_bytes, Enters, IsFault, EndsAfter, error_of, LiesApart, HasGrown, Comes}
+use Rattle.mir_lower.specs.Runs.{Point, Entry, Exit, start_of, run_from, local_bytes, Enters, IsFault, IsFit, EndsAfter, BreaksOff, LiesApart, HasGrown, Comes}
 use Rattle.mir_lower.specs.Stops.{MakesCall, MakesSomeCall, ReachesCall, IsCut, StopsWithin, StopsFrom, without_arguments}
 use Rattle.mir_lower.proofs.Aligned.{are-aligned}
 use Rattle.mir_lower.proofs.Arguments.{names-callee, bytes-at, ShowAll, Spares, Shows, ArePlaced, called-places, fills}
 use Rattle.mir_lower.proofs.CallLeads.{frame-of, leads-by, called-into, called-alone, entered-lacks, entered-at, goes-back, goes-astray, levels-same, levels-more}
-use Rattle.mir_lower.proofs.Covering.{Covers, covers-after, covers-on, covers-astray, put-fits}
+use Rattle.mir_lower.proofs.Covering.{Covers, covers-after, covers-on, covers-astray, covers-unfit, put-fits}
+use Rattle.mir_lower.proofs.Fitting.{callee-fits, unfit}
 use Rattle.mir_lower.proofs.Holding.{cells, interval-of}
-use Rattle.mir_lower.proofs.Lacking.{entering-nests, entering-room, lacks-room, rooms-counted}
+use Rattle.mir_lower.proofs.Lacking.{entering-defined, entering-nests, entering-room, lacks-room, rooms-counted}
 use Rattle.mir_lower.proofs.Leaving.{enters-block}
 use Rattle.mir_lower.proofs.Placing.{AreAligned}
 use Rattle.mir_lower.proofs.Reaching.{none-entered, comes-trans, grown-trans, stops-before}
-use Rattle.mir_lower.proofs.Stopping.{IsPart, cut-onward, ends-as, lacks-onward}
+use Rattle.mir_lower.proofs.Stopping.{IsPart, cut-onward, defined-by, ends-as, lacks-onward}
 use Rattle.mir_lower.proofs.Taking.{called-cells-take, filling-takes-none, grown-more, rooms}
 
 -- runs that are the same under every budget
@@ -54,6 +55,12 @@ ends-same turns ends run other same after =
       with_more = λ more. let end = after.with_more more in (end.0, end.1, same (turns + more) ∙ end.2);
       with_fewer = enters-same turns run other same after.with_fewer;
     }
+
+-- a callee's run that breaks off is one of its caller, which isn't fit where the callee isn't
+breaks-same : (called source : Source) → (IsFit source → IsFit called) → (turns : ℕ) (fault : Fault) (run other : ℕ → Ended) → ((budget : ℕ) → run budget ≡ other budget) → BreaksOff called fault turns other → BreaksOff source fault turns run
+breaks-same called source fits turns (Panic word) run other same breaks = ends-same turns (IsFault (error.Panic word)) run other same breaks
+breaks-same called source fits turns (Undefined text) run other same breaks = ends-same turns (IsFault (error.UndefinedBehavior text)) run other same breaks
+breaks-same called source fits turns NoLayout run other same breaks = λ fit. breaks (fits fit)
 
 -- a source calls the source of a function that it makes a call of
 calls-into : (source called : Source) (id : FunctionId) → MakesCall source id → source_of source.world id ≡ Some called → Calls source called
@@ -88,12 +95,6 @@ stops-now source program levels memory cost run ending makes cut ends =
       };
     }
 
--- a called body of a checked world is checked
-checked-callee : (source called : Source) → IsChecked source.world → Calls source called → IsCheckedBody called.body called.infer
-checked-callee source called checked calls =
-    let row = called_row source calls.e calls.callee called calls.enters in
-    subst (λ (s : Source). IsCheckedBody s.body s.infer) row.3 (checked.bodies row.0 row.1 row.2)
-
 module _ (source : Source) (whole : Shape) (frame : Frame) (lands : Landings) (from : Point) (memory : Memory) (store : Store)
     (sound : IsSound source whole) (is : IsFrameOf whole frame) (holds : Holds whole frame store memory)
     (fuel : ℕ) (serves : Serves (suc fuel) source frame.program)
@@ -102,16 +103,9 @@ module _ (source : Source) (whole : Shape) (frame : Frame) (lands : Landings) (f
     (id : FunctionId) (named : function_in ty ≡ Some id) (names : function_called source e callee ≡ Some id) (makes : MakesCall source id)
     (c : Cell) (is-whole : call.destination.projection ≡ empty_id) (found : local_of whole c ≡ Some call.destination.local.0)
     (at : (budget : ℕ) → run_from frame memory from budget ≡ going_on budget (calls frame memory call)) where
-  -- the run stops at the call, whatever is counted
-  abbrev StopsAnyhow : Type 0
-  StopsAnyhow = (cost : Cost) → StopsFrom source frame from memory cost
-
-  -- it does so where at least a cost is counted
+  -- the run stops at the call, where at least a cost is counted
   abbrev StopsFor : Cost → Type 0
   StopsFor least = (cost : Cost) → IsPart least cost → StopsFrom source frame from memory cost
-
-  anyhow-reaches : (to : Point) (end : End (Unit {0})) → StopsAnyhow → Reaches source whole lands frame from to memory (Nothing whole frame) end
-  anyhow-reaches to end stops = inl (stops (cost_of end))
 
   stopped-reaches : (to : Point) (least : Cost) (end : End (Unit {0})) → StopsFor least → Covers least end → Reaches source whole lands frame from to memory (Nothing whole frame) end
   stopped-reaches to least (Go value store cost) stops covers = inl (stops cost covers)
@@ -134,11 +128,34 @@ module _ (source : Source) (whole : Shape) (frame : Frame) (lands : Landings) (f
     others : (old : Interval) (bytes : List ℕ) → cell_bytes memory old ≡ Some bytes → Spares destination old → LiesApart (frame-of frame call id body intervals) old
     slot : (cell : Interval) → destination ≡ Some cell → slice_get intervals 0 ≡ Some cell
 
+  -- The callee's cells can be placed: its body runs from a store on, where the arguments fit its parameters.
+  record EntersCallee (called : Source) (destination : Option Interval) (result : List ℕ) : Type 0 where
+    fits : IsFit source → IsFit called
+    runs : (start : Store) → started called result values ≡ Some start → RunsCallee called destination start
+
+  abbrev place : Path
+  place = record { cell = c }
+
+  -- where the arguments don't fit, the call is stuck, or the callee can't be entered, and then the source isn't fit
+  unfit-reaches : (diverging : Bool) (to : Point) (called : Source) → Calls source called → (IsFit source → IsFit called) → (laid : Bool) → is_laid_out called ≡ laid → Reaches source whole lands frame from to memory (Nothing whole frame) (call_ended diverging place store (unfit_meaning laid called))
+  unfolding after
+  unfit-reaches true to called way fits true tested = inr tt
+  unfit-reaches false to called way fits true tested = inr tt
+  unfit-reaches true to called way fits false tested = inr (λ fit. unfit called (called_is_checked source way.e way.callee called serves.checked way.enters) tested (fits fit))
+  unfit-reaches false to called way fits false tested = inr (λ fit. unfit called (called_is_checked source way.e way.callee called serves.checked way.enters) tested (fits fit))
+
+  -- where a cost is defined in which entering the callee is counted, that of entering it is defined
+  counts-entering : (called : Source) → source_of source.world id ≡ Some called → (cost : Cost) → IsPart (entering_cost called) cost → (other : Source) → source_of source.world id ≡ Some other → cost.defined ≡ true → is_cost_defined other ≡ true
+  counts-entering called has_body cost part other found counts =
+      let both : Some called ≡ Some other = sym has_body ∙ found in
+      let same : called ≡ other = cc in
+      subst (λ (s : Source). is_cost_defined s ≡ true) same (sym (entering-defined called) ∙ defined-by (entering_cost called).defined cost.defined part.defined counts)
+
   own-call : ReachesCall source id
   own-call = record { caller = source; reached = at_once; makes = makes }
 
   -- the body that the run is told for the callee; without one the run stops
-  told-body : (called : Source) → source_of source.world id ≡ Some called → StopsAnyhow ⊎ ((body : MirBody) × DoesBelow (suc fuel) frame.program called body × ((budget : ℕ) → run_from frame memory from budget ≡ going_on budget (mir_called frame memory call id body)))
+  told-body : (called : Source) → source_of source.world id ≡ Some called → StopsFor (entering_cost called) ⊎ ((body : MirBody) × DoesBelow (suc fuel) frame.program called body × ((budget : ℕ) → run_from frame memory from budget ≡ going_on budget (mir_called frame memory call id body)))
   unfolding called_by going_on
   told-body called has_body = by_answer (answer_to frame.program.answers (body_query (without_arguments id))) refl where
     leads : (answer : Option Told) → answer_to frame.program.answers (body_query (without_arguments id)) ≡ answer → (budget : ℕ) → run_from frame memory from budget ≡ going_on budget (called_by frame memory call (without_arguments id) answer)
@@ -147,25 +164,25 @@ module _ (source : Source) (whole : Shape) (frame : Frame) (lands : Landings) (f
         ∙ ap (going_on budget) (leads-by frame memory call id ty typed (names-callee ty id named))
         ∙ ap (λ (a : Option Told). going_on budget (called_by frame memory call (without_arguments id) a)) known
 
-    asks : (answer : Option Told) → answer_to frame.program.answers (body_query (without_arguments id)) ≡ answer → ((budget : ℕ) → going_on budget (called_by frame memory call (without_arguments id) answer) ≡ record { ending = Asked (body_query (without_arguments id)) frame memory call; left = budget }) → StopsAnyhow
-    asks answer known ends cost =
+    asks : (answer : Option Told) → answer_to frame.program.answers (body_query (without_arguments id)) ≡ answer → ((budget : ℕ) → going_on budget (called_by frame memory call (without_arguments id) answer) ≡ record { ending = Asked (body_query (without_arguments id)) frame memory call; left = budget }) → StopsFor (entering_cost called)
+    asks answer known ends cost part =
         stops-now source frame.program (levels_over frame.below) memory cost (run_from frame memory from) (Asked (body_query (without_arguments id)) frame memory call) (id, makes) (record { id = id; call = own-call; is = refl }) (λ budget. leads answer known budget ∙ ends budget)
 
-    by_answer : (answer : Option Told) → answer_to frame.program.answers (body_query (without_arguments id)) ≡ answer → StopsAnyhow ⊎ ((body : MirBody) × DoesBelow (suc fuel) frame.program called body × ((budget : ℕ) → run_from frame memory from budget ≡ going_on budget (mir_called frame memory call id body)))
+    by_answer : (answer : Option Told) → answer_to frame.program.answers (body_query (without_arguments id)) ≡ answer → StopsFor (entering_cost called) ⊎ ((body : MirBody) × DoesBelow (suc fuel) frame.program called body × ((budget : ℕ) → run_from frame memory from budget ≡ going_on budget (mir_called frame memory call id body)))
     by_answer None known = inl (asks None known (λ budget. refl))
     by_answer (Some (told.Konst konst)) known = inl (asks (Some (told.Konst konst)) known (λ budget. refl))
     by_answer (Some (told.Discriminant number)) known = inl (asks (Some (told.Discriminant number)) known (λ budget. refl))
     by_answer (Some (told.Body body)) known = inr (body.value, serves.bodies id called body has_body known, leads (Some (told.Body body)) known)
     by_answer (Some (told.Failed refusal)) known =
-        inl (λ cost.
+        inl (λ cost part.
         stops-now source frame.program (levels_over frame.below) memory cost (run_from frame memory from) (Faulted (callee_error id refusal) (entry_of frame call id ∷ trail_of frame)) (id, makes)
-        (inl (record { id = id; call = own-call; refusal = refusal; told = known; is = refl }))
+        (inl (record { id = id; call = own-call; refusal = refusal; told = known; is = refl; counted = counts-entering called has_body cost part }))
         (leads (Some (told.Failed refusal)) known))
 
   -- the body is entered: its cells are placed, and the arguments are copied to them; or the run stops
   enters-body : (called : Source) → source_of source.world id ≡ Some called → (body : MirBody) → DoesBelow (suc fuel) frame.program called body → (destination : Option Interval) (result : List ℕ) → Shows called memory destination result →
       ((budget : ℕ) → run_from frame memory from budget ≡ going_on budget (entered frame memory call id body destination)) →
-      StopsFor (entering_cost called) ⊎ ((start : Store) → started called result values ≡ Some start → RunsCallee called destination start)
+      StopsFor (entering_cost called) ⊎ EntersCallee called destination result
   unfolding going_on started
   enters-body called has_body body below destination result shows leads = by_cells (called_cells frame.program.world body.locals destination memory) refl where
     way : Calls source called
@@ -177,39 +194,43 @@ module _ (source : Source) (whole : Shape) (frame : Frame) (lands : Landings) (f
     in-world : HirDatabase → Result (List Interval × Memory) MirEvalError
     in-world w = called_cells w body.locals destination memory
 
-    by_cells : (all : Result (List Interval × Memory) MirEvalError) → called_cells frame.program.world body.locals destination memory ≡ all → StopsFor (entering_cost called) ⊎ ((start : Store) → started called result values ≡ Some start → RunsCallee called destination start)
+    by_cells : (all : Result (List Interval × Memory) MirEvalError) → called_cells frame.program.world body.locals destination memory ≡ all → StopsFor (entering_cost called) ⊎ EntersCallee called destination result
     by_cells (Err e) none =
         inl (λ cost part.
         let bytes = part.bytes in
         let nesting = part.nesting in
-        let lacks = lacks-room called frame.program (levels_over frame.below) body.locals destination memory e (checked-callee source called serves.checked way) below.counted (ap in-world (world ∙ sym serves.world) ∙ none) in
+        let lacks = lacks-room called frame.program (levels_over frame.below) body.locals destination memory e (called_is_checked source way.e way.callee called serves.checked way.enters) below.counted (ap in-world (world ∙ sym serves.world) ∙ none) in
         stops-now source frame.program (levels_over frame.below) memory cost (run_from frame memory from) (Faulted e (trail_of frame)) (id, makes)
         (inr (lacks-onward called source (λ reached on. through way on) frame.program (levels_over frame.below) memory (entering_cost called) (levels_over frame.below) memory cost part.defined (λ passes. omega arith) (omega arith) e lacks))
         (λ budget. leads budget ∙ ap (going_on budget) (entered-lacks frame memory call id body destination e none)))
     by_cells (Ok all) placed =
-        inr (λ start starts.
         let aligned : AreAligned called.world = subst AreAligned (sym world) (are-aligned source.world serves.checked) in
         let there : called_cells called.world body.locals destination memory ≡ Ok all = ap in-world (world ∙ sym serves.world) ∙ placed in
         let inner : Frame = frame-of frame call id body all.0 in
         let places : ArePlaced called below.allotted inner memory destination result all.1 =
         called-places called aligned below.allotted below.own below.result memory body.locals below.typed destination result shows all there inner refl in
-        let given : filled called (with_cell_bytes (zeroed called) Slot result) below.params.bound values ≡ Some start =
-        sym (ap (option_and_then (λ (bound : List ℕ). filled called (with_cell_bytes (zeroed called) Slot result) bound values)) below.params.binds) ∙ starts in
-        let full = fills source whole frame store memory holds called below.allotted below.own inner places.apart places.outside below.params.bound body.param_locals call.args values (with_cell_bytes (zeroed called) Slot result) start all.1 below.params.locals fit
-        (record { holds = places.holds; sized = λ b. length-replicate (cell_size called (Binding b)) 0; kept = places.kept }) given in
-        record {
-          body = body;
-          allotted = below.allotted;
-          intervals = all.0;
-          now = full.0;
-          runs = below.does fuel (omega arith) start inner full.0 refl refl places.apart full.2.holds;
-          grown = grown-more (rooms called.world body.locals + 0) (body_room called) memory full.0 (let counts = rooms-counted called body.locals below.counted in omega arith)
-              (grown-trans (rooms called.world body.locals) 0 memory all.1 full.0 (called-cells-take called.world body.locals destination memory all there)
-              (filling-takes-none frame all.0 body.param_locals call.args all.1 full.0 full.1));
-          same = λ budget. leads budget ∙ ap (going_on budget) (entered-at frame memory call id body destination all full.0 placed full.1);
-          kept = full.2.kept;
-          others = places.others;
-          slot = places.slot;
+        let slot = below.typed Slot 0 below.result in
+        inr (record {
+          fits = callee-fits source called way body below.laid_out slot.0 slot.1 slot.2 destination memory all there;
+          runs = λ start starts.
+              let given : filled called (with_cell_bytes (zeroed called) Slot result) below.params.bound values ≡ Some start =
+              sym (ap (option_and_then (λ (bound : List ℕ). filled called (with_cell_bytes (zeroed called) Slot result) bound values)) below.params.binds) ∙ starts in
+              let full = fills source whole frame store memory holds called below.allotted below.own inner places.apart places.outside below.params.bound body.param_locals call.args values (with_cell_bytes (zeroed called) Slot result) start all.1 below.params.locals fit
+              (record { holds = places.holds; sized = λ b. length-replicate (cell_size called (Binding b)) 0; kept = places.kept }) given in
+              record {
+                body = body;
+                allotted = below.allotted;
+                intervals = all.0;
+                now = full.0;
+                runs = below.does fuel (omega arith) start inner full.0 refl refl places.apart full.2.holds;
+                grown = grown-more (rooms called.world body.locals + 0) (body_room called) memory full.0 (let counts = rooms-counted called body.locals below.counted in omega arith)
+                    (grown-trans (rooms called.world body.locals) 0 memory all.1 full.0 (called-cells-take called.world body.locals destination memory all there)
+                    (filling-takes-none frame all.0 body.param_locals call.args all.1 full.0 full.1));
+                same = λ budget. leads budget ∙ ap (going_on budget) (entered-at frame memory call id body destination all full.0 placed full.1);
+                kept = full.2.kept;
+                others = places.others;
+                slot = places.slot;
+              };
         })
 
   -- what the callee's cells and the run of its body take together is what its meaning counts
@@ -230,7 +251,7 @@ module _ (source : Source) (whole : Shape) (frame : Frame) (lands : Landings) (f
       omega arith
 
   -- the body of a callee that gives a value
-  module _ (called : Source) (way : Calls source called) (next : ℕ) (target : call.target ≡ Some next) (cell : Interval) (there : slice_get frame.cells call.destination.local.0 ≡ Some cell) (start : Store) (into : RunsCallee called (Some cell) start) where
+  module _ (called : Source) (way : Calls source called) (fits : IsFit source → IsFit called) (next : ℕ) (target : call.target ≡ Some next) (cell : Interval) (there : slice_get frame.cells call.destination.local.0 ≡ Some cell) (start : Store) (into : RunsCallee called (Some cell) start) where
     abbrev Inner : Frame
     Inner = frame-of frame call id into.body into.intervals
 
@@ -292,12 +313,12 @@ module _ (source : Source) (whole : Shape) (frame : Frame) (lands : Landings) (f
     gives-back Stuck covers does = inr tt
     gives-back (Faults fault cost) covers (inl stops) = inl (stops-back cost covers stops)
     gives-back (Faults fault cost) covers (inr ends) =
-        inr (ends-same cost.turns (IsFault (error_of fault)) (run_from frame memory from) (run_from Inner into.now (Entry into.body.start_block.0)) into.same ends)
+        inr (breaks-same called source fits cost.turns fault (run_from frame memory from) (run_from Inner into.now (Entry into.body.start_block.0)) into.same ends)
     gives-back (More cost) covers (inl stops) = inl (stops-back cost covers stops)
     gives-back (More cost) covers (inr enters) = inr (enters-same cost.turns (run_from frame memory from) (run_from Inner into.now (Entry into.body.start_block.0)) into.same enters)
 
   -- the body of a callee that must not return
-  module _ (called : Source) (way : Calls source called) (target : call.target ≡ None) (start : Store) (into : RunsCallee called None start) (to : Point) where
+  module _ (called : Source) (way : Calls source called) (fits : IsFit source → IsFit called) (target : call.target ≡ None) (start : Store) (into : RunsCallee called None start) (to : Point) where
     abbrev Own : Frame
     Own = frame-of frame call id into.body into.intervals
 
@@ -325,12 +346,9 @@ module _ (source : Source) (whole : Shape) (frame : Frame) (lands : Landings) (f
         })
     gives-astray (Faults fault cost) covers (inl stops) = inl (stops-astray cost covers stops)
     gives-astray (Faults fault cost) covers (inr ends) =
-        inr (ends-same cost.turns (IsFault (error_of fault)) (run_from frame memory from) (run_from Own into.now (Entry into.body.start_block.0)) into.same ends)
+        inr (breaks-same called source fits cost.turns fault (run_from frame memory from) (run_from Own into.now (Entry into.body.start_block.0)) into.same ends)
     gives-astray (More cost) covers (inl stops) = inl (stops-astray cost covers stops)
     gives-astray (More cost) covers (inr enters) = inr (enters-same cost.turns (run_from frame memory from) (run_from Own into.now (Entry into.body.start_block.0)) into.same enters)
-
-  abbrev place : Path
-  place = record { cell = c }
 
   callee-is : source_called source e callee ≡ source_of source.world id
   unfolding source_called
@@ -338,27 +356,30 @@ module _ (source : Source) (whole : Shape) (frame : Frame) (lands : Landings) (f
 
   -- what a callee's body means, and what its call does by that
   meant-covers : (called : Source) (start : Store) → Covers (entering_cost called) (callees_at fuel called start)
-  meant-covers called start = covers-after (entering_cost called) (returned called ((level_at called fuel (marking (parameter_cells called) (at_root (record { cell = Slot })))).into (root called) (record { cell = Slot }) start))
+  meant-covers called start =
+      covers-after (entering_cost called) (where_laid (is_laid_out called)
+      (returned called ((level_at called fuel (marking (parameter_cells called) (at_root (record { cell = Slot })))).into (root called) (record { cell = Slot }) start)))
 
   module _ (next : ℕ) (target : call.target ≡ Some next) where
     abbrev Returning : End (Unit {0}) → Type 0
     Returning end = Reaches source whole lands frame from (start_of next) memory (Nothing whole frame) end
 
     returning-covers : (called : Source) (start : Option Store) → Covers (entering_cost called) (entered_from (callees_at fuel) false called start place store)
-    returning-covers called None = tt
+    returning-covers called None = covers-on (entering_cost called) place store (unfit_meaning (is_laid_out called) called) (covers-unfit called (is_laid_out called))
     returning-covers called (Some start) = covers-on (entering_cost called) place store (callees_at fuel called start) (meant-covers called start)
 
-    returns-started : (called : Source) → Calls source called → (cell : Interval) → slice_get frame.cells call.destination.local.0 ≡ Some cell → StopsFor (entering_cost called) ⊎ ((start : Store) → started called (store c) values ≡ Some start → RunsCallee called (Some cell) start) →
+    returns-started : (called : Source) → Calls source called → (cell : Interval) → slice_get frame.cells call.destination.local.0 ≡ Some cell → StopsFor (entering_cost called) ⊎ EntersCallee called (Some cell) (store c) →
         (start : Option Store) → started called (store c) values ≡ start → Returning (entered_from (callees_at fuel) false called start place store)
     unfolding meaning_from
     returns-started called way cell there (inl stopped) start starts = stopped-reaches (start_of next) (entering_cost called) (entered_from (callees_at fuel) false called start place store) stopped (returning-covers called start)
-    returns-started called way cell there (inr runs) None starts = inr tt
-    returns-started called way cell there (inr runs) (Some start) starts =
-        gives-back called way next target cell there start (runs start starts) (callees_at fuel called start) (meant-covers called start) (runs start starts).runs
+    returns-started called way cell there (inr enters) None starts = unfit-reaches false (start_of next) called way enters.fits (is_laid_out called) refl
+    returns-started called way cell there (inr enters) (Some start) starts =
+        let runs = enters.runs start starts in
+        gives-back called way enters.fits next target cell there start runs (callees_at fuel called start) (meant-covers called start) runs.runs
 
-    returns-told : (called : Source) → source_of source.world id ≡ Some called → StopsAnyhow ⊎ ((body : MirBody) × DoesBelow (suc fuel) frame.program called body × ((budget : ℕ) → run_from frame memory from budget ≡ going_on budget (mir_called frame memory call id body))) →
+    returns-told : (called : Source) → source_of source.world id ≡ Some called → StopsFor (entering_cost called) ⊎ ((body : MirBody) × DoesBelow (suc fuel) frame.program called body × ((budget : ℕ) → run_from frame memory from budget ≡ going_on budget (mir_called frame memory call id body))) →
         Returning (entered_into (callees_at fuel) false (Some called) (Some values) place store)
-    returns-told called has_body (inl stopped) = anyhow-reaches (start_of next) (entered_into (callees_at fuel) false (Some called) (Some values) place store) stopped
+    returns-told called has_body (inl stopped) = stopped-reaches (start_of next) (entering_cost called) (entered_into (callees_at fuel) false (Some called) (Some values) place store) stopped (returning-covers called (started called (store c) values))
     returns-told called has_body (inr told) =
         let there = interval-of frame memory call.destination.local.0 (store c) (holds.shows c call.destination.local.0 found) in
         returns-started called (calls-into source called id makes has_body) there.0 there.1
@@ -382,19 +403,21 @@ module _ (source : Source) (whole : Shape) (frame : Frame) (lands : Landings) (f
     Straying end = Reaches source whole lands frame from to memory (Nothing whole frame) end
 
     straying-covers : (called : Source) (start : Option Store) → Covers (one_level_more (entering_cost called)) (entered_from (callees_at fuel) true called start place store)
-    straying-covers called None = tt
+    straying-covers called None = covers-astray (entering_cost called) (unfit_meaning (is_laid_out called) called) (covers-unfit called (is_laid_out called))
     straying-covers called (Some start) = covers-astray (entering_cost called) (callees_at fuel called start) (meant-covers called start)
 
     -- a level more than what entering counts is counted where that is
     for-more : (called : Source) → StopsFor (entering_cost called) → StopsFor (one_level_more (entering_cost called))
     for-more called stopped cost part = let nesting = part.nesting in stopped cost (record { turns = part.turns; bytes = part.bytes; nesting = omega arith; defined = part.defined })
 
-    strays-started : (called : Source) → Calls source called → StopsFor (entering_cost called) ⊎ ((start : Store) → started called (zeroed called Slot) values ≡ Some start → RunsCallee called None start) →
+    strays-started : (called : Source) → Calls source called → StopsFor (entering_cost called) ⊎ EntersCallee called None (zeroed called Slot) →
         (start : Option Store) → started called (zeroed called Slot) values ≡ start → Straying (entered_from (callees_at fuel) true called start place store)
     unfolding meaning_from
     strays-started called way (inl stopped) start starts = stopped-reaches to (one_level_more (entering_cost called)) (entered_from (callees_at fuel) true called start place store) (for-more called stopped) (straying-covers called start)
-    strays-started called way (inr runs) None starts = inr tt
-    strays-started called way (inr runs) (Some start) starts = gives-astray called way target start (runs start starts) to (callees_at fuel called start) (meant-covers called start) (runs start starts).runs
+    strays-started called way (inr enters) None starts = unfit-reaches true to called way enters.fits (is_laid_out called) refl
+    strays-started called way (inr enters) (Some start) starts =
+        let runs = enters.runs start starts in
+        gives-astray called way enters.fits target start runs to (callees_at fuel called start) (meant-covers called start) runs.runs
 
     -- no level is left for the call
     too-deep : (called : Source) (body : MirBody) → ((budget : ℕ) → run_from frame memory from budget ≡ going_on budget (mir_called frame memory call id body)) → nat_le (suc (levels_over frame.below)) frame.program.nesting ≡ false → StopsFor (one_level_more (entering_cost called))
@@ -406,9 +429,9 @@ module _ (source : Source) (whole : Shape) (frame : Frame) (lands : Landings) (f
         stops-now source frame.program (levels_over frame.below) memory cost (run_from frame memory from) (Faulted error.StackOverflow (trail_of frame)) (id, makes) (inr (omega arith))
         (λ budget. leads budget ∙ ap (going_on budget) (called-alone frame memory call id body false target levels))
 
-    strays-told : (called : Source) → source_of source.world id ≡ Some called → StopsAnyhow ⊎ ((body : MirBody) × DoesBelow (suc fuel) frame.program called body × ((budget : ℕ) → run_from frame memory from budget ≡ going_on budget (mir_called frame memory call id body))) →
+    strays-told : (called : Source) → source_of source.world id ≡ Some called → StopsFor (entering_cost called) ⊎ ((body : MirBody) × DoesBelow (suc fuel) frame.program called body × ((budget : ℕ) → run_from frame memory from budget ≡ going_on budget (mir_called frame memory call id body))) →
         (deep : Bool) → nat_le (suc (levels_over frame.below)) frame.program.nesting ≡ deep → Straying (entered_into (callees_at fuel) true (Some called) (Some values) place store)
-    strays-told called has_body (inl stopped) deep levels = anyhow-reaches to (entered_into (callees_at fuel) true (Some called) (Some values) place store) stopped
+    strays-told called has_body (inl stopped) deep levels = stopped-reaches to (one_level_more (entering_cost called)) (entered_into (callees_at fuel) true (Some called) (Some values) place store) (for-more called stopped) (straying-covers called (started called (zeroed called Slot) values))
     strays-told called has_body (inr told) true levels =
         strays-started called (calls-into source called id makes has_body)
         (enters-body called has_body told.0 told.1 None (zeroed called Slot) refl

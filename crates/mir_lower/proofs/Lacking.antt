@@ -30,7 +30,8 @@ pub entering-nests : (source : Source) → (entering_cost source).nesting ≡ 1
 unfolding entering_cost
 entering-nests source = refl
 
-entering-defined : (source : Source) → (entering_cost source).defined ≡ is_cost_defined source
+-- the cost of entering a body is defined where its test says so
+pub entering-defined : (source : Source) → (entering_cost source).defined ≡ is_cost_defined source
 unfolding entering_cost
 entering-defined source = refl
 

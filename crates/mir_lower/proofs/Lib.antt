@@ -15,6 +15,7 @@ pub mod Covering
 pub mod Drops
 pub mod Entering
 pub mod Fields
+pub mod Fitting
 pub mod Forking
 pub mod Growing
 pub mod Holding

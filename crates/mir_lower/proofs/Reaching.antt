@@ -2,12 +2,13 @@
 use Rattle.std.proofs.Common.{◌≡◌, ℕ, ◌+◌, ◌-◌, ⊎_elim, inl, inr, refl, ap, ◌∙◌, subst, arith}
 use Rattle.std.proofs.lemmas.Bool.{cases_lt}
 use Rattle.mir.specs.Memory.{Memory}
+use Rattle.mir.specs.declared.errors.MirEvalError as error
 use Rattle.mir.specs.Run.{Frame, Ending, Ended, levels_over}
-use Rattle.source_meaning.specs.Ends.{Cost, cost_of, End, Go, Jumps, Faults, Stuck, More, plus, after, then_do}
+use Rattle.source_meaning.specs.Ends.{Cost, cost_of, End, Fault, Panic, Undefined, NoLayout, Go, Jumps, Faults, Stuck, More, plus, after, then_do}
 use Rattle.source_meaning.specs.Source.{Source, Store}
 use Rattle.mir_lower.specs.Does.{Holds, Landing, Nowhere, AtPoint, Landings, Lands, Goes, Reaches}
 use Rattle.mir_lower.specs.Graph.{Shape}
-use Rattle.mir_lower.specs.Runs.{Point, run_from, HasGrown, Comes, Enters, IsFault, EndsAfter, error_of, KeepsOthers}
+use Rattle.mir_lower.specs.Runs.{Point, run_from, HasGrown, Comes, Enters, IsFault, EndsAfter, BreaksOff, KeepsOthers}
 use Rattle.mir_lower.specs.Stops.{IsCut, StopsFrom}
 use Rattle.mir_lower.proofs.Stopping.{cut-before, ends-as, first-part, stops-within}
 
@@ -69,6 +70,12 @@ module _ (frame : Frame) (first second : ℕ) (from at : Point) (memory middle :
         with_fewer = enters-both next.with_fewer;
       }
 
+  -- a run that breaks off from a point on does so after it came to that point
+  pub breaks-after : (source : Source) (fault : Fault) → BreaksOff source fault second (run_from frame middle at) → BreaksOff source fault (first + second) (run_from frame memory from)
+  breaks-after source (Panic word) next = ends-after (IsFault (error.Panic word)) next
+  breaks-after source (Undefined text) next = ends-after (IsFault (error.UndefinedBehavior text)) next
+  breaks-after source NoLayout unfit = unfit
+
 -- what comes to the same numbers
 same-counts : (frame : Frame) (turns other bytes taken : ℕ) (from to : Point) (memory later : Memory) → turns ≡ other → bytes ≡ taken → Comes frame turns bytes from memory to later → Comes frame other taken from memory to later
 same-counts frame turns other bytes taken from to memory later same long comes =
@@ -92,16 +99,16 @@ lands-after whole frame first second from at memory middle store (AtPoint point)
     (does.0, comes-trans frame first.turns second.turns from at memory middle comes point does.0 does.1, does.2)
 
 -- what an end does from a point on, after the run came to that point
-goes-after : {A : Type 0} (whole : Shape) (lands : Landings) (frame : Frame) (from at to : Point) (memory middle : Memory) (claim : A → Type 0) (cost : Cost) → Comes frame cost.turns cost.bytes from memory at middle → (end : End A) → Goes whole lands frame at to middle claim end → Goes whole lands frame from to memory claim (after cost end)
+goes-after : {A : Type 0} (source : Source) (whole : Shape) (lands : Landings) (frame : Frame) (from at to : Point) (memory middle : Memory) (claim : A → Type 0) (cost : Cost) → Comes frame cost.turns cost.bytes from memory at middle → (end : End A) → Goes source whole lands frame at to middle claim end → Goes source whole lands frame from to memory claim (after cost end)
 unfolding after plus
-goes-after whole lands frame from at to memory middle claim cost comes (Go value store then) does =
+goes-after source whole lands frame from at to memory middle claim cost comes (Go value store then) does =
     (does.0, comes-trans frame cost.turns then.turns from at memory middle comes to does.0 does.1, does.2, does.3)
-goes-after whole lands frame from at to memory middle claim cost comes (Jumps jump store then) does =
+goes-after source whole lands frame from at to memory middle claim cost comes (Jumps jump store then) does =
     lands-after whole frame cost then from at memory middle store (lands jump) comes does
-goes-after whole lands frame from at to memory middle claim cost comes (Faults fault then) does =
-    ends-after frame cost.turns then.turns from at memory middle comes (IsFault (error_of fault)) does
-goes-after whole lands frame from at to memory middle claim cost comes Stuck does = tt
-goes-after whole lands frame from at to memory middle claim cost comes (More then) does = enters-both frame cost.turns then.turns from at memory middle comes does
+goes-after source whole lands frame from at to memory middle claim cost comes (Faults fault then) does =
+    breaks-after frame cost.turns then.turns from at memory middle comes source fault does
+goes-after source whole lands frame from at to memory middle claim cost comes Stuck does = tt
+goes-after source whole lands frame from at to memory middle claim cost comes (More then) does = enters-both frame cost.turns then.turns from at memory middle comes does
 
 -- a run that stops at a call within some cost from a point on does so within as much more, after it came to that point
 pub stops-after : (source : Source) (frame : Frame) (first second : Cost) (from at : Point) (memory middle : Memory) → Comes frame first.turns first.bytes from memory at middle → StopsFrom source frame at middle second → StopsFrom source frame from memory (plus first second)
@@ -142,7 +149,7 @@ stopped-before source whole lands frame from to memory claim cost stops (More th
 -- what an end does from a point on, or where the run stops then, after the run came to that point
 pub reaches-after : {A : Type 0} (source : Source) (whole : Shape) (lands : Landings) (frame : Frame) (from at to : Point) (memory middle : Memory) (claim : A → Type 0) (cost : Cost) → Comes frame cost.turns cost.bytes from memory at middle → (end : End A) → Reaches source whole lands frame at to middle claim end → Reaches source whole lands frame from to memory claim (after cost end)
 reaches-after source whole lands frame from at to memory middle claim cost comes end =
-    ⊎_elim (stopped-after source whole lands frame from at to memory middle claim cost comes end) (λ does. inr (goes-after whole lands frame from at to memory middle claim cost comes end does))
+    ⊎_elim (stopped-after source whole lands frame from at to memory middle claim cost comes end) (λ does. inr (goes-after source whole lands frame from at to memory middle claim cost comes end does))
 
 -- One evaluation, and then another; where the first ends by a jump or a fault, or its fuel runs out, so do both, and where it stops at a
 -- call, both do.

@@ -14,6 +14,7 @@ does-less fuel program called body does =
       typed = does.typed;
       params = does.params;
       counted = does.counted;
+      laid_out = does.laid_out;
       does = λ less below store frame memory goes_by is apart represents. does.does less (omega arith) store frame memory goes_by is apart represents;
     }
 

@@ -1,5 +1,5 @@
 -- A run that stops at a call does so within what is counted from a point before, and within more.
-use Rattle.std.proofs.Common.{◌≡◌, ℕ, ◌+◌, ◌<◌, ◌≤◌, ⊎_elim, inl, inr, Bool, true, false, refl, arith}
+use Rattle.std.proofs.Common.{◌≡◌, ℕ, ◌+◌, ◌<◌, ◌≤◌, ⊎_elim, inl, inr, Bool, true, false, refl, sym, ap, ◌∙◌, arith}
 use Rattle.std.specs.Prelude.{◌&&◌}
 use Rattle.types.specs.declared.ids.FunctionId.{FunctionId}
 use Rattle.mir.specs.declared.answers.Query.{Query}
@@ -8,9 +8,12 @@ use Rattle.mir.specs.declared.errors.MirEvalError.{MirEvalError}
 use Rattle.mir.specs.declared.errors.MirEvalError as error
 use Rattle.mir.specs.Memory.{Memory}
 use Rattle.mir.specs.Run.{Program, Frame, Ending, Returned, Faulted, Asked, Ended, levels_over}
+use Rattle.world.specs.declared.database.HirDatabase.{HirDatabase}
+use Rattle.source_meaning.specs.Calls.{source_of}
 use Rattle.source_meaning.specs.Ends.{Cost, plus}
 use Rattle.source_meaning.specs.Source.{Source}
-use Rattle.source_meaning.specs.Valid.{Reaches}
+use Rattle.source_meaning.specs.Valid.{Reaches, at_once, through}
+use Rattle.source_meaning.proofs.Calls.{called_world}
 use Rattle.mir_lower.specs.Runs.{EndsAfter, HasGrown}
 use Rattle.mir_lower.specs.Stops.{OfReached, LacksLayout, LacksSize, LacksRoom, ReachesCall, IsAsked, WasRefused, IsCut, StopsWithin}
 
@@ -18,6 +21,16 @@ use Rattle.mir_lower.specs.Stops.{OfReached, LacksLayout, LacksSize, LacksRoom, 
 pub ends-as : (turns : ℕ) (some other : Ending → Type 0) (run : ℕ → Ended) → ((ending : Ending) → some ending → other ending) → EndsAfter turns some run → EndsAfter turns other run
 ends-as turns some other run each after =
     record { with_more = λ more. let end = after.with_more more in (end.0, each end.0 end.1, end.2); with_fewer = after.with_fewer }
+
+-- what a source reaches is a source of its world
+pub reached-world : {source reached : Source} → Reaches source reached → reached.world ≡ source.world
+reached-world at_once = refl
+reached-world (through {source = source} {called = called} calls on) = reached-world on ∙ called_world source calls.e calls.callee called calls.enters
+
+-- what is undefined only together with something defined is defined
+pub defined-by : (few many : Bool) → (few ≡ false → many ≡ false) → many ≡ true → few ≡ true
+defined-by true many undefined is = refl
+defined-by false many undefined is = let none = undefined refl in let both : true ≡ false = sym is ∙ none in absurd cc
 
 -- From a source on another is reached. What is counted from one moment is counted from another too, where other levels are held and other
 -- bytes are taken.
@@ -38,8 +51,18 @@ module _ (called source : Source) (onward : (reached : Source) → Reaches calle
   call-onward : (id : FunctionId) → ReachesCall called id → ReachesCall source id
   call-onward id call = record { caller = call.caller; reached = onward call.caller call.reached; makes = call.makes }
 
-  refused-onward : (e : MirEvalError) → WasRefused called program e → WasRefused source program e
-  refused-onward e was = record { id = was.id; call = call-onward was.id was.call; refusal = was.refusal; told = was.told; is = was.is }
+  refused-onward : (e : MirEvalError) → WasRefused called program few e → WasRefused source program many e
+  refused-onward e was =
+      record {
+        id = was.id;
+        call = call-onward was.id was.call;
+        refusal = was.refusal;
+        told = was.told;
+        is = was.is;
+        counted = λ callee has_body counts.
+            let in_world : source_of called.world was.id ≡ source_of source.world was.id = ap (λ (w : HirDatabase). source_of w was.id) (reached-world (onward called at_once)) in
+            was.counted callee (in_world ∙ has_body) (defined-by few.defined many.defined defined counts);
+      }
 
   asked-onward : (q : Query) → IsAsked called q → IsAsked source q
   asked-onward q asked = record { id = asked.id; call = call-onward asked.id asked.call; is = asked.is }

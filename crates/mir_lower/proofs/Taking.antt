@@ -218,7 +218,7 @@ cells-lack world locals memory e is = by_sizes (sizes_of world locals) refl is w
       inr (passes.0, omega arith)
   by_sizes (Err cause) of is = let same : cause ≡ e = cc in inl (sizes-lack world locals e (of ∙ ap Err same))
 
-before-is : (cell : Interval) (rest : Result (List Interval × Memory) MirEvalError) (all : List Interval × Memory) → cell_before cell rest ≡ Ok all → (behind : List Interval × Memory) × (rest ≡ Ok behind) × (behind.1 ≡ all.1)
+pub before-is : (cell : Interval) (rest : Result (List Interval × Memory) MirEvalError) (all : List Interval × Memory) → cell_before cell rest ≡ Ok all → (behind : List Interval × Memory) × (rest ≡ Ok behind) × (behind.1 ≡ all.1)
 before-is cell (Ok behind) all is = (behind, refl, (let same : ◌≡◌ {A = List Interval × Memory} (cell ∷ behind.0, behind.1) all = cc in ap (λ (a : List Interval × Memory). a.1) same))
 before-is cell (Err e) all is = absurd cc
 

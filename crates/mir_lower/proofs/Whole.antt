@@ -1,6 +1,7 @@
 -- A whole body: its root, leaving it, and returning.
-use Rattle.std.proofs.Common.{[], ◌∷◌, ◌++◌, ◌≡◌, ℕ, ◌+◌, ◌-◌, ◌<◌, ◌≤◌, ◌⊎◌, ⊎_elim, inl, inr, List, length, Option, Some, Ok, refl, sym, ap, ◌∙◌, subst, arith}
+use Rattle.std.proofs.Common.{[], ◌∷◌, ◌++◌, ◌≡◌, ℕ, ◌+◌, ◌-◌, ◌≤◌, ◌⊎◌, ⊎_elim, inl, inr, Bool, true, false, List, length, Option, Some, Ok, refl, sym, ap, ◌∙◌, subst, arith}
 use Rattle.std.specs.Prelude.{◌&&◌, slice_get, map, sum, replicate, option_map, option_and_then, unwrap_or}
+use Rattle.world.specs.Checked.{IsCheckedBody}
 use Rattle.world.specs.declared.database.HirDatabase.{HirDatabase}
 use Rattle.world.specs.declared.layout.Layout.{Layout}
 use Rattle.world.specs.Lookups.{layout_of}
@@ -19,7 +20,8 @@ use Rattle.source_meaning.specs.Calls.{parameters, parameter_cells}
 use Rattle.source_meaning.specs.Ends.{Cost, cost_of, greater, turns_alone, plus, End, Go, Jumps, Break, Continue, Return, Faults, Stuck, More, after}
 use Rattle.source_meaning.specs.Entering.{body_room, is_cost_defined, room_of, run_cost, entering as entering_cost}
 use Rattle.source_meaning.specs.Events.{marked}
-use Rattle.source_meaning.specs.Meaning.{level_at, meaning_from, returned as returned_of}
+use Rattle.source_meaning.specs.Laid.{is_laid_out}
+use Rattle.source_meaning.specs.Meaning.{level_at, meaning_from, returned as returned_of, where_laid}
 use Rattle.source_meaning.specs.Source.{Source, node_type, root, Cell, Result as Slot, Binding, Path, cell_type, cell_layout, drops, Store, zeroed, own_type}
 use Rattle.source_meaning.specs.Valid.{IsPlain, IsLaidOut, AreLaidOut}
 use Rattle.mir_lower.specs.Callees.{AreCounted, AreLocalsOf, RunsOn, RunsAs, Serves, cost_once_placed, once_placed}
@@ -30,14 +32,15 @@ use Rattle.mir_lower.specs.Leaving.{Idles}
 use Rattle.mir_lower.specs.Lowered.{HasLayouts, LowersInto}
 use Rattle.mir_lower.specs.Simulates.{EndsOn, EndsAs, Simulates}
 use Rattle.mir_lower.specs.Stops.{IsCut, StopsWithin, StopsFrom}
-use Rattle.mir_lower.specs.Runs.{Point, Within, Entry, Exit, start_of, run_from, local_bytes, AreCellsApart, Enters, IsReturned, IsFault, EndsAfter, error_of, HasGrown, Comes}
+use Rattle.mir_lower.specs.Runs.{Point, Within, Entry, Exit, start_of, run_from, local_bytes, AreCellsApart, Enters, IsReturned, EndsAfter, BreaksOff, HasGrown, Comes}
 use Rattle.mir_lower.proofs.Covering.{Covers, covers-after}
+use Rattle.mir_lower.proofs.Fitting.{unfit}
 use Rattle.mir_lower.proofs.Growing.{grows-refl, grows-trans, with_terminator-grows, with_scope-grows}
 use Rattle.mir_lower.proofs.Lacking.{entering-room, rooms-counted}
 use Rattle.mir_lower.proofs.Leaving.{enters-block, comes-return, here-scope}
 use Rattle.mir_lower.proofs.Lists.{front-of}
 use Rattle.mir_lower.proofs.Placing.{AreAligned, Placing, places-all, first-ok}
-use Rattle.mir_lower.proofs.Reaching.{comes-on, comes-trans, enters-both, ends-after, stops-after, stops-before}
+use Rattle.mir_lower.proofs.Reaching.{breaks-after, comes-on, comes-trans, enters-both, stops-after, stops-before}
 use Rattle.mir_lower.proofs.Parameters.{locals-carried}
 use Rattle.mir_lower.proofs.Room.{fits-room}
 use Rattle.mir_lower.proofs.Sound.{with_terminator-sound, slot-there, binding-there, stored-is-used}
@@ -48,11 +51,11 @@ use Rattle.std.proofs.lemmas.List.Elements.{All-nil}
 
 -- a meaning that a cost stands before, and a run that comes to where it begins over as many blocks
 module _ (source : Source) (allotted : Cell → Option ℕ) (frame : Frame) (from at : Point) (memory middle : Memory) (cost : Cost) (comes : Comes frame cost.turns cost.bytes from memory at middle) where
-  runs-on-after : (end : End (List ℕ)) → RunsOn allotted frame at middle end → RunsOn allotted frame from memory (after cost end)
+  runs-on-after : (end : End (List ℕ)) → RunsOn source allotted frame at middle end → RunsOn source allotted frame from memory (after cost end)
   unfolding after plus
   runs-on-after (Go bytes store then) does = (does.0, comes-trans frame cost.turns then.turns from at memory middle comes Exit does.0 does.1, does.2, does.3)
   runs-on-after (Jumps to store then) does = tt
-  runs-on-after (Faults fault then) does = ends-after frame cost.turns then.turns from at memory middle comes (IsFault (error_of fault)) does
+  runs-on-after (Faults fault then) does = breaks-after frame cost.turns then.turns from at memory middle comes source fault does
   runs-on-after Stuck does = tt
   runs-on-after (More then) does = enters-both frame cost.turns then.turns from at memory middle comes does
 
@@ -75,16 +78,16 @@ return-ends frame memory bytes more alone slot =
     ∙ ap (λ o. record { ending = returned o; left = more }) slot
 
 -- so there a run ends as the meaning does
-ends-on-run : (allotted : Cell → Option ℕ) (frame : Frame) (from : Point) (memory : Memory) → frame.below ≡ [] → (end : End (List ℕ)) → RunsOn allotted frame from memory end → EndsOn end (run_from frame memory from)
-ends-on-run allotted frame from memory alone (Go bytes store cost) does =
+ends-on-run : (source : Source) (allotted : Cell → Option ℕ) (frame : Frame) (from : Point) (memory : Memory) → frame.below ≡ [] → (end : End (List ℕ)) → RunsOn source allotted frame from memory end → EndsOn source end (run_from frame memory from)
+ends-on-run source allotted frame from memory alone (Go bytes store cost) does =
     record {
       with_more = λ more. (Returned bytes, refl, does.1.with_more more ∙ return-ends frame does.0 bytes more alone does.3);
       with_fewer = does.1.with_fewer;
     }
-ends-on-run allotted frame from memory alone (Jumps to store cost) does = tt
-ends-on-run allotted frame from memory alone (Faults fault cost) does = does
-ends-on-run allotted frame from memory alone Stuck does = tt
-ends-on-run allotted frame from memory alone (More cost) does = does
+ends-on-run source allotted frame from memory alone (Jumps to store cost) does = tt
+ends-on-run source allotted frame from memory alone (Faults fault cost) does = does
+ends-on-run source allotted frame from memory alone Stuck does = tt
+ends-on-run source allotted frame from memory alone (More cost) does = does
 
 -- where the run is after each jump out of a root: after a `return`, where the body returns; and of the others nothing is said
 abbrev lands-out : Landings
@@ -93,17 +96,17 @@ lands-out (Break node) = Nowhere
 lands-out (Continue node) = Nowhere
 
 -- a cost without blocks before a meaning changes nothing of a run
-ends-on-costed : (cost : Cost) (end : End (List ℕ)) (run : ℕ → Ended) → cost.turns ≡ 0 → EndsOn end run → EndsOn (after cost end) run
+ends-on-costed : (source : Source) (cost : Cost) (end : End (List ℕ)) (run : ℕ → Ended) → cost.turns ≡ 0 → EndsOn source end run → EndsOn source (after cost end) run
 unfolding after plus
-ends-on-costed cost (Go bytes store rest) run free ends =
+ends-on-costed source cost (Go bytes store rest) run free ends =
     let plain : rest.turns ≡ cost.turns + rest.turns = omega arith in
     subst (λ (n : ℕ). EndsAfter n (IsReturned bytes) run) plain ends
-ends-on-costed cost (Jumps to store rest) run free ends = tt
-ends-on-costed cost (Faults fault rest) run free ends =
+ends-on-costed source cost (Jumps to store rest) run free ends = tt
+ends-on-costed source cost (Faults fault rest) run free ends =
     let plain : rest.turns ≡ cost.turns + rest.turns = omega arith in
-    subst (λ (n : ℕ). EndsAfter n (IsFault (error_of fault)) run) plain ends
-ends-on-costed cost Stuck run free ends = tt
-ends-on-costed cost (More rest) run free ends =
+    subst (λ (n : ℕ). BreaksOff source fault n run) plain ends
+ends-on-costed source cost Stuck run free ends = tt
+ends-on-costed source cost (More rest) run free ends =
     let plain : rest.turns ≡ cost.turns + rest.turns = omega arith in
     subst (λ (n : ℕ). Enters n run) plain ends
 
@@ -126,24 +129,25 @@ module _ (source : Source) (program : Program) (memory : Memory) (run : ℕ → 
 
   -- what the run does alone, at the end of the body's meaning
   abbrev Alone : End (List ℕ) → Type 0
-  Alone end = StopsWithin source program (levels_over []) (first_areas program.bytes) (cost_of end) run ⊎ EndsOn (after (run_cost source) end) run
+  Alone end = StopsWithin source program (levels_over []) (first_areas program.bytes) (cost_of end) run ⊎ EndsOn source (after (run_cost source) end) run
 
-  ends-alone : (end : End (List ℕ)) → Covers (entering_cost source) end → StopsWithin source program (levels_over []) memory (cost_of (once_placed source end)) run ⊎ EndsOn (once_placed source end) run → Alone end
+  ends-alone : (end : End (List ℕ)) → Covers (entering_cost source) end → StopsWithin source program (levels_over []) memory (cost_of (once_placed source end)) run ⊎ EndsOn source (once_placed source end) run → Alone end
   unfolding run_cost after
   ends-alone (Go bytes store cost) covers (inl stops) = inl (stops-alone cost covers stops)
-  ends-alone (Go bytes store cost) covers (inr on) = inr (ends-on-costed (run_cost source) (Go bytes store cost) run refl on)
+  ends-alone (Go bytes store cost) covers (inr on) = inr (ends-on-costed source (run_cost source) (Go bytes store cost) run refl on)
   ends-alone (Jumps to store cost) covers either = inr tt
   ends-alone (Faults fault cost) covers (inl stops) = inl (stops-alone cost covers stops)
-  ends-alone (Faults fault cost) covers (inr on) = inr (ends-on-costed (run_cost source) (Faults fault cost) run refl on)
+  ends-alone (Faults fault cost) covers (inr on) = inr (ends-on-costed source (run_cost source) (Faults fault cost) run refl on)
   ends-alone Stuck covers either = inr tt
   ends-alone (More cost) covers (inl stops) = inl (stops-alone cost covers stops)
-  ends-alone (More cost) covers (inr on) = inr (ends-on-costed (run_cost source) (More cost) run refl on)
+  ends-alone (More cost) covers (inr on) = inr (ends-on-costed source (run_cost source) (More cost) run refl on)
 
 -- a body's meaning counts at least what entering it costs
 meaning-covers : (source : Source) (fuel : ℕ) → Covers (entering_cost source) (meaning_from source (zeroed source) fuel)
 unfolding meaning_from
 meaning-covers source fuel =
-    covers-after (entering_cost source) (returned_of source ((level_at source fuel (marking (parameter_cells source) (at_root (record { cell = Slot })))).into (root source) (record { cell = Slot }) (zeroed source)))
+    covers-after (entering_cost source) (where_laid (is_laid_out source)
+    (returned_of source ((level_at source fuel (marking (parameter_cells source) (at_root (record { cell = Slot })))).into (root source) (record { cell = Slot }) (zeroed source))))
 
 -- what leaving the body costs: the parameters' cells are left too
 abbrev pub leaving : Source → ℕ
@@ -161,7 +165,7 @@ module _ (source : Source) (whole : Shape) (frame : Frame) (from at : Point) (me
   runs-cut Stuck stops = inl stops
   runs-cut (More cost) stops = inl stops
 
-  runs-out : (end : End (Unit {0})) → Goes whole lands-out frame from at memory (Nothing whole frame) end →
+  runs-out : (end : End (Unit {0})) → Goes source whole lands-out frame from at memory (Nothing whole frame) end →
       ((middle : Memory) → Comes frame (leaving source) 0 at middle Exit middle) → RunsAs source (local_of whole) frame from memory (returned_of source end)
   runs-out (Go done store cost) does rest =
       inr (runs-on-after source (local_of whole) frame from at memory does.0 cost does.1 (Go (store Slot) store (turns_alone (leaving source))) (does.0, rest does.0, does.2, does.2.shows Slot 0 refl))
@@ -200,6 +204,11 @@ runs-entered : (source : Source) (allotted : Cell → Option ℕ) (frame : Frame
 runs-entered source allotted frame memory block end does =
     subst (RunsAs source allotted frame (Entry block) memory) (sym (placed-after source end))
     (runs-after source allotted frame (Entry block) (start_of block) memory memory (entered source) (enters-block frame memory block) end does)
+
+-- what is evaluated in a body is what it means, but where the types that it needs have no layouts
+runs-laid : (source : Source) (allotted : Cell → Option ℕ) (frame : Frame) (from : Point) (memory : Memory) (end : End (List ℕ)) → IsCheckedBody source.body source.infer → (laid : Bool) → is_laid_out source ≡ laid → RunsAs source allotted frame from memory end → RunsAs source allotted frame from memory (where_laid laid end)
+runs-laid source allotted frame from memory end checked true tested does = does
+runs-laid source allotted frame from memory end checked false tested does = inr (unfit source checked tested)
 
 -- the frame in which a body begins
 pub begun-cells : (program : Program) (body : MirBody) (start : Frame × Memory) → begun program body ≡ Ok start → (all : List Interval × Memory) × (cells_of program.world body.locals (first_areas program.bytes) ≡ Ok all) × ◌≡◌ {A = Frame × Memory} start (record { program = program; body = body; cells = all.0; below = [] }, all.1)
@@ -249,19 +258,20 @@ module _ (source : Source) (s0 s1 s2 : Shape) (span : MirSpan) (begins : here s0
       comes-on frame (leaving source) (here s1) (here s2) Exit memory memory memory comes (comes-return s2 Whole frame span memory idles.«open» (grows-refl Whole) is)
 
   -- the run of a body from its frame on
-  runs-whole : (frame : Frame) (store : Store) (memory : Memory) → IsFrameOf Whole frame → Holds Whole frame store memory → (fuel : ℕ) → Serves fuel source frame.program → RunsAs source (local_of Whole) frame (Entry 0) memory (once_placed source (meaning_from source store fuel))
+  runs-whole : IsCheckedBody source.body source.infer → (frame : Frame) (store : Store) (memory : Memory) → IsFrameOf Whole frame → Holds Whole frame store memory → (fuel : ℕ) → Serves fuel source frame.program → RunsAs source (local_of Whole) frame (Entry 0) memory (once_placed source (meaning_from source store fuel))
   unfolding meaning_from
-  runs-whole frame store memory is holds fuel serves =
+  runs-whole checked frame store memory is holds fuel serves =
       let slot : Path = record { cell = Slot } in
       let around : Around = marking (parameter_cells source) (at_root slot) in
       let evaluates : End (Unit {0}) = (level_at source fuel around).into (root source) slot store in
       let stands : Stands Whole s0 lands-out around =
       record { marks = sym inside; result = refl; returns = refl; targets = subst (λ (targets : List OpenTarget). FrontAll Whole lands-out targets []) (sym outermost) tt } in
-      runs-entered source (local_of Whole) frame memory 0 (returned_of source evaluates)
+      runs-entered source (local_of Whole) frame memory 0 (where_laid (is_laid_out source) (returned_of source evaluates))
+      (runs-laid source (local_of Whole) frame (start_of 0) memory (returned_of source evaluates) checked (is_laid_out source) refl
       (subst (λ (p : Point). RunsAs source (local_of Whole) frame p memory (returned_of source evaluates)) begins
       (runs-returned source Whole frame (here s0) (here s1) memory evaluates
       (into.does.reaches Whole frame first-grows whole-sound is lands-out around stands fuel serves store memory holds)
-      (returns-after frame is)))
+      (returns-after frame is))))
 
   -- what is evaluated has types with layouts, where the locals have
   lays-out : (locals : List Local) → locals ≡ Whole.locals → HasAggregates source.world → IsPlain source → ((l : ℕ) (local : Local) → slice_get locals l ≡ Some local → IsLaidOut source (Some local.ty)) → AreLaidOut source
@@ -276,9 +286,9 @@ module _ (source : Source) (s0 s1 s2 : Shape) (span : MirSpan) (begins : here s0
       }
 
   -- the graph of a body does what the body means
-  pub whole-simulates : (body : MirBody) → AreAligned source.world → root source < length source.body.exprs → body.basic_blocks ≡ Whole.blocks → body.locals ≡ Whole.locals → body.projection_store.projections ≡ Whole.projections → body.start_block.0 ≡ 0 →
+  pub whole-simulates : (body : MirBody) → AreAligned source.world → IsCheckedBody source.body source.infer → body.basic_blocks ≡ Whole.blocks → body.locals ≡ Whole.locals → body.projection_store.projections ≡ Whole.projections → body.start_block.0 ≡ 0 →
       (bound : List ℕ) → parameters source ≡ Some bound → AreLocalsOf (local_of s0) bound body.param_locals → Simulates source body
-  whole-simulates body aligned within blocks locals projections start bound binds told =
+  whole-simulates body aligned checked blocks locals projections start bound binds told =
       let first = slot-there source Whole whole-sound in
       let frame-of : (frame : Frame) → frame.body ≡ body → AreCellsApart frame.cells → IsFrameOf Whole frame = λ frame same apart. record {
         blocks = ap (λ (b : MirBody). b.basic_blocks) same ∙ blocks;
@@ -289,7 +299,7 @@ module _ (source : Source) (s0 s1 s2 : Shape) (span : MirSpan) (begins : here s0
       let does-from : (fuel : ℕ) (store : Store) (frame : Frame) (memory : Memory) → frame.body ≡ body → Serves fuel source frame.program → AreCellsApart frame.cells → Holds Whole frame store memory →
       RunsAs source (local_of Whole) frame (Entry body.start_block.0) memory (once_placed source (meaning_from source store fuel)) =
       λ fuel store frame memory same serves apart holds.
-      subst (λ (n : ℕ). RunsAs source (local_of Whole) frame (Entry n) memory (once_placed source (meaning_from source store fuel))) (sym start) (runs-whole frame store memory (frame-of frame same apart) holds fuel serves) in
+      subst (λ (n : ℕ). RunsAs source (local_of Whole) frame (Entry n) memory (once_placed source (meaning_from source store fuel))) (sym start) (runs-whole checked frame store memory (frame-of frame same apart) holds fuel serves) in
       let all-grow : Grows s0 Whole = grows-trans s0 s1 Whole into.keeps.grows first-grows in
       let cells : (l : ℕ) (local : Local) → slice_get body.locals l ≡ Some local → (cell : Cell) × IsUsed source cell × (cell_type source cell ≡ Some local.ty) × (local_of Whole cell ≡ Some l) =
       λ l local h.
@@ -297,7 +307,7 @@ module _ (source : Source) (s0 s1 s2 : Shape) (span : MirSpan) (begins : here s0
       (at.0, stored-is-used source at.0 at.1, at.3, at.2) in
       let room : sum (map (λ (local : Local). room_of (layout_of source.world local.ty)) body.locals) ≤ body_room source =
       subst (λ (ls : List Local). sum (map (λ (local : Local). room_of (layout_of source.world local.ty)) ls) ≤ body_room source) (sym locals)
-      (fits-room source Whole within whole-sound) in
+      (fits-room source Whole checked.root whole-sound) in
       let counted : AreCounted source body.locals = record { cells = λ l local h. let at = cells l local h in (at.0, at.1, at.2); room = room } in
       record {
         allotted = local_of Whole;
@@ -331,7 +341,7 @@ module _ (source : Source) (s0 s1 s2 : Shape) (span : MirSpan) (begins : here s0
             let does = does-from fuel (zeroed source) frame all.0.1 refl serves placing.apart (starts-zeroed source Whole frame before all.0.1 whole-sound placing') in
             subst (λ (b : Frame × Memory). EndsAs source program fuel (λ budget. entering budget b.0 b.1 body.start_block.0)) (sym all.2)
             (ends-alone source program all.0.1 run grown end (meaning-covers source fuel)
-            (⊎_elim inl (λ on. inr (ends-on-run (local_of Whole) frame (Entry body.start_block.0) all.0.1 refl (once_placed source end) on)) does));
+            (⊎_elim inl (λ on. inr (ends-on-run source (local_of Whole) frame (Entry body.start_block.0) all.0.1 refl (once_placed source end) on)) does));
       }
 
   -- the locals that there were at first come first

@@ -20,7 +20,7 @@ use Rattle.mir_lower.specs.Graph.{Shape, OpenTarget, elements_in, local_of}
 use Rattle.mir_lower.specs.Growth.{Grows, IsSound, count_at}
 use Rattle.mir_lower.specs.Callees.{Serves}
 use Rattle.mir_lower.specs.Stops.{StopsFrom}
-use Rattle.mir_lower.specs.Runs.{Point, Within, Entry, Exit, run_from, Enters, IsFault, EndsAfter, error_of, AreCellsApart, Comes, Represents}
+use Rattle.mir_lower.specs.Runs.{Point, Within, Entry, Exit, run_from, Enters, BreaksOff, AreCellsApart, Comes, Represents}
 
 -- the point behind the last statement of the current block
 abbrev pub here : Shape → Point
@@ -55,17 +55,17 @@ Lands whole frame from memory store cost (AtPoint point) = (later : Memory) × C
 -- From a point the run does what an end says, over exactly as many blocks as that counts, and over cells of no more bytes: it reaches another
 -- point with a memory that holds the store, and the claim on the value holds; or it reaches where a jump lands; or it ends. Where the fuel
 -- ran out, the run enters as many blocks as were counted up to there.
-abbrev pub Goes : {A : Type 0} → Shape → Landings → Frame → Point → Point → Memory → (A → Type 0) → End A → Type 0
-Goes whole lands frame from to memory claim (Go value store cost) =
+abbrev pub Goes : {A : Type 0} → Source → Shape → Landings → Frame → Point → Point → Memory → (A → Type 0) → End A → Type 0
+Goes source whole lands frame from to memory claim (Go value store cost) =
     (later : Memory) × Comes frame cost.turns cost.bytes from memory to later × Holds whole frame store later × claim value
-Goes whole lands frame from to memory claim (Jumps jump store cost) = Lands whole frame from memory store cost (lands jump)
-Goes whole lands frame from to memory claim (Faults fault cost) = EndsAfter cost.turns (IsFault (error_of fault)) (run_from frame memory from)
-Goes whole lands frame from to memory claim Stuck = Unit {0}
-Goes whole lands frame from to memory claim (More cost) = Enters cost.turns (run_from frame memory from)
+Goes source whole lands frame from to memory claim (Jumps jump store cost) = Lands whole frame from memory store cost (lands jump)
+Goes source whole lands frame from to memory claim (Faults fault cost) = BreaksOff source fault cost.turns (run_from frame memory from)
+Goes source whole lands frame from to memory claim Stuck = Unit {0}
+Goes source whole lands frame from to memory claim (More cost) = Enters cost.turns (run_from frame memory from)
 
 -- the run does so, or it stops at a call, within what the end counts
 abbrev pub Reaches : {A : Type 0} → Source → Shape → Landings → Frame → Point → Point → Memory → (A → Type 0) → End A → Type 0
-Reaches source whole lands frame from to memory claim end = StopsFrom source frame from memory (cost_of end) ⊎ Goes whole lands frame from to memory claim end
+Reaches source whole lands frame from to memory claim end = StopsFrom source frame from memory (cost_of end) ⊎ Goes source whole lands frame from to memory claim end
 
 -- A loop or a labelled block of the meaning is one of the graph: its value goes to the cell of the graph's local, as many cells
 -- were in use when it was entered, and jumps to it land before the graph's blocks.

@@ -7,8 +7,10 @@ use Rattle.mir.specs.declared.address.Interval.{Interval}
 use Rattle.mir.specs.Areas.{AreApart, taken}
 use Rattle.mir.specs.Memory.{Memory, cell_bytes}
 use Rattle.mir.specs.Run.{Frame, Ending, Returned, Faulted, Ended, out_of_blocks, after_return, entering, going_on, running}
-use Rattle.source_meaning.specs.Ends.{Fault, Panic, Undefined}
-use Rattle.source_meaning.specs.Source.{Cell, Store}
+use Rattle.source_meaning.specs.Aggregates.{HasAggregates}
+use Rattle.source_meaning.specs.Ends.{Fault, Panic, Undefined, NoLayout}
+use Rattle.source_meaning.specs.Source.{Source, Cell, Store}
+use Rattle.source_meaning.specs.Valid.{IsPlainThroughout, AreLaidOut}
 
 -- A point of a run: in a block that it entered, before a statement or before the terminator; before it enters a block; or at a `Return`
 -- terminator, before control goes back to the caller or the run ends.
@@ -49,10 +51,18 @@ pub record EndsAfter (turns : ℕ) (ends : Ending → Type 0) (run : ℕ → End
   pub with_more : (more : ℕ) → (ending : Ending) × ends ending × (run (turns + more) ≡ record { ending = ending; left = more })
   pub with_fewer : Enters turns run
 
--- the error in which a run ends where the meaning ends in a fault
-abbrev pub error_of : Fault → MirEvalError
-error_of (Panic word) = error.Panic word
-error_of (Undefined text) = error.UndefinedBehavior text
+-- the types that a source needs have layouts, it is plain, as are all that it reaches by calls, and tuples and arrays have room for their parts
+pub record IsFit (source : Source) : Type 0 where
+  pub plain : IsPlainThroughout source
+  pub laid_out : AreLaidOut source
+  pub parts : HasAggregates source.world
+
+-- A run breaks off as a fault of the meaning says, over exactly so many blocks. That a body can't be entered for want of a layout is never the end
+-- of a run that went so far, where the source is fit: the run stops at the call then.
+abbrev pub BreaksOff : Source → Fault → (turns : ℕ) → (ℕ → Ended) → Type 0
+BreaksOff source (Panic word) turns run = EndsAfter turns (IsFault (error.Panic word)) run
+BreaksOff source (Undefined text) turns run = EndsAfter turns (IsFault (error.UndefinedBehavior text)) run
+BreaksOff source NoLayout turns run = ¬ IsFit source
 
 -- the bytes of a local
 unfoldable pub local_bytes : Frame → Memory → ℕ → Option (List ℕ)

@@ -6,34 +6,32 @@ use Rattle.mir.specs.declared.body.MirBody.{MirBody}
 use Rattle.mir.specs.Memory.{Memory}
 use Rattle.mir.specs.Areas.{first_areas}
 use Rattle.mir.specs.Run.{Program, Frame, Ended, entering, begun, levels_over}
-use Rattle.source_meaning.specs.Aggregates.{HasAggregates}
 use Rattle.source_meaning.specs.Ends.{cost_of, End, Go, Jumps, Faults, Stuck, More}
 use Rattle.source_meaning.specs.Entering.{body_room, room_of}
 use Rattle.source_meaning.specs.Meaning.{meaning_from, meaning_of}
 use Rattle.source_meaning.specs.Source.{Source, Cell, Result, Binding, Store, binding_type, cell_type, node_type, root, zeroed}
-use Rattle.source_meaning.specs.Valid.{IsPlain, IsLaidOut, AreLaidOut}
 use Rattle.world.specs.Lookups.{layout_of}
-use Rattle.mir_lower.specs.Callees.{HasParameters, RunsAs, Serves, once_placed}
+use Rattle.mir_lower.specs.Callees.{HasParameters, LaidByLocals, RunsAs, Serves, once_placed}
 use Rattle.mir_lower.specs.Growth.{IsUsed}
-use Rattle.mir_lower.specs.Runs.{Entry, Enters, IsReturned, IsFault, EndsAfter, error_of, AreCellsApart, Represents}
+use Rattle.mir_lower.specs.Runs.{Entry, Enters, IsReturned, EndsAfter, BreaksOff, AreCellsApart, Represents}
 use Rattle.mir_lower.specs.Stops.{StopsWithin}
 
 -- A run ends as the meaning does, after exactly as many blocks as that counts. Where the fuel of the meaning ran out, the run
 -- enters as many blocks as were counted up to there. Of the calls that are open at a fault, or when the blocks run out, nothing is
 -- said. Of a meaning that ends in a jump nothing is said: that of a plain body doesn't.
-abbrev pub EndsOn : End (List ℕ) → (ℕ → Ended) → Type 0
-EndsOn (Go bytes store cost) run = EndsAfter cost.turns (IsReturned bytes) run
-EndsOn (Jumps to store cost) run = Unit {0}
-EndsOn (Faults fault cost) run = EndsAfter cost.turns (IsFault (error_of fault)) run
-EndsOn Stuck run = Unit {0}
-EndsOn (More cost) run = Enters cost.turns run
+abbrev pub EndsOn : Source → End (List ℕ) → (ℕ → Ended) → Type 0
+EndsOn source (Go bytes store cost) run = EndsAfter cost.turns (IsReturned bytes) run
+EndsOn source (Jumps to store cost) run = Unit {0}
+EndsOn source (Faults fault cost) run = BreaksOff source fault cost.turns run
+EndsOn source Stuck run = Unit {0}
+EndsOn source (More cost) run = Enters cost.turns run
 
 -- The run of a body that none called ends as the body's meaning at some amount of fuel, or it stops at a call, within what that counts without the
 -- levels of its value.
 abbrev pub EndsAs : Source → Program → (fuel : ℕ) → (ℕ → Ended) → Type 0
 EndsAs source program fuel run =
     StopsWithin source program (levels_over []) (first_areas program.bytes) (cost_of (meaning_from source (zeroed source) fuel)) run
-    ⊎ EndsOn (meaning_of source fuel) run
+    ⊎ EndsOn source (meaning_of source fuel) run
 
 -- A MIR body does what a typed body means. A cell is where the source keeps a value: the result, a variable, a temporary of an expression;
 -- a store gives each cell's bytes. `allotted` says which local stands for a cell, if any does: the return slot for the result, one for each
@@ -56,6 +54,6 @@ pub record Simulates (source : Source) (body : MirBody) : Type 0 where
   pub slot : (local : Local) × (slice_get body.locals 0 ≡ Some local) × (node_type source (root source) ≡ Some local.ty)
   pub cells : (l : ℕ) (local : Local) → slice_get body.locals l ≡ Some local → (cell : Cell) × IsUsed source cell × (cell_type source cell ≡ Some local.ty) × (allotted cell ≡ Some l)
   pub room : sum (map (λ local. room_of (layout_of source.world local.ty)) body.locals) ≤ body_room source
-  pub laid_out : HasAggregates source.world → IsPlain source → ((l : ℕ) (local : Local) → slice_get body.locals l ≡ Some local → IsLaidOut source (Some local.ty)) → AreLaidOut source
+  pub laid_out : LaidByLocals source body
   pub runs : (fuel : ℕ) (program : Program) (start : Frame × Memory) → Serves fuel source program → begun program body ≡ Ok start →
       EndsAs source program fuel (λ budget. entering budget start.0 start.1 body.start_block.0)

@@ -1,5 +1,5 @@
 -- Runs that stop at a call, since its callee isn't entered.
-use Rattle.std.specs.Prelude.{◌≡◌, ℕ, suc, ◌+◌, ◌<◌, ◌≤◌, ◌⊎◌, false, List, [], Option, Some, None}
+use Rattle.std.specs.Prelude.{◌≡◌, ℕ, suc, ◌+◌, ◌<◌, ◌≤◌, ◌⊎◌, true, false, List, [], Option, Some, None}
 use Rattle.types.specs.declared.ids.FunctionId.{FunctionId}
 use Rattle.types.specs.declared.ty.GenericArgs.{GenericArgs}
 use Rattle.types.specs.declared.ty.Ty.{Ty}
@@ -15,9 +15,10 @@ use Rattle.mir.specs.declared.errors.MirEvalError as error
 use Rattle.mir.specs.Errors.{layout_error_of}
 use Rattle.mir.specs.Memory.{Memory}
 use Rattle.mir.specs.Run.{Program, Frame, Ending, Returned, Faulted, Asked, Ended, body_query, callee_error, levels_over}
-use Rattle.source_meaning.specs.Calls.{function_called}
+use Rattle.source_meaning.specs.Calls.{function_called, source_of}
 use Rattle.source_meaning.specs.Core as expr
 use Rattle.source_meaning.specs.Ends.{Cost}
+use Rattle.source_meaning.specs.Entering.{is_cost_defined}
 use Rattle.source_meaning.specs.Source.{Source, Cell, cell_type, node, root}
 use Rattle.source_meaning.specs.Valid.{Evaluates, Reaches}
 use Rattle.mir_lower.specs.Growth.{IsUsed}
@@ -48,13 +49,15 @@ pub record IsAsked (source : Source) (q : Query) : Type 0 where
   pub call : ReachesCall source id
   pub is : q ≡ body_query (without_arguments id)
 
--- the error of a call in what a source reaches, where the run was told why the callee's body can't be got
-pub record WasRefused (source : Source) (program : Program) (e : MirEvalError) : Type 0 where
+-- The error of a call in what a source reaches, where the run was told why the callee's body can't be got. A cost that is counted up to the call
+-- isn't defined where that of entering the callee isn't.
+pub record WasRefused (source : Source) (program : Program) (cost : Cost) (e : MirEvalError) : Type 0 where
   pub id : FunctionId
   pub call : ReachesCall source id
   pub refusal : ConstEvalError
   pub told : answer_to program.answers (body_query (without_arguments id)) ≡ Some (told.Failed refusal)
   pub is : e ≡ callee_error id refusal
+  pub counted : (called : Source) → source_of source.world id ≡ Some called → cost.defined ≡ true → is_cost_defined called ≡ true
 
 -- the type of a cell that the evaluation of a source may use: of the result, of a binding that no closure owns, or of an expression that is
 -- evaluated, before or after its adjustment
@@ -87,7 +90,7 @@ LacksRoom source program levels memory cost _ = ⊥
 -- a run ended at a call: it asks for the callee's body, or the callee can't be entered, or isn't
 abbrev pub IsCut : Source → Program → (levels : ℕ) → Memory → Cost → Ending → Type 0
 IsCut source program levels memory cost (Returned bytes) = ⊥
-IsCut source program levels memory cost (Faulted e trail) = WasRefused source program e ⊎ LacksRoom source program levels memory cost e
+IsCut source program levels memory cost (Faulted e trail) = WasRefused source program cost e ⊎ LacksRoom source program levels memory cost e
 IsCut source program levels memory cost (Asked q frame then call) = IsAsked source q
 
 -- a source evaluates a call

@@ -94,7 +94,7 @@ returns c =
     let told : AreLocalsOf (local_of s1) params.bound body.param_locals = subst (λ (ls : List LocalId). AreLocalsOf (local_of s1) params.bound ls) (sym c.into_body.ensures.params) params.told in
     let front = whole-front source s1 s2 s3 span begins begun.scope begun.targets into left body.locals locals in
     record {
-      simulates = whole-simulates source s1 s2 s3 span begins begun.scope begun.targets into left body (are-aligned source.world c.requires.world) c.requires.checked.root
+      simulates = whole-simulates source s1 s2 s3 span begins begun.scope begun.targets into left body (are-aligned source.world c.requires.world) c.requires.checked
           (c.into_body.ensures.blocks ∙ ap (λ (s : Shape). s.blocks) c.set_terminator.ensures) locals (c.into_body.ensures.projections ∙ ap (λ (s : Shape). s.projections) c.set_terminator.ensures) c.into_body.ensures.start params.bound params.binds told;
       order = record { temporaries = front.0; order = front.1 ∙ ap (λ (ls : List Local). ls ++ front.0) begun.locals };
       owner = c.into_body.ensures.owner;
