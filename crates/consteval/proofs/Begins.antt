@@ -1,5 +1,5 @@
 -- When a run of a lowered body can begin.
-use Rattle.std.proofs.Common.{◌≡◌, ℕ, zero, suc, ◌-◌, ◌<◌, ◌≤◌, ◌⊎◌, ⊎_elim, inl, inr, Bool, true, false, cond, List, [], ◌∷◌, Option, Some, None, Result, Ok, Err, refl, sym, ap, ◌∙◌, subst, arith}
+use Rattle.std.proofs.Common.{◌≡◌, ℕ, suc, ◌-◌, ◌<◌, ◌≤◌, ◌⊎◌, ⊎_elim, inl, inr, Bool, true, false, cond, List, [], ◌∷◌, Option, Some, None, Result, Ok, Err, refl, sym, ap, ◌∙◌, subst, arith}
 use Rattle.std.specs.Prelude.{slice_get, option_and_then, codes, nat_le}
 use borrow.Author.Tests.{le-leb, leb-false}
 use Rattle.world.specs.declared.database.HirDatabase.{HirDatabase}
@@ -20,41 +20,16 @@ use Rattle.mir.specs.Memory.{Memory, cell_size_of, cells_of, pushed, size_before
 use Rattle.mir.specs.Run.{Program, Frame, begun}
 use Rattle.mir_lower.specs.Simulates.{Simulates}
 use Rattle.mir_lower.specs.Stops.{IsCellType, LacksLayout, LacksSize}
-use Rattle.mir_lower.proofs.Placing.{first-ok}
+use Rattle.mir_lower.proofs.Fitting.{cells-sizes, sizes-found}
 use Rattle.mir_lower.proofs.Whole.{begun-cells}
 use Rattle.source_meaning.specs.Aggregates.{HasAggregates}
 use Rattle.source_meaning.specs.Entering.{entering}
 use Rattle.source_meaning.specs.Source.{Source, Cell, Result as Slot, Node, Binding, Never, cell_type, diverges, own_type, node_type, root}
 use Rattle.mir_lower.specs.Growth.{IsUsed}
 use Rattle.consteval.specs.Answers.{EndsEvaluation, PassesBytesAtOnce}
-use Rattle.mir_lower.proofs.Taking.{before-sizes}
 use Rattle.consteval.proofs.Bytes.{taken-within}
 use Rattle.consteval.proofs.Faults.{NeverRunsFor, never-without-layout, never-without-room, never-without-size, overfull, without-layout, without-size}
 use Rattle.source_meaning.specs.Valid.{itself, IsPlain, AreLaidOut, HasSizedLayout, HasDefinedCost}
-
--- a local that has a cell has a layout
-size-found : (ty : Ty) (found : Option Layout) (size : CellSize) → cell_size_of ty found ≡ Ok size → (layout : Layout) × (found ≡ Some layout)
-unfolding cell_size_of
-size-found ty None size h = absurd cc
-size-found ty (Some layout) size h = (layout, refl)
-
-sizes-found : (world : HirDatabase) (locals : List Local) (sizes : List CellSize) → sizes_of world locals ≡ Ok sizes → (l : ℕ) (local : Local) → slice_get locals l ≡ Some local → (layout : Layout) × (layout_of world local.ty ≡ Some layout)
-unfolding sizes_of
-sizes-found world [] sizes h l local there = absurd cc
-sizes-found world (first ∷ locals) sizes h zero local there =
-    let one = first-ok (cell_size_of first.ty (layout_of world first.ty)) (λ size. size_before size (sizes_of world locals)) sizes h in
-    let same : first ≡ local = cc in
-    subst (λ (x : Local). (layout : Layout) × (layout_of world x.ty ≡ Some layout)) same (size-found first.ty (layout_of world first.ty) one.0 one.1)
-sizes-found world (first ∷ locals) sizes h (suc l) local there =
-    let one = first-ok (cell_size_of first.ty (layout_of world first.ty)) (λ size. size_before size (sizes_of world locals)) sizes h in
-    let others = before-sizes one.0 (sizes_of world locals) sizes one.2 in
-    sizes-found world locals others.0 others.1 l local there
-
-cells-sizes : (world : HirDatabase) (locals : List Local) (memory : Memory) (all : List Interval × Memory) → cells_of world locals memory ≡ Ok all → (sizes : List CellSize) × (sizes_of world locals ≡ Ok sizes)
-unfolding cells_of
-cells-sizes world locals memory all h =
-    let first = first-ok (sizes_of world locals) (λ sizes. pushed (after_push memory sizes)) all h in
-    (first.0, first.1)
 
 -- the types of a plain body that began have layouts
 pub has-layouts : (source : Source) (program : Program) (body : MirBody) (start : Frame × Memory) → program.world ≡ source.world → Simulates source body → begun program body ≡ Ok start → HasAggregates source.world → IsPlain source → AreLaidOut source

@@ -1,14 +1,14 @@
--- The body of a function that is called in what a valid definition reaches can be lowered, so a run isn't told that it can't.
-use Rattle.std.proofs.Common.{◌≡◌, ℕ, ◌⊎◌, ⊎_elim, inl, inr, Bool, true, false, cond, List, [], ◌∷◌, Option, Some, None, refl, sym, ap, ◌∙◌, subst}
-use Rattle.std.specs.Prelude.{Contains, flat_map, not, option_map}
-use Rattle.std.proofs.lemmas.List.Elements.{Contains-append_left, Contains-append_right, Contains-append_cases}
+-- The body of a function that is called in what a valid definition reaches is refused for a number literal alone whose type has no layout. So where
+-- a run is told that it can't be lowered, the cost that is counted up to the call isn't defined.
+use Rattle.std.proofs.Common.{◌≡◌, ℕ, ◌⊎◌, ⊎_elim, inl, inr, Bool, true, false, List, [], Option, Some, None, refl, sym, ap, ◌∙◌, subst}
+use Rattle.std.specs.Prelude.{not, option_map}
 use Rattle.types.specs.declared.ids.DefWithBodyId.{DefWithBodyId}
 use Rattle.types.specs.declared.ids.DefWithBodyId.TheVariants.{FunctionId as FunctionBody}
 use Rattle.types.specs.declared.ids.FunctionId.{FunctionId}
 use Rattle.types.specs.declared.ids.GenericParamId.{GenericParamId}
 use Rattle.types.specs.declared.ty.GenericArgs.{GenericArgs}
 use Rattle.types.specs.declared.ty.Ty.{Ty}
-use Rattle.world.specs.Checked.{IsChecked}
+use Rattle.world.specs.Checked.{IsChecked, IsCheckedBody}
 use Rattle.world.specs.declared.database.BodyRow.{BodyRow}
 use Rattle.world.specs.declared.database.HirDatabase.{HirDatabase}
 use Rattle.world.specs.declared.limits.Limits.{Limits}
@@ -19,96 +19,35 @@ use Rattle.mir.specs.declared.answers.Query.{Query}
 use Rattle.mir.specs.declared.errors.ConstEvalError.{ConstEvalError}
 use Rattle.mir.specs.declared.errors.ConstEvalError.TheVariants as constant
 use Rattle.mir.specs.declared.errors.MirEvalError.{MirEvalError}
+use Rattle.mir.specs.declared.errors.MirEvalError as error
 use Rattle.mir.specs.declared.errors.MirLowerError.{MirLowerError}
 use Rattle.mir.specs.declared.errors.MirLowerError.TheVariants as refusal
-use Rattle.mir.specs.Run.{body_query}
-use Rattle.body_forms.specs.Refusals.{IsNumber}
+use Rattle.mir.specs.Run.{body_query, callee_error}
 use Rattle.mir_lower.specs.Refusals.{HasDrops, RefusesParameters}
 use Rattle.mir_lower.specs.Stops.{MakesCall, WasRefused, without_arguments}
-use Rattle.source_meaning.proofs.Calls.{called_by_name, called_world}
+use Rattle.source_meaning.proofs.Calls.{called_by_name, called_is_checked}
+use Rattle.mir_lower.proofs.Stopping.{reached-world}
+use Rattle.source_meaning.proofs.Defined.{cost_is_defined}
 use Rattle.source_meaning.specs.Calls.{source_at, source_of as function_source}
-use Rattle.source_meaning.specs.Core as expr
-use Rattle.source_meaning.specs.Core.{CoreExpr, Number, Character, is_truth}
-use Rattle.source_meaning.specs.Source.{Source, diverges, node, unadjusted}
-use Rattle.source_meaning.specs.Steps.{Step, steps_of, step_part, parts_of}
-use Rattle.source_meaning.specs.Steps as step
-use Rattle.source_meaning.specs.Valid.{Evaluates, itself, part, NeedsLayout, own, inside, sized_part, sized_parts, HasPlainForm, IsPlain, IsPlainCall, AreLaidOut, Calls, Reaches, at_once, through}
+use Rattle.source_meaning.specs.Core.{CoreExpr}
+use Rattle.source_meaning.specs.Ends.{Cost}
+use Rattle.source_meaning.specs.Entering.{is_cost_defined}
+use Rattle.source_meaning.specs.Source.{Source}
+use Rattle.source_meaning.specs.Valid.{HasPlainForm, IsPlain, IsPlainCall, Calls, Reaches, at_once, through}
 use Rattle.consteval.specs.Answers.{EndsLowering}
 use Rattle.consteval.specs.Built.{is_empty, is_generic_function, no_args}
 use Rattle.consteval.specs.Kept.{AreRightAnswers, IsRightAnswer, Kept, program_of}
 use Rattle.consteval.specs.Refusals.{RefusesBody}
 use Rattle.consteval.specs.Sources.{source_of}
 use Rattle.consteval.specs.Valid.{IsFitBody, IsValid}
-use Rattle.consteval.proofs.Parameters.{only-element, nothing-within, refuses-no-parameters}
-use Rattle.consteval.proofs.Refused.{CanBeLowered, refuses-literal}
-
--- what a step evaluates is a truth value, or needs a layout where the whole does
-step-needs : (source : Source) (one : Step) (child : ℕ) → Contains (step_part one) child → (is_truth (unadjusted source child) ≡ true) ⊎ Contains (sized_part source one) child
-step-needs source (step.Operand e) child within = by (is_truth (unadjusted source e)) refl where
-  by : (test : Bool) → is_truth (unadjusted source e) ≡ test → (is_truth (unadjusted source child) ≡ true) ⊎ Contains (cond (is_truth (unadjusted source e)) [] (e ∷ [])) child
-  by true truth = inl (subst (λ (x : ℕ). is_truth (unadjusted source x) ≡ true) (only-element e child within) truth)
-  by false truth = inr (subst (λ (test : Bool). Contains (cond test [] (e ∷ [])) child) (sym truth) within)
-step-needs source (step.Place e) child within = inr within
-step-needs source (step.Into e) child within = inr within
-step-needs source (step.Bind pat) child within = absurd (nothing-within child within)
-step-needs source step.Open child within = absurd (nothing-within child within)
-step-needs source step.Close child within = absurd (nothing-within child within)
-
--- so is a part of a form's steps
-steps-need : (source : Source) (steps : List Step) (child : ℕ) → Contains (flat_map step_part steps) child → (is_truth (unadjusted source child) ≡ true) ⊎ Contains (flat_map (sized_part source) steps) child
-steps-need source [] child within = absurd (nothing-within child within)
-steps-need source (first ∷ rest) child within =
-    ⊎_elim (λ here. ⊎_elim inl (λ sized. inr (Contains-append_left (sized_part source first) (flat_map (sized_part source) rest) child sized)) (step-needs source first child here))
-    (λ there. ⊎_elim inl (λ sized. inr (Contains-append_right (sized_part source first) (flat_map (sized_part source) rest) child sized)) (steps-need source rest child there))
-    (Contains-append_cases (step_part first) (flat_map step_part rest) child within)
-
--- and of a form
-parts-need : (source : Source) (form : Option CoreExpr) (child : ℕ) → Contains (parts_of form) child → (is_truth (unadjusted source child) ≡ true) ⊎ Contains (sized_parts source form) child
-parts-need source (Some form) child within = steps-need source (steps_of form) child within
-parts-need source None child within = absurd (nothing-within child within)
-
--- a truth value is no number
-truth-is-no-number : (adjusted : Bool) (form : Option CoreExpr) → is_truth (cond adjusted None form) ≡ true → IsNumber form → ⊥
-truth-is-no-number true form truth number = cc
-truth-is-no-number false (Some (expr.Literal (Number n))) truth number = cc
-truth-is-no-number false (Some (expr.Literal (Character code))) truth number = cc
-truth-is-no-number false _ truth number = number
-
--- and has no parts
-truth-has-no-parts : (adjusted : Bool) (form : Option CoreExpr) (child : ℕ) → is_truth (cond adjusted None form) ≡ true → Contains (parts_of form) child → ⊥
-truth-has-no-parts true form child truth within = cc
-truth-has-no-parts false (Some (expr.Literal given)) child truth within = nothing-within child within
-truth-has-no-parts false _ child truth within = cc
-
--- so no number is evaluated within a truth value
-no-number-in-truth : (source : Source) {e f : ℕ} → is_truth (unadjusted source e) ≡ true → Evaluates source e f → IsNumber (node source f) → ⊥
-no-number-in-truth source truth (itself {e = e}) number = truth-is-no-number (diverges source e) (node source e) truth number
-no-number-in-truth source truth (part {e = e} {child = child} within rest) number = truth-has-no-parts (diverges source e) (node source e) child truth within
-
--- a number literal that is evaluated needs a layout
-number-needs : (source : Source) {e f : ℕ} → Evaluates source e f → IsNumber (node source f) → NeedsLayout source e f
-number-needs source itself number = own
-number-needs source (part {e = e} {child = child} within rest) number =
-    ⊎_elim (λ truth. absurd (no-number-in-truth source truth rest number)) (λ sized. inside sized (number-needs source rest number)) (parts-need source (node source e) child within)
-
--- so where types have layouts, no number literal lacks one
-laid-is-lowered : (source : Source) (e : MirLowerError) → AreLaidOut source → EndsLowering source e → ⊥
-laid-is-lowered source (refusal.LayoutError layout_error) laid ends =
-    let is = ends.2.1 in
-    let node_laid = laid.nodes ends.0 (number-needs source ends.1 ends.2.0) in
-    let there = node_laid.of_itself.found in
-    cc
-laid-is-lowered source _ laid ends = ends
+use Rattle.consteval.proofs.Cuts.{IsUnlowered}
+use Rattle.consteval.proofs.Parameters.{refuses-no-parameters}
+use Rattle.consteval.proofs.Refused.{CanBeLowered, refuses-literal, sized-is-lowered}
 
 -- what is called in what a source reaches is reached through one of the source's own calls
 reached-through : {source caller : Source} → Reaches source caller → (called : Source) → Calls caller called → (first : Source) × Calls source first × Reaches first called
 reached-through at_once called calls = (called, calls, at_once)
 reached-through (through {called = first} before on) called calls = let rest = reached-through on called calls in (first, before, through rest.1 rest.2)
-
--- what is reached stands in the source's world
-reached-world : {source reached : Source} → Reaches source reached → reached.world ≡ source.world
-reached-world at_once = refl
-reached-world (through {source = source} {called = called} calls on) = reached-world on ∙ called_world source calls.e calls.callee called calls.enters
 
 -- the source of a function is a row of its definition
 row-of : (world : HirDatabase) (found : Option BodyRow) (called : Source) → option_map (source_at world) found ≡ Some called → (row : BodyRow) × (found ≡ Some row) × (source_at world row ≡ called)
@@ -140,17 +79,25 @@ module _ (caller : Source) (e : ℕ) (callee : Option ℕ) (args : List ℕ) (ty
         parameters = λ cause. subst (λ (s : Source). RefusesParameters s cause → cause ≡ refusal.NoMemory) (sym same) (refuses-no-parameters call.called call.bound call.row.sig.params cause call.binds call.parameters_have);
       }
 
-  -- is refused for want of memory alone
-  called-is-lowered : (cause : MirLowerError) → IsChecked caller.world → RefusesBody caller.world (FunctionBody call.id) no_args cause → cause ≡ refusal.NoMemory
-  called-is-lowered cause checked refuses =
+  -- is refused for want of memory, or for a number literal whose type has no layout
+  called-refusal : (cause : MirLowerError) → IsChecked caller.world → RefusesBody caller.world (FunctionBody call.id) no_args cause → (cause ≡ refusal.NoMemory) ⊎ EndsLowering call.called cause
+  called-refusal cause checked refuses =
       let row = function-row caller.world call.id call.called call.has_body in
-      ⊎_elim (λ none. none) (λ ends. absurd (laid-is-lowered call.called cause fit.laid_out (subst (λ (s : Source). EndsLowering s cause) row.2 ends)))
+      ⊎_elim inl (λ ends. inr (subst (λ (s : Source). EndsLowering s cause) row.2 ends))
       (refuses-literal caller.world (FunctionBody call.id) no_args row.0 (called-can row.0 row.1 row.2) cause checked refuses)
 
+-- a cost isn't defined that is so only where that of entering a checked body is, if the body has a number literal whose type has no layout
+undefined-for : (called : Source) (cause : MirLowerError) (cost : Cost) → IsCheckedBody called.body called.infer → EndsLowering called cause → (cost.defined ≡ true → is_cost_defined called ≡ true) → cost.defined ≡ false
+undefined-for called cause cost checked ends counted = by cost.defined refl where
+  by : (b : Bool) → cost.defined ≡ b → b ≡ false
+  by true is = absurd (sized-is-lowered called cause ((cost_is_defined called checked).0 (counted is)) ends)
+  by false is = refl
+
 module _ (world : HirDatabase) (checked : IsChecked world) (def : DefWithBodyId) (args : GenericArgs) (row : BodyRow) (valid : IsValid world def args row) where
-  -- so is that of a function that is called in what a valid definition reaches
-  reached-is-lowered : (caller : Source) (id : FunctionId) (e : MirLowerError) → Reaches (source_of world row) caller → MakesCall caller id → RefusesBody world (FunctionBody id) no_args e → e ≡ refusal.NoMemory
-  reached-is-lowered caller id e reached makes refuses =
+  -- the body of a function that is called in what a valid definition reaches is refused for one of the two
+  reached-refusal : (caller : Source) (id : FunctionId) (e : MirLowerError) → Reaches (source_of world row) caller → MakesCall caller id → RefusesBody world (FunctionBody id) no_args e →
+      (e ≡ refusal.NoMemory) ⊎ ((called : Source) × (function_source world id ≡ Some called) × IsCheckedBody called.body called.infer × EndsLowering called e)
+  reached-refusal caller id e reached makes refuses =
       let caller_plain = valid.plain.each caller reached in
       let stands = caller_plain.nodes makes.e makes.evaluated in
       let call : IsPlainCall caller makes.e makes.callee makes.args stands.ty = subst (λ (form : Option CoreExpr). HasPlainForm caller makes.e form stands.ty) makes.is_call stands.form in
@@ -158,13 +105,34 @@ module _ (world : HirDatabase) (checked : IsChecked world) (def : DefWithBodyId)
       record { e = makes.e; evaluated = makes.evaluated; callee = makes.callee; args = makes.args; is_call = makes.is_call; enters = called_by_name caller makes.e makes.callee call.id call.called call.names call.has_body } in
       let from = reached-through reached call.called calls in
       let in_world : world ≡ caller.world = sym (reached-world reached) in
+      let checked_there = subst IsChecked in_world checked in
       let same : id ≡ call.id = same-function id call.id (sym makes.names ∙ call.names) in
-      called-is-lowered caller makes.e makes.callee makes.args stands.ty call (valid.called from.0 call.called from.1 from.2) (valid.plain.each call.called (through from.1 from.2)) e (subst IsChecked in_world checked)
-      (subst (λ (called : FunctionId). RefusesBody caller.world (FunctionBody called) no_args e) same (subst (λ (w : HirDatabase). RefusesBody w (FunctionBody id) no_args e) in_world refuses))
+      ⊎_elim inl
+      (λ ends. inr (
+        call.called,
+        ap (λ (w : HirDatabase). function_source w id) in_world ∙ ap (function_source caller.world) same ∙ call.has_body,
+        called_is_checked caller makes.e makes.callee call.called checked_there calls.enters,
+        ends,
+      ))
+      (called-refusal caller makes.e makes.callee makes.args stands.ty call (valid.called from.0 call.called from.1 from.2) (valid.plain.each call.called (through from.1 from.2)) e checked_there
+      (subst (λ (called : FunctionId). RefusesBody caller.world (FunctionBody called) no_args e) same (subst (λ (w : HirDatabase). RefusesBody w (FunctionBody id) no_args e) in_world refuses)))
 
-  -- right answers refuse none of these
-  pub none-refused : (kept : Kept) → kept.world ≡ world → (limits : Limits) (answers : List (Query × Answer)) → AreRightAnswers kept answers → (e : MirEvalError) → WasRefused (source_of world row) (program_of kept.world limits answers) e → ⊥
-  none-refused kept same limits answers right e was = by was.refusal (right.each (body_query (without_arguments was.id)) (told.Failed was.refusal) was.told) where
-    by : (given : ConstEvalError) → IsRightAnswer kept (body_query (without_arguments was.id)) (told.Failed given) → ⊥
-    by (constant.MirLowerError cause) is = is.0 (reached-is-lowered was.call.caller was.id cause was.call.reached was.call.makes (subst (λ (w : HirDatabase). RefusesBody w (FunctionBody was.id) no_args cause) same is.1))
-    by _ is = absurd is
+  module _ (kept : Kept) (same : kept.world ≡ world) (limits : Limits) (answers : List (Query × Answer)) (right : AreRightAnswers kept answers) where
+    -- so a run that is told right answers, and stops at a call for a refusal, stops there for such a literal
+    pub refused-as : (cost : Cost) (e : MirEvalError) → WasRefused (source_of world row) (program_of kept.world limits answers) cost e → IsUnlowered (source_of world row) cost e
+    refused-as cost e was = by was.refusal (right.each (body_query (without_arguments was.id)) (told.Failed was.refusal) was.told) was.is where
+      unlowered : (cause : MirLowerError) → e ≡ error.MirLowerError was.id cause → (called : Source) → function_source world was.id ≡ Some called → IsCheckedBody called.body called.infer → EndsLowering called cause → IsUnlowered (source_of world row) cost e
+      unlowered cause is called found body ends =
+          record {
+            id = was.id;
+            cause = cause;
+            is = is;
+            callee = record { call = was.call; called = called; found = found; ends = ends };
+            undefined = undefined-for called cause cost body ends (was.counted called found);
+          }
+
+      by : (given : ConstEvalError) → IsRightAnswer kept (body_query (without_arguments was.id)) (told.Failed given) → e ≡ callee_error was.id given → IsUnlowered (source_of world row) cost e
+      by (constant.MirLowerError cause) told_so is =
+          ⊎_elim (λ none. absurd (told_so.0 none)) (λ ends. unlowered cause is ends.0 ends.1 ends.2 ends.3)
+          (reached-refusal was.call.caller was.id cause was.call.reached was.call.makes (subst (λ (w : HirDatabase). RefusesBody w (FunctionBody was.id) no_args cause) same told_so.1))
+      by _ told_so is = absurd told_so

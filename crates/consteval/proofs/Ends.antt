@@ -18,15 +18,15 @@ use Rattle.heights.specs.Heights.{height}
 use Rattle.mir_eval.specs.Machine.{on_levels, outcome_of, wrapped}
 use Rattle.mir_lower.specs.Callees.{Serves}
 use Rattle.mir_lower.specs.Simulates.{EndsOn, Simulates}
-use Rattle.mir_lower.specs.Stops.{IsCut, LacksRoom, MakesSomeCall, StopsWithin, WasRefused}
-use Rattle.mir_lower.specs.Runs.{EndsAfter, IsFault, IsOutOfBlocks, IsReturned, error_of}
-use Rattle.source_meaning.specs.Ends.{Cost, cost_of, End, Go, Jumps, Faults, Stuck, More, Fault, Panic, Undefined, GoesOn, IsOver, JumpsNowhere}
+use Rattle.mir_lower.specs.Stops.{IsCut, MakesSomeCall, StopsWithin, WasRefused}
+use Rattle.mir_lower.specs.Runs.{BreaksOff, EndsAfter, IsFault, IsFit, IsOutOfBlocks, IsReturned}
+use Rattle.source_meaning.specs.Ends.{Cost, cost_of, End, Go, Jumps, Faults, Stuck, More, Fault, Panic, Undefined, NoLayout, GoesOn, IsOver, JumpsNowhere}
 use Rattle.source_meaning.specs.Meaning.{Gives, meaning_of}
 use Rattle.source_meaning.specs.Source.{Source, Store, node_type, root}
 use Rattle.consteval.specs.Answers.{EndsAtCall, EndsEvaluation, EndsFrame, GivesValue, CountsBlocks, IsWithinLimits, IsWithinRoom, constant_of, cost_at}
 use Rattle.consteval.specs.Kept.{Kept, Ran, program_of, run_of}
 use Rattle.consteval.proofs.Costs.{body-within, run-of}
-use Rattle.consteval.proofs.Cuts.{cut-by-room, lacks-at-call, wrapped-lack}
+use Rattle.consteval.proofs.Cuts.{IsCutAt, IsUnlowered, cut-at-call, cut-by-room, wrapped-cut}
 use Rattle.consteval.proofs.Faults.{at-call, framed, overflowed}
 use Rattle.consteval.proofs.Nesting.{fault-on-levels, has-levels, run-is-high, value-nests, value-on-levels}
 
@@ -60,10 +60,29 @@ faulted-outcome : (levels : ℕ) (body : MirBody) (e : MirEvalError) (trail : Li
 unfolding outcome_of
 faulted-outcome levels body e trail = refl
 
--- a fault that a source means is handed out in a frame
-wrapped-fault : (fault : Fault) (trail : List TrailEntry) → wrapped (error_of fault) trail ≡ error.InFunction (error_of fault) trail
-wrapped-fault (Panic word) trail = refl
-wrapped-fault (Undefined text) trail = refl
+-- the error in which a run ends where the meaning ends in a fault; where a body can't be entered for want of a layout, no run comes so far
+abbrev pub IsErrorOf : Fault → MirEvalError → Type 0
+IsErrorOf (Panic word) e = e ≡ error.Panic word
+IsErrorOf (Undefined text) e = e ≡ error.UndefinedBehavior text
+IsErrorOf NoLayout e = ⊥
+
+-- such an error is handed out in a frame
+wrapped-fault : (fault : Fault) (e : MirEvalError) (trail : List TrailEntry) → IsErrorOf fault e → wrapped e trail ≡ error.InFunction e trail
+wrapped-fault (Panic word) e trail of = subst (λ (f : MirEvalError). wrapped f trail ≡ error.InFunction f trail) (sym of) refl
+wrapped-fault (Undefined text) e trail of = subst (λ (f : MirEvalError). wrapped f trail ≡ error.InFunction f trail) (sym of) refl
+wrapped-fault NoLayout e trail of = absurd of
+
+-- a fault in which the run of a fit source breaks off has an error
+has-error : (source : Source) → IsFit source → (fault : Fault) (turns : ℕ) (run : ℕ → Ended) → BreaksOff source fault turns run → (e : MirEvalError) × IsErrorOf fault e
+has-error source fit (Panic word) turns run breaks = (error.Panic word, refl)
+has-error source fit (Undefined text) turns run breaks = (error.UndefinedBehavior text, refl)
+has-error source fit NoLayout turns run breaks = absurd (breaks fit)
+
+-- and the run ends in it
+ends-in-error : (source : Source) (fault : Fault) (e : MirEvalError) (turns : ℕ) (run : ℕ → Ended) → IsErrorOf fault e → BreaksOff source fault turns run → EndsAfter turns (IsFault e) run
+ends-in-error source (Panic word) e turns run of breaks = subst (λ (f : MirEvalError). EndsAfter turns (IsFault f) run) (sym of) breaks
+ends-in-error source (Undefined text) e turns run of breaks = subst (λ (f : MirEvalError). EndsAfter turns (IsFault f) run) (sym of) breaks
+ends-in-error source NoLayout e turns run of breaks = absurd of
 
 -- a run that asks hands out nothing
 asked-outcome : (levels : ℕ) (body : MirBody) (q : Query) (frame : Frame) (memory : Memory) (call : Calling) → outcome_of levels body (Asked q frame memory call) ≡ None
@@ -97,8 +116,8 @@ pub record ComesTo (source : Source) (many : ℕ) (end : End (List ℕ)) : Type 
   pub goes_on : GoesOn many end
 
 module _ (source : Source) (kept : Kept) (limits : Limits) (turns : ℕ) (outcome : Result Const MirEvalError) (body : MirBody) (ran : Ran kept body limits turns outcome)
-    (serves : (fuel : ℕ) → Serves fuel source (program_of kept.world limits ran.answers)) (simulates : Simulates source body)
-    (unrefused : (e : MirEvalError) → WasRefused source (program_of kept.world limits ran.answers) e → ⊥) where
+    (serves : (fuel : ℕ) → Serves fuel source (program_of kept.world limits ran.answers)) (simulates : Simulates source body) (fit : IsFit source)
+    (refused : (cost : Cost) (e : MirEvalError) → WasRefused source (program_of kept.world limits ran.answers) cost e → IsUnlowered source cost e) where
   abbrev Run : ℕ → Ended
   Run = run_of body ran.start
 
@@ -123,9 +142,9 @@ module _ (source : Source) (kept : Kept) (limits : Limits) (turns : ℕ) (outcom
       (out.0, handed-out (Err (error.InFunction error.ExecutionLimitExceeded out.0)) (ap (λ (ended : Ended). outcome_of Levels body ended.ending) out.1 ∙ faulted-outcome Levels body error.ExecutionLimitExceeded out.0))
 
   -- one that ends in a fault has that
-  faulted : (fault : Fault) → IsFault (error_of fault) (Run limits.blocks).ending → FaultsWith (error_of fault)
-  faulted fault is =
-      (is.0, handed-out (Err (error.InFunction (error_of fault) is.0)) (ap (outcome_of Levels body) is.1 ∙ faulted-outcome Levels body (error_of fault) is.0 ∙ ap (λ e. Some (Err e)) (wrapped-fault fault is.0)))
+  faulted : (fault : Fault) (e : MirEvalError) → IsErrorOf fault e → IsFault e (Run limits.blocks).ending → FaultsWith e
+  faulted fault e of is =
+      (is.0, handed-out (Err (error.InFunction e is.0)) (ap (outcome_of Levels body) is.1 ∙ faulted-outcome Levels body e is.0 ∙ ap (λ f. Some (Err f)) (wrapped-fault fault e is.0 of)))
 
   -- how many levels the value takes
   abbrev Height : ℕ
@@ -143,23 +162,24 @@ module _ (source : Source) (kept : Kept) (limits : Limits) (turns : ℕ) (outcom
   abbrev StopsAt : ℕ → Type 0
   StopsAt fuel = StopsWithin source GoesBy (levels_over []) (first_areas GoesBy.bytes) (cost_at source fuel) Run
 
-  -- a callee isn't placed, by what its source counts at an amount of fuel
-  abbrev LacksAt : ℕ → MirEvalError → Type 0
-  LacksAt fuel e = LacksRoom source GoesBy (levels_over []) (first_areas GoesBy.bytes) (cost_at source fuel) e
+  -- a callee isn't entered, by what its source counts at an amount of fuel
+  abbrev CutsAt : ℕ → MirEvalError → Type 0
+  CutsAt fuel e = IsCutAt source GoesBy (cost_at source fuel) e
 
-  -- an end at a call is a fault, since a callee isn't placed
-  cut-faults : (fuel : ℕ) (ending : Ending) → (Run limits.blocks).ending ≡ ending → IsCut source GoesBy (levels_over []) (first_areas GoesBy.bytes) (cost_at source fuel) ending → (e : MirEvalError) × LacksAt fuel e × FaultsWith e
+  -- why a callee isn't entered is the fault of the run
+  cut-so : (fuel : ℕ) (e : MirEvalError) (trail : List TrailEntry) → (Run limits.blocks).ending ≡ Faulted e trail → CutsAt fuel e → (f : MirEvalError) × CutsAt fuel f × FaultsWith f
+  cut-so fuel e trail is cut =
+      let framed_cut = wrapped-cut source GoesBy (cost_at source fuel) e trail cut in
+      (e, cut, (trail, handed-out (Err (error.InFunction e trail)) (ap (outcome_of Levels body) is ∙ faulted-outcome Levels body e trail ∙ ap (λ w. Some (Err w)) framed_cut)))
+
+  -- an end at a call is a fault, since a callee isn't entered
+  cut-faults : (fuel : ℕ) (ending : Ending) → (Run limits.blocks).ending ≡ ending → IsCut source GoesBy (levels_over []) (first_areas GoesBy.bytes) (cost_at source fuel) ending → (e : MirEvalError) × CutsAt fuel e × FaultsWith e
   cut-faults fuel (Returned bytes) is cut = absurd cut
-  cut-faults fuel (Faulted e trail) is cut =
-      ⊎_elim (λ refused. absurd (unrefused e refused))
-      (λ lacks.
-      let framed_lack = wrapped-lack source GoesBy (levels_over []) (first_areas GoesBy.bytes) (cost_at source fuel) e trail lacks in
-      (e, lacks, (trail, handed-out (Err (error.InFunction e trail)) (ap (outcome_of Levels body) is ∙ faulted-outcome Levels body e trail ∙ ap (λ w. Some (Err w)) framed_lack))))
-      cut
+  cut-faults fuel (Faulted e trail) is cut = ⊎_elim (λ was. cut-so fuel e trail is (inl (refused (cost_at source fuel) e was))) (λ lacks. cut-so fuel e trail is (inr lacks)) cut
   cut-faults fuel (Asked q frame memory call) is cut = absurd (nothing-handed-out outcome (sym (ap (outcome_of Levels body) is ∙ asked-outcome Levels body q frame memory call) ∙ ran.ended))
 
   -- a run that stops at a call faults there, or is out of blocks before
-  stops-at : (fuel : ℕ) → StopsAt fuel → ((limits.blocks < (cost_at source fuel).turns) × FaultsWith error.ExecutionLimitExceeded) ⊎ ((e : MirEvalError) × LacksAt fuel e × FaultsWith e)
+  stops-at : (fuel : ℕ) → StopsAt fuel → ((limits.blocks < (cost_at source fuel).turns) × FaultsWith error.ExecutionLimitExceeded) ⊎ ((e : MirEvalError) × CutsAt fuel e × FaultsWith e)
   stops-at fuel stops =
       ⊎_elim
       (λ out.
@@ -175,22 +195,34 @@ module _ (source : Source) (kept : Kept) (limits : Limits) (turns : ℕ) (outcom
       ⊎_elim (λ out. no-fault konst error.ExecutionLimitExceeded h out.1) (λ cut. no-fault konst cut.0 h cut.2) (stops-at fuel stops)
 
   -- the run ends as the meaning of the source at some amount of fuel does, or stops at a call
-  ends-as : (end : End (List ℕ)) (fuel : ℕ) → meaning_of source fuel ≡ end → StopsAt fuel ⊎ EndsOn end Run
-  ends-as end fuel reached = subst (λ (e : End (List ℕ)). StopsAt fuel ⊎ EndsOn e Run) reached (simulates.runs fuel GoesBy ran.start (serves fuel) ran.began)
+  ends-as : (end : End (List ℕ)) (fuel : ℕ) → meaning_of source fuel ≡ end → StopsAt fuel ⊎ EndsOn source end Run
+  ends-as end fuel reached = subst (λ (e : End (List ℕ)). StopsAt fuel ⊎ EndsOn source e Run) reached (simulates.runs fuel GoesBy ran.start (serves fuel) ran.began)
 
   -- the meaning of the source at some amount of fuel: an end, or a lack of fuel after more blocks than the limit
   abbrev Comes : End (List ℕ) → Type 0
   Comes end = ComesTo source (suc limits.blocks) end
 
   -- where that is no end, the run is out of blocks
-  more-blocks : (cost : Cost) → Comes (More cost) → EndsOn (More cost) Run → (limits.blocks < cost.turns) × FaultsWith error.ExecutionLimitExceeded
+  more-blocks : (cost : Cost) → Comes (More cost) → EndsOn source (More cost) Run → (limits.blocks < cost.turns) × FaultsWith error.ExecutionLimitExceeded
   more-blocks cost comes ends =
       let many = comes.goes_on in
       let less : limits.blocks < cost.turns = omega arith in
       (less, out-of-blocks (ends limits.blocks less))
 
+  -- where that is a fault, so is the outcome, or the run is out of blocks before
+  breaks : (fault : Fault) (turns : ℕ) → BreaksOff source fault turns Run → ((limits.blocks < turns) × FaultsWith error.ExecutionLimitExceeded) ⊎ ((e : MirEvalError) × IsErrorOf fault e × FaultsWith e)
+  breaks fault turns off =
+      let has = has-error source fit fault turns Run off in
+      ⊎_elim (λ out. inl (out.0, out-of-blocks out.1)) (λ is. inr (has.0, has.1, faulted fault has.0 has.1 is))
+      (runs-under turns (IsFault has.0) Run (ends-in-error source fault has.0 turns Run has.1 off) limits.blocks)
+
+  -- and no value is handed out
+  fault-is-no-value : {A : Type 0} (fault : Fault) (turns : ℕ) → BreaksOff source fault turns Run → (konst : Const) → outcome ≡ Ok konst → A
+  fault-is-no-value fault turns off konst h =
+      ⊎_elim (λ out. no-fault konst error.ExecutionLimitExceeded h out.1) (λ faults. no-fault konst faults.0 h faults.2) (breaks fault turns off)
+
   -- a value of a run that ends as its source's meaning is what the source means
-  value-of-end : (end : End (List ℕ)) → Comes end → EndsOn end Run → EndsWell end → (konst : Const) → outcome ≡ Ok konst → GivesValue source konst
+  value-of-end : (end : End (List ℕ)) → Comes end → EndsOn source end Run → EndsWell end → (konst : Const) → outcome ≡ Ok konst → GivesValue source konst
   value-of-end (Go bytes store cost) comes ends well konst h =
       ⊎_elim (λ out. no-fault konst error.ExecutionLimitExceeded h (out-of-blocks out.1))
       (λ is. record {
@@ -204,22 +236,18 @@ module _ (source : Source) (kept : Kept) (limits : Limits) (turns : ℕ) (outcom
       })
       (runs-under cost.turns (IsReturned bytes) Run ends limits.blocks)
   value-of-end (Jumps to store cost) comes ends well konst h = absurd well.1
-  value-of-end (Faults fault cost) comes ends well konst h =
-      ⊎_elim (λ out. no-fault konst error.ExecutionLimitExceeded h (out-of-blocks out.1)) (λ is. no-fault konst (error_of fault) h (faulted fault is))
-      (runs-under cost.turns (IsFault (error_of fault)) Run ends limits.blocks)
+  value-of-end (Faults fault cost) comes ends well konst h = fault-is-no-value fault cost.turns ends konst h
   value-of-end Stuck comes ends well konst h = absurd (well.0 refl)
   value-of-end (More cost) comes ends well konst h = no-fault konst error.ExecutionLimitExceeded h (more-blocks cost comes ends).1
 
   -- a run that handed out a value entered as many blocks as the source counts
-  counts-of-end : (end : End (List ℕ)) → Comes end → EndsOn end Run → EndsWell end → (konst : Const) → outcome ≡ Ok konst → CountsBlocks source (limits.blocks - (Run limits.blocks).left)
+  counts-of-end : (end : End (List ℕ)) → Comes end → EndsOn source end Run → EndsWell end → (konst : Const) → outcome ≡ Ok konst → CountsBlocks source (limits.blocks - (Run limits.blocks).left)
   counts-of-end (Go bytes store cost) comes ends well konst h =
       ⊎_elim (λ less. no-fault konst error.ExecutionLimitExceeded h (out-of-blocks (ends.with_fewer limits.blocks less)))
       (λ le. record { bytes = bytes; store = store; cost = cost; gives = record { fuel = comes.fuel; reached = comes.reached; over = tt }; same = entered-with cost.turns (IsReturned bytes) Run ends limits.blocks le })
       (cases_lt limits.blocks cost.turns)
   counts-of-end (Jumps to store cost) comes ends well konst h = absurd well.1
-  counts-of-end (Faults fault cost) comes ends well konst h =
-      ⊎_elim (λ out. no-fault konst error.ExecutionLimitExceeded h (out-of-blocks out.1)) (λ is. no-fault konst (error_of fault) h (faulted fault is))
-      (runs-under cost.turns (IsFault (error_of fault)) Run ends limits.blocks)
+  counts-of-end (Faults fault cost) comes ends well konst h = fault-is-no-value fault cost.turns ends konst h
   counts-of-end Stuck comes ends well konst h = absurd (well.0 refl)
   counts-of-end (More cost) comes ends well konst h = no-fault konst error.ExecutionLimitExceeded h (more-blocks cost comes ends).1
 
@@ -241,20 +269,21 @@ module _ (source : Source) (kept : Kept) (limits : Limits) (turns : ℕ) (outcom
       subst (EndsEvaluation source limits) (sym none.1) (overflowed source limits (omega arith))
 
   -- a fault that the source means, as a frame's error
-  frame-of : (fault : Fault) (cost : Cost) → Gives source (Faults fault cost) → EndsFrame source limits (error_of fault)
-  frame-of (Panic word) cost gives = record { cost = cost; gives = gives }
-  frame-of (Undefined text) cost gives = record { cost = cost; gives = gives }
+  frame-of : (fault : Fault) (e : MirEvalError) (cost : Cost) → IsErrorOf fault e → Gives source (Faults fault cost) → EndsFrame source limits e
+  frame-of (Panic word) e cost of gives = subst (EndsFrame source limits) (sym of) (record { cost = cost; gives = gives })
+  frame-of (Undefined text) e cost of gives = subst (EndsFrame source limits) (sym of) (record { cost = cost; gives = gives })
+  frame-of NoLayout e cost of gives = absurd of
 
   -- a fault of such a run is one that the source means, or a limit that it passes
-  fault-of-end : (end : End (List ℕ)) → Comes end → EndsOn end Run → EndsWell end → (e : MirEvalError) → outcome ≡ Err e → EndsEvaluation source limits e
+  fault-of-end : (end : End (List ℕ)) → Comes end → EndsOn source end Run → EndsWell end → (e : MirEvalError) → outcome ≡ Err e → EndsEvaluation source limits e
   fault-of-end (Go bytes store cost) comes ends well e h =
       ⊎_elim (λ out. passes (Go bytes store cost) e comes out.0 (out-of-blocks out.1) h) (λ is. too-deep (constant_of simulates.slot.0.ty bytes) e (sym h ∙ returned bytes is))
       (runs-under cost.turns (IsReturned bytes) Run ends limits.blocks)
   fault-of-end (Jumps to store cost) comes ends well e h = absurd well.1
   fault-of-end (Faults fault cost) comes ends well e h =
-      ⊎_elim (λ out. passes (Faults fault cost) e comes out.0 (out-of-blocks out.1) h)
-      (λ is. framed-so e (error_of fault) (faulted fault is) (frame-of fault cost (record { fuel = comes.fuel; reached = comes.reached; over = tt })) h)
-      (runs-under cost.turns (IsFault (error_of fault)) Run ends limits.blocks)
+      ⊎_elim (λ out. passes (Faults fault cost) e comes out.0 out.1 h)
+      (λ faults. framed-so e faults.0 faults.2 (frame-of fault faults.0 cost faults.1 (record { fuel = comes.fuel; reached = comes.reached; over = tt })) h)
+      (breaks fault cost.turns ends)
   fault-of-end Stuck comes ends well e h = absurd (well.0 refl)
   fault-of-end (More cost) comes ends well e h = let out = more-blocks cost comes ends in passes (More cost) e comes out.0 out.1 h
 
@@ -267,7 +296,7 @@ module _ (source : Source) (kept : Kept) (limits : Limits) (turns : ℕ) (outcom
       let same = run.turns in
       let less = out.0 in
       framed-so e error.ExecutionLimitExceeded out.1 (fuel, omega arith) h)
-      (λ cut. framed-so e cut.0 cut.2 (at-call source limits cut.0 stops.call (lacks-at-call source GoesBy limits refl refl fuel cut.0 cut.1)) h)
+      (λ cut. framed-so e cut.0 cut.2 (at-call source limits cut.0 stops.call (cut-at-call source GoesBy limits refl refl fuel cut.0 cut.1)) h)
       (stops-at fuel stops)
 
   -- a value that was handed out is what the source means
@@ -291,7 +320,7 @@ module _ (source : Source) (kept : Kept) (limits : Limits) (turns : ℕ) (outcom
       ⊎_elim (λ out. out) (λ cut. absurd (cut-by-room source GoesBy limits refl refl fuel room cut.0 cut.1)) (stops-at fuel stops)
 
   -- within all limits it doesn't stop
-  within-goes-on : (end : End (List ℕ)) (fuel : ℕ) → meaning_of source fuel ≡ end → IsWithinLimits (cost_of end) limits → EndsOn end Run
+  within-goes-on : (end : End (List ℕ)) (fuel : ℕ) → meaning_of source fuel ≡ end → IsWithinLimits (cost_of end) limits → EndsOn source end Run
   within-goes-on end fuel reached within =
       ⊎_elim
       (λ stops.
@@ -315,16 +344,20 @@ module _ (source : Source) (kept : Kept) (limits : Limits) (turns : ℕ) (outcom
       ∙ has-levels Height Levels (Ok (constant_of simulates.slot.0.ty bytes)) (omega arith)
       ∙ ap (λ t. Ok (constant_of t bytes)) of_type
 
-  -- and so is a fault
-  pub completes-fault : (fault : Fault) (cost : Cost) → Gives source (Faults fault cost) → IsWithinLimits cost limits → FaultsWith (error_of fault)
-  completes-fault fault cost gives within =
-      faulted fault (runs-with cost.turns (IsFault (error_of fault)) Run (within-goes-on (Faults fault cost) gives.fuel gives.reached within) limits.blocks within.turns)
+  -- and so is a fault that has an error
+  pub completes-fault : (fault : Fault) (e : MirEvalError) (cost : Cost) → IsErrorOf fault e → Gives source (Faults fault cost) → IsWithinLimits cost limits → FaultsWith e
+  completes-fault fault e cost of gives within =
+      let ends = ends-in-error source fault e cost.turns Run of (within-goes-on (Faults fault cost) gives.fuel gives.reached within) in
+      faulted fault e of (runs-with cost.turns (IsFault e) Run ends limits.blocks within.turns)
 
   -- a run ends past the limit on blocks where its source counts more blocks
-  past-end : (end : End (List ℕ)) → EndsOn end Run → EndsWell end → limits.blocks < (cost_of end).turns → IsOutOfBlocks (Run limits.blocks)
+  past-end : (end : End (List ℕ)) → EndsOn source end Run → EndsWell end → limits.blocks < (cost_of end).turns → IsOutOfBlocks (Run limits.blocks)
   past-end (Go bytes store cost) ends well less = ends.with_fewer limits.blocks less
   past-end (Jumps to store cost) ends well less = absurd well.1
-  past-end (Faults fault cost) ends well less = ends.with_fewer limits.blocks less
+  past-end (Faults fault cost) ends well less =
+      let has = has-error source fit fault cost.turns Run ends in
+      let so = ends-in-error source fault has.0 cost.turns Run has.1 ends in
+      so.with_fewer limits.blocks less
   past-end Stuck ends well less = absurd (well.0 refl)
   past-end (More cost) ends well less = ends limits.blocks less
 
@@ -343,7 +376,7 @@ module _ (source : Source) (kept : Kept) (limits : Limits) (turns : ℕ) (outcom
   Stopped = MakesSomeCall source × (fault : MirEvalError) × EndsAtCall source limits fault × FaultsWith fault
 
   -- where the source has no end, the run is out of blocks
-  endless-of-end : (end : End (List ℕ)) → Comes end → EndsOn end Run → ¬ IsOver end → FaultsWith error.ExecutionLimitExceeded
+  endless-of-end : (end : End (List ℕ)) → Comes end → EndsOn source end Run → ¬ IsOver end → FaultsWith error.ExecutionLimitExceeded
   endless-of-end (Go bytes store cost) comes ends none = absurd (none tt)
   endless-of-end (Jumps to store cost) comes ends none = absurd (none tt)
   endless-of-end (Faults fault cost) comes ends none = absurd (none tt)
@@ -356,7 +389,7 @@ module _ (source : Source) (kept : Kept) (limits : Limits) (turns : ℕ) (outcom
       ⊎_elim
       (λ stops.
       ⊎_elim (λ out. inl out.1)
-      (λ cut. inr (stops.call, cut.0, lacks-at-call source GoesBy limits refl refl comes.fuel cut.0 cut.1, cut.2))
+      (λ cut. inr (stops.call, cut.0, cut-at-call source GoesBy limits refl refl comes.fuel cut.0 cut.1, cut.2))
       (stops-at comes.fuel stops))
       (λ on. inl (endless-of-end end comes on endless))
       (ends-as end comes.fuel comes.reached)

@@ -6,7 +6,7 @@ use Rattle.world.specs.declared.limits.Limits.{Limits}
 use Rattle.mir.specs.declared.errors.MirEvalError.{MirEvalError, MirEvalError-F, fold-roll-MirEvalError, map-MirEvalError, out-MirEvalError}
 use Rattle.mir.specs.declared.errors.MirEvalError.TheOpen as layer
 use Rattle.mir.specs.declared.errors.MirEvalError.TheViews.{out-roll-MirEvalError, roll-out-MirEvalError}
-use Rattle.mir.specs.declared.errors.MirEvalError.TheVariants.{rolls-InFunction, rolls-NoMemory, rolls-LayoutError, rolls-TypeIsUnsized, rolls-Panic, rolls-UndefinedBehavior, rolls-ExecutionLimitExceeded, rolls-MemoryLimitExceeded, rolls-StackOverflow}
+use Rattle.mir.specs.declared.errors.MirEvalError.TheVariants.{rolls-InFunction, rolls-NoMemory, rolls-LayoutError, rolls-MirLowerError, rolls-TypeIsUnsized, rolls-Panic, rolls-UndefinedBehavior, rolls-ExecutionLimitExceeded, rolls-MemoryLimitExceeded, rolls-StackOverflow}
 use Rattle.mir.specs.declared.errors.MirEvalError as error
 use Rattle.mir.specs.declared.errors.MirLowerError.{MirLowerError}
 use Rattle.mir.specs.declared.errors.MirLowerError.TheVariants as refusal
@@ -106,6 +106,7 @@ word-at-call : (source : Source) (limits : Limits) (e : MirEvalError) → EndsAt
 unfolding panic_word
 word-at-call source limits (error.LayoutError cause ty) ends = ap panic_word (sym (rolls-LayoutError cause ty)) ∙ fold-roll-MirEvalError (Option (List ℕ)) panic_layer (layer.LayoutError cause ty)
 word-at-call source limits (error.TypeIsUnsized ty text) ends = ap panic_word (sym (rolls-TypeIsUnsized ty text)) ∙ fold-roll-MirEvalError (Option (List ℕ)) panic_layer (layer.TypeIsUnsized ty text)
+word-at-call source limits (error.MirLowerError id cause) ends = ap panic_word (sym (rolls-MirLowerError id cause)) ∙ fold-roll-MirEvalError (Option (List ℕ)) panic_layer (layer.MirLowerError id cause)
 word-at-call source limits error.MemoryLimitExceeded ends = ap panic_word (sym rolls-MemoryLimitExceeded) ∙ fold-roll-MirEvalError (Option (List ℕ)) panic_layer layer.MemoryLimitExceeded
 word-at-call source limits error.StackOverflow ends = ap panic_word (sym rolls-StackOverflow) ∙ fold-roll-MirEvalError (Option (List ℕ)) panic_layer layer.StackOverflow
 word-at-call source limits _ ends = absurd ends
@@ -153,6 +154,7 @@ text-at-call : (source : Source) (limits : Limits) (e : MirEvalError) → EndsAt
 unfolding undefined_text
 text-at-call source limits (error.LayoutError cause ty) ends = ap undefined_text (sym (rolls-LayoutError cause ty)) ∙ fold-roll-MirEvalError (Option (List ℕ)) undefined_layer (layer.LayoutError cause ty)
 text-at-call source limits (error.TypeIsUnsized ty text) ends = ap undefined_text (sym (rolls-TypeIsUnsized ty text)) ∙ fold-roll-MirEvalError (Option (List ℕ)) undefined_layer (layer.TypeIsUnsized ty text)
+text-at-call source limits (error.MirLowerError id cause) ends = ap undefined_text (sym (rolls-MirLowerError id cause)) ∙ fold-roll-MirEvalError (Option (List ℕ)) undefined_layer (layer.MirLowerError id cause)
 text-at-call source limits error.MemoryLimitExceeded ends = ap undefined_text (sym rolls-MemoryLimitExceeded) ∙ fold-roll-MirEvalError (Option (List ℕ)) undefined_layer layer.MemoryLimitExceeded
 text-at-call source limits error.StackOverflow ends = ap undefined_text (sym rolls-StackOverflow) ∙ fold-roll-MirEvalError (Option (List ℕ)) undefined_layer layer.StackOverflow
 text-at-call source limits _ ends = absurd ends

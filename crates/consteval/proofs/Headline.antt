@@ -22,25 +22,26 @@ use Rattle.mir_lower.specs.Callees.{Serves}
 use Rattle.mir.specs.declared.errors.MirLowerError.{MirLowerError}
 use Rattle.mir.specs.declared.errors.MirLowerError.TheVariants as refusal
 use Rattle.mir.specs.Errors.{from_lower_error, from_eval_error}
-use Rattle.mir_lower.specs.Runs.{error_of}
+use Rattle.mir_lower.specs.Runs.{IsFit}
 use Rattle.mir_lower.specs.Simulates.{Simulates}
 use Rattle.mir_lower.specs.Stops.{MakesCall, WasRefused}
 use Rattle.source_meaning.proofs.Runs.{run_goes_on, run_is_never_stuck, run_jumps_nowhere}
 use Rattle.source_meaning.specs.Aggregates.{HasAggregates}
 use Rattle.source_meaning.specs.Core.{IsNoCall}
-use Rattle.source_meaning.specs.Ends.{cost_of, End, Go, Faults, Fault, Panic, Undefined, Stuck}
+use Rattle.source_meaning.specs.Ends.{Cost, cost_of, End, Go, Faults, Panic, Undefined, Stuck}
 use Rattle.source_meaning.specs.Meaning.{Gives, meaning_from, meaning_of}
 use Rattle.source_meaning.specs.Source.{Source, zeroed}
-use Rattle.source_meaning.specs.Valid.{AreLaidOut, Calls, Reaches, at_once, through, AreLaidOutThroughout, HasNoCalls}
+use Rattle.source_meaning.specs.Valid.{AreLaidOut, at_once, HasNoCalls}
 use Rattle.consteval.specs.Answers.{GivesValue, CountsBlocks, AnswersWithin, AnswersEndless, HasNoEnd, IsFrameFault, IsWithinLimits, IsWithinRoom, OrNoMemory, IsPastBlocks, EndsEvaluation, EndsIn, HasCause, AnswersBody, NeverBegins, RefusesRun, RunsTo, carried, cost_at}
 use Rattle.consteval.specs.Refusals.{RefusesBody}
 use Rattle.consteval.specs.Kept.{AreRightAnswers, Kept, Lowered, IsSound, IsLowered, Ran, program_of}
 use Rattle.consteval.specs.Sources.{source_of}
 use Rattle.consteval.specs.Valid.{IsValid}
 use Rattle.consteval.proofs.Begins.{has-layouts}
-use Rattle.consteval.proofs.Callees.{none-refused}
+use Rattle.consteval.proofs.Callees.{refused-as}
 use Rattle.consteval.proofs.Causes.{carried-value}
 use Rattle.consteval.proofs.Costs.{body-has-end, body-with-blocks, body-within, room-has-bytes, room-has-level, room-has-sizes}
+use Rattle.consteval.proofs.Cuts.{IsUnlowered}
 use Rattle.consteval.proofs.Ends.{ComesTo, EndsWell, completes-fault, completes-value, counts-value, gives-fault, gives-no-end, gives-value, passes-blocks}
 use Rattle.consteval.proofs.Faults.{carried-fault, carried-never, carried-refusal, carried-unlowered}
 use Rattle.consteval.proofs.Keeping.{kept-body-lowered}
@@ -53,11 +54,6 @@ checked-body world def row checked found = by-place (body_place world def) found
   by-place : (place : Option ℕ) → option_and_then (slice_get world.bodies) place ≡ Some row → IsCheckedBody row.body row.infer
   by-place (Some i) is = checked.bodies i row is
   by-place None is = absurd cc
-
--- the types of all that a source reaches have layouts where its own have, and those of all that its calls reach
-reached-laid-out : {source reached : Source} → Reaches source reached → AreLaidOut source → ((called later : Source) → Calls source called → Reaches called later → AreLaidOut later) → AreLaidOut reached
-reached-laid-out at_once own others = own
-reached-laid-out (through {source = source} {called = called} {reached = reached} calls on) own others = others called reached calls on
 
 -- a source without calls makes none
 no-call : (source : Source) (id : FunctionId) → MakesCall source id → HasNoCalls source → ⊥
@@ -78,11 +74,11 @@ module _ (world : HirDatabase) (checked : IsChecked world) (parts : HasAggregate
       let reached = run_goes_on Of (suc limits.blocks) checked (checked-body world def row checked valid.body) in
       (reached.0, record { fuel = reached.0; reached = refl; goes_on = reached.1 })
 
-  ends-well : AreLaidOut Of → (fuel : ℕ) → EndsWell (meaning_of Of fuel)
-  ends-well laid fuel =
+  -- and its meaning is neither stuck nor a jump
+  ends-well : (fuel : ℕ) → EndsWell (meaning_of Of fuel)
+  ends-well fuel =
       let body = checked-body world def row checked valid.body in
-      let laid_out : AreLaidOutThroughout Of = record { each = λ reached on. reached-laid-out on laid (λ callee later calls on. let fit = valid.called callee later calls on in fit.laid_out) } in
-      (run_is_never_stuck Of fuel checked parts body valid.plain laid_out, run_jumps_nowhere Of fuel checked parts body valid.plain laid_out)
+      (run_is_never_stuck Of fuel checked parts body valid.plain, run_jumps_nowhere Of fuel checked parts body valid.plain)
 
   module _ (kept : Kept) (same : kept.world ≡ world) (sound : IsSound kept) (limits : Limits) (turns : ℕ) (answer : Result Const ConstEvalError) where
     -- what is kept serves what a run goes by that is told right answers
@@ -115,35 +111,39 @@ module _ (world : HirDatabase) (checked : IsChecked world) (parts : HasAggregate
 
     -- a run of a body that was lowered from the row
     module _ (body : MirBody) (lowered : IsLowered world def body) (outcome : Result Const MirEvalError) (ran : Ran kept body limits turns outcome) where
-      -- it is told of no callee that its body can't be lowered
-      unrefused : (e : MirEvalError) → WasRefused Of (program_of kept.world limits ran.answers) e → ⊥
-      unrefused = none-refused world checked def args row valid kept same limits ran.answers ran.right
+      -- it is told of a callee that its body can't be lowered for a number literal alone whose type has no layout
+      refused : (cost : Cost) (e : MirEvalError) → WasRefused Of (program_of kept.world limits ran.answers) cost e → IsUnlowered Of cost e
+      refused = refused-as world checked def args row valid kept same limits ran.answers ran.right
 
       -- the types of a body that began have layouts
       laid-out : AreLaidOut Of
       laid-out = has-layouts Of (program_of kept.world limits ran.answers) body ran.start same (simulated body lowered) ran.began parts (valid.plain.each Of at_once)
 
+      -- so its source is fit
+      fit : IsFit Of
+      fit = record { plain = valid.plain; laid_out = laid-out; parts = parts }
+
       -- its value is what the source means
       ran-value : (konst : Const) → outcome ≡ Ok konst → GivesValue Of konst
       ran-value konst is =
           let end = comes limits in
-          gives-value Of kept limits turns outcome body ran (served ran.answers ran.right) (simulated body lowered) unrefused (meaning_of Of end.0) end.1 (ends-well laid-out end.0) konst is
+          gives-value Of kept limits turns outcome body ran (served ran.answers ran.right) (simulated body lowered) fit refused (meaning_of Of end.0) end.1 (ends-well end.0) konst is
 
       -- over as many blocks as that counts
       ran-counts : (konst : Const) → outcome ≡ Ok konst → CountsBlocks Of turns
       ran-counts konst is =
           let end = comes limits in
           subst (CountsBlocks Of) (sym ran.entered)
-          (counts-value Of kept limits turns outcome body ran (served ran.answers ran.right) (simulated body lowered) unrefused (meaning_of Of end.0) end.1 (ends-well laid-out end.0) konst is)
+          (counts-value Of kept limits turns outcome body ran (served ran.answers ran.right) (simulated body lowered) fit refused (meaning_of Of end.0) end.1 (ends-well end.0) konst is)
 
       -- its fault is one in which the source can end
       ran-fault : (e : MirEvalError) → outcome ≡ Err e → EndsEvaluation Of limits e
       ran-fault e is =
           let end = comes limits in
-          gives-fault Of kept limits turns outcome body ran (served ran.answers ran.right) (simulated body lowered) unrefused (meaning_of Of end.0) end.1 (ends-well laid-out end.0) e is
+          gives-fault Of kept limits turns outcome body ran (served ran.answers ran.right) (simulated body lowered) fit refused (meaning_of Of end.0) end.1 (ends-well end.0) e is
 
       -- a fault in a frame, as the answer
-      frame-fault : (fault : Fault) → answer ≡ carried outcome → (trail : List TrailEntry) × (outcome ≡ Err (error.InFunction (error_of fault) trail)) → IsFrameFault (error_of fault) answer
+      frame-fault : (fault : MirEvalError) → answer ≡ carried outcome → (trail : List TrailEntry) × (outcome ≡ Err (error.InFunction fault trail)) → IsFrameFault fault answer
       frame-fault fault is faults = (faults.0, is ∙ ap carried faults.1)
 
       -- within the limits its outcome is what the source means
@@ -151,13 +151,13 @@ module _ (world : HirDatabase) (checked : IsChecked world) (parts : HasAggregate
       ran-completes is =
           record {
             value = λ ty bytes store cost typed gives within.
-                inl (is ∙ ap carried (completes-value Of kept limits turns outcome body ran (served ran.answers ran.right) (simulated body lowered) unrefused ty bytes store cost typed gives within));
+                inl (is ∙ ap carried (completes-value Of kept limits turns outcome body ran (served ran.answers ran.right) (simulated body lowered) fit refused ty bytes store cost typed gives within));
             panic = λ word cost gives within.
-                inl (frame-fault (Panic word) is (completes-fault Of kept limits turns outcome body ran (served ran.answers ran.right) (simulated body lowered) unrefused (Panic word) cost gives within));
+                inl (frame-fault (error.Panic word) is (completes-fault Of kept limits turns outcome body ran (served ran.answers ran.right) (simulated body lowered) fit refused (Panic word) (error.Panic word) cost refl gives within));
             undefined = λ text cost gives within.
-                inl (frame-fault (Undefined text) is (completes-fault Of kept limits turns outcome body ran (served ran.answers ran.right) (simulated body lowered) unrefused (Undefined text) cost gives within));
+                inl (frame-fault (error.UndefinedBehavior text) is (completes-fault Of kept limits turns outcome body ran (served ran.answers ran.right) (simulated body lowered) fit refused (Undefined text) (error.UndefinedBehavior text) cost refl gives within));
             past_blocks = λ fuel less room.
-                let faults = passes-blocks Of kept limits turns outcome body ran (served ran.answers ran.right) (simulated body lowered) unrefused fuel (ends-well laid-out fuel) less room in
+                let faults = passes-blocks Of kept limits turns outcome body ran (served ran.answers ran.right) (simulated body lowered) fit refused fuel (ends-well fuel) less room in
                 inl (faults.0, is ∙ ap carried faults.1);
           }
 
@@ -170,7 +170,7 @@ module _ (world : HirDatabase) (checked : IsChecked world) (parts : HasAggregate
             ends = inr (inl (record { call = call; fault = stopped.1; cause = stopped.2; is = (stopped.3.0, is ∙ ap carried stopped.3.1) }));
             within = λ no_calls cost nests room. absurd (no-call Of call.0 call.1 no_calls);
           })
-          (gives-no-end Of kept limits turns outcome body ran (served ran.answers ran.right) (simulated body lowered) unrefused (meaning_of Of end.0) end.1 (none end.0))
+          (gives-no-end Of kept limits turns outcome body ran (served ran.answers ran.right) (simulated body lowered) fit refused (meaning_of Of end.0) end.1 (none end.0))
 
     run-value : (body : MirBody) → IsLowered world def body → RunsTo kept def body limits turns answer → (konst : Const) → answer ≡ Ok konst → GivesValue Of konst
     run-value body lowered runs konst is = ran-value body lowered runs.outcome runs.ran konst (sym (carried-value runs.outcome konst (sym is ∙ runs.is)))

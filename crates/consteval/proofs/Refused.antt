@@ -186,7 +186,7 @@ refuses-node source e (refusal.NotSupported text) checked fits plain at refuses 
 refuses-node source e refusal.NoMemory checked fits plain at refuses = inl refl
 
 -- where types have sizes, no number literal lacks a layout
-sized-is-lowered : (source : Source) (e : MirLowerError) → HasDefinedCost source → EndsLowering source e → ⊥
+pub sized-is-lowered : (source : Source) (e : MirLowerError) → HasDefinedCost source → EndsLowering source e → ⊥
 sized-is-lowered source (refusal.LayoutError layout_error) cost ends = let is = ends.2.1 in let sized = cost.nodes ends.0 ends.1 in let there = sized.of_itself.found in cc
 sized-is-lowered source _ cost ends = ends
 

@@ -29,6 +29,7 @@ does-below fuel program source body simulates serves =
       typed = simulates.typed;
       params = simulates.params;
       counted = record { cells = λ l local there. (let cell = simulates.cells l local there in (cell.0, cell.1, cell.2)); room = simulates.room };
+      laid_out = simulates.laid_out;
       does = λ less below store frame memory goes_by is_body apart represents.
           simulates.does less store frame memory is_body (subst (Serves less source) (sym goes_by) (serves less below)) apart represents;
     }

@@ -2,6 +2,7 @@
 use Rattle.std.specs.Prelude.{◌≡◌, ◌≢◌, ℕ, ◌-◌, ◌<◌, ◌≤◌, true, false, List, [], ◌⊎◌, Option, Some, None, Result, Ok, Err, Contains, codes}
 use Rattle.world.specs.declared.database.HirDatabase.{HirDatabase}
 use Rattle.types.specs.declared.ids.DefWithBodyId.{DefWithBodyId}
+use Rattle.types.specs.declared.ids.FunctionId.{FunctionId}
 use Rattle.types.specs.declared.ty.Const.{Const}
 use Rattle.types.specs.declared.ty.Const.TheVariants.{Value}
 use Rattle.types.specs.declared.ty.GenericArgs.{GenericArgs}
@@ -25,7 +26,8 @@ use Rattle.mir.specs.Run.{Frame, begun}
 use Rattle.mir_eval.specs.Evaluators.{crate_or_first}
 use Rattle.mir_eval.specs.Machine.{pointer_bytes}
 use Rattle.mir_lower.specs.Refusals.{RefusesAt}
-use Rattle.mir_lower.specs.Stops.{MakesSomeCall, OfReached, LacksLayout, LacksSize}
+use Rattle.mir_lower.specs.Stops.{MakesSomeCall, OfReached, LacksLayout, LacksSize, ReachesCall}
+use Rattle.source_meaning.specs.Calls.{source_of as called_source}
 use Rattle.source_meaning.specs.Ends.{Cost, cost_of, Go, Faults, Panic, Undefined, IsOver}
 use Rattle.source_meaning.specs.Entering.{entering, run_cost}
 use Rattle.source_meaning.specs.Meaning.{Gives, meaning_from, meaning_of}
@@ -127,13 +129,27 @@ PassesBytesAtOnce source bytes = bytes < (entering source).bytes
 abbrev pub HasUndefinedCost : Source → Type 0
 HasUndefinedCost source = (fuel : ℕ) × ((cost_of (meaning_of source fuel)).defined ≡ false)
 
+-- how the lowering of a valid definition's body, or of one that it calls, can end without a graph: for a number literal whose type has no layout
+abbrev pub EndsLowering : Source → MirLowerError → Type 0
+EndsLowering source (refusal.LayoutError e) = RefusesAt source (root source) (refusal.LayoutError e)
+EndsLowering source _ = ⊥
+
+-- the body of a function that is called in what a source reaches can't be lowered
+pub record IsUnloweredCallee (source : Source) (id : FunctionId) (cause : MirLowerError) : Type 0 where
+  pub call : ReachesCall source id
+  pub called : Source
+  pub found : called_source source.world id ≡ Some called
+  pub ends : EndsLowering called cause
+
 -- Why a frame of a valid definition's evaluation ends at a call whose callee isn't entered: the source counts deeper nesting or more bytes than a
--- limit, or a type of a body that is reached, which the error names, has no layout, or one without a size, so that the cost isn't defined.
+-- limit; or a type of a body that is reached, which the error names, has no layout, or one without a size, so that the cost isn't defined; or the
+-- callee's body can't be lowered, and the cost isn't defined either.
 abbrev pub EndsAtCall : Source → Limits → MirEvalError → Type 0
 EndsAtCall source limits error.StackOverflow = PassesNesting source limits.nesting
 EndsAtCall source limits error.MemoryLimitExceeded = PassesBytes source limits.bytes
 EndsAtCall source limits (error.LayoutError e ty) = (e ≡ layout_error_of ty) × OfReached source (λ reached. LacksLayout reached ty) × HasUndefinedCost source
 EndsAtCall source limits (error.TypeIsUnsized ty text) = OfReached source (λ reached. LacksSize reached ty) × HasUndefinedCost source
+EndsAtCall source limits (error.MirLowerError id cause) = IsUnloweredCallee source id cause × HasUndefinedCost source
 EndsAtCall source limits _ = ⊥
 
 -- How a frame of a valid definition's evaluation can end: in a panic or in undefined behavior that the definition's source means, past the limit on
@@ -159,11 +175,6 @@ EndsLayer source limits _ = ⊥
 -- error that names a type without a layout or without a size
 abbrev pub EndsEvaluation : Source → Limits → MirEvalError → Type 0
 EndsEvaluation source limits e = EndsLayer source limits (out-MirEvalError e)
-
--- how the lowering of a valid definition's body can end without a graph: for a number literal whose type has no layout
-abbrev pub EndsLowering : Source → MirLowerError → Type 0
-EndsLowering source (refusal.LayoutError e) = RefusesAt source (root source) (refusal.LayoutError e)
-EndsLowering source _ = ⊥
 
 -- Every error that a valid definition can end in. Want of memory needs no cause.
 abbrev pub EndsIn : Source → Limits → ConstEvalError → Type 0

@@ -13,7 +13,7 @@ use Rattle.types.specs.declared.ty.Ty.{Ty}
 use Rattle.world.specs.Lookups.{body_row, function_row}
 use Rattle.mir_eval.specs.Machine.{pointer_bytes}
 use Rattle.source_meaning.specs.Source.{Source, node_type, root}
-use Rattle.source_meaning.specs.Valid.{IsPlainThroughout, AreLaidOut, Calls, Reaches}
+use Rattle.source_meaning.specs.Valid.{IsPlainThroughout, Calls, Reaches}
 use Rattle.mir_lower.specs.Refusals.{HasDrops}
 use Rattle.consteval.specs.Sources.{source_of}
 
@@ -39,10 +39,8 @@ IsPlainItem world (Const id) ty = IsPlainConst world id ty
 IsPlainItem world (Function id) ty = IsPlainFunction world id ty
 IsPlainItem world _ ty = ⊥
 
--- A body that is called can be run: each of its types that needs a layout has one, inference met no error in it, and no value of it may need
--- a drop function.
+-- what is asked of a body that is called, beside that it is plain: inference met no error in it, and no value of it may need a drop function
 pub record IsFitBody (source : Source) : Type 0 where
-  pub laid_out : AreLaidOut source
   pub inferred : source.infer.erroneous ≡ false
   pub fitting : source.infer.mismatches ≡ []
   pub dropless : ¬ HasDrops source
@@ -50,7 +48,7 @@ pub record IsFitBody (source : Source) : Type 0 where
 -- A definition and its arguments are valid: it is a constant without generic parameters, or a function without generic and value
 -- parameters, has a body of its type without parameters and typing errors, and no value of which may need a drop function, no
 -- arguments, and its crate has pointers of 8 bytes. Its body is plain, and so is each body that it reaches by calls. Each body that is
--- reached by calls has types with layouts and no typing error, and no value of it may need a drop function.
+-- reached by calls has no typing error, and no value of it may need a drop function.
 pub record IsValid (world : HirDatabase) (def : DefWithBodyId) (args : GenericArgs) (row : BodyRow) : Type 0 where
   pub ty : Ty
   pub item : IsPlainItem world def ty
