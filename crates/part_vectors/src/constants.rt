@@ -4,8 +4,8 @@
 use std::alloc::Global;
 use std::test::Fail;
 use world::{
-    Bytes, Const, Crate, HirDatabase, IntTy, Literal, Text, TryClone, Ty, UintTy,
-    intern_const_ref, usize_const,
+    Bytes, Const, Crate, HirDatabase, IntTy, Literal, Text, TryClone, Ty, UintTy, intern_const_ref,
+    usize_const,
 };
 
 /// What a constant is to be: a value of a type with these bytes, or, without bytes, the constant `Error`.
@@ -39,12 +39,48 @@ fn expect(
 #[test]
 fn numbers_are_constants_of_their_types(rt: HostRuntime) -> Result<(), Fail> {
     let alloc = rt.alloc();
-    expect(alloc, "-1 at i8", &Literal::Int(-1, None), Ty::Int(IntTy::I8), Some(&[0xff]))?;
-    expect(alloc, "1i16 at i8", &Literal::Int(1, Some(IntTy::I16)), Ty::Int(IntTy::I8), None)?;
-    expect(alloc, "an unsigned number at i8", &Literal::Uint(1, None), Ty::Int(IntTy::I8), None)?;
-    expect(alloc, "-2 at u16", &Literal::Int(-2, None), Ty::Uint(UintTy::U16), Some(&[0xfe, 0xff]))?;
-    expect(alloc, "65537u16 at u16", &Literal::Uint(65537, Some(UintTy::U16)), Ty::Uint(UintTy::U16), Some(&[1, 0]))?;
-    expect(alloc, "1u8 at u16", &Literal::Uint(1, Some(UintTy::U8)), Ty::Uint(UintTy::U16), None)?;
+    expect(
+        alloc,
+        "-1 at i8",
+        &Literal::Int(-1, None),
+        Ty::Int(IntTy::I8),
+        Some(&[0xff]),
+    )?;
+    expect(
+        alloc,
+        "1i16 at i8",
+        &Literal::Int(1, Some(IntTy::I16)),
+        Ty::Int(IntTy::I8),
+        None,
+    )?;
+    expect(
+        alloc,
+        "an unsigned number at i8",
+        &Literal::Uint(1, None),
+        Ty::Int(IntTy::I8),
+        None,
+    )?;
+    expect(
+        alloc,
+        "-2 at u16",
+        &Literal::Int(-2, None),
+        Ty::Uint(UintTy::U16),
+        Some(&[0xfe, 0xff]),
+    )?;
+    expect(
+        alloc,
+        "65537u16 at u16",
+        &Literal::Uint(65537, Some(UintTy::U16)),
+        Ty::Uint(UintTy::U16),
+        Some(&[1, 0]),
+    )?;
+    expect(
+        alloc,
+        "1u8 at u16",
+        &Literal::Uint(1, Some(UintTy::U8)),
+        Ty::Uint(UintTy::U16),
+        None,
+    )?;
     expect(alloc, "1 at bool", &Literal::Uint(1, None), Ty::Bool, None)
 }
 
@@ -52,8 +88,20 @@ fn numbers_are_constants_of_their_types(rt: HostRuntime) -> Result<(), Fail> {
 fn other_literals_are_constants_of_their_types(rt: HostRuntime) -> Result<(), Fail> {
     let alloc = rt.alloc();
     expect(alloc, "true", &Literal::Bool(true), Ty::Bool, Some(&[1]))?;
-    expect(alloc, "true at u8", &Literal::Bool(true), Ty::Uint(UintTy::U8), None)?;
-    expect(alloc, "the euro sign", &Literal::Char(0x20ac), Ty::Char, Some(&[0xac, 0x20, 0, 0]))?;
+    expect(
+        alloc,
+        "true at u8",
+        &Literal::Bool(true),
+        Ty::Uint(UintTy::U8),
+        None,
+    )?;
+    expect(
+        alloc,
+        "the euro sign",
+        &Literal::Char(0x20ac),
+        Ty::Char,
+        Some(&[0xac, 0x20, 0, 0]),
+    )?;
     let text = Literal::Str(Text::from_str(alloc, "ab")?);
     expect(alloc, "a text", &text, Ty::Str, Some(&[0x61, 0x62]))?;
     let bytes = Literal::ByteStr(Bytes::from_slice(alloc, &[7, 8])?);
