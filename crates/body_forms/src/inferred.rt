@@ -5,7 +5,7 @@ ghost use Rattle.std.specs.Prelude.{◌≡◌, ◌<◌, ◌&&◌, ℕ, length, S
 ghost use Rattle.std.specs.Option.{option_copied};
 ghost use Rattle.source_meaning.specs.Built.{HasArrayType};
 ghost use Rattle.source_meaning.specs.Core.{is_coercion, is_number_type, never_step, never_steps, never_target, value_type as type_of_value};
-ghost use Rattle.source_meaning.specs.Source.{binding_type, cell_type, diverges, node_type, own_type, Never};
+ghost use Rattle.source_meaning.specs.Source.{binding_type, cell_type, diverges, monomorphic, node_type, own_type, Never};
 ghost use Rattle.types.specs.declared.ty.Ty.TheVariants.{Array};
 ghost use Rattle.world.specs.Checked.{IsCheckedBody};
 ghost use Rattle.world.specs.Lookups.{is_copy as is_copy_type, type_of};
@@ -200,7 +200,7 @@ impl<'a> Context<'a> {
         body: &'a Body,
         infer: &'a InferenceResult,
     ) -> Result<Context<'a>, NoMemory>
-        ensures { IfOk result (λ context. source_of context ≡ record { world = db.now; body = body.now; infer = infer.now }) }
+        ensures { IfOk result (λ context. source_of context ≡ monomorphic db.now body.now infer.now) }
     {
         Ok(Context {
             alloc,

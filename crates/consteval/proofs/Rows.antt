@@ -14,7 +14,7 @@ use Rattle.mir_lower.specs.Built.{IsBuilt}
 use Rattle.mir_lower.specs.Order.{AreInOrder}
 use Rattle.mir_lower.specs.Refusals.{Refuses, RefusesInferred, needs_drops}
 use Rattle.mir_lower.specs.Simulates.{Simulates}
-use Rattle.source_meaning.specs.Source.{Source, root}
+use Rattle.source_meaning.specs.Source.{Source, monomorphic, root}
 use Rattle.consteval.specs.Refusals.{RefusesBody}
 use Rattle.consteval.specs.Built.{is_empty, is_erroneous, is_unbuilt, is_unbuilt_definition, has_errors}
 use Rattle.consteval.specs.Kept.{IsLowered}
@@ -42,7 +42,7 @@ module _ (world : HirDatabase) (def : DefWithBodyId) (body : Body) (infer : Infe
   row-checked checked = subst (λ (r : BodyRow). IsCheckedBody r.body r.infer) row.is (checked-body world def row.row checked row.there)
 
   abbrev Of : Source
-  Of = record { world = world; body = body; infer = infer }
+  Of = monomorphic world body infer
 
   -- what lowering makes of the body is lowered from its row, where the definition is built and has no typing error
   pub row-lowers : (result : Result MirBody MirLowerError) → is_erroneous world def ≡ false → is_unbuilt_definition world def ≡ false →
@@ -69,7 +69,7 @@ no-typing-errors false [] none errors = ⊎_elim (λ erroneous. absurd cc) (λ s
 no-typing-errors false (e ∷ rest) none errors = absurd cc
 
 -- a body without typing errors is refused for what its lowering refuses
-pub lowering-refuses : (world : HirDatabase) (def : DefWithBodyId) (args : GenericArgs) (row : BodyRow) (body : Body) (infer : InferenceResult) (e : MirLowerError) → row ≡ record { body = body; infer = infer } → body_row world def ≡ Some row → is_erroneous world def ≡ false → is_unbuilt world def args ≡ false → Refuses (record { world = world; body = body; infer = infer }) e → (e ≡ refusal.NoMemory) ⊎ RefusesBody world def args e
+pub lowering-refuses : (world : HirDatabase) (def : DefWithBodyId) (args : GenericArgs) (row : BodyRow) (body : Body) (infer : InferenceResult) (e : MirLowerError) → row ≡ record { body = body; infer = infer } → body_row world def ≡ Some row → is_erroneous world def ≡ false → is_unbuilt world def args ≡ false → Refuses (monomorphic world body infer) e → (e ≡ refusal.NoMemory) ⊎ RefusesBody world def args e
 lowering-refuses world def args row body infer e is found erroneous built refuses =
     let there : is_erroneous world def ≡ has_errors (Some infer) =
     ap (λ (r : Option BodyRow). has_errors (option_map (λ row. row.infer) r)) found ∙ ap (λ (r : BodyRow). has_errors (Some r.infer)) is in

@@ -1,7 +1,7 @@
 //! Lowering a whole body.
 
 ghost use Rattle.std.specs.Prelude.{◌≡◌, ◌⊎◌, false, [], IfOk, IfErr, OnOk};
-ghost use Rattle.source_meaning.specs.Source.{Source};
+ghost use Rattle.source_meaning.specs.Source.{monomorphic};
 ghost use Rattle.world.specs.Checked.{IsChecked, IsCheckedBody};
 ghost use Rattle.source_meaning.specs.Source.{root};
 ghost use Rattle.mir_lower.specs.Built.{IsBuilt};
@@ -35,13 +35,13 @@ pub fn lower_to_mir(
 ) -> Result<MirBody, MirLowerError>
     requires world { IsChecked db.now }
     requires checked { IsCheckedBody body.now infer.now }
-    ensures simulates { IfOk result (Simulates (record { world = db.now; body = body.now; infer = infer.now })) }
-    ensures order { IfOk result (λ lowered. AreInOrder (record { world = db.now; body = body.now; infer = infer.now }) lowered.locals) }
+    ensures simulates { IfOk result (Simulates (monomorphic db.now body.now infer.now)) }
+    ensures order { IfOk result (λ lowered. AreInOrder (monomorphic db.now body.now infer.now) lowered.locals) }
     ensures owner { IfOk result (λ lowered. lowered.owner ≡ owner) }
     ensures errors { OnOk result ((infer.now.erroneous ≡ false) × (infer.now.mismatches ≡ [])) }
-    ensures dropless { IfOk result (λ lowered. needs_drops (record { world = db.now; body = body.now; infer = infer.now }) lowered.locals ≡ false) }
-    ensures built { OnOk result (IsBuilt (record { world = db.now; body = body.now; infer = infer.now }) body.now.body_expr.0) }
-    ensures refused { IfErr result (Refuses (record { world = db.now; body = body.now; infer = infer.now })) }
+    ensures dropless { IfOk result (λ lowered. needs_drops (monomorphic db.now body.now infer.now) lowered.locals ≡ false) }
+    ensures built { OnOk result (IsBuilt (monomorphic db.now body.now infer.now) body.now.body_expr.0) }
+    ensures refused { IfErr result (Refuses (monomorphic db.now body.now infer.now)) }
 {
     if infer.erroneous || !infer.mismatches.as_slice().is_empty() {
         return Err(MirLowerError::HasErrors);

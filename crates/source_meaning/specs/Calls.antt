@@ -24,7 +24,8 @@ use Rattle.world.specs.declared.database.BodyRow.{BodyRow}
 use Rattle.world.specs.declared.database.HirDatabase.{HirDatabase}
 use Rattle.world.specs.declared.infer.MethodRes.{MethodRes}
 use Rattle.world.specs.Lookups.{body_row}
-use Rattle.source_meaning.specs.Source.{Source, Store, Cell, Result, Binding, bound_by, own_type, pattern, cell_size, zeroed, with_cell_bytes}
+use Rattle.source_meaning.specs.Contents.{Contents}
+use Rattle.source_meaning.specs.Source.{Source, monomorphic, Store, Cell, Result, Binding, bound_by, own_type, pattern, cell_size, zeroed, with_cell_bytes}
 
 -- a type's variant
 abbrev TyLayer : Type 0
@@ -59,7 +60,7 @@ function_called source e None = option_and_then method_function (method_of sourc
 
 -- a row of the table of bodies, as a source in its world
 abbrev pub source_at : HirDatabase → BodyRow → Source
-source_at world row = record { world = world; body = row.body; infer = row.infer }
+source_at world row = monomorphic world row.body row.infer
 
 -- the source of a function: its row in the table of bodies
 unfoldable pub source_of : HirDatabase → FunctionId → Option Source
@@ -97,7 +98,7 @@ parameter_cells source = bound_by source.body.self_param ++ flat_map (λ (pat : 
 
 -- The store after each parameter's cell took the bytes of an argument, in order, where they are as many, and each has the size of its
 -- cell.
-unfoldable pub filled : Source → Store → List ℕ → List (List ℕ) → Option Store
+unfoldable pub filled : Source → Store → List ℕ → List Contents → Option Store
 filled callee store [] [] = Some store
 filled callee store (b ∷ others) (bytes ∷ given) =
     if length bytes == cell_size callee (Binding b) then filled callee (with_cell_bytes store (Binding b) bytes) others given else None
@@ -106,6 +107,6 @@ filled callee store (b ∷ others) [] = None
 
 -- The store that a called body starts from: each local is new and zeroed, but for the return place, which is the call's destination itself
 -- and holds what that holds, and for the parameters' locals, which hold the arguments.
-unfoldable pub started : Source → (result : List ℕ) → (given : List (List ℕ)) → Option Store
+unfoldable pub started : Source → (result : Contents) → (given : List Contents) → Option Store
 started callee result given =
     option_and_then (λ bound. filled callee (with_cell_bytes (zeroed callee) Result result) bound given) (parameters callee)

@@ -2,6 +2,7 @@ pub mod Aggregates
 pub mod Around
 pub mod Built
 pub mod Calls
+pub mod Contents
 pub mod Core
 pub mod Ends
 pub mod Entering

@@ -20,6 +20,7 @@ use Rattle.numbers.specs.declared.operator.Operator.{Operator}
 use Rattle.numbers.specs.Operators.{Answer, Computes, Panics, Undefined, computed, converted, negated, inverted, kind_of}
 use Rattle.source_meaning.specs.Aggregates.{array_length, laid_out, repeated_for}
 use Rattle.source_meaning.specs.Calls.{source_called, must_not_return, parameter_cells, started}
+use Rattle.source_meaning.specs.Contents.{Contents, bytes_in, holding}
 use Rattle.source_meaning.specs.Core as expr
 use Rattle.source_meaning.specs.Core.{Assigned, Assignee, ByField, ByPath, ByPattern, ByPlace, CoreExpr, CoreLiteral, Truth, Number, Character, Operation, Negate, Invert, Keep, Convert, Combine, MakeTuple, MakeArray, Repeat, is_place}
 use Rattle.source_meaning.specs.Ends.{Cost, no_cost, turns_alone, bytes_alone, plus, one_level_more, End, Go, Jumps, Break, Continue, Return, Faults, Panic, Undefined as UndefinedBehavior, NoLayout, Stuck, More, after, then_do, IsOver}
@@ -41,12 +42,12 @@ literal_bytes source e (Number number) = option_map (λ layout. low_bytes layout
 literal_bytes source e (Character code) = option_map (λ layout. low_bytes layout.size (pos code)) (own_layout source e)
 
 -- bytes are written where a path leads, if they are as many as lie there
-unfoldable pub put : Store → Path → List ℕ → End (Unit {0})
+unfoldable pub put : Store → Path → Contents → End (Unit {0})
 put store path bytes =
     if length bytes == length (store path.cell) then Go tt (with_cell_bytes store path.cell bytes) no_cost else Stuck
 
 -- bytes are written that were read, where there are some
-abbrev pub copy_to : Store → Path → Option (List ℕ) → End (Unit {0})
+abbrev pub copy_to : Store → Path → Option Contents → End (Unit {0})
 copy_to store path (Some bytes) = put store path bytes
 copy_to store path None = Stuck
 
@@ -56,11 +57,11 @@ constant_cost source e = bytes_alone (room_of (own_layout source e))
 
 -- a literal is written
 abbrev pub put_literal : Source → ℕ → Store → Path → Option (List ℕ) → End (Unit {0})
-put_literal source e store path (Some bytes) = after (constant_cost source e) (put store path bytes)
+put_literal source e store path (Some bytes) = after (constant_cost source e) (put store path (holding bytes))
 put_literal source e store path None = Stuck
 
 abbrev pub put_answer : Store → Path → Answer → End (Unit {0})
-put_answer store path (Computes bytes) = put store path bytes
+put_answer store path (Computes bytes) = put store path (holding bytes)
 put_answer store path (Panics word) = Faults (Panic word) no_cost
 put_answer store path Undefined = Stuck
 
@@ -74,7 +75,7 @@ pub record Value : Type 0 where
   pub bytes : List ℕ
 
 abbrev pub value_of : Source → Store → Operand → Option Value
-value_of source store operand = option_map (λ bytes. record { kind = operand_kind source operand; bytes = bytes }) (operand_bytes source store operand)
+value_of source store operand = option_map (λ contents. record { kind = operand_kind source operand; bytes = bytes_in contents }) (operand_bytes source store operand)
 
 -- what an operation reads of operands when it runs, where each has bytes
 unfoldable pub values_of : Source → Store → List Operand → Option (List Value)
@@ -119,7 +120,7 @@ Levels = Around → Level
 
 -- what the bodies mean that calls enter, each from a store on: how it ends, with the bytes of its result
 abbrev pub Callees : Type 0
-Callees = Source → Store → End (List ℕ)
+Callees = Source → Store → End Contents
 
 -- with no fuel nothing ends
 abbrev pub no_fuel : Levels
@@ -173,7 +174,7 @@ strict_into source below around e operation operands path store =
     then_do (operands_of source below around operands store) (λ given later. put_answer later path (answered_for source.world (own_type source e) operation (values_of source later given)))
 
 -- Whether bytes are one byte, and this is the given number. Other bytes than one have no answer.
-abbrev pub is_byte : ℕ → Option (List ℕ) → Option Bool
+abbrev pub is_byte : ℕ → Option Contents → Option Bool
 is_byte number (Some (byte ∷ [])) = Some (byte == number)
 is_byte number _ = None
 
@@ -246,22 +247,22 @@ statement_of source below (statement.Expr e has_semi) store =
 statement_of source below _ store = Stuck
 
 -- all bytes of a cell are replaced, where it is known by which
-abbrev pub put_all : Store → Cell → Option (List ℕ) → End (Unit {0})
+abbrev pub put_all : Store → Cell → Option Contents → End (Unit {0})
 put_all store cell (Some bytes) = Go tt (with_cell_bytes store cell bytes) no_cost
 put_all store cell None = Stuck
 
 -- bytes are put at a place, if they are as many as lie there
-abbrev pub put_at : Source → Store → Place → List ℕ → End (Unit {0})
+abbrev pub put_at : Source → Store → Place → Contents → End (Unit {0})
 put_at source store place bytes = put_all store place.cell (cell_with source store place bytes)
 
 -- bytes are put there that were read, where there are some
-abbrev pub copy_at : Source → Store → Place → Option (List ℕ) → End (Unit {0})
+abbrev pub copy_at : Source → Store → Place → Option Contents → End (Unit {0})
 copy_at source store place (Some bytes) = put_at source store place bytes
 copy_at source store place None = Stuck
 
 -- what an operation answers is put there, where it answers something for its operands
 abbrev pub answer_at : Source → Store → Place → Answer → End (Unit {0})
-answer_at source store place (Computes bytes) = put_at source store place bytes
+answer_at source store place (Computes bytes) = put_at source store place (holding bytes)
 answer_at source store place (Panics word) = Faults (Panic word) no_cost
 answer_at source store place Undefined = Stuck
 
@@ -371,7 +372,7 @@ return_into source below around value store =
 
 -- How a call ends whose callee may return: where the callee gives a value, its bytes are put at the destination, and one block is counted,
 -- the target of the call's terminator. A fault of the callee is one of the call. No jump leads out of a body.
-abbrev pub call_returned : Path → Store → End (List ℕ) → End (Unit {0})
+abbrev pub call_returned : Path → Store → End Contents → End (Unit {0})
 call_returned path store (Go value left cost) = after cost (then_do (put store path value) (λ _ last. Go tt last (turns_alone 1)))
 call_returned path store (Jumps to left cost) = Stuck
 call_returned path store (Faults fault cost) = Faults fault cost
@@ -380,7 +381,7 @@ call_returned path store (More cost) = More cost
 
 -- How a call ends whose callee must not return: its terminator has no target, so that the callee gives a value is undefined behavior. While
 -- the callee runs, it takes one more level of nesting.
-abbrev pub call_diverged : End (List ℕ) → End (Unit {0})
+abbrev pub call_diverged : End Contents → End (Unit {0})
 call_diverged (Go value left cost) = Faults (UndefinedBehavior (codes "Diverging function returned")) (one_level_more cost)
 call_diverged (Jumps to left cost) = Stuck
 call_diverged (Faults fault cost) = Faults fault (one_level_more cost)
@@ -388,16 +389,16 @@ call_diverged Stuck = Stuck
 call_diverged (More cost) = More (one_level_more cost)
 
 -- how a call ends by the end of its callee; `diverging`: the callee must not return
-abbrev pub call_ended : (diverging : Bool) → Path → Store → End (List ℕ) → End (Unit {0})
+abbrev pub call_ended : (diverging : Bool) → Path → Store → End Contents → End (Unit {0})
 call_ended true path store end = call_diverged end
 call_ended false path store end = call_returned path store end
 
 -- what a body means that can't be entered, since a type that it needs has no layout
-abbrev pub unlaid_meaning : Source → End (List ℕ)
+abbrev pub unlaid_meaning : Source → End Contents
 unlaid_meaning source = after (entering source) (Faults NoLayout no_cost)
 
 -- what a body means whose arguments don't fit its parameters: nothing, but where it can't be entered anyway
-abbrev pub unfit_meaning : (laid : Bool) → Source → End (List ℕ)
+abbrev pub unfit_meaning : (laid : Bool) → Source → End Contents
 unfit_meaning true source = Stuck
 unfit_meaning false source = unlaid_meaning source
 
@@ -408,7 +409,7 @@ entered_from callees diverging callee None path store = call_ended diverging pat
 
 -- The body that a call enters. Its return place is the call's destination, and holds what that holds; where the callee must not return,
 -- it is a new cell of the callee's result type.
-abbrev pub entered_into : Callees → (diverging : Bool) → (callee : Option Source) → (given : Option (List (List ℕ))) → Path → Store → End (Unit {0})
+abbrev pub entered_into : Callees → (diverging : Bool) → (callee : Option Source) → (given : Option (List Contents)) → Path → Store → End (Unit {0})
 entered_into callees diverging (Some callee) (Some given) path store =
     entered_from callees diverging callee (started callee (cond diverging (zeroed callee Result) (store path.cell)) given) path store
 entered_into callees diverging _ _ path store = Stuck
@@ -450,7 +451,7 @@ level_above source below callees around = record {
 
 -- How a body ends, by the end of its root. Where the root has a value, the body's scope is left; a `return` has left it already.
 -- Both give the bytes of the result's cell. A `break` or a `continue` that nothing caught stays one; a plain body has none.
-abbrev pub returned : Source → End (Unit {0}) → End (List ℕ)
+abbrev pub returned : Source → End (Unit {0}) → End Contents
 returned source (Go done store cost) = after cost (Go (store Result) store (turns_alone (drops source (parameter_cells source ++ marked source (root source)))))
 returned source (Jumps Return store cost) = Go (store Result) store cost
 returned source (Jumps (Break node) store cost) = Jumps (Break node) store cost
@@ -460,14 +461,14 @@ returned source Stuck = Stuck
 returned source (More cost) = More cost
 
 -- what is evaluated in a body, if the types that it needs have layouts: else its cells can't be placed
-abbrev pub where_laid : (laid : Bool) → End (List ℕ) → End (List ℕ)
+abbrev pub where_laid : (laid : Bool) → End Contents → End Contents
 where_laid true end = end
 where_laid false end = Faults NoLayout no_cost
 
 -- What a body means from a store on, by the meanings of its expressions: its root is evaluated into the result's cell, which is also the
 -- return path, and the bytes of that cell are the value. The parameters' cells are in use from the start on. No cell is zeroed: the
 -- result's keeps its old bytes where nothing is written to it. Nothing is evaluated where a type that the body needs has no layout.
-abbrev pub body_meaning : Source → Levels → Store → End (List ℕ)
+abbrev pub body_meaning : Source → Levels → Store → End Contents
 body_meaning source levels store =
     after (entering source) (where_laid (is_laid_out source)
     (returned source ((levels (marking (parameter_cells source) (at_root (record { cell = Result })))).into (root source) (record { cell = Result }) store)))
@@ -482,15 +483,15 @@ abbrev pub callees_at : ℕ → Callees
 callees_at fuel callee store = body_meaning callee (level_at callee fuel) store
 
 -- what a body means from a store on, at an amount of fuel
-unfoldable pub meaning_from : Source → Store → ℕ → End (List ℕ)
+unfoldable pub meaning_from : Source → Store → ℕ → End Contents
 meaning_from source store fuel = body_meaning source (level_at source fuel) store
 
 -- what a body means that runs by itself: from zeroed cells on
-abbrev pub meaning_of : Source → ℕ → End (List ℕ)
+abbrev pub meaning_of : Source → ℕ → End Contents
 meaning_of source fuel = after (run_cost source) (meaning_from source (zeroed source) fuel)
 
 -- the end that a source has with enough fuel
-pub record Gives (source : Source) (end : End (List ℕ)) : Type 0 where
+pub record Gives (source : Source) (end : End Contents) : Type 0 where
   pub fuel : ℕ
   pub reached : meaning_of source fuel ≡ end
   pub over : IsOver end

@@ -14,6 +14,7 @@ use Rattle.types.specs.declared.ty.ValueConst.{ValueConst}
 use Rattle.world.specs.declared.database.HirDatabase.{HirDatabase}
 use Rattle.world.specs.Lookups.{layout_of}
 use Rattle.numbers.specs.Aggregates.{with_part}
+use Rattle.source_meaning.specs.Contents.{Contents, holding}
 use Rattle.source_meaning.specs.Source.{Source, Store, cell_type, PlaceElem, Part, Place, Operand, Literally, At}
 
 -- a type's variant
@@ -49,12 +50,12 @@ offset_behind world [] ty = Some 0
 offset_behind world (elem ∷ rest) ty = added (option_and_then (elem_offset world elem) ty) (offset_behind world rest (option_and_then (elem_type elem) ty))
 
 -- so many bytes from an offset on, where there are as many
-abbrev pub part_of : (offset size : ℕ) → List ℕ → Option (List ℕ)
+abbrev pub part_of : (offset size : ℕ) → Contents → Option Contents
 part_of offset size bytes = if nat_le (offset + size) (length bytes) then Some (take size (drop offset bytes)) else None
 
 -- The bytes behind elements, of a value of a type: as many as the layout of the type behind the elements has, from the elements' offset on.
 -- Without elements they are all bytes of the value.
-unfoldable pub bytes_behind : HirDatabase → List PlaceElem → Option Ty → List ℕ → Option (List ℕ)
+unfoldable pub bytes_behind : HirDatabase → List PlaceElem → Option Ty → Contents → Option Contents
 bytes_behind world [] ty bytes = Some bytes
 bytes_behind world (elem ∷ rest) ty bytes =
     option_and_then (λ offset. option_and_then (λ size. part_of offset size bytes)
@@ -62,7 +63,7 @@ bytes_behind world (elem ∷ rest) ty bytes =
 
 -- The bytes of a value of a type after others were put behind elements, where these are as many as lie there. Without elements they take
 -- the place of all.
-unfoldable pub bytes_with : HirDatabase → List PlaceElem → Option Ty → (put bytes : List ℕ) → Option (List ℕ)
+unfoldable pub bytes_with : HirDatabase → List PlaceElem → Option Ty → (put bytes : Contents) → Option Contents
 bytes_with world [] ty put bytes = if length put == length bytes then Some put else None
 bytes_with world (elem ∷ rest) ty put bytes =
     option_and_then (λ offset. option_and_then (λ size. if length put == size then with_part offset put bytes else None)
@@ -72,11 +73,11 @@ bytes_with world (elem ∷ rest) ty put bytes =
 unfoldable pub place_type : Source → Place → Option Ty
 place_type source place = type_behind place.projection (cell_type source place.cell)
 
-unfoldable pub place_bytes : Source → Store → Place → Option (List ℕ)
+unfoldable pub place_bytes : Source → Store → Place → Option Contents
 place_bytes source store place = bytes_behind source.world place.projection (cell_type source place.cell) (store place.cell)
 
 -- the bytes of a place's cell after others were put at the place
-unfoldable pub cell_with : Source → Store → Place → List ℕ → Option (List ℕ)
+unfoldable pub cell_with : Source → Store → Place → Contents → Option Contents
 cell_with source store place put = bytes_with source.world place.projection (cell_type source place.cell) put (store place.cell)
 
 -- the type of an operand, and its bytes now
@@ -84,12 +85,12 @@ abbrev pub operand_type : Source → Operand → Option Ty
 operand_type source (Literally ty bytes) = Some ty
 operand_type source (At place) = place_type source place
 
-abbrev pub operand_bytes : Source → Store → Operand → Option (List ℕ)
-operand_bytes source store (Literally ty bytes) = Some bytes
+abbrev pub operand_bytes : Source → Store → Operand → Option Contents
+operand_bytes source store (Literally ty bytes) = Some (holding bytes)
 operand_bytes source store (At place) = place_bytes source store place
 
 -- the bytes of operands, where each has some
-unfoldable pub operands_bytes : Source → Store → List Operand → Option (List (List ℕ))
+unfoldable pub operands_bytes : Source → Store → List Operand → Option (List Contents)
 operands_bytes source store [] = Some []
 operands_bytes source store (first ∷ rest) =
     option_and_then (λ bytes. option_map (λ others. bytes ∷ others) (operands_bytes source store rest)) (operand_bytes source store first)

@@ -9,18 +9,25 @@ use Rattle.world.specs.declared.database.HirDatabase.{HirDatabase}
 use Rattle.world.specs.declared.infer.InferenceResult.{InferenceResult}
 use Rattle.world.specs.declared.infer.ValueNs.{ValueNs}
 use Rattle.world.specs.declared.layout.Layout.{Layout}
+use Rattle.types.specs.declared.ty.GenericArg.{GenericArg}
 use Rattle.types.specs.declared.ty.Ty.{Ty}
 use Rattle.types.specs.declared.ids.BindingId.{BindingId}
 use Rattle.types.specs.declared.ids.ExprId.{ExprId}
 use Rattle.types.specs.declared.ids.PatId.{PatId}
 use Rattle.world.specs.Lookups.{layout_of, type_of, expr_of, is_copy}
+use Rattle.source_meaning.specs.Contents.{Contents, holding}
 use Rattle.source_meaning.specs.Core.{Assigned, Assignee, ByField, ByPath, ByPattern, ByPlace, CoreExpr, Findings, cast_operation, core_of, expr_in, field_named, is_adjusted_otherwise, is_adjusted_twice, named_path, part_in, type_after, is_adjusted_pattern, is_dereferenced_pattern, path_of, pattern_names_item, local_named, name_of, names_item, never_target}
 
--- a typed body in its world
+-- a typed body in its world, and the arguments of its generics, of which there are none in any body that has a meaning so far
 pub record Source : Type 0 where
   pub world : HirDatabase
   pub body : Body
   pub infer : InferenceResult
+  pub args : List GenericArg
+
+-- a body without generics, as a source in its world
+abbrev pub monomorphic : HirDatabase → Body → InferenceResult → Source
+monomorphic world body infer = record { world = world; body = body; infer = infer; args = [] }
 
 -- the expression that a pattern of the source holds, where it isn't dereferenced
 unfoldable pub pattern_expr : Source → ℕ → Option ExprId
@@ -211,21 +218,21 @@ never_marks source e = cond (diverges source e) (Never e ∷ []) []
 abbrev pub own_path : Source → ℕ → Path → Path
 own_path source e path = cond (diverges source e) (record { cell = Never e }) path
 
--- the bytes of each cell
+-- what each cell holds
 abbrev pub Store : Type 0
-Store = Cell → List ℕ
+Store = Cell → Contents
 
 -- each cell has the size of its type, and is zero
 abbrev pub zeroed : Source → Store
-zeroed source = λ cell. replicate (cell_size source cell) 0
+zeroed source = λ cell. holding (replicate (cell_size source cell) 0)
 
--- each cell holds as many bytes as its type has
+-- each cell holds as many elements as its type has bytes
 pub record IsSized (source : Source) (store : Store) : Type 0 where
   pub holds_all : (cell : Cell) → length (store cell) ≡ cell_size source cell
 
--- the store with other bytes in one cell
-abbrev pub with_cell_bytes : Store → Cell → List ℕ → Store
-with_cell_bytes store cell bytes = λ other. cond (same_cell cell other) bytes (store other)
+-- the store with other contents in one cell
+abbrev pub with_cell_bytes : Store → Cell → Contents → Store
+with_cell_bytes store cell contents = λ other. cond (same_cell cell other) contents (store other)
 
 -- what an operation reads: a literal's bytes, of a type, or what lies at a place when the operation runs
 pub data Operand : Type 0 where

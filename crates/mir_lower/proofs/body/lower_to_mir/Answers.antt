@@ -2,7 +2,7 @@
 use Rattle.std.proofs.Common.{false, ◌≡◌, sym, subst, inr}
 use Rattle.std.specs.Prelude.{IfOk, IfErr, OnOk}
 use Rattle.world.specs.Checked.{IsChecked, IsCheckedBody}
-use Rattle.source_meaning.specs.Source.{Source, root}
+use Rattle.source_meaning.specs.Source.{Source, monomorphic, root}
 use Rattle.mir_lower.specs.Built.{IsBuilt}
 use Rattle.mir_lower.specs.Order.{AreInOrder}
 use Rattle.mir_lower.specs.Refusals.{Refuses, RefusesInferred, needs_drops}
@@ -13,7 +13,7 @@ use Rattle.mir_lower.proofs.body.lower_to_mir.Goals as goal
 
 pub returns-in_err-context-clause-refused : goal.returns-in_err-context-clause-refused
 returns-in_err-context-clause-refused c =
-    let source : Source = record { world = c.args.db.now; body = c.args.body.now; infer = c.args.infer.now } in
+    let source : Source = monomorphic c.args.db.now c.args.body.now c.args.infer.now in
     refused-exit (Refuses source) _ c.from_residual.result c.from_residual.ensures.1 (λ error none. inr (inr (inr (refuses-no-memory source (root source) error none))))
 
 pub lower_inferred-requires-clause-world : goal.lower_inferred-requires-clause-world
@@ -36,6 +36,6 @@ returns-clause-built c = subst (λ (s : Source). OnOk c.lower_inferred.result (I
 
 pub returns-clause-refused : goal.returns-clause-refused
 returns-clause-refused c =
-    let source : Source = record { world = c.args.db.now; body = c.args.body.now; infer = c.args.infer.now } in
+    let source : Source = monomorphic c.args.db.now c.args.body.now c.args.infer.now in
     IfErr-weaker c.lower_inferred.result _ (Refuses source) (λ error refused. inr refused)
     (subst (λ (s : Source). IfErr c.lower_inferred.result (RefusesInferred s)) c.in_ok-context.ensures c.lower_inferred.ensures.refused)
