@@ -9,7 +9,7 @@ use Rattle.world_check.specs.Rows.{Holds}
 use Rattle.world_check.proofs.Laid.{laid_out}
 use Rattle.source_meaning.specs.Aggregates.{HasAggregates, IsPartInside}
 
-lies-inside : (world : HirDatabase) (size offset : ℕ) (ty : Ty) → LiesInside world size offset (Some ty) → IsPartInside world size offset ty
+lies-inside : (world : HirDatabase) (size offset : ℕ) (ty : Ty) → LiesInside (layout_of world) size offset (Some ty) → IsPartInside world size offset ty
 lies-inside world size offset ty lies =
     let is = lies.is in
     let same : lies.ty ≡ ty = cc in
@@ -18,9 +18,9 @@ lies-inside world size offset ty lies =
 pub has-aggregates : (world : HirDatabase) → Holds world → HasAggregates world
 has-aggregates world holds = record {
   tuples = λ types layout found.
-      let parts = (laid_out world holds (Tuple types) layout found).parts types refl in
+      let parts = (laid_out world holds (Tuple types) layout found).0.parts types refl in
       record { count = parts.count; inside = λ k offset ty at begins. lies-inside world layout.size offset ty (parts.inside k offset ty at begins) };
   arrays = λ element len layout found.
-      let elements = (laid_out world holds (Array element len) layout found).elements element len refl in
+      let elements = (laid_out world holds (Array element len) layout found).0.elements element len refl in
       record { inner = elements.layout; has = elements.has; product = elements.product };
 }

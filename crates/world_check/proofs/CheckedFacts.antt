@@ -24,9 +24,9 @@ use Rattle.check_ids.specs.declared.part.BodyPart.TheVariants as part
 use Rattle.world.specs.Failing.{first_failing}
 use Rattle.check_trees.specs.Tree.{inner_exprs_in, is_expr_in_order, stands_inside}
 use Rattle.check_items.specs.Names.{is_body_known, is_const_named}
-use Rattle.check_layouts.specs.Layouts.{are_parts_right, is_layout_right, is_size_right}
-use Rattle.check_layouts.specs.Sizes.{alignments, is_alignment, is_fixed_size, is_multiple_of, known_size}
-use Rattle.check_names.specs.Known.{is_nameable, is_ty_closed}
+use Rattle.check_layouts.specs.Sizes.{known_size, layout_above}
+use Rattle.check_names.specs.Known.{is_nameable}
+use Rattle.world_check.specs.Laid.{IsLaidOut}
 use Rattle.world_check.specs.Rows.{Holds, failing_place, first_failure, first_failure_among, row_failure}
 use Rattle.world_check.specs.Walks.{first_found, wrong_adt, wrong_body, wrong_item, wrong_node_in, wrong_part_in, wrong_row, wrong_table, wrong_trait_or_param}
 use Rattle.world_check.specs.declared.fault.CheckRow.{CheckRow}
@@ -38,8 +38,9 @@ use Rattle.world_check.specs.declared.place.TableName.TheVariants.{Bodies, Const
 use Rattle.world_check.proofs.AllMet.{all_met}
 use Rattle.world_check.proofs.Decided.{meets_decides}
 use Rattle.world_check.proofs.FoundIds.{id_found}
-use Rattle.world_check.proofs.FoundPlaces.{layout_found, tree_found}
+use Rattle.world_check.proofs.FoundPlaces.{tree_found}
 use Rattle.world_check.proofs.InOrder.{stands_here}
+use Rattle.world_check.proofs.Laid.{of_there}
 use Rattle.world_check.proofs.Passing.{all_at, all_pass, both, found_none_at, neither, not_mapped, passes_at, within_table}
 
 is_below : (c i : ℕ) → ltb c i ≡ true → c < i
@@ -64,37 +65,6 @@ checked_const world row e =
     let first = both (ltb row.krate.0 (length world.crates)) _ second.0 in
     record { krate = is_below row.krate.0 (length world.crates) first.0; body = body_in_range world row.body last.1 }
 
-is_power : (k : ℕ) → k ≤ 13 → (align : ℕ) (rest : Bool) → (eqb (2 ^ k) align || rest) ≡ true → (rest ≡ true → IsAlignment align) → IsAlignment align
-is_power k h align rest e later = by_first (eqb (2 ^ k) align) (λ same. (k, h, sym (is_same (2 ^ k) align same))) e later
-  where
-    by_first : (b : Bool) → (b ≡ true → IsAlignment align) → (b || rest) ≡ true → (rest ≡ true → IsAlignment align) → IsAlignment align
-    by_first true here e later = here refl
-    by_first false here e later = later e
-
-alignment : (align : ℕ) → list_any (λ power. eqb power align) alignments ≡ true → IsAlignment align
-alignment align e =
-    is_power 0 (lit≤ tt) align _ e (λ e.
-    is_power 1 (lit≤ tt) align _ e (λ e.
-    is_power 2 (lit≤ tt) align _ e (λ e.
-    is_power 3 (lit≤ tt) align _ e (λ e.
-    is_power 4 (lit≤ tt) align _ e (λ e.
-    is_power 5 (lit≤ tt) align _ e (λ e.
-    is_power 6 (lit≤ tt) align _ e (λ e.
-    is_power 7 (lit≤ tt) align _ e (λ e.
-    is_power 8 (lit≤ tt) align _ e (λ e.
-    is_power 9 (lit≤ tt) align _ e (λ e.
-    is_power 10 (lit≤ tt) align _ e (λ e.
-    is_power 11 (lit≤ tt) align _ e (λ e.
-    is_power 12 (lit≤ tt) align _ e (λ e.
-    is_power 13 (lit≤ tt) align _ e (λ e.
-    cc))))))))))))))
-
-multiple : (size align : ℕ) → 0 < align → size % align ≡ 0 → (k : ℕ) × (size ≡ k * align)
-multiple size align h e = (size / align, grind arith)
-
-positive : (align : ℕ) → IsAlignment align → 0 < align
-positive align (k, h, e) = let below = pow_pos k in omega arith
-
 bool_size : (world : HirDatabase) → known_size world type.Bool ≡ Some 1
 bool_size world = search (the_lemmas, rules)
 
@@ -107,25 +77,19 @@ int_size world int = search (the_lemmas, rules)
 uint_size : (world : HirDatabase) (uint : UintTy) → known_size world (type.Uint uint) ≡ Some (uint_bytes uint)
 uint_size world uint = search (the_lemmas, rules)
 
-sized : (o : Option ℕ) (known size : ℕ) → o ≡ Some known → is_fixed_size o size ≡ true → size ≡ known
-sized o known size same e = is_same size known (ap (λ p. is_fixed_size p size) (sym same) ∙ e)
+sized : (o : Option ℕ) (known size : ℕ) → o ≡ Some known → IfSome o (λ fixed. size ≡ fixed) → size ≡ known
+sized o known size same e = of_there (λ fixed. size ≡ fixed) o known same e
 
 -- a layout has the size that is fixed for its type
-fixed : (world : HirDatabase) (ty : Ty) (size : ℕ) → is_fixed_size (known_size world ty) size ≡ true → IfSome (fixed_size ty) (λ known. size ≡ known)
+fixed : (world : HirDatabase) (ty : Ty) (size : ℕ) → IfSome (known_size world ty) (λ known. size ≡ known) → IfSome (fixed_size ty) (λ known. size ≡ known)
 fixed world type.Bool size e = sized (known_size world type.Bool) 1 size (bool_size world) e
 fixed world type.Char size e = sized (known_size world type.Char) 4 size (char_size world) e
 fixed world (type.Int int) size e = sized (known_size world (type.Int int)) (int_bytes int) size (int_size world int) e
 fixed world (type.Uint uint) size e = sized (known_size world (type.Uint uint)) (uint_bytes uint) size (uint_size world uint) e
 fixed world _ size e = tt
 
-checked_layout : (world : HirDatabase) (i : ℕ) (row : Ty × Layout) → is_layout_right world i row ≡ true → IsCheckedLayout row.0 row.1
-checked_layout world i row e =
-    let right = both (is_ty_closed row.0 && is_size_right world row.0 row.1) (are_parts_right world i row.0 row.1) e in
-    let sized = both (is_ty_closed row.0) (is_size_right world row.0 row.1) right.0 in
-    let known = both (is_alignment row.1.align && is_multiple_of row.1.size row.1.align) (is_fixed_size (known_size world row.0) row.1.size) sized.1 in
-    let placed = both (is_alignment row.1.align) (is_multiple_of row.1.size row.1.align) known.0 in
-    let align = alignment row.1.align placed.0 in
-    record { align = align; multiple = multiple row.1.size row.1.align (positive row.1.align align) (is_same _ 0 placed.1); size = fixed world row.0 row.1.size known.1 }
+checked_layout : (world : HirDatabase) (look : Ty → Option Layout) (ty : Ty) (layout : Layout) → IsLaidOut world look ty layout → IsCheckedLayout ty layout
+checked_layout world look ty layout laid = record { align = laid.align; multiple = laid.multiple; size = fixed world ty layout.size laid.size }
 
 no_part : (passes : Bool) (found : BodyPart) → unless passes found ≡ None → passes ≡ true
 no_part true found e = refl
@@ -221,7 +185,9 @@ IsChecked-from_passes world e =
     record {
       consts = λ i row at. checked_const world row (named_rows Consts (is_const_named world) world.consts (consts_named world tables.0) i row at);
       bodies = λ i row at. checked_body world i row (found_none_at (wrong_part_in world) i world.bodies row (bodies_found world bodies.0) at) (found_none_at wrong_node_in i world.bodies row (sym (tree_found world) ∙ holds.at C2) at);
-      layouts = λ i row at. checked_layout world i row (passes_at (is_layout_right world) i world.layouts row (not_mapped (Row Layouts) _ (sym (layout_found world) ∙ holds.at C5)) at);
+      layouts = λ i row at.
+          let laid = of_there (λ (r : Ty × Layout). IsLaidOut world (layout_above world i) r.0 r.1) (slice_get world.layouts i) row at (holds.met C5 (Row Layouts i)) in
+          checked_layout world (layout_above world i) row.0 row.1 laid;
     }
 
 -- a world in which no row of the check fails has no failure

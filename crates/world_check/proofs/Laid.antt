@@ -1,58 +1,24 @@
 -- The layouts of a world in which each row of the check holds.
-use Rattle.std.proofs.Common.{◌≡◌, ℕ, zero, suc, ◌+◌, ◌-◌, ◌*◌, ◌&&◌, ◌<◌, ◌≤◌, Bool, true, false, cond, eqb, ltb, leb, Option, Some, None, List, [], ◌∷◌, length, map, take, slice_get, is_some, IfSome, refl, sym, ◌∙◌, ap, subst, arith, rules}
-use Rattle.std.proofs.lemmas.Bool.Decides.{nat_tests}
-use Rattle.std.proofs.lemmas.List.{length-map}
-use Rattle.std.proofs.lemmas.List.Folds.{list_all-append}
+use Rattle.std.proofs.Common.{◌≡◌, ℕ, zero, suc, Bool, true, false, cond, Option, Some, None, List, [], ◌∷◌, take, slice_get, IfSome, refl, sym, ◌∙◌, ap, subst}
 use Rattle.std.specs.BTreeMap.{is_at}
-use Rattle.std.specs.List.{find, list_all}
-use Rattle.std.specs.Option.{option_and_then, option_map}
+use Rattle.std.specs.List.{find}
+use Rattle.std.specs.Option.{option_map}
 use Rattle.types.specs.Orders.{ty_cmp}
 use Rattle.types.specs.SameType.{type_cmp_decides}
-use Rattle.types.specs.declared.ids.AdtId.{AdtId}
-use Rattle.types.specs.declared.ids.AdtId.TheVariants.{StructId, UnionId, EnumId}
-use Rattle.types.specs.declared.ids.EnumId.{EnumId as EnumName}
-use Rattle.types.specs.declared.ids.EnumVariantId.{EnumVariantId}
-use Rattle.types.specs.declared.ids.InternedClosureId.{InternedClosureId}
-use Rattle.types.specs.declared.ids.StructId.{StructId as StructName}
-use Rattle.types.specs.declared.ids.UnionId.{UnionId as UnionName}
-use Rattle.types.specs.declared.ids.VariantId.TheVariants as variant
-use Rattle.types.specs.declared.ty.Const.{Const}
-use Rattle.types.specs.declared.ty.Const.TheFolds.{the_lemmas}
-use Rattle.types.specs.declared.ty.GenericArgs.{GenericArgs}
 use Rattle.types.specs.declared.ty.Ty.{Ty}
-use Rattle.types.specs.declared.ty.Ty.TheVariants as type
-use Rattle.world.specs.Lookups.{fields_of, layout_of}
-use Rattle.world.specs.declared.closures.ClosureRow.{ClosureRow}
+use Rattle.world.specs.Lookups.{layout_of}
 use Rattle.world.specs.declared.database.HirDatabase.{HirDatabase}
-use Rattle.world.specs.declared.items.FieldRow.{FieldRow}
 use Rattle.world.specs.declared.layout.Layout.{Layout}
-use Rattle.world.specs.declared.layout.MultiLayout.{MultiLayout}
-use Rattle.world.specs.declared.layout.TagEncoding.{TagEncoding}
-use Rattle.world.specs.declared.layout.TagEncoding.TheVariants.{Direct, Niche}
-use Rattle.world.specs.declared.layout.Variants.{Variants}
-use Rattle.world.specs.declared.layout.Variants.TheVariants.{Empty, Single, Multiple}
-use Rattle.check_layouts.specs.Fields.{Placed, are_inside, captures_at, field_layout, fields_of_variant, has_offset_each, is_inside, is_placed_inside, placed_captures, placed_fields, placed_of, placed_of_each, placed_of_enum, types_at, unplaced_fields, unplaced_of_each, variants_of}
-use Rattle.check_layouts.specs.Layouts.{are_parts_right, is_layout_right, is_size_right, is_tag_inside, is_tag_size}
-use Rattle.check_layouts.specs.Sizes.{is_array_size, is_product, layout_above}
-use Rattle.numbers.specs.Constants.{number_in}
-use Rattle.check_layouts.specs.Tags.{is_enum_tag_right, is_niche_right, is_tag_right, tag_values}
-use Rattle.check_names.specs.Known.{is_ty_closed}
-use Rattle.world_check.specs.Laid.{AreCaptured, AreElements, AreInside, AreLaidOut, HasLayout, IsLaidOut, IsNiche, IsTag, LiesInside, capture_type, field_type, offsets_among, variant_fields, variant_offsets}
-use Rattle.world_check.specs.Meets.{if_there}
+use Rattle.check_layouts.specs.Sizes.{layout_above}
+use Rattle.world_check.specs.Laid.{AreInside, AreLaidOut, HasLayout, HasRightTag, IsLaidOut, LiesInside, capture_type, field_type}
 use Rattle.world_check.specs.Rows.{Holds}
 use Rattle.world_check.specs.declared.fault.CheckRow.TheVariants.{C5, C6}
 use Rattle.world_check.specs.declared.place.Place.TheVariants.{Row}
 use Rattle.world_check.specs.declared.place.TableName.TheVariants.{Layouts}
-use Rattle.world_check.proofs.Passing.{both}
 
-at_most : (m n : ℕ) → leb m n ≡ true → m ≤ n
-at_most m n e = grind (arith, nat_tests)
-
-is_below : (m n : ℕ) → ltb m n ≡ true → m < n
-is_below m n e = grind (arith, nat_tests)
-
-is_same : (m n : ℕ) → eqb m n ≡ true → m ≡ n
-is_same m n e = grind (arith, nat_tests)
+-- a fact of an element that is there
+pub of_there : {X : Type 0} (fact : X → Type 0) (found : Option X) (x : X) → found ≡ Some x → IfSome found fact → fact x
+of_there {X} fact found x at h = subst (λ (o : Option X). IfSome o fact) at h
 
 -- The row of a layout.
 
@@ -89,255 +55,38 @@ seen_above world i ty layout e =
     let found = mapped (λ (row : Ty × Layout). row.1) (find (has_type ty) (take i world.layouts)) layout e in
     ap (option_map (λ (row : Ty × Layout). row.1)) (found_above (has_type ty) world.layouts i found.0 found.1) ∙ ap Some found.2
 
--- Parts that lie inside.
+-- Layouts that one look-up finds, and another one too.
 
-mapped_at : {A B : Type 0} (f : A → B) (xs : List A) (k : ℕ) (x : A) → slice_get xs k ≡ Some x → slice_get (map f xs) k ≡ Some (f x)
-mapped_at f [] k x e = cc
-mapped_at f (y ∷ xs) zero x e = let same : y ≡ x = cc in ap (λ z. Some (f z)) same
-mapped_at f (y ∷ xs) (suc k) x e = mapped_at f xs k x e
+module _ (look whole : Ty → Option Layout) (also : (ty : Ty) (layout : Layout) → look ty ≡ Some layout → whole ty ≡ Some layout) where
+  still_has : (found : Option Ty) → HasLayout look found → HasLayout whole found
+  still_has found has = record { ty = has.ty; layout = has.layout; is = has.is; has = also has.ty has.layout has.has }
 
-lies : (world : HirDatabase) (i size offset : ℕ) (found : Option Ty) → is_inside size offset (field_layout world i found) ≡ true → LiesInside world size offset found
-lies world i size offset None e = cc
-lies world i size offset (Some ty) e = by (layout_above world i ty) refl e
-  where
-    by : (o : Option Layout) → layout_above world i ty ≡ o → is_inside size offset o ≡ true → LiesInside world size offset (Some ty)
-    by None at e = cc
-    by (Some layout) at e = record { ty = ty; layout = layout; is = refl; has = seen_above world i ty layout at; ends = at_most (offset + layout.size) size e }
+  still_lies : (size offset : ℕ) (found : Option Ty) → LiesInside look size offset found → LiesInside whole size offset found
+  still_lies size offset found lies = record { ty = lies.ty; layout = lies.layout; is = lies.is; has = also lies.ty lies.layout lies.has; ends = lies.ends }
 
-has_layout : (world : HirDatabase) (i : ℕ) (found : Option Ty) → is_some (field_layout world i found) ≡ true → HasLayout world found
-has_layout world i None e = cc
-has_layout world i (Some ty) e = by (layout_above world i ty) refl e
-  where
-    by : (o : Option Layout) → layout_above world i ty ≡ o → is_some o ≡ true → HasLayout world (Some ty)
-    by None at e = cc
-    by (Some layout) at e = record { ty = ty; layout = layout; is = refl; has = seen_above world i ty layout at }
+  still_inside : {X : Type 0} (size : ℕ) (offsets : List ℕ) (type_of : X → Option Ty) (parts : List X) → AreInside look size offsets type_of parts → AreInside whole size offsets type_of parts
+  still_inside size offsets type_of parts are = record { count = are.count; inside = λ k offset part at begins. still_lies size offset (type_of part) (are.inside k offset part at begins) }
 
-inside_known : (size offset : ℕ) (o : Option Layout) → is_inside size offset o ≡ true → is_some o ≡ true
-inside_known size offset None e = cc
-inside_known size offset (Some layout) e = refl
-
-part_inside : (world : HirDatabase) (i size : ℕ) (types : List (Option Ty)) (offsets : List ℕ) (k offset : ℕ) (found : Option Ty) → are_inside world i size offsets types ≡ true → slice_get types k ≡ Some found → slice_get offsets k ≡ Some offset → is_inside size offset (field_layout world i found) ≡ true
-part_inside world i size [] offsets k offset found e at begins = cc
-part_inside world i size (ty ∷ types) [] k offset found e at begins = cc
-part_inside world i size (ty ∷ types) (o ∷ offsets) zero offset found e at begins =
-    let same : ty ≡ found = cc in
-    let start : o ≡ offset = cc in
-    ap (λ n. is_inside size n (field_layout world i found)) (sym start)
-    ∙ ap (λ t. is_inside size o (field_layout world i t)) (sym same)
-    ∙ (both (is_inside size o (field_layout world i ty)) (are_inside world i size offsets types) e).0
-part_inside world i size (ty ∷ types) (o ∷ offsets) (suc k) offset found e at begins = part_inside world i size types offsets k offset found (both (is_inside size o (field_layout world i ty)) (are_inside world i size offsets types) e).1 at begins
-
-part_known : (world : HirDatabase) (i size : ℕ) (types : List (Option Ty)) (offsets : List ℕ) (k : ℕ) (found : Option Ty) → are_inside world i size offsets types ≡ true → slice_get types k ≡ Some found → is_some (field_layout world i found) ≡ true
-part_known world i size [] offsets k found e at = cc
-part_known world i size (ty ∷ types) [] zero found e at =
-    let same : ty ≡ found = cc in
-    ap (λ t. is_some (field_layout world i t)) (sym same) ∙ (both (is_some (field_layout world i ty)) (are_inside world i size [] types) e).0
-part_known world i size (ty ∷ types) [] (suc k) found e at = part_known world i size types [] k found (both (is_some (field_layout world i ty)) (are_inside world i size [] types) e).1 at
-part_known world i size (ty ∷ types) (o ∷ offsets) zero found e at =
-    let same : ty ≡ found = cc in
-    ap (λ t. is_some (field_layout world i t)) (sym same)
-    ∙ inside_known size o (field_layout world i ty) (both (is_inside size o (field_layout world i ty)) (are_inside world i size offsets types) e).0
-part_known world i size (ty ∷ types) (o ∷ offsets) (suc k) found e at = part_known world i size types offsets k found (both (is_inside size o (field_layout world i ty)) (are_inside world i size offsets types) e).1 at
-
-module _ {X : Type 0} (world : HirDatabase) (i size : ℕ) (offsets : List ℕ) (type_of : X → Option Ty) (parts : List X) (inside : are_inside world i size offsets (map type_of parts) ≡ true) where
-  at_offset : (k offset : ℕ) (part : X) → slice_get parts k ≡ Some part → slice_get offsets k ≡ Some offset → LiesInside world size offset (type_of part)
-  at_offset k offset part at begins = lies world i size offset (type_of part) (part_inside world i size (map type_of parts) offsets k offset (type_of part) inside (mapped_at type_of parts k part at) begins)
-
-  at_part : (k : ℕ) (part : X) → slice_get parts k ≡ Some part → HasLayout world (type_of part)
-  at_part k part at = has_layout world i (type_of part) (part_known world i size (map type_of parts) offsets k (type_of part) inside (mapped_at type_of parts k part at))
-
-  all_inside : eqb (length offsets) (length (map type_of parts)) ≡ true → AreInside world size offsets type_of parts
-  all_inside same = record { count = is_same (length offsets) (length (map type_of parts)) same ∙ length-map parts type_of; inside = at_offset }
-
--- Lists of fields.
-
-abbrev placed_at : HirDatabase → GenericArgs → List ℕ → List FieldRow → Placed
-placed_at world args offsets rows = record { offsets = offsets; types = types_at world args rows }
-
-one_passes : (test : Placed → Bool) (placed : List Placed) (one : Placed) → placed ≡ one ∷ [] → list_all test placed ≡ true → test one ≡ true
-one_passes test placed one is all = (both (test one) true (ap (list_all test) (sym is) ∙ all)).0
-
-module _ (world : HirDatabase) (args : GenericArgs) (test : Placed → Bool) where
-  -- the fields of the variant at an index of an enum with several
-  each_passes : (lists : List (List ℕ)) (ids : List EnumVariantId) (k : ℕ) (offsets : List ℕ) (v : EnumVariantId) (rows : List FieldRow) → list_all test (placed_of_each world args lists ids) ≡ true → slice_get lists k ≡ Some offsets → slice_get ids k ≡ Some v → fields_of_variant world v ≡ Some rows → test (placed_at world args offsets rows) ≡ true
-  each_passes [] ids k offsets v rows e at_list at_id is = cc
-  each_passes (l ∷ lists) [] k offsets v rows e at_list at_id is = cc
-  each_passes (l ∷ lists) (w ∷ ids) zero offsets v rows e at_list at_id is =
-      let same : w ≡ v = cc in
-      let start : l ≡ offsets = cc in
-      let here = both (list_all test (placed_of world args l (fields_of_variant world w))) (list_all test (placed_of_each world args lists ids)) (sym (list_all-append test (placed_of world args l (fields_of_variant world w)) (placed_of_each world args lists ids)) ∙ e) in
-      one_passes test (placed_of world args l (fields_of_variant world w)) (placed_at world args offsets rows)
-      (ap (λ o. placed_of world args o (fields_of_variant world w)) start ∙ ap (λ x. placed_of world args offsets (fields_of_variant world x)) same ∙ ap (placed_of world args offsets) is)
-      here.0
-  each_passes (l ∷ lists) (w ∷ ids) (suc k) offsets v rows e at_list at_id is =
-      let later = both (list_all test (placed_of world args l (fields_of_variant world w))) (list_all test (placed_of_each world args lists ids)) (sym (list_all-append test (placed_of world args l (fields_of_variant world w)) (placed_of_each world args lists ids)) ∙ e) in
-      each_passes lists ids k offsets v rows later.1 at_list at_id is
-
-  -- the fields of the variant at an index, without offsets
-  bare_passes : (ids : List EnumVariantId) (k : ℕ) (v : EnumVariantId) (rows : List FieldRow) → list_all test (unplaced_of_each world args ids) ≡ true → slice_get ids k ≡ Some v → fields_of_variant world v ≡ Some rows → test (placed_at world args [] rows) ≡ true
-  bare_passes [] k v rows e at_id is = cc
-  bare_passes (w ∷ ids) zero v rows e at_id is =
-      let same : w ≡ v = cc in
-      let here = both (list_all test (placed_of world args [] (fields_of_variant world w))) (list_all test (unplaced_of_each world args ids)) (sym (list_all-append test (placed_of world args [] (fields_of_variant world w)) (unplaced_of_each world args ids)) ∙ e) in
-      one_passes test (placed_of world args [] (fields_of_variant world w)) (placed_at world args [] rows)
-      (ap (λ x. placed_of world args [] (fields_of_variant world x)) same ∙ ap (placed_of world args []) is)
-      here.0
-  bare_passes (w ∷ ids) (suc k) v rows e at_id is =
-      let later = both (list_all test (placed_of world args [] (fields_of_variant world w))) (list_all test (unplaced_of_each world args ids)) (sym (list_all-append test (placed_of world args [] (fields_of_variant world w)) (unplaced_of_each world args ids)) ∙ e) in
-      bare_passes ids k v rows later.1 at_id is
-
--- What is placed in a type, by its form.
-
-struct_placed : (world : HirDatabase) (id : StructName) (args : GenericArgs) (layout : Layout) → placed_fields world (type.Adt (StructId id) args) layout ≡ placed_of world args layout.offsets (fields_of world (variant.StructId id))
-struct_placed world id args layout = search (the_lemmas, rules)
-
-union_placed : (world : HirDatabase) (id : UnionName) (args : GenericArgs) (layout : Layout) → placed_fields world (type.Adt (UnionId id) args) layout ≡ placed_of world args layout.offsets (fields_of world (variant.UnionId id))
-union_placed world id args layout = search (the_lemmas, rules)
-
-enum_placed : (world : HirDatabase) (id : EnumName) (args : GenericArgs) (layout : Layout) → placed_fields world (type.Adt (EnumId id) args) layout ≡ placed_of_enum world id.0 args layout.offsets layout.variants
-enum_placed world id args layout = search (the_lemmas, rules)
-
-enum_unplaced : (world : HirDatabase) (id : EnumName) (args : GenericArgs) → unplaced_fields world (type.Adt (EnumId id) args) ≡ unplaced_of_each world args (variants_of world id.0)
-enum_unplaced world id args = search (the_lemmas, rules)
-
-tuple_placed : (world : HirDatabase) (types : List Ty) (layout : Layout) → placed_fields world (type.Tuple types) layout ≡ record { offsets = layout.offsets; types = map Some types } ∷ []
-tuple_placed world types layout = search (the_lemmas, rules)
-
-closure_placed : (world : HirDatabase) (id : InternedClosureId) (args : GenericArgs) (layout : Layout) → placed_captures world (type.Closure id args) layout ≡ record { offsets = layout.offsets; types = captures_at world args (slice_get world.closures id.0) } ∷ []
-closure_placed world id args layout = search (the_lemmas, rules)
-
-array_sized : (world : HirDatabase) (i : ℕ) (element : Ty) (len : Const) (size : ℕ) → is_array_size world i (type.Array element len) size ≡ is_product (number_in len) (layout_above world i element) size
-array_sized world i element len size = search (the_lemmas, rules)
-
-enum_tagged : (world : HirDatabase) (id : EnumName) (args : GenericArgs) (layout : Layout) → is_tag_right world (type.Adt (EnumId id) args, layout) ≡ is_enum_tag_right (length (variants_of world id.0)) layout.variants
-enum_tagged world id args layout = search (the_lemmas, rules)
-
-product : (world : HirDatabase) (i : ℕ) (element : Ty) (len : Const) (size : ℕ) → is_product (number_in len) (layout_above world i element) size ≡ true → AreElements world size element len
-product world i element len size e = by (layout_above world i element) refl e
-  where
-    times : (n : Option ℕ) (layout : Layout) → is_product n (Some layout) size ≡ true → IfSome n (λ count. size ≡ count * layout.size)
-    times None layout e = tt
-    times (Some count) layout e = is_same size (count * layout.size) e
-
-    by : (o : Option Layout) → layout_above world i element ≡ o → is_product (number_in len) o size ≡ true → AreElements world size element len
-    by None at e = cc
-    by (Some layout) at e = record { layout = layout; has = seen_above world i element layout at; product = times (number_in len) layout e }
-
-niche : (variants size : ℕ) (encoding : TagEncoding) → is_niche_right variants size encoding ≡ true → IsNiche variants size encoding
-niche variants size Direct e = tt
-niche variants size (Niche untagged first last start) e =
-    let parts = both (ltb untagged variants) (leb (start + (variants - 1)) (tag_values size)) e in
-    (is_below untagged variants parts.0, at_most (start + (variants - 1)) (tag_values size) parts.1)
-
-of_variant : {A B : Type 0} (f : A → Option B) (o : Option A) (b : B) → option_and_then f o ≡ Some b → (a : A) × (o ≡ Some a) × (f a ≡ Some b)
-of_variant f None b e = cc
-of_variant f (Some a) b e = (a, refl, e)
-
--- One layout.
-
-module _ (world : HirDatabase) (i : ℕ) (ty : Ty) (layout : Layout) (right : are_parts_right world i ty layout ≡ true) (tagged : is_tag_right world (ty, layout) ≡ true) where
-  abbrev inside : Placed → Bool
-  inside = is_placed_inside world i layout.size
-
-  tag_part : (is_tag_inside layout.size layout.variants ≡ true) × (is_array_size world i ty layout.size ≡ true) × (list_all inside (placed_captures world ty layout) ≡ true) × (list_all inside (unplaced_fields world ty) ≡ true) × (list_all inside (placed_fields world ty layout) ≡ true) × (list_all has_offset_each (placed_fields world ty layout) ≡ true)
-  tag_part =
-      let a = both _ (is_tag_inside layout.size layout.variants) right in
-      let b = both _ (is_array_size world i ty layout.size) a.0 in
-      let c = both _ (list_all inside (placed_captures world ty layout)) b.0 in
-      let d = both _ (list_all inside (unplaced_fields world ty)) c.0 in
-      let e = both (list_all has_offset_each (placed_fields world ty layout)) (list_all inside (placed_fields world ty layout)) d.0 in
-      (a.1, b.1, c.1, d.1, e.1, e.0)
-
-  abbrev all_placed : (Placed → Bool) → Type 0
-  all_placed test = list_all test (placed_fields world ty layout) ≡ true
-
-  -- the fields of a variant pass a test that all placed fields pass
-  one_placed : (test : Placed → Bool) (id : AdtId) (args : GenericArgs) (v : ℕ) (rows : List FieldRow) (offsets : List ℕ) → all_placed test → ty ≡ type.Adt id args → variant_fields world id v ≡ Some rows → variant_offsets id layout v ≡ Some offsets → test (placed_at world args offsets rows) ≡ true
-  one_placed test (StructId id) args v rows offsets all is found begins =
-      let same : layout.offsets ≡ offsets = cc in
-      one_passes test (placed_fields world ty layout) (placed_at world args offsets rows)
-      (ap (λ t. placed_fields world t layout) is ∙ struct_placed world id args layout ∙ ap (λ o. placed_of world args o (fields_of world (variant.StructId id))) same ∙ ap (placed_of world args offsets) found)
-      all
-  one_placed test (UnionId id) args v rows offsets all is found begins =
-      let same : layout.offsets ≡ offsets = cc in
-      one_passes test (placed_fields world ty layout) (placed_at world args offsets rows)
-      (ap (λ t. placed_fields world t layout) is ∙ union_placed world id args layout ∙ ap (λ o. placed_of world args o (fields_of world (variant.UnionId id))) same ∙ ap (placed_of world args offsets) found)
-      all
-  one_placed test (EnumId id) args v rows offsets all is found begins = by layout.variants (sym (ap (list_all test) (ap (λ t. placed_fields world t layout) is ∙ enum_placed world id args layout)) ∙ all) begins
-    where
-      single : (b : Bool) → cond b (Some layout.offsets) None ≡ Some offsets → (b ≡ true) × (layout.offsets ≡ offsets)
-      single true e = let same : layout.offsets ≡ offsets = cc in (refl, same)
-      single false e = cc
-
-      by : (variants : Variants) → list_all test (placed_of_enum world id.0 args layout.offsets variants) ≡ true → offsets_among variants layout.offsets v ≡ Some offsets → test (placed_at world args offsets rows) ≡ true
-      by Empty all begins = cc
-      by (Single s) all begins =
-          let here = single (eqb v s) begins in
-          let at : v ≡ s = is_same v s here.0 in
-          one_passes test (placed_of_enum world id.0 args layout.offsets (Single s)) (placed_at world args offsets rows)
-          (ap (λ o. placed_of world args o (option_and_then (fields_of_variant world) (slice_get (variants_of world id.0) s))) here.1
-          ∙ ap (λ n. placed_of world args offsets (option_and_then (fields_of_variant world) (slice_get (variants_of world id.0) n))) (sym at)
-          ∙ ap (placed_of world args offsets) found)
-          all
-      by (Multiple multiple) all begins =
-          let one = of_variant (fields_of_variant world) (slice_get (variants_of world id.0) v) rows found in
-          each_passes world args test multiple.variants (variants_of world id.0) v offsets one.0 rows all begins one.1 one.2
-
-  fields : (id : AdtId) (args : GenericArgs) (v : ℕ) (rows : List FieldRow) (offsets : List ℕ) → ty ≡ type.Adt id args → variant_fields world id v ≡ Some rows → variant_offsets id layout v ≡ Some offsets → AreInside world layout.size offsets (field_type world args) rows
-  fields id args v rows offsets is found begins =
-      all_inside world i layout.size offsets (field_type world args) rows
-      (one_placed inside id args v rows offsets tag_part.4 is found begins)
-      (one_placed has_offset_each id args v rows offsets tag_part.5 is found begins)
-
-  known : (id : AdtId) (args : GenericArgs) (v k : ℕ) (rows : List FieldRow) (field : FieldRow) → ty ≡ type.Adt id args → variant_fields world id v ≡ Some rows → slice_get rows k ≡ Some field → HasLayout world (field_type world args field)
-  known (StructId id) args v k rows field is found at = at_part world i layout.size layout.offsets (field_type world args) rows (one_placed inside (StructId id) args v rows layout.offsets tag_part.4 is found refl) k field at
-  known (UnionId id) args v k rows field is found at = at_part world i layout.size layout.offsets (field_type world args) rows (one_placed inside (UnionId id) args v rows layout.offsets tag_part.4 is found refl) k field at
-  known (EnumId id) args v k rows field is found at =
-      let one = of_variant (fields_of_variant world) (slice_get (variants_of world id.0) v) rows found in
-      at_part world i layout.size [] (field_type world args) rows
-      (bare_passes world args inside (variants_of world id.0) v one.0 rows (sym (ap (list_all inside) (ap (unplaced_fields world) is ∙ enum_unplaced world id args)) ∙ tag_part.3) one.1 one.2)
-      k field at
-
-  parts : (types : List Ty) → ty ≡ type.Tuple types → AreInside world layout.size layout.offsets Some types
-  parts types is =
-      let placed = ap (λ t. placed_fields world t layout) is ∙ tuple_placed world types layout in
-      all_inside world i layout.size layout.offsets Some types
-      (one_passes inside (placed_fields world ty layout) (record { offsets = layout.offsets; types = map Some types }) placed tag_part.4)
-      (one_passes has_offset_each (placed_fields world ty layout) (record { offsets = layout.offsets; types = map Some types }) placed tag_part.5)
-
-  captures : (id : InternedClosureId) (args : GenericArgs) (row : ClosureRow) → ty ≡ type.Closure id args → slice_get world.closures id.0 ≡ Some row → AreCaptured world layout.size layout.offsets args row.captures
-  captures id args row is there =
-      let placed = ap (λ t. placed_captures world t layout) is ∙ closure_placed world id args layout ∙ ap (λ found. record { offsets = layout.offsets; types = captures_at world args found } ∷ []) there in
-      let all = one_passes inside (placed_captures world ty layout) (record { offsets = layout.offsets; types = captures_at world args (Some row) }) placed tag_part.2 in
-      record {
-        known = at_part world i layout.size layout.offsets (capture_type world args) row.captures all;
-        inside = at_offset world i layout.size layout.offsets (capture_type world args) row.captures all;
-      }
-
-  elements : (element : Ty) (len : Const) → ty ≡ type.Array element len → AreElements world layout.size element len
-  elements element len is = product world i element len layout.size (sym (ap (λ t. is_array_size world i t layout.size) is ∙ array_sized world i element len layout.size) ∙ tag_part.1)
-
-  tag_fits : (id : EnumName) (args : GenericArgs) → ty ≡ type.Adt (EnumId id) args → is_enum_tag_right (length (variants_of world id.0)) layout.variants ≡ true
-  tag_fits id args is = sym (ap (λ t. is_tag_right world (t, layout)) is ∙ enum_tagged world id args layout) ∙ tagged
-
-  tag : (id : EnumName) (args : GenericArgs) (multiple : MultiLayout) → ty ≡ type.Adt (EnumId id) args → layout.variants ≡ Multiple multiple → IsTag layout.size (length (variants_of world id.0)) multiple
-  tag id args multiple is several =
-      let count = length (variants_of world id.0) in
-      let fits = both (eqb (length multiple.variants) count && leb count (tag_values multiple.tag_size)) (is_niche_right count multiple.tag_size multiple.encoding) (ap (is_enum_tag_right count) (sym several) ∙ tag_fits id args is) in
-      let counts = both (eqb (length multiple.variants) count) (leb count (tag_values multiple.tag_size)) fits.0 in
-      let here = both (is_tag_size multiple.tag_size) (leb (multiple.tag_offset + multiple.tag_size) layout.size) (ap (is_tag_inside layout.size) (sym several) ∙ tag_part.0) in
-      record {
-        ends = at_most (multiple.tag_offset + multiple.tag_size) layout.size here.1;
-        count = is_same (length multiple.variants) count counts.0;
-        values = at_most count (tag_values multiple.tag_size) counts.1;
-        niche = niche count multiple.tag_size multiple.encoding fits.1;
-      }
-
-  only : (id : EnumName) (args : GenericArgs) (v : ℕ) → ty ≡ type.Adt (EnumId id) args → layout.variants ≡ Single v → v < length (variants_of world id.0)
-  only id args v is single = is_below v (length (variants_of world id.0)) (ap (is_enum_tag_right (length (variants_of world id.0))) (sym single) ∙ tag_fits id args is)
-
-  is_laid_out : IsLaidOut world ty layout
-  is_laid_out = record { fields = fields; known = known; parts = parts; captures = captures; elements = elements; tag = tag; only = only }
+  still_laid_out : (world : HirDatabase) (ty : Ty) (layout : Layout) → IsLaidOut world look ty layout → IsLaidOut world whole ty layout
+  still_laid_out world ty layout laid = record {
+    closed = laid.closed;
+    align = laid.align;
+    multiple = laid.multiple;
+    size = laid.size;
+    fields = λ id args v rows offsets is found begins. still_inside layout.size offsets (field_type world args) rows (laid.fields id args v rows offsets is found begins);
+    known = λ id args v k rows field is found at. still_has (field_type world args field) (laid.known id args v k rows field is found at);
+    parts = λ types is. still_inside layout.size layout.offsets Some types (laid.parts types is);
+    captures = λ id args row is there.
+        let captured = laid.captures id args row is there in
+        record {
+          known = λ k capture at. still_has (capture_type world args capture) (captured.known k capture at);
+          inside = λ k offset capture at begins. still_lies layout.size offset (capture_type world args capture) (captured.inside k offset capture at begins);
+        };
+    elements = λ element len is.
+        let elements = laid.elements element len is in
+        record { layout = elements.layout; has = also element elements.layout elements.has; product = elements.product };
+    tag = laid.tag;
+  }
 
 -- the row of a layout
 pub layout_row : (world : HirDatabase) (ty : Ty) (layout : Layout) → layout_of world ty ≡ Some layout → (i : ℕ) × (row : Ty × Layout) × (slice_get world.layouts i ≡ Some row) × (ty ≡ row.0) × (row.1 ≡ layout)
@@ -351,7 +100,7 @@ pub laid_out : (world : HirDatabase) → Holds world → AreLaidOut world
 laid_out world holds ty layout e =
     let found = layout_row world ty layout e in
     let row = found.1 in
-    let right : is_layout_right world found.0 row ≡ true = ap (if_there (is_layout_right world found.0)) (sym found.2) ∙ holds.met C5 (Row Layouts found.0) in
-    let tagged : is_tag_right world row ≡ true = ap (if_there (is_tag_right world)) (sym found.2) ∙ holds.met C6 (Row Layouts found.0) in
-    let parts = (both (is_ty_closed row.0 && is_size_right world row.0 row.1) (are_parts_right world found.0 row.0 row.1) right).1 in
-    subst (λ t. IsLaidOut world t layout) (sym found.3) (subst (λ l. IsLaidOut world row.0 l) found.4 (is_laid_out world found.0 row.0 row.1 parts tagged))
+    let laid = of_there (λ (r : Ty × Layout). IsLaidOut world (layout_above world found.0) r.0 r.1) (slice_get world.layouts found.0) row found.2 (holds.met C5 (Row Layouts found.0)) in
+    let tagged = of_there (λ (r : Ty × Layout). HasRightTag world r.0 r.1) (slice_get world.layouts found.0) row found.2 (holds.met C6 (Row Layouts found.0)) in
+    let whole = still_laid_out (layout_above world found.0) (layout_of world) (seen_above world found.0) world row.0 row.1 laid in
+    subst (λ t. IsLaidOut world (layout_of world) t layout × HasRightTag world t layout) (sym found.3) (subst (λ l. IsLaidOut world (layout_of world) row.0 l × HasRightTag world row.0 l) found.4 (whole, tagged))

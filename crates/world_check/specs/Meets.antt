@@ -20,8 +20,8 @@ use Rattle.check_ids.specs.Inferred.{is_inferred_right}
 use Rattle.check_ids.specs.Nodes.{is_binding_in_range, is_expr_in_range, is_pat_in_range}
 use Rattle.check_ids.specs.Parts.{are_roots_known}
 use Rattle.check_trees.specs.Ellipsis.{is_ellipsis_inside}
-use Rattle.check_layouts.specs.Layouts.{is_layout_right}
-use Rattle.check_layouts.specs.Tags.{is_tag_right}
+use Rattle.check_layouts.specs.Sizes.{layout_above}
+use Rattle.world_check.specs.Laid.{HasRightTag, IsLaidOut}
 use Rattle.world_check.specs.Trees.{IsExprInOrder, IsJumpInside, IsPatInOrder}
 use Rattle.world_check.specs.declared.fault.CheckRow.{CheckRow}
 use Rattle.world_check.specs.declared.fault.CheckRow.TheVariants.{C1, C2, C3, C4, C5, C6, C7}
@@ -159,15 +159,15 @@ is_resolved world (Row Impls i) = if_there is_impl_closed (slice_get world.impls
 is_resolved world (Row ConstImpls i) = if_there is_const_impl_closed (slice_get world.const_impls i)
 is_resolved world _ = true
 
--- Layouts follow the rules of all targets.
-abbrev pub is_laid_out : HirDatabase → Place → Bool
-is_laid_out world (Row Layouts i) = if_at (is_layout_right world) world.layouts i
-is_laid_out world _ = true
+-- Layouts follow the rules of all targets. The types of parts have theirs in the rows above.
+abbrev pub HasRightLayout : HirDatabase → Place → Type 0
+HasRightLayout world (Row Layouts i) = IfSome (slice_get world.layouts i) (λ (row : Ty × Layout). IsLaidOut world (layout_above world i) row.0 row.1)
+HasRightLayout world _ = Unit {0}
 
 -- Tags fit their enums.
-abbrev pub has_fitting_tag : HirDatabase → Place → Bool
-has_fitting_tag world (Row Layouts i) = if_there (is_tag_right world) (slice_get world.layouts i)
-has_fitting_tag world _ = true
+abbrev pub HasFittingTag : HirDatabase → Place → Type 0
+HasFittingTag world (Row Layouts i) = IfSome (slice_get world.layouts i) (λ (row : Ty × Layout). HasRightTag world row.0 row.1)
+HasFittingTag world _ = Unit {0}
 
 -- Functions agree with their bodies, variants with the lists of enums, closures with their expressions, and each `..` stands within its pattern.
 abbrev pub Agrees : HirDatabase → Place → Type 0
@@ -183,6 +183,6 @@ Meets C1 world place = has_known_ids world place ≡ true
 Meets C2 world place = IsInOrder world place
 Meets C3 world place = HasEnclosingLabel world place
 Meets C4 world place = is_resolved world place ≡ true
-Meets C5 world place = is_laid_out world place ≡ true
-Meets C6 world place = has_fitting_tag world place ≡ true
+Meets C5 world place = HasRightLayout world place
+Meets C6 world place = HasFittingTag world place
 Meets C7 world place = Agrees world place

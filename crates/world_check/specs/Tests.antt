@@ -2,16 +2,18 @@
 use Rattle.std.specs.Prelude.{Bool, true, slice_get}
 use Rattle.world.specs.declared.database.HirDatabase.{HirDatabase}
 use Rattle.check_items.specs.Agree.{has_all_params, is_closure_row, is_in_place}
+use Rattle.check_layouts.specs.Layouts.{is_layout_right}
+use Rattle.check_layouts.specs.Tags.{is_tag_right}
 use Rattle.check_trees.specs.Ellipsis.{is_ellipsis_inside}
 use Rattle.check_trees.specs.Jumps.{is_jump_inside}
 use Rattle.check_trees.specs.Tree.{is_expr_in_order, is_pat_in_order}
-use Rattle.world_check.specs.Meets.{has_fitting_tag, has_known_ids, if_at, if_there, in_body, is_laid_out, is_resolved}
+use Rattle.world_check.specs.Meets.{has_known_ids, if_at, if_there, in_body, is_resolved}
 use Rattle.world_check.specs.declared.fault.CheckRow.{CheckRow}
 use Rattle.world_check.specs.declared.fault.CheckRow.TheVariants.{C1, C2, C3, C4, C5, C6, C7}
 use Rattle.world_check.specs.declared.place.NodeKind.TheVariants.{Exprs, Pats}
 use Rattle.world_check.specs.declared.place.Place.{Place}
 use Rattle.world_check.specs.declared.place.Place.TheVariants.{Row, Node}
-use Rattle.world_check.specs.declared.place.TableName.TheVariants.{Functions, Variants, Closures}
+use Rattle.world_check.specs.declared.place.TableName.TheVariants.{Functions, Variants, Closures, Layouts}
 
 -- nodes in order: children have lower ids, a node is held once at most, and no path down is too long
 abbrev pub is_in_order : HirDatabase → Place → Bool
@@ -23,6 +25,16 @@ is_in_order world _ = true
 abbrev pub has_enclosing_label : HirDatabase → Place → Bool
 has_enclosing_label world (Node b Exprs e) = in_body world b (λ body. if_at (is_jump_inside body) body.exprs e)
 has_enclosing_label world _ = true
+
+-- the alignment, the size, and the places of parts are right
+abbrev pub is_laid_out : HirDatabase → Place → Bool
+is_laid_out world (Row Layouts i) = if_at (is_layout_right world) world.layouts i
+is_laid_out world _ = true
+
+-- the tag has a value for each variant
+abbrev pub has_fitting_tag : HirDatabase → Place → Bool
+has_fitting_tag world (Row Layouts i) = if_there (is_tag_right world) (slice_get world.layouts i)
+has_fitting_tag world _ = true
 
 -- rows agree with what they belong to; of a variant all lists of enums are gone through
 abbrev pub agrees : HirDatabase → Place → Bool

@@ -18,7 +18,7 @@ use world::HirDatabase;
 
 /// The database of a world that passed the check: where a struct has a layout, each of its fields has one.
 fn checked_structs(checked: &CheckedWorld) -> &HirDatabase
-    ensures fields { (id : StructId) (args : GenericArgs) (layout : Layout) (rows : List FieldRow) (k : ℕ) (field : FieldRow) → layout_of result.now (Adt (adt.StructId id) args) ≡ Some layout → fields_of result.now (variant.StructId id) ≡ Some rows → slice_get rows k ≡ Some field → HasLayout result.now (field_type result.now args field) }
+    ensures fields { (id : StructId) (args : GenericArgs) (layout : Layout) (rows : List FieldRow) (k : ℕ) (field : FieldRow) → layout_of result.now (Adt (adt.StructId id) args) ≡ Some layout → fields_of result.now (variant.StructId id) ≡ Some rows → slice_get rows k ≡ Some field → HasLayout (layout_of result.now) (field_type result.now args field) }
     ensures ids { AreIdsKnown result.now }
 {
     checked.db()
