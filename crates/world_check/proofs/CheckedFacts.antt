@@ -1,15 +1,14 @@
 -- A world that passes the check is a checked world.
-use Rattle.std.proofs.Common.{◌≡◌, ℕ, zero, suc, ◌&&◌, ◌||◌, ◌*◌, ◌/◌, ◌%◌, ◌^◌, ◌<◌, ◌≤◌, Bool, true, false, Option, Some, None, List, [], ◌∷◌, length, refl, sym, ◌∙◌, ap, arith, eqb, ltb, lit≤, rules}
+use Rattle.std.proofs.Common.{◌≡◌, ℕ, zero, suc, ◌<◌, Bool, true, false, Option, Some, None, List, [], ◌∷◌, length, refl, sym, ◌∙◌, ap, arith, eqb, ltb, rules}
 use Rattle.std.proofs.lemmas.Bool.Decides.{nat_tests}
-use Rattle.std.proofs.lemmas.Nat.{pow_pos}
-use Rattle.std.specs.List.{list_all, list_any, slice_get, All}
+use Rattle.std.specs.List.{list_all, slice_get, All}
 use Rattle.std.specs.Option.{IfSome}
 use Rattle.types.specs.declared.scalars.IntTy.{IntTy}
 use Rattle.types.specs.declared.scalars.UintTy.{UintTy}
 use Rattle.types.specs.declared.ty.Const.TheFolds.{the_lemmas}
 use Rattle.types.specs.declared.ty.Ty.{Ty}
 use Rattle.types.specs.declared.ty.Ty as type
-use Rattle.world.specs.Checked.{IsAlignment, IsChecked, IsCheckedBody, IsCheckedConst, IsCheckedLayout, fixed_size, int_bytes, uint_bytes}
+use Rattle.world.specs.Checked.{IsChecked, IsCheckedBody, IsCheckedConst, IsCheckedLayout, fixed_size, int_bytes, uint_bytes}
 use Rattle.world.specs.Nodes.{children_of, inner_exprs_of, patterns_of}
 use Rattle.world.specs.declared.body.Body.{Body}
 use Rattle.world.specs.declared.database.BodyRow.{BodyRow}

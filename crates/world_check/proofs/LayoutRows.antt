@@ -23,7 +23,6 @@ use Rattle.types.specs.declared.ty.GenericArgs.{GenericArgs}
 use Rattle.types.specs.declared.ty.Ty.{Ty}
 use Rattle.types.specs.declared.ty.Ty.TheVariants as type
 use Rattle.mentions.specs.Mentions.{ty_mentions}
-use Rattle.mentions.specs.declared.mention.Mention.{Mention}
 use Rattle.mentions.specs.declared.mention.Mention.TheVariants as mention
 use Rattle.world.specs.Checked.{IsAlignment}
 use Rattle.world.specs.Lookups.{fields_of}
