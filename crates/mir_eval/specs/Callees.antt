@@ -30,11 +30,10 @@ told_body _ = None
 abbrev pub AreSizes : HirDatabase → List Local → List CellSize → Type 0
 AreSizes world locals sizes = sizes_of world (drop 1 locals) ≡ Ok sizes
 
--- what is kept for a function: its body, as the run was told, which is ready to run in the world, and the sizes of its cells
+-- what is kept for a function: its body, as the run was told, and the sizes of its cells
 pub record IsCallee (world : HirDatabase) (answers : List (Query × Answer)) (id : FunctionId) (callee : Callee) : Type 0 where
-  pub told : told_body (answer_to answers (plain_query id)) ≡ Some callee.body.value.body
-  pub ready : callee.body.value.world ≡ world
-  pub sizes : ForSome callee.sizes (λ sizes. AreSizes world callee.body.value.body.locals sizes.value)
+  pub told : told_body (answer_to answers (plain_query id)) ≡ Some callee.body.value
+  pub sizes : ForSome callee.sizes (λ sizes. AreSizes world callee.body.value.locals sizes.value)
 
 -- so it is for each function for which something is kept
 abbrev pub AreCallees : HirDatabase → List (Query × Answer) → List (FunctionId × Option Callee) → Type 0

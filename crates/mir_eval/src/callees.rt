@@ -22,14 +22,14 @@ use world::{DefWithBodyId, FunctionId, HirDatabase, List, NoMemory};
 
 /// A body that can be entered, and, where each of its locals but the return slot has one, how large their cells are.
 #[derive(Drop)]
-pub(crate) struct Callee<'a> {
-    pub body: Rc<Code<'a>>,
+pub(crate) struct Callee {
+    pub body: Rc<Code>,
     pub sizes: Option<Rc<List<CellSize>>>,
 }
 
-impl<'a> Callee<'a> {
+impl Callee {
     /// The same once more; both share the body and the sizes.
-    pub(crate) fn share(&self) -> Result<Callee<'a>, NoMemory>
+    pub(crate) fn share(&self) -> Result<Callee, NoMemory>
         ensures body { IfOk result (λ callee. callee.body.value ≡ self.now.body.value) }
         ensures sizes { (world : HirDatabase) (locals : List Local) → ForSome self.now.sizes (λ sizes. AreSizes world locals sizes.value) → IfOk result (λ callee. ForSome callee.sizes (λ sizes. AreSizes world locals sizes.value)) }
     {
@@ -45,15 +45,14 @@ impl<'a> Callee<'a> {
 }
 
 /// A body as one that can be entered, with the sizes of its cells where each can have one.
-pub(crate) fn callee_of<'a>(
+pub(crate) fn callee_of(
     alloc: Global,
-    db: &'a HirDatabase,
+    db: &HirDatabase,
     body: &Rc<MirBody>,
-) -> Result<Callee<'a>, NoMemory>
+) -> Result<Callee, NoMemory>
     requires { HasAlignments db.now }
-    ensures body { IfOk result (λ callee. callee.body.value.body ≡ body.now.value) }
-    ensures world { IfOk result (λ callee. callee.body.value.world ≡ db.now) }
-    ensures sizes { IfOk result (λ callee. ForSome callee.sizes (λ sizes. AreSizes db.now callee.body.value.body.locals sizes.value)) }
+    ensures body { IfOk result (λ callee. callee.body.value ≡ body.now.value) }
+    ensures sizes { IfOk result (λ callee. ForSome callee.sizes (λ sizes. AreSizes db.now callee.body.value.locals sizes.value)) }
 {
     let locals = body.as_ref().locals.as_slice();
     let sizes = if locals.is_empty() {
@@ -66,21 +65,16 @@ pub(crate) fn callee_of<'a>(
         }
     };
     Ok(Callee {
-        body: ready(alloc, db, Rc::clone(body)?)?,
+        body: ready(alloc, Rc::clone(body)?)?,
         sizes,
     })
 }
 
 /// What can be entered by an answer, where that is a body.
-fn told_callee<'a>(
-    alloc: Global,
-    db: &'a HirDatabase,
-    answer: &Answer,
-) -> Result<Option<Callee<'a>>, NoMemory>
+fn told_callee(alloc: Global, db: &HirDatabase, answer: &Answer) -> Result<Option<Callee>, NoMemory>
     requires { HasAlignments db.now }
-    ensures body { IfOk result (λ found. ForSome found (λ callee. told_body (Some answer.now) ≡ Some callee.body.value.body)) }
-    ensures world { IfOk result (λ found. ForSome found (λ callee. callee.body.value.world ≡ db.now)) }
-    ensures sizes { IfOk result (λ found. ForSome found (λ callee. ForSome callee.sizes (λ sizes. AreSizes db.now callee.body.value.body.locals sizes.value))) }
+    ensures body { IfOk result (λ found. ForSome found (λ callee. told_body (Some answer.now) ≡ Some callee.body.value)) }
+    ensures sizes { IfOk result (λ found. ForSome found (λ callee. ForSome callee.sizes (λ sizes. AreSizes db.now callee.body.value.locals sizes.value))) }
 {
     match answer {
         Answer::Body(body) => Ok(Some(callee_of(alloc, db, body)?)),
@@ -88,16 +82,11 @@ fn told_callee<'a>(
     }
 }
 
-/// A body with its rows in a world, to be shared.
-pub(crate) fn ready<'a>(
-    alloc: Global,
-    db: &'a HirDatabase,
-    body: Rc<MirBody>,
-) -> Result<Rc<Code<'a>>, NoMemory>
-    ensures world { IfOk result (λ code. code.value.world ≡ db.now) }
-    ensures body { IfOk result (λ code. code.value.body ≡ body.value) }
+/// A body with its rows, to be shared.
+pub(crate) fn ready(alloc: Global, body: Rc<MirBody>) -> Result<Rc<Code>, NoMemory>
+    ensures { IfOk result (λ code. code.value ≡ body.value) }
 {
-    let code = Code::new(alloc, db, body)?;
+    let code = Code::new(alloc, body)?;
     Ok(Rc::new(alloc, code)?)
 }
 
@@ -120,10 +109,9 @@ fn plain_function(query: &Query) -> Option<FunctionId>
 
 impl<'a> Program<'a> {
     /// What can be entered of a function, where the run was told its body.
-    pub(crate) fn callee(&self, function: Function<'_>) -> Option<Callee<'a>>
-        ensures told { IfSome result (λ callee. told_body (answer_to self.now.answers (body_query (function_is function.entry))) ≡ Some callee.body.value.body) }
-        ensures world { IfSome result (λ callee. callee.body.value.world ≡ self.now.db.now) }
-        ensures sizes { IfSome result (λ callee. ForSome callee.sizes (λ sizes. AreSizes self.now.db.now callee.body.value.body.locals sizes.value)) }
+    pub(crate) fn callee(&self, function: Function<'_>) -> Option<Callee>
+        ensures told { IfSome result (λ callee. told_body (answer_to self.now.answers (body_query (function_is function.entry))) ≡ Some callee.body.value) }
+        ensures sizes { IfSome result (λ callee. ForSome callee.sizes (λ sizes. AreSizes self.now.db.now callee.body.value.locals sizes.value)) }
     {
         if !function.args.0.as_slice().is_empty() {
             return None;

@@ -125,17 +125,17 @@ fn other_cells<M: Memory>(
 pub(crate) fn callee_cells<M: Memory>(
     alloc: Global,
     program: &Program<'_>,
-    callee: &Callee<'_>,
+    callee: &Callee,
     destination: Option<Interval>,
     room: Vec<Interval>,
     memory: &mut M,
 ) -> Result<Vec<Interval>, MirEvalError>
     requires aligned { HasAlignments program.now.db.now }
-    requires sizes { ForSome callee.now.sizes (λ sizes. AreSizes program.now.db.now callee.now.body.value.body.locals sizes.value) }
+    requires sizes { ForSome callee.now.sizes (λ sizes. AreSizes program.now.db.now callee.now.body.value.locals sizes.value) }
     requires end { IfSome destination HasEnd }
-    ensures ok { IfOk result (λ cells. called_cells program.now.db.now callee.now.body.value.body.locals destination (M.areas memory.old) ≡ Ok (cells.items, M.areas memory.new)) }
+    ensures ok { IfOk result (λ cells. called_cells program.now.db.now callee.now.body.value.locals destination (M.areas memory.old) ≡ Ok (cells.items, M.areas memory.new)) }
     ensures ends { IfOk result (λ cells. HaveEnds cells.items) }
-    ensures err { IfErr result (λ e. (e ≡ error.NoMemory) ⊎ (called_cells program.now.db.now callee.now.body.value.body.locals destination (M.areas memory.old) ≡ Err e)) }
+    ensures err { IfErr result (λ e. (e ≡ error.NoMemory) ⊎ (called_cells program.now.db.now callee.now.body.value.locals destination (M.areas memory.old) ≡ Err e)) }
 {
     let locals = callee.body.as_ref().body().locals.as_slice();
     let slot = if locals.is_empty() { None } else { destination };

@@ -222,7 +222,7 @@ impl<'a, M: Memory + Drop> Evaluator<'a, M> {
         let alloc = self.alloc;
         let mut told = Ok(());
         self.phase = match mem::replace(&mut self.phase, Phase::Fresh) {
-            Phase::Asking(query, mut run) => match run.take(alloc, query, answer) {
+            Phase::Asking(query, mut run) => match run.program.take(alloc, query, answer) {
                 Ok(()) => Phase::Going(run),
                 Err(error) => {
                     told = Err(error);

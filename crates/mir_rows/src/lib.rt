@@ -1,6 +1,5 @@
-//! A body's code as rows: for each block the statements that do something, and how it ends, with all that the body and the
-//! layouts of a world say of their places and operands read off once, so that a run needs no look at types, layouts and constants. What has no
-//! row of its own is left to the body.
+//! A body's code as rows: for each block the statements that do something, and how it ends, with all that the body says of their
+//! operands read off once, so that a run needs no look at types and constants. What has no row of its own is left to the body.
 #![tactic(auto)]
 
 mod building;
@@ -8,10 +7,8 @@ mod code;
 mod operands;
 mod places;
 mod row;
-mod spots;
 
 pub use code::Code;
 pub use operands::{constant_bytes, operand_kind};
 pub use places::{place_cell, place_type};
 pub use row::{Action, BlockRows, Row, Short, Source, Way};
-pub use spots::{Spot, spot_cell};

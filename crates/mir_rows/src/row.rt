@@ -2,8 +2,7 @@
 
 ghost use Rattle.std.specs.Prelude.{◌≡◌, ◌≤◌, take};
 
-use crate::spots::Spot;
-use mir::{BasicBlockId, BinOp};
+use mir::{BasicBlockId, BinOp, LocalId};
 use numbers::Kind;
 
 /// The bytes of a constant that has at most 16.
@@ -24,32 +23,32 @@ impl Short {
     }
 }
 
-/// What an operator reads: the value at a spot, or a constant.
+/// What an operator reads: a whole local, or a constant.
 #[derive(Clone, Copy, PartialEq, Eq, Debug)]
 pub enum Source {
-    At(Spot),
+    Local(LocalId),
     Constant(Short),
 }
 
 /// What a statement does.
 #[derive(Clone, Copy, PartialEq, Eq, Debug)]
 pub enum Action {
-    /// It assigns to a spot what an operator makes of two operands of one kind.
+    /// It assigns to a local what an operator makes of two operands of one kind.
     Combine {
         op: BinOp,
         kind: Kind,
-        to: Spot,
+        to: LocalId,
         left: Source,
         right: Source,
     },
-    /// It copies the value at a spot to another one.
+    /// It copies a local to another one.
     Copy {
-        to: Spot,
-        from: Spot,
+        to: LocalId,
+        from: LocalId,
     },
-    /// It assigns a constant to a spot.
+    /// It assigns a constant to a local.
     Put {
-        to: Spot,
+        to: LocalId,
         value: Short,
     },
     /// What the statement itself says.
@@ -68,9 +67,9 @@ pub struct Row {
 pub enum Way {
     /// It leads to a block.
     Goto(BasicBlockId),
-    /// It leads to the block `then` where the bytes at a spot are this number, and else to the block `otherwise`.
+    /// It leads to the block `then` where the bytes of a local are this number, and else to the block `otherwise`.
     Branch {
-        spot: Spot,
+        local: LocalId,
         value: u8,
         then: BasicBlockId,
         otherwise: BasicBlockId,
