@@ -68,6 +68,7 @@ impl<T> List<T> {
 
 impl<T: Drop> List<T> {
     /// Adds an element at the end.
+    #[inline(always)]
     pub fn push(&mut self, x: T) -> Result<(), NoMemory>
         ensures ok { OnOk result (self.new ≡ self.old ++ x ∷ []) }
         ensures err { OnErr result (self.new ≡ self.old) }
