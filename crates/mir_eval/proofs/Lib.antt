@@ -1,16 +1,13 @@
 pub mod Aggregating
-pub mod Alignments
 pub mod Callers
 pub mod Ends
 pub mod Entering
 pub mod Filling
-pub mod Laying
 pub mod Leading
 pub mod Memoryless
 pub mod Operated
 pub mod RowRuns
 pub mod RowSays
-pub mod SizedCells
 pub mod Starting
 pub mod ToldCallees
 pub mod TooLong

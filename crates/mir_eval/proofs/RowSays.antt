@@ -25,7 +25,6 @@ use Rattle.mir.specs.Memory.{Memory, cell_bytes}
 use Rattle.mir.specs.Places.{place_cell}
 use Rattle.mir.specs.Run.{Frame, GoesTo, after_statement, copied, operand_bytes, operand_type, operated, read, rvalue_bytes, switched, terminated}
 use Rattle.mir.specs.Switches.{first_target, target_of}
-use Rattle.mir.specs.WholePlaces.{whole_place}
 use Rattle.mir_ops.specs.declared.made.Made.{Made}
 use Rattle.mir_ops.specs.Made.{made_bytes}
 use Rattle.mir_rows.specs.declared.row.Action.{Action}
@@ -35,7 +34,11 @@ use Rattle.mir_rows.specs.declared.row.Source.{Source}
 use Rattle.mir_rows.specs.declared.row.Source.TheVariants as source
 use Rattle.mir_rows.specs.declared.row.Way.{Way}
 use Rattle.mir_rows.specs.declared.row.Way.TheVariants as way
+use Rattle.mir_rows.specs.declared.spots.Spot.{Spot}
+use Rattle.mir_rows.specs.declared.spots.Spot.TheVariants as at
 use Rattle.mir_rows.specs.Rows.{AreOperands, IsSource, IsWay, Leads, Says, constant_in, short_bytes}
+use Rattle.mir_rows.specs.Spots.{IsSpot, LiesAt, spot_cell}
+use Rattle.mir_eval.specs.Frames.{code_in}
 use Rattle.mir_eval.proofs.Operated.{operated_if_made}
 
 -- a list of one byte
@@ -50,18 +53,26 @@ unfolding value_of
 number-of-one byte = omega arith
 
 module _ (frame : Frame) (memory : Memory) where
-  -- the bytes of an operand that is a local
-  pub local-bytes : (local : LocalId) (cell : Interval) (bytes : List ℕ) → slice_get frame.cells local.0 ≡ Some cell → cell_bytes memory cell ≡ Some bytes →
-      (kind : OperandKind) → IsSource (source.Local local) kind → operand_bytes frame memory kind ≡ Some bytes
-  unfolding operand_bytes place_cell
-  local-bytes local cell bytes there are kind is =
-      ap (operand_bytes frame memory) is ∙ ap (λ (found : Option Interval). option_and_then (cell_bytes memory) found) there ∙ are
+  -- the bytes of an operand whose value lies at a spot
+  pub spot-bytes : (spot : Spot) (kind : OperandKind) → LiesAt (code_in frame) spot kind → operand_bytes frame memory kind ≡ option_and_then (cell_bytes memory) (spot_cell frame.cells spot)
+  unfolding operand_bytes
+  spot-bytes spot (operand.Copy place) is = ap (λ (found : Option Interval). option_and_then (cell_bytes memory) found) (is frame.cells)
+  spot-bytes spot (operand.Constant konst ty) is = absurd is
 
-  pub view-of-local : (given : Source) (local : LocalId) (cell : Interval) (view : Option (List (List ℕ))) → given ≡ source.Local local → slice_get frame.cells local.0 ≡ Some cell → option_map concat view ≡ cell_bytes memory cell →
-      IfSome view (λ pieces. (kind : OperandKind) → IsSource given kind → operand_bytes frame memory kind ≡ Some (concat pieces))
-  view-of-local given local cell None is there are = tt
-  view-of-local given local cell (Some pieces) is there are =
-      λ kind said. local-bytes local cell (concat pieces) there (sym are) kind (subst (λ (s : Source). IsSource s kind) is said)
+  -- where a source says that a value lies
+  pub lies-whole : (given : Source) (local : LocalId) → given ≡ source.Whole local → (kind : OperandKind) → IsSource (code_in frame) given kind → LiesAt (code_in frame) (at.Whole local) kind
+  lies-whole given local is kind said = subst (λ (s : Source). IsSource (code_in frame) s kind) is said
+
+  pub lies-in : (given : Source) (local : LocalId) (offset size : ℕ) → given ≡ source.Part local offset size → (kind : OperandKind) → IsSource (code_in frame) given kind → LiesAt (code_in frame) (at.Part local offset size) kind
+  lies-in given local offset size is kind said = subst (λ (s : Source). IsSource (code_in frame) s kind) is said
+
+  pub view-at : (given : Source) (spot : Spot) (cell : Interval) (view : Option (List (List ℕ))) → ((kind : OperandKind) → IsSource (code_in frame) given kind → LiesAt (code_in frame) spot kind) → spot_cell frame.cells spot ≡ Some cell → option_map concat view ≡ cell_bytes memory cell →
+      IfSome view (λ pieces. (kind : OperandKind) → IsSource (code_in frame) given kind → operand_bytes frame memory kind ≡ Some (concat pieces))
+  view-at given spot cell None lies there are = tt
+  view-at given spot cell (Some pieces) lies there are =
+      λ kind said.
+      spot-bytes spot kind (lies kind said)
+      ∙ ap (λ (found : Option Interval). option_and_then (cell_bytes memory) found) there ∙ sym are
 
   -- the bytes of an operand that is a constant
   constant-bytes : (bytes : List ℕ) (kind : OperandKind) → constant_in kind ≡ Some bytes → operand_bytes frame memory kind ≡ Some bytes
@@ -70,29 +81,29 @@ module _ (frame : Frame) (memory : Memory) where
   constant-bytes bytes (operand.Constant konst ty) is = is
 
   pub short-bytes : (given : Source) (short : Short) (bytes : List ℕ) → given ≡ source.Constant short → short_bytes short ≡ bytes →
-      (kind : OperandKind) → IsSource given kind → operand_bytes frame memory kind ≡ Some bytes
-  short-bytes given short bytes is are kind said = constant-bytes bytes kind (subst (λ (s : Source). IsSource s kind) is said ∙ ap Some are)
+      (kind : OperandKind) → IsSource (code_in frame) given kind → operand_bytes frame memory kind ≡ Some bytes
+  short-bytes given short bytes is are kind said = constant-bytes bytes kind (subst (λ (s : Source). IsSource (code_in frame) s kind) is said ∙ ap Some are)
 
   -- what an operator makes of two sources
   pub combined : (op : Operator) (kind : Kind) (left right : Source) (made : Option Made) (left_pieces right_pieces : List (List ℕ)) (l r : List ℕ) → l ≡ concat left_pieces → r ≡ concat right_pieces →
-      ((one : OperandKind) → IsSource left one → operand_bytes frame memory one ≡ Some (concat left_pieces)) → ((one : OperandKind) → IsSource right one → operand_bytes frame memory one ≡ Some (concat right_pieces)) →
+      ((one : OperandKind) → IsSource (code_in frame) left one → operand_bytes frame memory one ≡ Some (concat left_pieces)) → ((one : OperandKind) → IsSource (code_in frame) right one → operand_bytes frame memory one ≡ Some (concat right_pieces)) →
       IfSome made (λ m. computed op (Some kind) (Some kind) l r ≡ Computes (made_bytes m)) →
-      IfSome made (λ m. (one other : OperandKind) → AreOperands frame.body kind left right one other → operated op (operand_type frame.body one) (operand_type frame.body other) (operand_bytes frame memory one) (operand_bytes frame memory other) ≡ Ok (made_bytes m))
+      IfSome made (λ m. (one other : OperandKind) → AreOperands (code_in frame) kind left right one other → operated op (operand_type frame.body one) (operand_type frame.body other) (operand_bytes frame memory one) (operand_bytes frame memory other) ≡ Ok (made_bytes m))
   combined op kind left right None left_pieces right_pieces l r le re lf rf computes = tt
   combined op kind left right (Some m) left_pieces right_pieces l r le re lf rf computes =
       λ one other are.
       operated_if_made made_bytes (Some m) op kind (operand_type frame.body one) (operand_type frame.body other) (operand_bytes frame memory one) (operand_bytes frame memory other) l r
       are.left_kind are.right_kind (lf one are.left ∙ ap Some (sym le)) (rf other are.right ∙ ap Some (sym re)) computes
 
-  module _ (out : Result Memory MirEvalError) (to : LocalId) where
+  module _ (out : Result Memory MirEvalError) (to : Spot) where
     combines : (op : Operator) (kind : Kind) (left right : Source) (m : Made) →
-        ((one other : OperandKind) → AreOperands frame.body kind left right one other → operated op (operand_type frame.body one) (operand_type frame.body other) (operand_bytes frame memory one) (operand_bytes frame memory other) ≡ Ok (made_bytes m)) →
-        out ≡ copied memory (slice_get frame.cells to.0) (Ok (made_bytes m)) →
-        (statement : StatementKind) → Says frame.body (action.Combine op kind to left right) statement → out ≡ after_statement frame memory statement
-    unfolding after_statement rvalue_bytes place_cell
+        ((one other : OperandKind) → AreOperands (code_in frame) kind left right one other → operated op (operand_type frame.body one) (operand_type frame.body other) (operand_bytes frame memory one) (operand_bytes frame memory other) ≡ Ok (made_bytes m)) →
+        out ≡ copied memory (spot_cell frame.cells to) (Ok (made_bytes m)) →
+        (statement : StatementKind) → Says (code_in frame) (action.Combine op kind to left right) statement → out ≡ after_statement frame memory statement
+    unfolding after_statement rvalue_bytes
     combines op kind left right m makes is (Assign place (CheckedBinaryOp operator one other)) says =
         is
-        ∙ ap (λ (p : Place). copied memory (place_cell frame.program.world frame.body frame.cells p) (Ok (made_bytes m))) (sym says.0)
+        ∙ ap (λ (cell : Option Interval). copied memory cell (Ok (made_bytes m))) (sym (says.0 frame.cells))
         ∙ ap (copied memory (place_cell frame.program.world frame.body frame.cells place))
         (sym (makes one.kind other.kind says.2) ∙ ap (λ (o : Operator). operated o (operand_type frame.body one.kind) (operand_type frame.body other.kind) (operand_bytes frame memory one.kind) (operand_bytes frame memory other.kind)) (sym says.1))
     combines op kind left right m makes is (Assign place (Use given)) says = absurd says
@@ -106,22 +117,24 @@ module _ (frame : Frame) (memory : Memory) where
 
     -- a statement that assigns what an operator makes
     pub does-combine : (given : Action) (op : Operator) (kind : Kind) (left right : Source) (m : Made) → given ≡ action.Combine op kind to left right →
-        ((one other : OperandKind) → AreOperands frame.body kind left right one other → operated op (operand_type frame.body one) (operand_type frame.body other) (operand_bytes frame memory one) (operand_bytes frame memory other) ≡ Ok (made_bytes m)) →
-        out ≡ copied memory (slice_get frame.cells to.0) (Ok (made_bytes m)) →
-        (statement : StatementKind) → Says frame.body given statement → out ≡ after_statement frame memory statement
+        ((one other : OperandKind) → AreOperands (code_in frame) kind left right one other → operated op (operand_type frame.body one) (operand_type frame.body other) (operand_bytes frame memory one) (operand_bytes frame memory other) ≡ Ok (made_bytes m)) →
+        out ≡ copied memory (spot_cell frame.cells to) (Ok (made_bytes m)) →
+        (statement : StatementKind) → Says (code_in frame) given statement → out ≡ after_statement frame memory statement
     does-combine given op kind left right m same makes is statement says =
-        combines op kind left right m makes is statement (subst (λ (a : Action). Says frame.body a statement) same says)
+        combines op kind left right m makes is statement (subst (λ (a : Action). Says (code_in frame) a statement) same says)
 
-    -- or the bytes of a source
-    puts : (given : Source) → ((kind : OperandKind) → IsSource given kind → out ≡ copied memory (slice_get frame.cells to.0) (read (operand_bytes frame memory kind))) →
-        (place : Place) (one : Operand) → place ≡ whole_place to → IsSource given one.kind → out ≡ after_statement frame memory (Assign place (Use one))
-    unfolding after_statement rvalue_bytes place_cell
-    puts given does place one same said =
-        does one.kind said ∙ ap (λ (p : Place). copied memory (place_cell frame.program.world frame.body frame.cells p) (read (operand_bytes frame memory one.kind))) (sym same)
+    -- or the bytes of one operand
+    puts : (bytes : Result (List ℕ) MirEvalError) → out ≡ copied memory (spot_cell frame.cells to) bytes →
+        (place : Place) (one : Operand) → IsSpot (code_in frame) place to → read (operand_bytes frame memory one.kind) ≡ bytes → out ≡ after_statement frame memory (Assign place (Use one))
+    unfolding after_statement rvalue_bytes
+    puts bytes does place one lies are =
+        does
+        ∙ ap (λ (cell : Option Interval). copied memory cell bytes) (sym (lies frame.cells))
+        ∙ ap (copied memory (place_cell frame.program.world frame.body frame.cells place)) (sym are)
 
-    copies : (from : LocalId) → ((kind : OperandKind) → IsSource (source.Local from) kind → out ≡ copied memory (slice_get frame.cells to.0) (read (operand_bytes frame memory kind))) →
-        (statement : StatementKind) → Says frame.body (action.Copy to from) statement → out ≡ after_statement frame memory statement
-    copies from does (Assign place (Use one)) says = puts (source.Local from) does place one says.0 says.1
+    copies : (from : Spot) → out ≡ copied memory (spot_cell frame.cells to) (read (option_and_then (cell_bytes memory) (spot_cell frame.cells from))) →
+        (statement : StatementKind) → Says (code_in frame) (action.Copy to from) statement → out ≡ after_statement frame memory statement
+    copies from does (Assign place (Use one)) says = puts _ does place one says.0 (ap read (spot-bytes from one.kind says.1))
     copies from does (Assign place (CheckedBinaryOp operator one other)) says = absurd says
     copies from does (Assign place (UnaryOp operator one)) says = absurd says
     copies from does (Assign place (Cast cast one ty)) says = absurd says
@@ -131,13 +144,13 @@ module _ (frame : Frame) (memory : Memory) where
     copies from does (StorageLive local) says = absurd says
     copies from does (StorageDead local) says = absurd says
 
-    pub does-copy : (given : Action) (from : LocalId) → given ≡ action.Copy to from → ((kind : OperandKind) → IsSource (source.Local from) kind → out ≡ copied memory (slice_get frame.cells to.0) (read (operand_bytes frame memory kind))) →
-        (statement : StatementKind) → Says frame.body given statement → out ≡ after_statement frame memory statement
-    does-copy given from same does statement says = copies from does statement (subst (λ (a : Action). Says frame.body a statement) same says)
+    pub does-copy : (given : Action) (from : Spot) → given ≡ action.Copy to from → out ≡ copied memory (spot_cell frame.cells to) (read (option_and_then (cell_bytes memory) (spot_cell frame.cells from))) →
+        (statement : StatementKind) → Says (code_in frame) given statement → out ≡ after_statement frame memory statement
+    does-copy given from same does statement says = copies from does statement (subst (λ (a : Action). Says (code_in frame) a statement) same says)
 
-    puts-short : (short : Short) → ((kind : OperandKind) → IsSource (source.Constant short) kind → out ≡ copied memory (slice_get frame.cells to.0) (read (operand_bytes frame memory kind))) →
-        (statement : StatementKind) → Says frame.body (action.Put to short) statement → out ≡ after_statement frame memory statement
-    puts-short short does (Assign place (Use one)) says = puts (source.Constant short) does place one says.0 says.1
+    puts-short : (short : Short) → out ≡ copied memory (spot_cell frame.cells to) (Ok (short_bytes short)) →
+        (statement : StatementKind) → Says (code_in frame) (action.Put to short) statement → out ≡ after_statement frame memory statement
+    puts-short short does (Assign place (Use one)) says = puts _ does place one says.0 (ap read (constant-bytes (short_bytes short) one.kind says.1))
     puts-short short does (Assign place (CheckedBinaryOp operator one other)) says = absurd says
     puts-short short does (Assign place (UnaryOp operator one)) says = absurd says
     puts-short short does (Assign place (Cast cast one ty)) says = absurd says
@@ -147,12 +160,12 @@ module _ (frame : Frame) (memory : Memory) where
     puts-short short does (StorageLive local) says = absurd says
     puts-short short does (StorageDead local) says = absurd says
 
-    pub does-put : (given : Action) (short : Short) → given ≡ action.Put to short → ((kind : OperandKind) → IsSource (source.Constant short) kind → out ≡ copied memory (slice_get frame.cells to.0) (read (operand_bytes frame memory kind))) →
-        (statement : StatementKind) → Says frame.body given statement → out ≡ after_statement frame memory statement
-    does-put given short same does statement says = puts-short short does statement (subst (λ (a : Action). Says frame.body a statement) same says)
+    pub does-put : (given : Action) (short : Short) → given ≡ action.Put to short → out ≡ copied memory (spot_cell frame.cells to) (Ok (short_bytes short)) →
+        (statement : StatementKind) → Says (code_in frame) given statement → out ≡ after_statement frame memory statement
+    does-put given short same does statement says = puts-short short does statement (subst (λ (a : Action). Says (code_in frame) a statement) same says)
 
   -- a terminator of each kind that leads to one block
-  goto-kind : (block : BasicBlockId) (terminator : Terminator) (kind : TerminatorKind) → Leads (way.Goto block) kind → terminated frame memory (Some (record terminator { kind = kind })) ≡ GoesTo frame memory block.0
+  goto-kind : (block : BasicBlockId) (terminator : Terminator) (kind : TerminatorKind) → Leads (code_in frame) (way.Goto block) kind → terminated frame memory (Some (record terminator { kind = kind })) ≡ GoesTo frame memory block.0
   unfolding terminated
   goto-kind block terminator (ends.Goto target) leads = ap (λ (b : BasicBlockId). GoesTo frame memory b.0) leads
   goto-kind block terminator (ends.Drop place target unwind) leads = ap (λ (b : BasicBlockId). GoesTo frame memory b.0) leads
@@ -160,14 +173,14 @@ module _ (frame : Frame) (memory : Memory) where
   goto-kind block terminator ends.Return leads = absurd leads
   goto-kind block terminator (ends.Call func args destination target cleanup from_hir_call) leads = absurd leads
 
-  goto-terminated : (block : BasicBlockId) (terminator : Option Terminator) → IsWay (way.Goto block) terminator → terminated frame memory terminator ≡ GoesTo frame memory block.0
+  goto-terminated : (block : BasicBlockId) (terminator : Option Terminator) → IsWay (code_in frame) (way.Goto block) terminator → terminated frame memory terminator ≡ GoesTo frame memory block.0
   goto-terminated block None is = absurd cc
   goto-terminated block (Some terminator) is = goto-kind block terminator terminator.kind is
 
-  pub goto-leads : (given : Way) (block : BasicBlockId) → given ≡ way.Goto block → (terminator : Option Terminator) → IsWay given terminator → terminated frame memory terminator ≡ GoesTo frame memory block.0
-  goto-leads given block same terminator is = goto-terminated block terminator (subst (λ (w : Way). IsWay w terminator) same is)
+  pub goto-leads : (given : Way) (block : BasicBlockId) → given ≡ way.Goto block → (terminator : Option Terminator) → IsWay (code_in frame) given terminator → terminated frame memory terminator ≡ GoesTo frame memory block.0
+  goto-leads given block same terminator is = goto-terminated block terminator (subst (λ (w : Way). IsWay (code_in frame) w terminator) same is)
 
-  module _ (local : LocalId) (value : ℕ) (hit miss : BasicBlockId) (byte : ℕ) (reads : (kind : OperandKind) → IsSource (source.Local local) kind → operand_bytes frame memory kind ≡ Some (byte ∷ [])) where
+  module _ (spot : Spot) (value : ℕ) (hit miss : BasicBlockId) (byte : ℕ) (reads : option_and_then (cell_bytes memory) (spot_cell frame.cells spot) ≡ Some (byte ∷ [])) where
     -- where the test of a byte leads
     abbrev Chosen : BasicBlockId
     Chosen = if value == byte then hit else miss
@@ -176,19 +189,19 @@ module _ (frame : Frame) (memory : Memory) where
     unfolding switched target_of first_target
     tested = ap (λ (n : ℕ). GoesTo frame memory (if value == n then hit else miss).0) (number-of-one byte)
 
-    branch-kind : (terminator : Terminator) (kind : TerminatorKind) → Leads (way.Branch local value hit miss) kind → terminated frame memory (Some (record terminator { kind = kind })) ≡ GoesTo frame memory Chosen.0
+    branch-kind : (terminator : Terminator) (kind : TerminatorKind) → Leads (code_in frame) (way.Branch spot value hit miss) kind → terminated frame memory (Some (record terminator { kind = kind })) ≡ GoesTo frame memory Chosen.0
     unfolding terminated
     branch-kind terminator (ends.SwitchInt discr targets) leads =
-        ap (switched frame memory targets) (reads discr.kind leads.0) ∙ ap (λ (t : SwitchTargets). switched frame memory t (Some (byte ∷ []))) leads.1 ∙ tested
+        ap (switched frame memory targets) (spot-bytes spot discr.kind leads.0 ∙ reads) ∙ ap (λ (t : SwitchTargets). switched frame memory t (Some (byte ∷ []))) leads.1 ∙ tested
     branch-kind terminator (ends.Goto target) leads = absurd leads
     branch-kind terminator (ends.Drop place target unwind) leads = absurd leads
     branch-kind terminator ends.Return leads = absurd leads
     branch-kind terminator (ends.Call func args destination target cleanup from_hir_call) leads = absurd leads
 
-    branch-terminated : (terminator : Option Terminator) → IsWay (way.Branch local value hit miss) terminator → terminated frame memory terminator ≡ GoesTo frame memory Chosen.0
+    branch-terminated : (terminator : Option Terminator) → IsWay (code_in frame) (way.Branch spot value hit miss) terminator → terminated frame memory terminator ≡ GoesTo frame memory Chosen.0
     branch-terminated None is = absurd cc
     branch-terminated (Some terminator) is = branch-kind terminator terminator.kind is
 
-    pub branch-leads : (given : Way) (block : BasicBlockId) → given ≡ way.Branch local value hit miss → Chosen ≡ block → (terminator : Option Terminator) → IsWay given terminator → terminated frame memory terminator ≡ GoesTo frame memory block.0
+    pub branch-leads : (given : Way) (block : BasicBlockId) → given ≡ way.Branch spot value hit miss → Chosen ≡ block → (terminator : Option Terminator) → IsWay (code_in frame) given terminator → terminated frame memory terminator ≡ GoesTo frame memory block.0
     branch-leads given block same chosen terminator is =
-        branch-terminated terminator (subst (λ (w : Way). IsWay w terminator) same is) ∙ ap (λ (b : BasicBlockId). GoesTo frame memory b.0) chosen
+        branch-terminated terminator (subst (λ (w : Way). IsWay (code_in frame) w terminator) same is) ∙ ap (λ (b : BasicBlockId). GoesTo frame memory b.0) chosen

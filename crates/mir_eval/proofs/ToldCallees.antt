@@ -19,9 +19,11 @@ use Rattle.mir.specs.declared.body.MirBody.{MirBody}
 use Rattle.mir.specs.Run.{body_query, called, called_by, Calling, Frame}
 use Rattle.mir.specs.Memory.{Memory}
 use Rattle.mir.specs.declared.answers.Answer.TheVariants as told
-use Rattle.mir_eval.specs.declared.callees.Callee.{Callee}
+use Rattle.mir_rows.specs.Callees.{AreSizes}
+use Rattle.mir_rows.specs.declared.callees.Callee.{Callee}
 use Rattle.std.specs.Option.{ForSome}
-use Rattle.mir_eval.specs.Callees.{AreCallees, AreSizes, IsCallee, plain_query, told_body}
+use Rattle.mir_rows.specs.Spots.{Prepared}
+use Rattle.mir_eval.specs.Callees.{AreCallees, IsCallee, plain_query, told_body}
 
 -- a function without generic arguments
 pub plain-is : (id : FunctionId) (args : GenericArgs) → args.0 ≡ [] → body_query (id, args) ≡ plain_query id
@@ -66,7 +68,7 @@ pub other-answer : (world : HirDatabase) (callees : List (FunctionId × Option C
     ((id : FunctionId) (callee : Callee) → lookup (is_at (FunctionIdOrd.ghosts.cmp id)) callees ≡ Some (Some callee) → plain_query id ≢ q) → AreCallees world before callees → AreCallees world after callees
 other-answer world callees before after q a put apart are id callee there =
     let was = are id callee there in
-    record { told = ap told_body (put.others (plain_query id) (apart id callee there)) ∙ was.told; sizes = was.sizes }
+    record { told = ap told_body (put.others (plain_query id) (apart id callee there)) ∙ was.told; ready = was.ready; sizes = was.sizes }
 
 -- nothing is kept of a function of which nothing was kept just now
 pub nothing-kept : (before after : List (FunctionId × Option Callee)) (id : FunctionId) → IsUpdated before after id None → (q : Query) → q ≡ plain_query id → (other : FunctionId) (callee : Callee) → lookup (is_at (FunctionIdOrd.ghosts.cmp other)) after ≡ Some (Some callee) → plain_query other ≢ q
@@ -79,9 +81,9 @@ nothing-kept before after id updated q is other callee there same = by (is_eq (F
 
 -- what is kept of a function without generic arguments, shared once more
 pub shared-told : (world : HirDatabase) (answers : List (Query × Answer)) (callees : List (FunctionId × Option Callee)) → AreCallees world answers callees → (id : FunctionId) (args : GenericArgs) → args.0 ≡ [] → (callee shared : Callee) →
-    lookup (is_at (FunctionIdOrd.ghosts.cmp id)) callees ≡ Some (Some callee) → shared.body.value ≡ callee.body.value → told_body (answer_to answers (body_query (id, args))) ≡ Some shared.body.value
+    lookup (is_at (FunctionIdOrd.ghosts.cmp id)) callees ≡ Some (Some callee) → shared.body.value ≡ callee.body.value → told_body (answer_to answers (body_query (id, args))) ≡ Some shared.body.value.body
 shared-told world answers callees are id args none callee shared there same =
-    ap (λ (q : Query). told_body (answer_to answers q)) (plain-is id args none) ∙ (are id callee there).told ∙ ap Some (sym same)
+    ap (λ (q : Query). told_body (answer_to answers q)) (plain-is id args none) ∙ (are id callee there).told ∙ ap (λ (code : Prepared). Some code.body) (sym same)
 
 -- what is kept after something was to be kept of a function, for which there may have been no memory
 pub after-insert : {R E : Type 0} (U : Type 0) (result : Result R E) (world : HirDatabase) (answers : List (Query × Answer)) (before after : List (FunctionId × Option Callee)) (id : FunctionId) (kept : Option Callee) →
@@ -91,6 +93,6 @@ after-insert U (Err e) world answers before after id kept updated is same are ow
 
 -- what was told just now
 pub told-now : (world : HirDatabase) (before after : List (Query × Answer)) (q : Query) (answer : Answer) → IsAfterPut before after q answer → (id : FunctionId) → q ≡ plain_query id → (callee : Callee) →
-    told_body (Some answer) ≡ Some callee.body.value → ForSome callee.sizes (λ sizes. AreSizes world callee.body.value.locals sizes.value) → IsCallee world after id callee
-told-now world before after q answer put id is callee told sizes =
-    record { told = ap told_body (ap (answer_to after) (sym is) ∙ put.answered) ∙ told; sizes = sizes }
+    told_body (Some answer) ≡ Some callee.body.value.body → callee.body.value.world ≡ world → ForSome callee.sizes (λ sizes. AreSizes world callee.body.value.body.locals sizes.value) → IsCallee world after id callee
+told-now world before after q answer put id is callee told ready sizes =
+    record { told = ap told_body (ap (answer_to after) (sym is) ∙ put.answered) ∙ told; ready = ready; sizes = sizes }

@@ -1,4 +1,3 @@
-pub mod Alignments
 pub mod Callees
 pub mod Calls
 pub mod Evaluators

@@ -15,7 +15,7 @@ use Rattle.mir_eval.specs.Machine.{Point, Entry, AtCall, Position, State, Fresh,
 
 -- the frame that a run is in
 abbrev pub frame_in : {M : Type 0} → Run M → Frame
-frame_in run = record { program = program_of run.program; body = run.body.value; cells = run.cells.items; below = callers run.below.items }
+frame_in run = record { program = program_of run.program; body = run.body.value.body; cells = run.cells.items; below = callers run.below.items }
 
 abbrev pub point_of : RunPoint → Point
 point_of (point.Entry block) = Entry block.0
@@ -79,5 +79,5 @@ to_go left _ = left
 
 -- where a run asks at a call, a block of its body ends in one
 abbrev pub AsksAtCall : {M : Type 0} → Run M → Went → Type 0
-AsksAtCall run (went.Asks q block) = IsSome (call_at run.body.value block.0)
+AsksAtCall run (went.Asks q block) = IsSome (call_at run.body.value.body block.0)
 AsksAtCall run _ = Unit {0}

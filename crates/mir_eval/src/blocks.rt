@@ -1,31 +1,31 @@
 //! Blocks: the rows of one, and how it ends, and the blocks of one frame, one after another.
 
-ghost use Rattle.std.specs.Prelude.{◌≡◌, ◌<◌, ◌≤◌, ◌∷◌, [], IfSome, IsSome, OnOk, Ok, Option, Some, slice_get, option_and_then};
+ghost use Rattle.std.specs.Prelude.{◌≡◌, ◌<◌, ◌≤◌, ◌∷◌, [], IfNone, IfSome, IsSome, None, OnOk, Ok, Option, Some, slice_get, option_and_then};
 ghost use Rattle.mir.specs.declared.body.Terminator.{Terminator};
-ghost use Rattle.mir.specs.declared.operand.OperandKind.{OperandKind};
-ghost use Rattle.mir.specs.Run.{GoesTo, operand_bytes, terminated, next_from, entering};
-ghost use Rattle.mir_rows.specs.declared.row.Source.TheVariants.{Local};
-ghost use Rattle.mir_rows.specs.Rows.{IsSource, IsWay};
+ghost use Rattle.mir.specs.Memory.{cell_bytes};
+ghost use Rattle.mir.specs.Run.{GoesTo, terminated, next_from, entering};
+ghost use Rattle.mir_rows.specs.Rows.{HasRows, IsWay};
+ghost use Rattle.mir_rows.specs.Spots.{spot_cell};
 ghost use Rattle.mir_eval.specs.Machine.{call_at, call_of, terminator_at};
 ghost use Rattle.mir_eval.specs.declared.steps.Exit.TheVariants.{Calls};
-ghost use Rattle.mir_eval.specs.Frames.{frame_of};
+ghost use Rattle.mir_eval.specs.Frames.{code_in, frame_of};
 ghost use Rattle.mir_eval.specs.Steps.{next_of, Halts, HaltsAtCall, OrNoMemory};
 
-use crate::cells::{cell_of, read};
+use crate::cells::read;
 use crate::faults::Fault;
 use crate::frames::StackFrame;
 use crate::rows::run_rows;
 use crate::steps::{Exit, Halt, Stop, terminate};
-use mir::{BasicBlockId, LocalId, Terminator};
+use mir::{BasicBlockId, Terminator};
 use mir_mem::{Memory, whole};
-use mir_rows::Way;
+use mir_rows::{BlockRows, Spot, Way, spot_cell};
 
-/// The one byte of a local, where it has one that can be read.
+/// The one byte of the value at a spot, where it has one that can be read.
 #[inline(always)]
-fn byte_of_local<M: Memory>(frame: StackFrame<'_, '_>, memory: &M, local: LocalId) -> Option<u8>
-    ensures { IfSome result (λ byte. (operand : OperandKind) → IsSource (Local local) operand → operand_bytes (frame_of frame.entry) (M.areas memory.now) operand ≡ Some (byte ∷ [])) }
+fn byte_at<M: Memory>(frame: StackFrame<'_, '_>, memory: &M, spot: &Spot) -> Option<u8>
+    ensures { IfSome result (λ byte. option_and_then (cell_bytes (M.areas memory.now)) (spot_cell frame.entry.cells.now spot.now) ≡ Some (byte ∷ [])) }
 {
-    let cell = cell_of(frame.cells, local)?;
+    let cell = spot_cell(frame.cells, *spot)?;
     let view = read(memory, cell)?;
     let bytes = whole(&view)?;
     if bytes.len() == 1 {
@@ -38,17 +38,17 @@ fn byte_of_local<M: Memory>(frame: StackFrame<'_, '_>, memory: &M, local: LocalI
 /// How a block ends, by its way, where that says it.
 #[inline(always)]
 fn follow<M: Memory>(frame: StackFrame<'_, '_>, memory: &M, way: &Way) -> Option<BasicBlockId>
-    ensures { IfSome result (λ block. (terminator : Option Terminator) → IsWay way.now terminator → terminated (frame_of frame.entry) (M.areas memory.now) terminator ≡ GoesTo (frame_of frame.entry) (M.areas memory.now) block.0) }
+    ensures { IfSome result (λ block. (terminator : Option Terminator) → IsWay (code_in (frame_of frame.entry)) way.now terminator → terminated (frame_of frame.entry) (M.areas memory.now) terminator ≡ GoesTo (frame_of frame.entry) (M.areas memory.now) block.0) }
 {
     match way {
         Way::Goto(block) => Some(*block),
         Way::Branch {
-            local,
+            spot,
             value,
             then,
             otherwise,
         } => {
-            let byte = byte_of_local(frame, memory, *local)?;
+            let byte = byte_at(frame, memory, spot)?;
             Some(if byte == *value { *then } else { *otherwise })
         }
         Way::Other => None,
@@ -63,7 +63,7 @@ fn end<M: Memory>(
     way: &Way,
     terminator: &Option<Terminator>,
 ) -> Result<Exit, Fault>
-    requires { IsWay way.now terminator.now }
+    requires { IsWay (code_in (frame_of frame)) way.now terminator.now }
     ensures next { next_of (frame_of frame.entry) (M.areas memory.now) terminator.now result ≡ terminated (frame_of frame.entry) (M.areas memory.now) terminator.now }
     ensures call { result ≡ Ok Calls → IsSome (option_and_then call_of terminator.now) }
 {
@@ -71,6 +71,15 @@ fn end<M: Memory>(
         Some(block) => Ok(Exit::GoesTo(block)),
         None => terminate(frame, memory, terminator),
     }
+}
+
+/// The rows of a block of the body that runs, where it has the block.
+#[inline(always)]
+fn rows_of<'r>(frame: StackFrame<'r, '_>, block: BasicBlockId) -> Option<&'r BlockRows>
+    ensures found { IfSome result (λ rows. HasRows (code_in (frame_of frame.entry)) block.0 rows.now) }
+    ensures none { IfNone result (slice_get frame.entry.body.now.body.basic_blocks block.0 ≡ None) }
+{
+    frame.body.block(block)
 }
 
 /// Runs a block.
@@ -81,10 +90,10 @@ pub(crate) fn enter<M: Memory>(
     memory: &mut M,
     block: BasicBlockId,
 ) -> Result<Exit, Fault>
-    ensures next { OrNoMemory result (next_of (frame_of frame.entry) (M.areas memory.new) (terminator_at frame.entry.body.now block.0) result ≡ next_from (frame_of frame.entry) (M.areas memory.old) (slice_get frame.entry.body.now.basic_blocks block.0) 0) }
-    ensures call { result ≡ Ok Calls → IsSome (call_at frame.entry.body.now block.0) }
+    ensures next { OrNoMemory result (next_of (frame_of frame.entry) (M.areas memory.new) (terminator_at frame.entry.body.now.body block.0) result ≡ next_from (frame_of frame.entry) (M.areas memory.old) (slice_get frame.entry.body.now.body.basic_blocks block.0) 0) }
+    ensures call { result ≡ Ok Calls → IsSome (call_at frame.entry.body.now.body block.0) }
 {
-    let Some(rows) = frame.body.block(block) else {
+    let Some(rows) = rows_of(frame, block) else {
         return Err(Fault::NoTerminator);
     };
     let Some(block) = frame.body.body().basic_blocks.get(block.0 as u64) else {
@@ -105,8 +114,8 @@ pub(crate) fn enter_all<M: Memory>(
     start: BasicBlockId,
     blocks: u64,
 ) -> Stop
-    ensures run { Halts (frame_of frame.entry) (M.areas memory.new) (terminator_at frame.entry.body.now result.block.0) result.left result.end (entering blocks (frame_of frame.entry) (M.areas memory.old) start.0) }
-    ensures call { HaltsAtCall frame.entry.body.now result.block.0 result.end }
+    ensures run { Halts (frame_of frame.entry) (M.areas memory.new) (terminator_at frame.entry.body.now.body result.block.0) result.left result.end (entering blocks (frame_of frame.entry) (M.areas memory.old) start.0) }
+    ensures call { HaltsAtCall frame.entry.body.now.body result.block.0 result.end }
     ensures fewer { OnOk result.end (result.left < blocks) }
     ensures within { result.left ≤ blocks }
 {

@@ -3,8 +3,8 @@
 ghost use Rattle.std.specs.Option.{ForSome};
 ghost use Rattle.std.specs.Prelude.{◌≡◌, ◌⊎◌, Ok, Err, IfOk, IfErr, IfSome, option_map, option_and_then, slice_get};
 ghost use Rattle.mir.specs.declared.errors.MirEvalError as error;
-ghost use Rattle.mir_eval.specs.Alignments.{HasAlignments};
-ghost use Rattle.mir_eval.specs.Callees.{AreSizes};
+ghost use Rattle.mir_rows.specs.Alignments.{HasAlignments};
+ghost use Rattle.mir_rows.specs.Callees.{AreSizes};
 ghost use Rattle.mir.specs.Memory.{cells_of, sizes_of};
 ghost use Rattle.mir.specs.Run.{called_cells, copied, filled, function_in, operand_bytes, operand_type, read};
 ghost use Rattle.mir_rows.specs.Places.{HasEnd, HaveEnds};
@@ -13,7 +13,6 @@ ghost use Rattle.mir_eval.specs.Frames.{frame_of};
 ghost use Rattle.mir_eval.specs.Machine.{call_at};
 ghost use Rattle.mir_eval.specs.Steps.{left_with};
 
-use crate::callees::Callee;
 use crate::cells::cell_of;
 use crate::faults::Fault;
 use crate::frames::{Program, StackFrame};
@@ -24,7 +23,7 @@ use mir::{
     OperandKind, Place, TerminatorKind,
 };
 use mir_mem::Memory;
-use mir_rows::place_type;
+use mir_rows::{Callee, place_type};
 use std::alloc::Global;
 use std::rc::Rc;
 use world::{CallableDefId, FunctionId, GenericArgs, HirDatabase, List, Ty};
@@ -100,7 +99,7 @@ pub(crate) fn callee<'r>(body: &'r MirBody, func: &'r OperandKind) -> Option<Fun
 }
 
 /// New cells for locals, whose sizes may be known.
-#[tactic(auto, unfolding(mir::specs::Memory::cells_of), using(crate::proofs::SizedCells::sizes_aligned))]
+#[tactic(auto, unfolding(mir::specs::Memory::cells_of), using(mir_rows::proofs::SizedCells::sizes_aligned))]
 fn other_cells<M: Memory>(
     alloc: Global,
     db: &HirDatabase,
@@ -125,17 +124,17 @@ fn other_cells<M: Memory>(
 pub(crate) fn callee_cells<M: Memory>(
     alloc: Global,
     program: &Program<'_>,
-    callee: &Callee,
+    callee: &Callee<'_>,
     destination: Option<Interval>,
     room: Vec<Interval>,
     memory: &mut M,
 ) -> Result<Vec<Interval>, MirEvalError>
     requires aligned { HasAlignments program.now.db.now }
-    requires sizes { ForSome callee.now.sizes (λ sizes. AreSizes program.now.db.now callee.now.body.value.locals sizes.value) }
+    requires sizes { ForSome callee.now.sizes (λ sizes. AreSizes program.now.db.now callee.now.body.value.body.locals sizes.value) }
     requires end { IfSome destination HasEnd }
-    ensures ok { IfOk result (λ cells. called_cells program.now.db.now callee.now.body.value.locals destination (M.areas memory.old) ≡ Ok (cells.items, M.areas memory.new)) }
+    ensures ok { IfOk result (λ cells. called_cells program.now.db.now callee.now.body.value.body.locals destination (M.areas memory.old) ≡ Ok (cells.items, M.areas memory.new)) }
     ensures ends { IfOk result (λ cells. HaveEnds cells.items) }
-    ensures err { IfErr result (λ e. (e ≡ error.NoMemory) ⊎ (called_cells program.now.db.now callee.now.body.value.locals destination (M.areas memory.old) ≡ Err e)) }
+    ensures err { IfErr result (λ e. (e ≡ error.NoMemory) ⊎ (called_cells program.now.db.now callee.now.body.value.body.locals destination (M.areas memory.old) ≡ Err e)) }
 {
     let locals = callee.body.as_ref().body().locals.as_slice();
     let slot = if locals.is_empty() { None } else { destination };

@@ -4,11 +4,14 @@ ghost use Rattle.std.specs.Prelude.{◌≡◌, slice_get, option_map, Some, Ok};
 ghost use Rattle.std.specs.List.{concat};
 ghost use Rattle.mir.specs.Memory.{cell_bytes};
 ghost use Rattle.mir.specs.Run.{copied, read};
+ghost use Rattle.mir_rows.specs.Places.{HaveEnds};
+ghost use Rattle.mir_rows.specs.Spots.{spot_cell};
 ghost use Rattle.mir_eval.specs.Steps.{left_with};
 
 use crate::faults::Fault;
 use mir::{Interval, LocalId};
 use mir_mem::{Memory, View};
+use mir_rows::{Spot, spot_cell};
 
 /// The cell of a local.
 pub(crate) fn cell_of(cells: &[Interval], local: LocalId) -> Option<Interval>
@@ -17,6 +20,18 @@ pub(crate) fn cell_of(cells: &[Interval], local: LocalId) -> Option<Interval>
     match cells.get(local.0 as usize) {
         Some(cell) => Some(*cell),
         None => None,
+    }
+}
+
+/// Where a spot lies, by the cells of the locals. A whole cell is found first.
+#[inline(always)]
+pub(crate) fn cell_at(cells: &[Interval], spot: &Spot) -> Option<Interval>
+    requires { HaveEnds cells.now }
+    ensures { result ≡ spot_cell cells.now spot.now }
+{
+    match spot {
+        Spot::Whole(local) => cell_of(cells, *local),
+        Spot::Part { .. } => spot_cell(cells, *spot),
     }
 }
 

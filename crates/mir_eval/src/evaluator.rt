@@ -3,7 +3,7 @@
 ghost use Rattle.std.specs.Prelude.{◌≡◌, ◌↔◌, ◌⊎◌, ◌^◌, ◌≤◌, [], slice_get, option_and_then, codes, IfOk, IfErr, IfSome, OnOk, OnErr, IsOk, IsSome, IsTrue};
 ghost use Rattle.std.specs.Option.{option_copied};
 ghost use Rattle.world.specs.Checked.{IsChecked};
-ghost use Rattle.mir_eval.specs.Alignments.{HasAlignments};
+ghost use Rattle.mir_rows.specs.Alignments.{HasAlignments};
 ghost use Rattle.mir_eval.specs.Start.{is_own_width};
 ghost use Rattle.mir.specs.declared.errors.MirEvalError as error;
 
@@ -86,7 +86,7 @@ impl<'a, M: Memory + Drop> Evaluator<'a, M> {
     /// A machine for a body that belongs to `owner`, in a world that passed the check. It takes no memory: the memory of its
     /// run is made by `begin`. The refusal is `TargetDataLayoutNotAvailable`, exactly where the size of a pointer of the owner's
     /// crate isn't known.
-    #[tactic(auto, using(crate::proofs::Alignments::has_alignments))]
+    #[tactic(auto, using(mir_rows::proofs::Alignments::has_alignments))]
     pub fn new(
         alloc: Global,
         db: &'a HirDatabase,
@@ -222,7 +222,7 @@ impl<'a, M: Memory + Drop> Evaluator<'a, M> {
         let alloc = self.alloc;
         let mut told = Ok(());
         self.phase = match mem::replace(&mut self.phase, Phase::Fresh) {
-            Phase::Asking(query, mut run) => match run.program.take(alloc, query, answer) {
+            Phase::Asking(query, mut run) => match run.take(alloc, query, answer) {
                 Ok(()) => Phase::Going(run),
                 Err(error) => {
                     told = Err(error);

@@ -1,15 +1,16 @@
 //! Bodies that run, and callers that wait for them.
 
 ghost use Rattle.std.proofs.Props.{props};
+ghost use Rattle.std.specs.Prelude.{◌≡◌};
 ghost use Rattle.std.specs.Coded.{codes};
 ghost use Rattle.mir.specs.contracts.body.MirBody as lowered;
 ghost use Rattle.mir.specs.contracts.errors.MirEvalError as failed;
+ghost use Rattle.world.specs.contracts.database.HirDatabase as database;
 ghost use Rattle.mir_rows.specs.Places.{HaveEnds};
 ghost use Rattle.mir_eval.specs.Callees.{AreCallees};
 
-use crate::callees::Callee;
 use mir::{Answers, BasicBlockId, Interval, TrailEntry};
-use mir_rows::Code;
+use mir_rows::{Callee, Code};
 use std::alloc::Global;
 use std::collections::BTreeMap;
 use std::rc::Rc;
@@ -26,14 +27,14 @@ pub(crate) struct Program<'a> {
     pub bytes: u64,
     pub answers: Answers,
     /// What can be entered of the functions that are given no generic arguments and whose bodies it was told.
-    pub callees: BTreeMap<FunctionId, Option<Callee>>,
-    ghost called: { AreCallees db.now answers callees.entries } by { Prim.hlevel (props, codes, lowered.the_row.coded, failed.the_row.coded) },
+    pub callees: BTreeMap<FunctionId, Option<Callee<'a>>>,
+    ghost called: { AreCallees db.now answers callees.entries } by { Prim.hlevel (props, codes, database.the_row.coded, lowered.the_row.coded, failed.the_row.coded) },
 }
 
 /// A caller that waits for its callee.
 #[derive(Drop)]
-pub(crate) struct Suspended {
-    pub body: Rc<Code>,
+pub(crate) struct Suspended<'a> {
+    pub body: Rc<Code<'a>>,
     /// One for each local of the body.
     pub cells: Vec<Interval>,
     /// The block to go on in; none where the callee must not return.
@@ -47,10 +48,11 @@ pub(crate) struct Suspended {
 #[derive(Clone, Copy)]
 pub(crate) struct StackFrame<'r, 'a> {
     pub program: &'r Program<'a>,
-    pub body: &'r Code,
+    pub body: &'r Code<'a>,
     pub cells: &'r [Interval],
-    pub below: &'r [Suspended],
+    pub below: &'r [Suspended<'a>],
     ghost ends: { HaveEnds cells.now },
+    ghost world: { body.now.world ≡ program.now.db.now } by { Prim.hlevel (props, codes, database.the_row.coded) },
 }
 
 /// A point of a run: about to enter a block, or at the call that ends a block.

@@ -16,6 +16,7 @@ mod places;
 mod rows;
 mod runs;
 mod steps;
+mod waiting;
 
 pub use evaluator::{Evaluator, Turned};
 pub use output::MirOutput;

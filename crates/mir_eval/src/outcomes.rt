@@ -22,7 +22,7 @@ use world::{Box, Const, List, MemoryMap, NoMemory, TryClone, ValueConst};
 fn trail(
     alloc: Global,
     first: Option<TrailEntry>,
-    below: &[Suspended],
+    below: &[Suspended<'_>],
 ) -> Result<List<TrailEntry>, NoMemory>
     ensures { IfOk result (λ trail. trail ≡ option_to_list first ++ map (λ caller. caller.call) (callers below.now)) }
 {
@@ -43,7 +43,7 @@ pub(crate) fn faulted(
     alloc: Global,
     error: MirEvalError,
     first: Option<TrailEntry>,
-    below: &[Suspended],
+    below: &[Suspended<'_>],
 ) -> Result<Result<Const, MirEvalError>, NoMemory>
     ensures { IfOk result (λ r. r ≡ Err (wrapped error (option_to_list first ++ map (λ caller. caller.call) (callers below.now)))) }
 {

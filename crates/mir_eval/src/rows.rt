@@ -1,26 +1,27 @@
 //! Statements by their rows: an operator on two operands of one kind, a copy, and a constant are done without a look at the body.
 
-ghost use Rattle.std.specs.Prelude.{◌≡◌, IfNone, IfSome, Ok, Some, slice_get};
+ghost use Rattle.std.specs.Prelude.{◌≡◌, IfNone, IfSome, Ok, Some, option_and_then};
 ghost use Rattle.std.specs.List.{concat};
 ghost use Rattle.mir.specs.declared.body.BasicBlock.{BasicBlock};
 ghost use Rattle.mir.specs.declared.operand.OperandKind.{OperandKind};
 ghost use Rattle.mir.specs.declared.statement.Statement.{Statement};
 ghost use Rattle.mir.specs.declared.statement.StatementKind.{StatementKind};
+ghost use Rattle.mir.specs.Memory.{cell_bytes};
 ghost use Rattle.mir.specs.Run.{after_statement, after_statements, copied, operand_bytes, operand_type, operated, read};
 ghost use Rattle.mir_ops.specs.Made.{made_bytes};
-ghost use Rattle.mir_rows.specs.declared.row.Source.TheVariants.{Constant, Local};
-ghost use Rattle.mir_rows.specs.Rows.{AreOperands, AreRows, IsRow, IsSource, Says};
-ghost use Rattle.mir_eval.specs.Frames.{frame_of};
+ghost use Rattle.mir_rows.specs.Rows.{short_bytes, AreOperands, AreRows, IsRow, IsSource, Says};
+ghost use Rattle.mir_rows.specs.Spots.{spot_cell};
+ghost use Rattle.mir_eval.specs.Frames.{code_in, frame_of};
 ghost use Rattle.mir_eval.specs.Steps.{left_with, OrNoMemory};
 
-use crate::cells::{cell_of, copy, read, write};
+use crate::cells::{cell_at, cell_of, copy, read, write};
 use crate::faults::Fault;
 use crate::frames::StackFrame;
 use crate::steps::execute;
-use mir::{BasicBlock, BinOp, LocalId};
+use mir::{BasicBlock, BinOp};
 use mir_mem::{Memory, View, whole};
 use mir_ops::{Made, byte_of, bytes1, bytes2, bytes4, bytes8, bytes16, made_of};
-use mir_rows::{Action, Row, Short, Source};
+use mir_rows::{Action, Row, Short, Source, Spot, part_of_local};
 use numbers::Kind;
 
 /// The bytes of a source now, where it has some.
@@ -30,15 +31,18 @@ fn source<'r, M: Memory>(
     memory: &'r M,
     source: &'r Source,
 ) -> Option<View<'r>>
-    ensures { IfSome result (λ view. (operand : OperandKind) → IsSource source.now operand → operand_bytes (frame_of frame.entry) (M.areas memory.now) operand ≡ Some (concat view)) }
+    ensures { IfSome result (λ view. (operand : OperandKind) → IsSource (code_in (frame_of frame.entry)) source.now operand → operand_bytes (frame_of frame.entry) (M.areas memory.now) operand ≡ Some (concat view)) }
 {
-    match source {
-        Source::Local(local) => match cell_of(frame.cells, *local) {
-            Some(cell) => read(memory, cell),
-            None => None,
-        },
-        Source::Constant(short) => Some(View::of(short.bytes())),
-    }
+    let cell = match source {
+        Source::Whole(local) => cell_of(frame.cells, *local)?,
+        Source::Part {
+            local,
+            offset,
+            size,
+        } => part_of_local(frame.cells, *local, *offset, *size)?,
+        Source::Constant(short) => return Some(View::of(short.bytes())),
+    };
+    read(memory, cell)
 }
 
 /// What an operator makes of two operands of one kind, without the table. There is none where `made_of` has none, or where the
@@ -52,7 +56,7 @@ fn combine<M: Memory>(
     left: &Source,
     right: &Source,
 ) -> Option<Made>
-    ensures { IfSome result (λ made. (one other : OperandKind) → AreOperands frame.entry.body.now kind left.now right.now one other → operated op (operand_type frame.entry.body.now one) (operand_type frame.entry.body.now other) (operand_bytes (frame_of frame.entry) (M.areas memory.now) one) (operand_bytes (frame_of frame.entry) (M.areas memory.now) other) ≡ Ok (made_bytes made)) }
+    ensures { IfSome result (λ made. (one other : OperandKind) → AreOperands (code_in (frame_of frame.entry)) kind left.now right.now one other → operated op (operand_type frame.entry.body.now.body one) (operand_type frame.entry.body.now.body other) (operand_bytes (frame_of frame.entry) (M.areas memory.now) one) (operand_bytes (frame_of frame.entry) (M.areas memory.now) other) ≡ Ok (made_bytes made)) }
 {
     let left_view = source(frame, memory, left)?;
     let right_view = source(frame, memory, right)?;
@@ -61,18 +65,18 @@ fn combine<M: Memory>(
     made_of(op, kind, left_bytes, right_bytes)
 }
 
-/// Assigns a number or a truth value to a local.
+/// Assigns a number or a truth value to a spot.
 #[inline(always)]
 #[tactic(auto, unfolding(mir::specs::Run::copied))]
 fn assign_made<M: Memory>(
     frame: StackFrame<'_, '_>,
     memory: &mut M,
-    to: LocalId,
+    to: &Spot,
     made: Made,
 ) -> Result<(), Fault>
-    ensures { left_with (M.areas memory.new) result ≡ copied (M.areas memory.old) (slice_get frame.entry.cells.now to.0) (Ok (made_bytes made)) }
+    ensures { left_with (M.areas memory.new) result ≡ copied (M.areas memory.old) (spot_cell frame.entry.cells.now to.now) (Ok (made_bytes made)) }
 {
-    let Some(to) = cell_of(frame.cells, to) else {
+    let Some(to) = cell_at(frame.cells, to) else {
         return Err(Fault::BadWrite);
     };
     match made {
@@ -85,19 +89,19 @@ fn assign_made<M: Memory>(
     }
 }
 
-/// Copies a local to another one.
+/// Copies the value at a spot to another one.
 #[inline(always)]
-#[tactic(auto, unfolding(mir::specs::Run::copied, mir::specs::Run::operand_bytes, mir::specs::Places::place_cell))]
-fn copy_local<M: Memory>(
+#[tactic(auto, unfolding(mir::specs::Run::copied))]
+fn copy_value<M: Memory>(
     frame: StackFrame<'_, '_>,
     memory: &mut M,
-    to: LocalId,
-    from: LocalId,
+    to: &Spot,
+    from: &Spot,
 ) -> Result<(), Fault>
-    ensures { (operand : OperandKind) → IsSource (Local from) operand → left_with (M.areas memory.new) result ≡ copied (M.areas memory.old) (slice_get frame.entry.cells.now to.0) (read (operand_bytes (frame_of frame.entry) (M.areas memory.old) operand)) }
+    ensures { left_with (M.areas memory.new) result ≡ copied (M.areas memory.old) (spot_cell frame.entry.cells.now to.now) (read (option_and_then (cell_bytes (M.areas memory.old)) (spot_cell frame.entry.cells.now from.now))) }
 {
-    match cell_of(frame.cells, to) {
-        Some(to) => match cell_of(frame.cells, from) {
+    match cell_at(frame.cells, to) {
+        Some(to) => match cell_at(frame.cells, from) {
             Some(from) => copy(memory, from, to),
             None => Err(Fault::BadRead),
         },
@@ -105,18 +109,18 @@ fn copy_local<M: Memory>(
     }
 }
 
-/// Assigns a constant to a local.
+/// Assigns a constant to a spot.
 #[inline(always)]
-#[tactic(auto, unfolding(mir::specs::Run::copied, mir::specs::Run::operand_bytes, mir::specs::Places::place_cell))]
+#[tactic(auto, unfolding(mir::specs::Run::copied))]
 fn put<M: Memory>(
     frame: StackFrame<'_, '_>,
     memory: &mut M,
-    to: LocalId,
+    to: &Spot,
     value: &Short,
 ) -> Result<(), Fault>
-    ensures { (operand : OperandKind) → IsSource (Constant value.now) operand → left_with (M.areas memory.new) result ≡ copied (M.areas memory.old) (slice_get frame.entry.cells.now to.0) (read (operand_bytes (frame_of frame.entry) (M.areas memory.old) operand)) }
+    ensures { left_with (M.areas memory.new) result ≡ copied (M.areas memory.old) (spot_cell frame.entry.cells.now to.now) (Ok (short_bytes value.now)) }
 {
-    match cell_of(frame.cells, to) {
+    match cell_at(frame.cells, to) {
         Some(to) => write(memory, to, value.bytes()),
         None => Err(Fault::BadWrite),
     }
@@ -129,7 +133,7 @@ fn act<M: Memory>(
     memory: &mut M,
     action: &Action,
 ) -> Option<Result<(), Fault>>
-    ensures done { IfSome result (λ done. (statement : StatementKind) → Says frame.entry.body.now action.now statement → left_with (M.areas memory.new) done ≡ after_statement (frame_of frame.entry) (M.areas memory.old) statement) }
+    ensures done { IfSome result (λ done. (statement : StatementKind) → Says (code_in (frame_of frame.entry)) action.now statement → left_with (M.areas memory.new) done ≡ after_statement (frame_of frame.entry) (M.areas memory.old) statement) }
     ensures kept { IfNone result (M.areas memory.new ≡ M.areas memory.old) }
 {
     match action {
@@ -141,10 +145,10 @@ fn act<M: Memory>(
             right,
         } => {
             let made = combine(frame, memory, *op, *kind, left, right)?;
-            Some(assign_made(frame, memory, *to, made))
+            Some(assign_made(frame, memory, to, made))
         }
-        Action::Copy { to, from } => Some(copy_local(frame, memory, *to, *from)),
-        Action::Put { to, value } => Some(put(frame, memory, *to, value)),
+        Action::Copy { to, from } => Some(copy_value(frame, memory, to, from)),
+        Action::Put { to, value } => Some(put(frame, memory, to, value)),
         Action::Other => None,
     }
 }
@@ -157,8 +161,8 @@ fn run_row<M: Memory>(
     block: &BasicBlock,
     row: &Row,
 ) -> Result<(), Fault>
-    requires { (statement : Statement) × IsRow frame.body.now block.now.statements statement row.now }
-    ensures { (statement : Statement) → IsRow frame.entry.body.now block.now.statements statement row.now → OrNoMemory result (left_with (M.areas memory.new) result ≡ after_statement (frame_of frame.entry) (M.areas memory.old) statement.kind) }
+    requires { (statement : Statement) × IsRow (code_in (frame_of frame)) block.now.statements statement row.now }
+    ensures { (statement : Statement) → IsRow (code_in (frame_of frame.entry)) block.now.statements statement row.now → OrNoMemory result (left_with (M.areas memory.new) result ≡ after_statement (frame_of frame.entry) (M.areas memory.old) statement.kind) }
 {
     match act(frame, memory, &row.action) {
         Some(done) => done,
@@ -177,7 +181,7 @@ pub(crate) fn run_rows<M: Memory>(
     block: &BasicBlock,
     rows: &[Row],
 ) -> Result<(), Fault>
-    requires { AreRows frame.body.now block.now.statements block.now.statements rows.now }
+    requires { AreRows (code_in (frame_of frame)) block.now.statements block.now.statements rows.now }
     ensures { OrNoMemory result (left_with (M.areas memory.new) result ≡ after_statements (frame_of frame.entry) block.now.statements (M.areas memory.old)) }
 {
     for row in rows {

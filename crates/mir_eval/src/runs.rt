@@ -1,15 +1,17 @@
 //! A run that has begun, and the phases of an evaluator.
 
 ghost use Rattle.std.specs.Option.{ForSome};
-ghost use Rattle.std.specs.Prelude.{true, ◌≡◌, ◌⊎◌, ◌+◌, ◌^◌, ◌<◌, ◌≤◌, ◌∷◌, ◌++◌, Err, Ok, Some, None, IfOk, IfErr, IfSome, IsSome, OnOk, slice_get};
-ghost use Rattle.mir_eval.specs.Alignments.{HasAlignments};
-ghost use Rattle.mir_eval.specs.Callees.{AreSizes};
+ghost use Rattle.std.specs.Prelude.{true, ◌≡◌, ◌⊎◌, ◌+◌, ◌^◌, ◌<◌, ◌≤◌, ◌∷◌, ◌++◌, Err, Ok, Some, None, IfOk, IfErr, IfSome, IsSome, IsTrue, OnOk, slice_get};
+ghost use Rattle.mir_rows.specs.Alignments.{HasAlignments};
+ghost use Rattle.mir_rows.specs.Callees.{AreSizes};
 ghost use Rattle.mir.specs.Run.{callee_error, levels_over};
 ghost use Rattle.mir_rows.specs.Places.{HasEnd, HaveEnds};
-ghost use Rattle.mir_eval.specs.Frames.{callers, stands_at};
+ghost use Rattle.mir_eval.specs.Frames.{callers, stands_at, AreOfWorld};
+ghost use Rattle.std.proofs.Props.{props};
+ghost use Rattle.std.specs.Coded.{codes};
+ghost use Rattle.world.specs.contracts.database.HirDatabase as database;
 
 use crate::blocks::{enter, enter_all};
-use crate::callees::{Callee, callee_of, ready};
 use crate::calls::{Call, Function, call_at, callee, callee_cells, fill};
 use crate::faults::{Fault, to_error};
 use crate::frames::{Point, Program, StackFrame, Suspended};
@@ -21,7 +23,7 @@ use mir::{
     Answer, BasicBlockId, ConstEvalError, Interval, MirBody, MirEvalError, Query, TrailEntry,
 };
 use mir_mem::Memory;
-use mir_rows::{Code, place_cell};
+use mir_rows::{Callee, Code, callee_of, place_cell, ready};
 use std::alloc::Global;
 use std::mem;
 use std::rc::Rc;
@@ -31,11 +33,11 @@ use world::{Const, DefWithBodyId, FunctionId, NoMemory, TryClone};
 #[derive(Drop)]
 pub(crate) struct Run<'a, M> {
     pub program: Program<'a>,
-    pub body: Rc<Code>,
+    pub body: Rc<Code<'a>>,
     /// One for each local of the body.
     pub cells: Vec<Interval>,
     /// The callers that wait, the nearest last.
-    pub below: Vec<Suspended>,
+    pub below: Vec<Suspended<'a>>,
     /// Lists of cells of bodies that returned, for those that are entered next.
     pub spare: Vec<Vec<Interval>>,
     /// How many levels of nesting the run holds.
@@ -46,8 +48,10 @@ pub(crate) struct Run<'a, M> {
     pub left: u64,
     ghost nested: { levels ≡ levels_over (callers below.items) },
     ghost aligned: { HasAlignments program.db.now },
-    ghost stands: { stands_at body.value point ≡ true },
+    ghost stands: { stands_at body.value.body point ≡ true },
     ghost ends: { HaveEnds cells.items },
+    ghost world: { body.value.world ≡ program.db.now } by { Prim.hlevel (props, codes, database.the_row.coded) },
+    ghost worlds: { AreOfWorld program.db.now below.items } by { Prim.hlevel (props, codes, database.the_row.coded) },
 }
 
 /// Where an evaluator is in its one run.
@@ -74,11 +78,11 @@ pub(crate) enum Went {
 impl<'a, M: Memory + Drop> Run<'a, M> {
     ghost use Rattle.mir.specs.declared.errors.MirEvalError as error;
     ghost use Rattle.mir.specs.Run.{after_return, begun, called, called_by, callee_error, body_query, calls, next_from, entered, entry_of, entering, faults, terminated, trail_of, Stops, GoesTo, Faulted};
-    ghost use Rattle.mir.specs.Answers.{answer_to};
+    ghost use Rattle.mir.specs.Answers.{answer_to, answers_kind, IsAfterPut};
     ghost use Rattle.mir_eval.specs.Calls.{call_is, called_frame, function_is};
     ghost use Rattle.mir_eval.specs.Frames.{program_of};
     ghost use Rattle.std.specs.Option.{option_to_list};
-    ghost use Rattle.mir_eval.specs.Machine.{Entry, Going, RunsTo, StepsTo, call_at, terminator_at};
+    ghost use Rattle.mir_eval.specs.Machine.{Entry, Going, RunsTo, StepsTo, call_at, terminator_at, with_answers};
     ghost use Rattle.mir_eval.specs.Steps.{error_of, halt_of, next_of, Halts, HaltsAtCall, OrNoMemory};
     ghost use Rattle.mir_eval.specs.declared.steps.Exit.TheVariants.{Calls};
     ghost use Rattle.mir_eval.specs.Start.{started};
@@ -114,7 +118,7 @@ impl<'a, M: Memory + Drop> Run<'a, M> {
             return Err(MirEvalError::NoMemory);
         };
         let block = body.start_block;
-        let Ok(body) = ready(alloc, body) else {
+        let Ok(body) = ready(alloc, program.db, body) else {
             return Err(MirEvalError::NoMemory);
         };
         Ok(Run {
@@ -128,6 +132,21 @@ impl<'a, M: Memory + Drop> Run<'a, M> {
             point: Point::Entry(block),
             left: blocks,
         })
+    }
+
+    /// Takes the answer to the query that the run waits for.
+    pub(crate) fn take(
+        &mut self,
+        alloc: Global,
+        query: Query,
+        answer: Answer,
+    ) -> Result<(), NoMemory>
+        requires { IsTrue (answers_kind query answer) }
+        ensures told { OnOk result (IsAfterPut self.old.program.answers self.new.program.answers query answer) }
+        ensures rest { position_of M.areas self.new ≡ with_answers self.new.program.answers (position_of M.areas self.old) }
+        ensures left { self.new.left ≡ self.old.left }
+    {
+        self.program.take(alloc, query, answer)
     }
 
     /// The phase of a run that went somewhere.
@@ -183,7 +202,7 @@ impl<'a, M: Memory + Drop> Run<'a, M> {
         ensures run { IsInRun (frame_in self.old) self.new result }
         ensures asks { AsksAtCall self.new result }
     {
-        match self.below.pop() {
+        match self.program.pop_caller(&mut self.below) {
             None => {
                 let levels = self.program.nesting.saturating_sub(1);
                 match returned(
@@ -227,13 +246,14 @@ impl<'a, M: Memory + Drop> Run<'a, M> {
         alloc: Global,
         call: Call<'_>,
         id: FunctionId,
-        callee: Callee,
+        callee: Callee<'a>,
         destination: Option<Interval>,
     ) -> Went
         requires level { call.target ≡ None → self.old.levels < self.old.program.nesting }
-        requires sizes { ForSome callee.sizes (λ sizes. AreSizes self.old.program.db.now callee.body.value.locals sizes.value) }
+        requires world { callee.body.value.world ≡ self.old.program.db.now }
+        requires sizes { ForSome callee.sizes (λ sizes. AreSizes self.old.program.db.now callee.body.value.body.locals sizes.value) }
         requires end { IfSome destination HasEnd }
-        ensures leads { Leads M.areas (frame_in self.old) (entered (frame_in self.old) (M.areas self.old.memory) (call_is call.entry) id callee.body.value destination) self.new result }
+        ensures leads { Leads M.areas (frame_in self.old) (entered (frame_in self.old) (M.areas self.old.memory) (call_is call.entry) id callee.entry.body.value.body destination) self.new result }
         ensures same { self.new.left ≡ self.old.left }
         ensures run { IsInRun (frame_in self.old) self.new result }
         ensures asks { AsksAtCall self.new result }
@@ -275,12 +295,13 @@ impl<'a, M: Memory + Drop> Run<'a, M> {
         &mut self,
         call: Call<'_>,
         id: FunctionId,
-        body: Rc<Code>,
+        body: Rc<Code<'a>>,
         cells: Vec<Interval>,
     ) -> Went
         requires level { call.target ≡ None → self.old.levels < self.old.program.nesting }
         requires ends { HaveEnds cells.items }
-        ensures leads { Leads M.areas (frame_in self.old) (GoesTo (called_frame (frame_in self.old) (call_is call.entry) id body.value cells.items) (M.areas self.old.memory) body.value.start_block.0) self.new result }
+        requires world { body.value.world ≡ self.old.program.db.now }
+        ensures leads { Leads M.areas (frame_in self.old) (GoesTo (called_frame (frame_in self.old) (call_is call.entry) id body.entry.value.body cells.items) (M.areas self.old.memory) body.entry.value.body.start_block.0) self.new result }
         ensures same { self.new.left ≡ self.old.left }
         ensures run { IsInRun (frame_in self.old) self.new result }
         ensures asks { AsksAtCall self.new result }
@@ -302,7 +323,7 @@ impl<'a, M: Memory + Drop> Run<'a, M> {
             next: call.target,
             call: entry,
         };
-        if self.below.push(caller).is_err() {
+        if self.program.push_caller(&mut self.below, caller).is_err() {
             return Went::Over(Err(MirEvalError::NoMemory));
         }
         self.levels = levels;
@@ -316,10 +337,11 @@ impl<'a, M: Memory + Drop> Run<'a, M> {
         alloc: Global,
         call: Call<'_>,
         id: FunctionId,
-        callee: Callee,
+        callee: Callee<'a>,
     ) -> Went
-        requires { ForSome callee.sizes (λ sizes. AreSizes self.old.program.db.now callee.body.value.locals sizes.value) }
-        ensures leads { Leads M.areas (frame_in self.old) (called (frame_in self.old) (M.areas self.old.memory) (call_is call.entry) id callee.body.value) self.new result }
+        requires world { callee.body.value.world ≡ self.old.program.db.now }
+        requires sizes { ForSome callee.sizes (λ sizes. AreSizes self.old.program.db.now callee.body.value.body.locals sizes.value) }
+        ensures leads { Leads M.areas (frame_in self.old) (called (frame_in self.old) (M.areas self.old.memory) (call_is call.entry) id callee.entry.body.value.body) self.new result }
         ensures same { self.new.left ≡ self.old.left }
         ensures run { IsInRun (frame_in self.old) self.new result }
         ensures asks { AsksAtCall self.new result }
@@ -369,7 +391,7 @@ impl<'a, M: Memory + Drop> Run<'a, M> {
         function: Function<'_>,
         block: BasicBlockId,
     ) -> Went
-        requires { call_at self.old.body.value block.0 ≡ Some (call_is call) }
+        requires { call_at self.old.body.value.body block.0 ≡ Some (call_is call) }
         ensures leads { Leads M.areas (frame_in self.old) (called_by (frame_in self.old) (M.areas self.old.memory) (call_is call.entry) (function_is function.entry) (answer_to self.old.program.answers (body_query (function_is function.entry)))) self.new result }
         ensures same { self.new.left ≡ self.old.left }
         ensures run { IsInRun (frame_in self.old) self.new result }
@@ -395,8 +417,8 @@ impl<'a, M: Memory + Drop> Run<'a, M> {
     /// Does the call that ends a block.
     #[tactic(auto, unfolding(mir::specs::Run::calls, mir::specs::Run::terminated))]
     fn call(&mut self, alloc: Global, block: BasicBlockId) -> Went
-        requires { IsSome (call_at self.old.body.value block.0) }
-        ensures leads { Leads M.areas (frame_in self.old) (terminated (frame_in self.old) (M.areas self.old.memory) (terminator_at self.old.body.value block.0)) self.new result }
+        requires { IsSome (call_at self.old.body.value.body block.0) }
+        ensures leads { Leads M.areas (frame_in self.old) (terminated (frame_in self.old) (M.areas self.old.memory) (terminator_at self.old.body.value.body block.0)) self.new result }
         ensures same { self.new.left ≡ self.old.left }
         ensures run { IsInRun (frame_in self.old) self.new result }
         ensures asks { AsksAtCall self.new result }
@@ -415,8 +437,8 @@ impl<'a, M: Memory + Drop> Run<'a, M> {
 
     /// Goes on where the blocks of a frame led.
     fn go_on(&mut self, alloc: Global, block: BasicBlockId, end: Result<Halt, Fault>) -> Went
-        requires { HaltsAtCall self.old.body.value block.0 end }
-        ensures leads { Leads M.areas (frame_in self.old) (halt_of (frame_in self.old) (M.areas self.old.memory) (terminator_at self.old.body.value block.0) end) self.new result }
+        requires { HaltsAtCall self.old.body.value.body block.0 end }
+        ensures leads { Leads M.areas (frame_in self.old) (halt_of (frame_in self.old) (M.areas self.old.memory) (terminator_at self.old.body.value.body block.0) end) self.new result }
         ensures same { self.new.left ≡ self.old.left }
         ensures run { IsInRun (frame_in self.old) self.new result }
         ensures asks { AsksAtCall self.new result }
@@ -430,10 +452,10 @@ impl<'a, M: Memory + Drop> Run<'a, M> {
 
     /// Runs blocks of the frame, until the body returns, calls or faults.
     fn run_blocks(&mut self, block: BasicBlockId) -> Stop
-        ensures run { Halts (frame_in self.old) (M.areas self.new.memory) (terminator_at self.old.body.value result.block.0) result.left result.end (entering self.old.left (frame_in self.old) (M.areas self.old.memory) block.0) }
+        ensures run { Halts (frame_in self.old) (M.areas self.new.memory) (terminator_at self.old.body.value.body result.block.0) result.left result.end (entering self.old.left (frame_in self.old) (M.areas self.old.memory) block.0) }
         ensures frame { frame_in self.new ≡ frame_in self.old }
         ensures left { self.new.left ≡ result.left }
-        ensures call { HaltsAtCall self.new.body.value result.block.0 result.end }
+        ensures call { HaltsAtCall self.new.body.value.body result.block.0 result.end }
         ensures fewer { OnOk result.end (self.new.left < self.old.left) }
         ensures within { self.new.left ≤ self.old.left }
     {
@@ -454,10 +476,10 @@ impl<'a, M: Memory + Drop> Run<'a, M> {
 
     /// Runs one block of the frame.
     fn run_block(&mut self, block: BasicBlockId) -> Result<Exit, Fault>
-        ensures next { OrNoMemory result (next_of (frame_in self.old) (M.areas self.new.memory) (terminator_at self.old.body.value block.0) result ≡ next_from (frame_in self.old) (M.areas self.old.memory) (slice_get self.old.body.value.basic_blocks block.0) 0) }
+        ensures next { OrNoMemory result (next_of (frame_in self.old) (M.areas self.new.memory) (terminator_at self.old.body.value.body block.0) result ≡ next_from (frame_in self.old) (M.areas self.old.memory) (slice_get self.old.body.value.body.basic_blocks block.0) 0) }
         ensures frame { frame_in self.new ≡ frame_in self.old }
         ensures left { self.new.left ≡ self.old.left }
-        ensures call { result ≡ Ok Calls → IsSome (call_at self.new.body.value block.0) }
+        ensures call { result ≡ Ok Calls → IsSome (call_at self.new.body.value.body block.0) }
     {
         enter(
             StackFrame {

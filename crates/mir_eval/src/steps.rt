@@ -124,7 +124,7 @@ fn operate<M: Memory>(
     left: &OperandKind,
     right: &OperandKind,
 ) -> Result<([u8; 16], u8), Fault>
-    ensures bytes { operated_bytes result ≡ operated op (operand_type frame.entry.body.now left.now) (operand_type frame.entry.body.now right.now) (operand_bytes (frame_of frame.entry) (M.areas memory.now) left.now) (operand_bytes (frame_of frame.entry) (M.areas memory.now) right.now) }
+    ensures bytes { operated_bytes result ≡ operated op (operand_type frame.entry.body.now.body left.now) (operand_type frame.entry.body.now.body right.now) (operand_bytes (frame_of frame.entry) (M.areas memory.now) left.now) (operand_bytes (frame_of frame.entry) (M.areas memory.now) right.now) }
     ensures count { IfOk result (λ r. r.1 ≤ 16) }
 {
     let Some(left_view) = operand(frame, memory, left) else {
@@ -159,7 +159,7 @@ fn operate_on<M: Memory>(
     op: UnOp,
     kind: &OperandKind,
 ) -> Result<([u8; 16], u8), Fault>
-    ensures bytes { operated_bytes result ≡ operated_on op (operand_type frame.entry.body.now kind.now) (operand_bytes (frame_of frame.entry) (M.areas memory.now) kind.now) }
+    ensures bytes { operated_bytes result ≡ operated_on op (operand_type frame.entry.body.now.body kind.now) (operand_bytes (frame_of frame.entry) (M.areas memory.now) kind.now) }
     ensures count { IfOk result (λ r. r.1 ≤ 16) }
 {
     let Some(view) = operand(frame, memory, kind) else {
@@ -183,7 +183,7 @@ fn cast<M: Memory>(
     kind: &OperandKind,
     ty: &Ty,
 ) -> Result<([u8; 16], u8), Fault>
-    ensures bytes { operated_bytes result ≡ cast_to ty.now (operand_type frame.entry.body.now kind.now) (operand_bytes (frame_of frame.entry) (M.areas memory.now) kind.now) }
+    ensures bytes { operated_bytes result ≡ cast_to ty.now (operand_type frame.entry.body.now.body kind.now) (operand_bytes (frame_of frame.entry) (M.areas memory.now) kind.now) }
     ensures count { IfOk result (λ r. r.1 ≤ 16) }
 {
     let Some(view) = operand(frame, memory, kind) else {

@@ -3,7 +3,6 @@ use Rattle.std.specs.Prelude.{◌≡◌, ℕ, Bool, true, false, List, [], ◌�
 use Rattle.numbers.specs.Operators.{kind_of}
 use Rattle.numbers.specs.declared.operator.Kind.{Kind}
 use Rattle.mir.specs.declared.body.BasicBlock.{BasicBlock}
-use Rattle.mir.specs.declared.body.MirBody.{MirBody}
 use Rattle.mir.specs.declared.body.Terminator.{Terminator}
 use Rattle.mir.specs.declared.body.TerminatorKind.{TerminatorKind}
 use Rattle.mir.specs.declared.body.TerminatorKind.TheVariants as ends
@@ -14,7 +13,6 @@ use Rattle.mir.specs.declared.statement.Statement.{Statement}
 use Rattle.mir.specs.declared.statement.StatementKind.{StatementKind}
 use Rattle.mir.specs.declared.statement.StatementKind.TheVariants.{Assign, FakeRead, StorageLive, StorageDead}
 use Rattle.mir.specs.Run.{constant_bytes, operand_type}
-use Rattle.mir.specs.WholePlaces.{whole_place}
 use Rattle.mir_rows.specs.declared.row.Action.{Action}
 use Rattle.mir_rows.specs.declared.row.Action.TheVariants as action
 use Rattle.mir_rows.specs.declared.row.BlockRows.{BlockRows}
@@ -24,6 +22,8 @@ use Rattle.mir_rows.specs.declared.row.Source.{Source}
 use Rattle.mir_rows.specs.declared.row.Source.TheVariants as source
 use Rattle.mir_rows.specs.declared.row.Way.{Way}
 use Rattle.mir_rows.specs.declared.row.Way.TheVariants as way
+use Rattle.mir_rows.specs.declared.spots.Spot.TheVariants as spot
+use Rattle.mir_rows.specs.Spots.{IsSpot, LiesAt, Prepared}
 
 -- whether a statement does nothing when it runs
 abbrev pub is_idle : StatementKind → Bool
@@ -42,68 +42,69 @@ constant_in (operand.Copy place) = None
 constant_in (operand.Constant konst ty) = constant_bytes konst
 
 -- a source is what an operand says
-abbrev pub IsSource : Source → OperandKind → Type 0
-IsSource (source.Local local) kind = kind ≡ operand.Copy (whole_place local)
-IsSource (source.Constant short) kind = constant_in kind ≡ Some (short_bytes short)
+abbrev pub IsSource : Prepared → Source → OperandKind → Type 0
+IsSource code (source.Whole local) kind = LiesAt code (spot.Whole local) kind
+IsSource code (source.Part local offset size) kind = LiesAt code (spot.Part local offset size) kind
+IsSource code (source.Constant short) kind = constant_in kind ≡ Some (short_bytes short)
 
 -- two sources are what two operands say, and the bytes of both are of a kind
-pub record AreOperands (body : MirBody) (kind : Kind) (first second : Source) (one other : OperandKind) : Type 0 where
-  pub left : IsSource first one
-  pub right : IsSource second other
-  pub left_kind : option_and_then kind_of (operand_type body one) ≡ Some kind
-  pub right_kind : option_and_then kind_of (operand_type body other) ≡ Some kind
+pub record AreOperands (code : Prepared) (kind : Kind) (first second : Source) (one other : OperandKind) : Type 0 where
+  pub left : IsSource code first one
+  pub right : IsSource code second other
+  pub left_kind : option_and_then kind_of (operand_type code.body one) ≡ Some kind
+  pub right_kind : option_and_then kind_of (operand_type code.body other) ≡ Some kind
 
--- an action is what a statement of a body does
-abbrev pub Says : MirBody → Action → StatementKind → Type 0
-Says body (action.Combine op kind to left right) (Assign place (CheckedBinaryOp operator one other)) = (place ≡ whole_place to) × (operator ≡ op) × AreOperands body kind left right one.kind other.kind
-Says body (action.Copy to from) (Assign place (Use operand)) = (place ≡ whole_place to) × IsSource (source.Local from) operand.kind
-Says body (action.Put to value) (Assign place (Use operand)) = (place ≡ whole_place to) × IsSource (source.Constant value) operand.kind
-Says body action.Other statement = Unit {0}
-Says body _ _ = ⊥
+-- an action is what a statement of a body does, by the layouts of a world
+abbrev pub Says : Prepared → Action → StatementKind → Type 0
+Says code (action.Combine op kind to left right) (Assign place (CheckedBinaryOp operator one other)) = IsSpot code place to × (operator ≡ op) × AreOperands code kind left right one.kind other.kind
+Says code (action.Copy to from) (Assign place (Use operand)) = IsSpot code place to × LiesAt code from operand.kind
+Says code (action.Put to value) (Assign place (Use operand)) = IsSpot code place to × IsSource code (source.Constant value) operand.kind
+Says code action.Other statement = Unit {0}
+Says code _ _ = ⊥
 
 -- a row is that of a statement, which stands at its place among those of its block
-pub record IsRow (body : MirBody) (block : List Statement) (statement : Statement) (row : Row) : Type 0 where
+pub record IsRow (code : Prepared) (block : List Statement) (statement : Statement) (row : Row) : Type 0 where
   pub stands : slice_get block row.place ≡ Some statement
-  pub says : Says body row.action statement.kind
+  pub says : Says code row.action statement.kind
 
 -- the first of these rows is that of a statement, unless it does nothing (`idle`), and `Rest` holds of the others
-abbrev pub RowsFrom : MirBody → (block : List Statement) → Statement → (idle : Bool) → (Rest : List Row → Type 0) → List Row → Type 0
-RowsFrom body block statement true Rest rows = Rest rows
-RowsFrom body block statement false Rest [] = ⊥
-RowsFrom body block statement false Rest (row ∷ rows) = IsRow body block statement row × Rest rows
+abbrev pub RowsFrom : Prepared → (block : List Statement) → Statement → (idle : Bool) → (Rest : List Row → Type 0) → List Row → Type 0
+RowsFrom code block statement true Rest rows = Rest rows
+RowsFrom code block statement false Rest [] = ⊥
+RowsFrom code block statement false Rest (row ∷ rows) = IsRow code block statement row × Rest rows
 
 -- rows are those of the statements that do something, in order; `block`: all statements of the block that they stand in
-abbrev pub AreRows : MirBody → (block : List Statement) → List Statement → List Row → Type 0
-AreRows body block [] [] = Unit {0}
-AreRows body block [] (row ∷ rows) = ⊥
-AreRows body block (statement ∷ statements) rows = RowsFrom body block statement (is_idle statement.kind) (AreRows body block statements) rows
+abbrev pub AreRows : Prepared → (block : List Statement) → List Statement → List Row → Type 0
+AreRows code block [] [] = Unit {0}
+AreRows code block [] (row ∷ rows) = ⊥
+AreRows code block (statement ∷ statements) rows = RowsFrom code block statement (is_idle statement.kind) (AreRows code block statements) rows
 
 -- a way is where a terminator leads
-abbrev pub Leads : Way → TerminatorKind → Type 0
-Leads (way.Goto block) (ends.Goto target) = target ≡ block
-Leads (way.Goto block) (ends.Drop place target unwind) = target ≡ block
-Leads (way.Branch local value then otherwise) (ends.SwitchInt discr targets) = IsSource (source.Local local) discr.kind × (targets ≡ ((value, then) ∷ [], otherwise))
-Leads way.Other kind = Unit {0}
-Leads _ _ = ⊥
+abbrev pub Leads : Prepared → Way → TerminatorKind → Type 0
+Leads code (way.Goto block) (ends.Goto target) = target ≡ block
+Leads code (way.Goto block) (ends.Drop place target unwind) = target ≡ block
+Leads code (way.Branch spot value then otherwise) (ends.SwitchInt discr targets) = LiesAt code spot discr.kind × (targets ≡ ((value, then) ∷ [], otherwise))
+Leads code way.Other kind = Unit {0}
+Leads code _ _ = ⊥
 
 -- so it is how a block ends
-abbrev pub IsWay : Way → Option Terminator → Type 0
-IsWay taken (Some terminator) = Leads taken terminator.kind
-IsWay taken None = taken ≡ way.Other
+abbrev pub IsWay : Prepared → Way → Option Terminator → Type 0
+IsWay code taken (Some terminator) = Leads code taken terminator.kind
+IsWay code taken None = taken ≡ way.Other
 
 -- a block's rows
-pub record IsBlock (body : MirBody) (block : BasicBlock) (rows : BlockRows) : Type 0 where
-  pub statements : AreRows body block.statements block.statements rows.rows.items
-  pub terminator : IsWay rows.way block.terminator
+pub record IsBlock (code : Prepared) (block : BasicBlock) (rows : BlockRows) : Type 0 where
+  pub statements : AreRows code block.statements block.statements rows.rows.items
+  pub terminator : IsWay code rows.way block.terminator
 
 -- the rows of blocks of a body, one for each
-abbrev pub AreBlocks : MirBody → List BasicBlock → List BlockRows → Type 0
-AreBlocks body [] [] = Unit {0}
-AreBlocks body (block ∷ blocks) (rows ∷ others) = IsBlock body block rows × AreBlocks body blocks others
-AreBlocks body _ _ = ⊥
+abbrev pub AreBlocks : Prepared → List BasicBlock → List BlockRows → Type 0
+AreBlocks code [] [] = Unit {0}
+AreBlocks code (block ∷ blocks) (rows ∷ others) = IsBlock code block rows × AreBlocks code blocks others
+AreBlocks code _ _ = ⊥
 
 -- a block that a body has at a place has these rows
-pub record HasRows (body : MirBody) (place : ℕ) (rows : BlockRows) : Type 0 where
+pub record HasRows (code : Prepared) (place : ℕ) (rows : BlockRows) : Type 0 where
   pub block : BasicBlock
-  pub found : slice_get body.basic_blocks place ≡ Some block
-  pub are : IsBlock body block rows
+  pub found : slice_get code.body.basic_blocks place ≡ Some block
+  pub are : IsBlock code block rows

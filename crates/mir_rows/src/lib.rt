@@ -1,14 +1,21 @@
-//! A body's code as rows: for each block the statements that do something, and how it ends, with all that the body says of their
-//! operands read off once, so that a run needs no look at types and constants. What has no row of its own is left to the body.
+//! A body's code as rows: for each block the statements that do something, and how it ends, with all that the body and the
+//! layouts of a world say of their places and operands read off once, so that a run needs no look at types, layouts and constants. What has no
+//! row of its own is left to the body. A body that can be called stands beside the sizes of its cells.
 #![tactic(auto)]
 
 mod building;
+mod callees;
+mod cell_sizes;
 mod code;
 mod operands;
 mod places;
 mod row;
+mod spots;
 
+pub use callees::{Callee, callee_of, ready};
+pub use cell_sizes::sizes;
 pub use code::Code;
 pub use operands::{constant_bytes, operand_kind};
 pub use places::{place_cell, place_type};
 pub use row::{Action, BlockRows, Row, Short, Source, Way};
+pub use spots::{Spot, part_of_local, spot_cell};

@@ -7,13 +7,14 @@ ghost use Rattle.mir.specs.Projections.{projection_of};
 ghost use Rattle.world.specs.Lookups.{layout_of};
 ghost use Rattle.mir_rows.specs.Places.{HasEnd, HaveEnds};
 
+use crate::spots::part;
 use either::Either;
 use mir::{Interner, Interval, LocalId, MirBody, Place, PlaceElem, ProjectionElem, tuple_part};
 use world::{HirDatabase, Ty};
 
 /// The type of a local.
 #[inline(always)]
-fn local_type(body: &MirBody, local: LocalId) -> Option<&Ty>
+pub(crate) fn local_type(body: &MirBody, local: LocalId) -> Option<&Ty>
     ensures { option_copied result ≡ local_type body.now local }
 {
     match body.locals.get(local.0 as u64) {
@@ -46,7 +47,7 @@ fn elem_offset(db: &HirDatabase, elem: &PlaceElem, ty: &Ty) -> Option<u64>
 }
 
 /// The type of what elements lead to, one after another.
-fn type_behind<'a>(elements: &[PlaceElem], ty: Option<&'a Ty>) -> Option<&'a Ty>
+pub(crate) fn type_behind<'a>(elements: &[PlaceElem], ty: Option<&'a Ty>) -> Option<&'a Ty>
     ensures { option_copied result ≡ type_behind elements.now (option_copied ty.entry) }
 {
     let mut seen = ty;
@@ -60,7 +61,11 @@ fn type_behind<'a>(elements: &[PlaceElem], ty: Option<&'a Ty>) -> Option<&'a Ty>
 }
 
 /// How far behind the first byte of a value of a type what elements lead to begins.
-fn offset_behind(db: &HirDatabase, elements: &[PlaceElem], ty: Option<&Ty>) -> Option<u128>
+pub(crate) fn offset_behind(
+    db: &HirDatabase,
+    elements: &[PlaceElem],
+    ty: Option<&Ty>,
+) -> Option<u128>
     ensures { result ≡ offset_behind db.now elements.now (option_copied ty.entry) }
 {
     let mut seen = ty;
@@ -84,14 +89,9 @@ fn part_of_cell(cell: Interval, offset: u128, size: u64) -> Option<Interval>
     ensures { result ≡ part_of_cell cell offset size }
 {
     if offset > cell.size as u128 {
-        return None;
-    }
-    if offset + size as u128 > cell.size as u128 {
-        return None;
-    }
-    match cell.addr.offset(offset as u64) {
-        Some(addr) => Some(Interval { addr, size }),
-        None => None,
+        None
+    } else {
+        part(cell, offset as u64, size)
     }
 }
 
@@ -121,7 +121,7 @@ fn cell_behind(
 }
 
 /// The elements of a projection, where its id stands for one.
-fn elements(body: &MirBody, place: Place) -> Option<&[PlaceElem]>
+pub(crate) fn elements(body: &MirBody, place: Place) -> Option<&[PlaceElem]>
     ensures { option_copied result ≡ projection_of body.now.projection_store.projections place.projection }
 {
     if body.projection_store.has(place.projection) {
@@ -133,7 +133,7 @@ fn elements(body: &MirBody, place: Place) -> Option<&[PlaceElem]>
 
 /// The cell of a local.
 #[inline(always)]
-fn cell_of(cells: &[Interval], local: LocalId) -> Option<Interval>
+pub(crate) fn cell_of(cells: &[Interval], local: LocalId) -> Option<Interval>
     ensures { result ≡ slice_get cells.now local.0 }
 {
     match cells.get(local.0 as usize) {

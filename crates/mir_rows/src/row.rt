@@ -2,6 +2,7 @@
 
 ghost use Rattle.std.specs.Prelude.{◌≡◌, ◌≤◌, take};
 
+use crate::spots::Spot;
 use mir::{BasicBlockId, BinOp, LocalId};
 use numbers::Kind;
 
@@ -23,32 +24,38 @@ impl Short {
     }
 }
 
-/// What an operator reads: a whole local, or a constant.
+/// What an operator reads: the value of a local, so many bytes of one from an offset on, or a constant. Where the value lies isn't a `Spot`
+/// of its own, so that a run has one test for each operand.
 #[derive(Clone, Copy, PartialEq, Eq, Debug)]
 pub enum Source {
-    Local(LocalId),
+    Whole(LocalId),
+    Part {
+        local: LocalId,
+        offset: u64,
+        size: u64,
+    },
     Constant(Short),
 }
 
 /// What a statement does.
 #[derive(Clone, Copy, PartialEq, Eq, Debug)]
 pub enum Action {
-    /// It assigns to a local what an operator makes of two operands of one kind.
+    /// It assigns to a spot what an operator makes of two operands of one kind.
     Combine {
         op: BinOp,
         kind: Kind,
-        to: LocalId,
+        to: Spot,
         left: Source,
         right: Source,
     },
-    /// It copies a local to another one.
+    /// It copies the value at a spot to another one.
     Copy {
-        to: LocalId,
-        from: LocalId,
+        to: Spot,
+        from: Spot,
     },
-    /// It assigns a constant to a local.
+    /// It assigns a constant to a spot.
     Put {
-        to: LocalId,
+        to: Spot,
         value: Short,
     },
     /// What the statement itself says.
@@ -67,9 +74,9 @@ pub struct Row {
 pub enum Way {
     /// It leads to a block.
     Goto(BasicBlockId),
-    /// It leads to the block `then` where the bytes of a local are this number, and else to the block `otherwise`.
+    /// It leads to the block `then` where the bytes at a spot are this number, and else to the block `otherwise`.
     Branch {
-        local: LocalId,
+        spot: Spot,
         value: u8,
         then: BasicBlockId,
         otherwise: BasicBlockId,

@@ -11,12 +11,12 @@ pub returns-then-byte-value : goal.returns-then-byte-value
 returns-then-byte-value g c =
     let at = c.in-Branch in
     let equal : (at.value == c.in_ok-byte-in-Branch.byte) ≡ true = search rules in
-    branch-leads (frame_of c.args.frame) (g.M.Memory.areas c.args.memory.now) at.local at.value at.then at.otherwise c.in_ok-byte-in-Branch.byte c.in_ok-byte-in-Branch.ensures c.args.way.now at.then at.is
+    branch-leads (frame_of c.args.frame) (g.M.Memory.areas c.args.memory.now) at.spot at.value at.then at.otherwise c.in_ok-byte-in-Branch.byte c.in_ok-byte-in-Branch.ensures c.args.way.now at.then at.is
     (ap (λ (b : Bool). if b then (at.then) else (at.otherwise)) equal)
 
 pub returns-else-byte-value : goal.returns-else-byte-value
 returns-else-byte-value g c =
     let at = c.in-Branch in
     let other : (at.value == c.in_ok-byte-in-Branch.byte) ≡ false = search rules in
-    branch-leads (frame_of c.args.frame) (g.M.Memory.areas c.args.memory.now) at.local at.value at.then at.otherwise c.in_ok-byte-in-Branch.byte c.in_ok-byte-in-Branch.ensures c.args.way.now at.otherwise at.is
+    branch-leads (frame_of c.args.frame) (g.M.Memory.areas c.args.memory.now) at.spot at.value at.then at.otherwise c.in_ok-byte-in-Branch.byte c.in_ok-byte-in-Branch.ensures c.args.way.now at.otherwise at.is
     (ap (λ (b : Bool). if b then (at.then) else (at.otherwise)) other)

@@ -1,7 +1,7 @@
 use Rattle.std.proofs.Common.{sym, subst}
 use Rattle.std.specs.Prelude.{All, List}
 use Rattle.mir.specs.declared.address.CellSize.{CellSize}
-use Rattle.mir_eval.proofs.SizedCells.{Aligned, sizes_aligned}
+use Rattle.mir_rows.proofs.SizedCells.{Aligned, sizes_aligned}
 use Rattle.mir_eval.proofs.calls.other_cells.Goals as goal
 
 pub push-requires : goal.push-requires

@@ -1,4 +1,4 @@
-use Rattle.mir_eval.proofs.Alignments.{has_alignments}
+use Rattle.mir_rows.proofs.Alignments.{has_alignments}
 use Rattle.mir_eval.proofs.evaluator.Evaluator.new.Goals as goal
 
 pub invariant_of-result-clause-aligned : goal.invariant_of-result-clause-aligned

@@ -25,5 +25,5 @@ invariant_of-self-2 c =
           (other-answer old.db.now c.insert.new.self.entries old.answers c.put-2.new.self c.args.query c.args.answer put
           (nothing-kept old.callees.entries c.insert.new.self.entries id c.in_ok-insert.ensures.updates.0 c.args.query c.in-Some.ensures.some)
           (keeps old.db.now old.callees.entries c.insert.new.self.entries id None c.in_ok-insert.ensures.updates.0 old.answers old.called (λ k is. absurd cc)))
-          (λ k is. told-now old.db.now old.answers c.put-2.new.self c.args.query c.args.answer put id c.in-Some.ensures.some k (c.in_ok-callee.ensures.body k is) (c.in_ok-callee.ensures.sizes k is));
+          (λ k is. told-now old.db.now old.answers c.put-2.new.self c.args.query c.args.answer put id c.in-Some.ensures.some k (c.in_ok-callee.ensures.body k is) (c.in_ok-callee.ensures.world k is) (c.in_ok-callee.ensures.sizes k is));
     }

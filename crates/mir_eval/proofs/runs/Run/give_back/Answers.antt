@@ -19,6 +19,6 @@ pub returns-in-None-next-clause-leads : goal.returns-in-None-next-clause-leads
 returns-in-None-next-clause-leads g c =
     let old = c.args.self.now in
     let caller = c.in-Some.caller in
-    let split : old.below.items ≡ c.pop.new.self.items ++ caller ∷ [] = grind (arith, common_steps) in
-    let waits : callers old.below.items ≡ waiting_of caller ∷ callers c.pop.new.self.items = ap callers split ∙ callers-push c.pop.new.self.items caller in
-    never-returns (frame_in old) (g.M.Memory.areas old.memory) (waiting_of caller) (callers c.pop.new.self.items) old.left _ _ waits (ap (option_map (λ block. block.0)) c.in-None-next.is) c.fault.ensures.leads
+    let split : old.below.items ≡ c.pop_caller.new.below.items ++ caller ∷ [] = grind (arith, common_steps) in
+    let waits : callers old.below.items ≡ waiting_of caller ∷ callers c.pop_caller.new.below.items = ap callers split ∙ callers-push c.pop_caller.new.below.items caller in
+    never-returns (frame_in old) (g.M.Memory.areas old.memory) (waiting_of caller) (callers c.pop_caller.new.below.items) old.left _ _ waits (ap (option_map (λ block. block.0)) c.in-None-next.is) c.fault.ensures.leads

@@ -11,7 +11,7 @@ pub returns-in-AtCall-clause-went : goal.returns-in-AtCall-clause-went
 unfolding end_of
 returns-in-AtCall-clause-went g c =
     let old = c.args.self.now in
-    let next : Next = terminated (frame_in old) (g.M.Memory.areas old.memory) (terminator_at old.body.value c.in-AtCall.block.0) in
+    let next : Next = terminated (frame_in old) (g.M.Memory.areas old.memory) (terminator_at old.body.value.body c.in-AtCall.block.0) in
     leads-continues g.M.Memory.areas (position_of g.M.Memory.areas old) c.call.new.self c.call.result next
     (ap (λ (p : Point). end_of (position_at g.M.Memory.areas old (point_of p))) c.in-AtCall.is ∙ ap (λ (n : ℕ). going_on n next) (sym c.call.ensures.same))
     c.call.ensures.leads c.call.ensures.run

@@ -22,7 +22,7 @@ returns-clause-went g c =
     let halts = c.run_blocks-stop.ensures.run in
     leads-continues g.M.Memory.areas start c.go_on.new.self c.go_on.result halts.0
     (sym halts.1 ∙ ap (λ (n : ℕ). going_on n halts.0) left)
-    (halts-lead g.M.Memory.areas (frame_in old) (g.M.Memory.areas mid.memory) (terminator_at old.body.value stop.block.0) stop.end halts.0 c.go_on.new.self c.go_on.result halts.2
+    (halts-lead g.M.Memory.areas (frame_in old) (g.M.Memory.areas mid.memory) (terminator_at old.body.value.body stop.block.0) stop.end halts.0 c.go_on.new.self c.go_on.result halts.2
     (subst (λ (frame : Frame). Leads g.M.Memory.areas frame (next-in frame) c.go_on.new.self c.go_on.result) same c.go_on.ensures.leads))
     (subst (λ (frame : Frame). IsInRun frame c.go_on.new.self c.go_on.result) same c.go_on.ensures.run)
 
@@ -31,7 +31,7 @@ returns-clause-fewer g c =
     let mid = c.run_blocks-stop.new.self in
     let stop = c.run_blocks-stop.result in
     let same : mid.left ≡ c.go_on.new.self.left = sym c.go_on.ensures.same in
-    fewer-left g.M.Memory.areas (frame_in mid) (g.M.Memory.areas mid.memory) (terminator_at mid.body.value stop.block.0) stop.end c.go_on.new.self c.go_on.result c.args.self.now.left
+    fewer-left g.M.Memory.areas (frame_in mid) (g.M.Memory.areas mid.memory) (terminator_at mid.body.value.body stop.block.0) stop.end c.go_on.new.self c.go_on.result c.args.self.now.left
     (subst (λ (n : ℕ). OnOk stop.end (n < c.args.self.now.left)) same c.run_blocks-stop.ensures.fewer)
     (subst (λ (n : ℕ). n ≤ c.args.self.now.left) same c.run_blocks-stop.ensures.within)
     c.go_on.ensures.leads

@@ -1,7 +1,7 @@
 use Rattle.std.specs.Prelude.{All}
 use Rattle.world.specs.Checked.{IsAlignment}
-use Rattle.mir_eval.proofs.Laying.{Sized}
-use Rattle.mir_eval.proofs.places.sizes.Given as goal
+use Rattle.mir_rows.proofs.Laying.{Sized}
+use Rattle.mir_rows.proofs.cell_sizes.sizes.Given as goal
 
 -- the sizes so far before those of the locals from here on are all sizes
 abbrev pub invariant-loop-local : goal.invariant-loop-local

@@ -11,8 +11,8 @@ use Rattle.mir.specs.declared.address.CellSize.{CellSize}
 use Rattle.mir.specs.declared.body.Local.{Local}
 use Rattle.mir.specs.declared.errors.MirEvalError.{MirEvalError}
 use Rattle.mir.specs.Memory.{cell_size_of, size_before, sizes_of}
-use Rattle.mir_eval.specs.Alignments.{HasAlignments}
-use Rattle.mir_eval.proofs.Alignments.{is_alignment}
+use Rattle.mir_rows.specs.Alignments.{HasAlignments}
+use Rattle.mir_rows.proofs.Alignments.{is_alignment}
 
 abbrev pub Aligned : CellSize → Type 0
 Aligned cell = IsAlignment cell.align

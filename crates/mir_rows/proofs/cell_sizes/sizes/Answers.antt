@@ -4,8 +4,8 @@ use Rattle.std.specs.Prelude.{List, All}
 use Rattle.std.proofs.lemmas.List.Elements.{All-append, All-cons, All-nil}
 use Rattle.world.specs.Checked.{IsAlignment}
 use Rattle.mir.specs.declared.address.CellSize.{CellSize}
-use Rattle.mir_eval.proofs.Laying.{Sized, sized-last, sized-next, sized-refused}
-use Rattle.mir_eval.proofs.places.sizes.Goals as goal
+use Rattle.mir_rows.proofs.Laying.{Sized, sized-last, sized-next, sized-refused}
+use Rattle.mir_rows.proofs.cell_sizes.sizes.Goals as goal
 
 pub returns-in-Err-clause-err : goal.returns-in-Err-clause-err
 returns-in-Err-clause-err c =

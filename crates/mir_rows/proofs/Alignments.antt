@@ -8,7 +8,7 @@ use Rattle.types.specs.declared.ty.Ty.{Ty}
 use Rattle.world.specs.Checked.{IsAlignment, IsChecked}
 use Rattle.world.specs.Lookups.{layout_of}
 use Rattle.world.proofs.Rows.{layout_row}
-use Rattle.mir_eval.specs.Alignments.{HasAlignments, is_power_to}
+use Rattle.mir_rows.specs.Alignments.{HasAlignments, is_power_to}
 
 same-number : (n : ℕ) → eqb n n ≡ true
 same-number n = grind (arith, nat_tests)

@@ -1,0 +1,20 @@
+use Rattle.std.proofs.Common.{sym, ap, ◌∙◌, rules}
+use Rattle.mir.specs.Places.{offset_behind, type_behind}
+use Rattle.mir_rows.specs.Spots.{prepared}
+use Rattle.mir_rows.proofs.Spotted.{part, whole-empty, whole-empty-id}
+use Rattle.mir_rows.proofs.spots.spot_of.Goals as goal
+
+pub returns-then-place-eq0 : goal.returns-then-place-eq0
+returns-then-place-eq0 c = whole-empty-id (prepared c.args.db.now c.args.body.now) c.args.place (search rules)
+
+pub returns-then-is_empty : goal.returns-then-is_empty
+returns-then-is_empty c =
+    whole-empty (prepared c.args.db.now c.args.body.now) c.args.place (search rules) c.in_ok-elements.elements.now c.in_ok-elements.ensures (sym c.is_empty.ensures ∙ c.if-is_empty.true)
+
+pub returns : goal.returns
+returns c =
+    let elements = c.in_ok-elements.elements.now in
+    part (prepared c.args.db.now c.args.body.now) c.args.place (search rules) elements c.in_ok-elements.ensures (sym c.is_empty.ensures ∙ c.if-is_empty.false)
+    c.in_ok-offset.offset (c.in_ok-offset.ensures ∙ ap (offset_behind c.args.db.now elements) c.local_type-ty.ensures)
+    c.in_ok-seen.seen.now (c.in_ok-seen.ensures ∙ ap (type_behind elements) c.local_type-ty.ensures)
+    c.in_ok-layout.layout.now c.in_ok-layout.ensures
