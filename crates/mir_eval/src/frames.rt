@@ -17,7 +17,6 @@ use std::rc::Rc;
 use world::{FunctionId, HirDatabase};
 
 /// What a run goes by: its world, its limits, and what it was told.
-#[derive(Drop)]
 pub(crate) struct Program<'a> {
     pub alloc: Global,
     pub db: &'a HirDatabase,
@@ -29,6 +28,20 @@ pub(crate) struct Program<'a> {
     /// What can be entered of the functions that are given no generic arguments and whose bodies it was told.
     pub callees: BTreeMap<FunctionId, Option<Callee<'a>>>,
     ghost called: { AreCallees db.now answers callees.entries } by { Prim.hlevel (props, codes, database.the_row.coded, lowered.the_row.coded, failed.the_row.coded) },
+}
+
+impl Drop for Program<'_> {
+    fn drop(self) {
+        let Program {
+            alloc: _alloc,
+            db: _db,
+            nesting: _nesting,
+            bytes: _bytes,
+            answers: _answers,
+            callees: _callees,
+            ..
+        } = self;
+    }
 }
 
 /// A caller that waits for its callee.

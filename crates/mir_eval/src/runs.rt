@@ -284,7 +284,7 @@ impl<'a, M: Memory + Drop> Run<'a, M> {
             call.args,
         );
         match filled {
-            Ok(()) => self.suspend(call, id, callee.body, cells),
+            Ok(()) => self.suspend(call, id, callee.into_body(), cells),
             Err(fault) => self.fault(alloc, fault),
         }
     }

@@ -28,13 +28,32 @@ pub fn ready<'a>(
 }
 
 /// A body that can be entered, and, where each of its locals but the return slot has one, how large their cells are.
-#[derive(Drop)]
 pub struct Callee<'a> {
     pub body: Rc<Code<'a>>,
     pub sizes: Option<Rc<List<CellSize>>>,
 }
 
+impl Drop for Callee<'_> {
+    fn drop(self) {
+        let Callee {
+            body: _body,
+            sizes: _sizes,
+        } = self;
+    }
+}
+
 impl<'a> Callee<'a> {
+    /// The body alone.
+    pub fn into_body(self) -> Rc<Code<'a>>
+        ensures { result.value ≡ self.entry.body.value }
+    {
+        let Callee {
+            body,
+            sizes: _sizes,
+        } = self;
+        body
+    }
+
     /// The same once more; both share the body and the sizes.
     pub fn share(&self) -> Result<Callee<'a>, NoMemory>
         ensures body { IfOk result (λ callee. callee.body.value ≡ self.now.body.value) }

@@ -9,11 +9,20 @@ use std::rc::Rc;
 use world::{HirDatabase, NoMemory};
 
 /// A body that is ready to run in a world: it stands beside the rows of its blocks. Contracts see the world and the body.
-#[derive(Drop)]
 pub struct Code<'a> {
     db: &'a HirDatabase,
     body: Rc<MirBody>,
     blocks: Vec<BlockRows>,
+}
+
+impl Drop for Code<'_> {
+    fn drop(self) {
+        let Code {
+            db: _db,
+            body: _body,
+            blocks: _blocks,
+        } = self;
+    }
 }
 
 impl<'a> Model for Code<'a> {

@@ -86,8 +86,16 @@ pub enum Way {
 }
 
 /// The rows of a block, for its statements that do something, and how it ends.
-#[derive(Drop)]
 pub struct BlockRows {
     pub rows: Vec<Row>,
     pub way: Way,
+}
+
+impl Drop for BlockRows {
+    fn drop(self) {
+        let BlockRows {
+            rows: _rows,
+            way: _way,
+        } = self;
+    }
 }

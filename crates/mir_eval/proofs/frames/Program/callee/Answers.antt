@@ -5,7 +5,7 @@ use Rattle.std.specs.Map.{lookup}
 use Rattle.std.specs.Option.{ForSome}
 use Rattle.types.specs.contracts.ids.FunctionIdOrd.TheImpl as FunctionIdOrd
 use Rattle.mir_rows.specs.Spots.{Prepared}
-use Rattle.mir_eval.specs.Callees.{AreSizes}
+use Rattle.mir_rows.specs.Callees.{AreSizes}
 use Rattle.mir_eval.proofs.ToldCallees.{shared-told}
 use Rattle.mir_eval.proofs.frames.Program.callee.Goals as goal
 
