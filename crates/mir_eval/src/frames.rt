@@ -39,7 +39,6 @@ impl Drop for Program<'_> {
             bytes: _bytes,
             answers: _answers,
             callees: _callees,
-            ..
         } = self;
     }
 }

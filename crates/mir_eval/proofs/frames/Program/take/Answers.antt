@@ -5,8 +5,8 @@ use Rattle.mir_eval.specs.Callees.{AreCallees}
 use Rattle.mir_eval.proofs.ToldCallees.{after-insert, keeps, nothing-kept, other-answer, told-now}
 use Rattle.mir_eval.proofs.frames.Program.take.Goals as goal
 
-pub invariant_of-self-in-Break-branch-6 : goal.invariant_of-self-in-Break-branch-6
-invariant_of-self-in-Break-branch-6 c =
+pub invariant_of-self-in-Break-branch-5 : goal.invariant_of-self-in-Break-branch-5
+invariant_of-self-in-Break-branch-5 c =
     let old = c.args.self.now in
     record {
       called =
