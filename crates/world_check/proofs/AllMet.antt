@@ -7,7 +7,7 @@ use Rattle.world.specs.declared.body.Body.{Body}
 use Rattle.world.specs.declared.database.BodyRow.{BodyRow}
 use Rattle.world.specs.declared.database.HirDatabase.{HirDatabase}
 use Rattle.world_check.specs.Meets.{if_there}
-use Rattle.world_check.specs.Rows.{failing_place}
+use Rattle.world_check.specs.Rows.{failing_place, first_unmet}
 use Rattle.world_check.specs.Tests.{meets}
 use Rattle.world_check.specs.WorldPlaces.{named_functions, numbered, of_adts, of_bodies, of_body, of_code, of_items, of_keyed_rows, of_names, of_nodes, of_table, places}
 use Rattle.world_check.specs.declared.fault.CheckRow.{CheckRow}
@@ -327,5 +327,5 @@ each row world clear (Function name) = function_met (meets row world) clear.name
 
 -- where no place is the first to fail a row, every place meets it
 pub all_met : (row : CheckRow) (world : HirDatabase) → failing_place row world ≡ None → (place : Place) → meets row world place ≡ true
-unfolding failing_place
+unfolding failing_place first_unmet
 all_met row world e place = each row world (nowhere (λ q. not (meets row world q)) world e) place

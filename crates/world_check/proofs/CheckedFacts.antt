@@ -13,34 +13,29 @@ use Rattle.world.specs.Nodes.{children_of, inner_exprs_of, patterns_of}
 use Rattle.world.specs.declared.body.Body.{Body}
 use Rattle.world.specs.declared.database.BodyRow.{BodyRow}
 use Rattle.world.specs.declared.database.HirDatabase.{HirDatabase}
+use Rattle.world.specs.declared.expr.Expr.{Expr}
 use Rattle.world.specs.declared.items.ConstRow.{ConstRow}
 use Rattle.world.specs.declared.layout.Layout.{Layout}
 use Rattle.world.specs.declared.pat.Pat.{Pat}
 use Rattle.check_ids.specs.Inferred.{has_type_each, is_inferred_right}
-use Rattle.check_ids.specs.Parts.{are_roots_known, unless, wrong_name, wrong_node, wrong_part}
-use Rattle.check_ids.specs.declared.part.BodyPart.{BodyPart}
-use Rattle.check_ids.specs.declared.part.BodyPart.TheVariants as part
-use Rattle.world.specs.Failing.{first_failing}
+use Rattle.check_ids.specs.Parts.{are_roots_known}
 use Rattle.check_trees.specs.Tree.{inner_exprs_in, is_expr_in_order, stands_inside}
 use Rattle.check_items.specs.Names.{is_body_known, is_const_named}
 use Rattle.check_layouts.specs.Sizes.{known_size, layout_above}
-use Rattle.check_names.specs.Known.{is_nameable}
 use Rattle.world_check.specs.Laid.{IsLaidOut}
+use Rattle.world_check.specs.Meets.{if_at, if_there, is_typed_body_known}
 use Rattle.world_check.specs.Rows.{Holds, failing_place, first_failure, first_failure_among, row_failure}
-use Rattle.world_check.specs.Walks.{first_found, wrong_adt, wrong_body, wrong_item, wrong_node_in, wrong_part_in, wrong_row, wrong_table, wrong_trait_or_param}
 use Rattle.world_check.specs.declared.fault.CheckRow.{CheckRow}
 use Rattle.world_check.specs.declared.fault.CheckRow.TheVariants.{C1, C2, C3, C4, C5, C6, C7}
+use Rattle.world_check.specs.declared.place.NodeKind.TheVariants.{Exprs}
 use Rattle.world_check.specs.declared.place.Place.{Place}
-use Rattle.world_check.specs.declared.place.Place.TheVariants.{Row, Table}
-use Rattle.world_check.specs.declared.place.TableName.{TableName}
+use Rattle.world_check.specs.declared.place.Place.TheVariants.{Node, Row}
 use Rattle.world_check.specs.declared.place.TableName.TheVariants.{Bodies, Consts, Layouts}
 use Rattle.world_check.proofs.AllMet.{all_met}
 use Rattle.world_check.proofs.Decided.{meets_decides}
-use Rattle.world_check.proofs.FoundIds.{id_found}
-use Rattle.world_check.proofs.FoundPlaces.{tree_found}
 use Rattle.world_check.proofs.InOrder.{stands_here}
 use Rattle.world_check.proofs.Laid.{of_there}
-use Rattle.world_check.proofs.Passing.{all_at, all_pass, both, found_none_at, neither, not_mapped, passes_at, within_table}
+use Rattle.world_check.proofs.Passing.{all_at, both}
 
 is_below : (c i : ℕ) → ltb c i ≡ true → c < i
 is_below c i e = grind (arith, nat_tests)
@@ -90,22 +85,18 @@ fixed world _ size e = tt
 checked_layout : (world : HirDatabase) (look : Ty → Option Layout) (ty : Ty) (layout : Layout) → IsLaidOut world look ty layout → IsCheckedLayout ty layout
 checked_layout world look ty layout laid = record { align = laid.align; multiple = laid.multiple; size = fixed world ty layout.size laid.size }
 
-no_part : (passes : Bool) (found : BodyPart) → unless passes found ≡ None → passes ≡ true
-no_part true found e = refl
-no_part false found e = cc
+passes_there : {X : Type 0} (test : X → Bool) (found : Option X) (x : X) → found ≡ Some x → if_there test found ≡ true → test x ≡ true
+passes_there test found x there e = ap (if_there test) (sym there) ∙ e
 
 -- the expressions that a pattern holds have lower numbers, where those inside it have
 held_below : (body : Body) (e p : ℕ) (pat : Pat) → slice_get body.pats p ≡ Some pat → stands_inside body e 400 p ≡ true → All (λ inner. inner < e) (inner_exprs_of pat)
 held_below body e p pat there stands =
     all_below e (inner_exprs_of pat) (ap (λ found. list_all (λ inner. ltb inner e) (inner_exprs_in found)) (sym there) ∙ stands_here body e 400 p stands)
 
-checked_body : (world : HirDatabase) (b : ℕ) (row : BodyRow) → wrong_part_in world b row ≡ None → wrong_node_in b row ≡ None → IsCheckedBody row.body row.infer
-checked_body world b row ranges trees =
+checked_body : (world : HirDatabase) (row : BodyRow) → is_typed_body_known world row ≡ true → ((e : ℕ) (node : Expr) → slice_get row.body.exprs e ≡ Some node → is_expr_in_order row.body e node ≡ true) → IsCheckedBody row.body row.infer
+checked_body world row known ordered =
     let body = row.body in
-    let whole = not_mapped _ (wrong_part world body row.infer) ranges in
-    let names = (neither (wrong_node body) _ whole).1 in
-    let rest = no_part _ part.Rest (neither (wrong_name body) _ names).1 in
-    let parts = both (are_roots_known body) (is_inferred_right world body row.infer) rest in
+    let parts = both (are_roots_known body) (is_inferred_right world body row.infer) known in
     let root = (both _ (ltb body.body_expr.0 (length body.exprs)) parts.0).1 in
     let inferred = both _ _ parts.1 in
     let valued = both _ _ inferred.0 in
@@ -113,22 +104,18 @@ checked_body world b row ranges trees =
     let typed = both (has_type_each body row.infer) _ results.0 in
     let bindings = both _ (eqb (length row.infer.binding_types) (length body.bindings)) typed.0 in
     let exprs = both (eqb (length row.infer.expr_types) (length body.exprs)) (eqb (length row.infer.pat_types) (length body.pats)) bindings.0 in
-    let nodes = (neither _ _ (not_mapped _ _ trees)).0 in
-    let ordered = not_mapped _ (first_failing (is_expr_in_order body) 0 body.exprs) nodes in
     record {
       root = is_below body.body_expr.0 (length body.exprs) root;
       expr_types = is_same _ _ exprs.0;
       pat_types = is_same _ _ exprs.1;
       binding_types = is_same _ _ bindings.1;
       children = λ e node at.
-          let whole = passes_at (is_expr_in_order body) e body.exprs node ordered at in
-          let held = both _ _ whole in
+          let held = both _ _ (ordered e node at) in
           let inside = both _ _ held.0 in
           let below = both (list_all (λ child. ltb child e) (children_of node)) _ inside.0 in
           all_below e (children_of node) below.0;
       inside = λ e node k p pat at has there.
-          let whole = passes_at (is_expr_in_order body) e body.exprs node ordered at in
-          let held = both _ _ whole in
+          let held = both _ _ (ordered e node at) in
           let tree = both _ _ held.0 in
           let stands = both _ (list_all (stands_inside body e 400) (patterns_of node)) tree.0 in
           held_below body e p pat there (all_at (stands_inside body e 400) k (patterns_of node) p stands.1 has);
@@ -161,33 +148,22 @@ Holds-from_passes world e =
     let at = by_row world first.0 second.0 third.0 fourth.0 fifth.0 sixth.0 seventh.0 in
     record { met = λ row place. (meets_decides row world place).0 (all_met row world (at row) place); at = at }
 
--- each row of a table without a wrong row passes the test
-named_rows : {X : Type 0} (table : TableName) (test : X → Bool) (rows : List X) → wrong_table table test rows ≡ None → (i : ℕ) (row : X) → slice_get rows i ≡ Some row → test row ≡ true
-named_rows table test rows e i row at =
-    let inside = within_table (is_nameable (length rows)) (wrong_row table test rows) (Table table) e in
-    all_at test i rows row (all_pass test rows (not_mapped (Row table) _ inside.1)) at
-
-consts_named : (world : HirDatabase) → wrong_item world ≡ None → wrong_table Consts (is_const_named world) world.consts ≡ None
-consts_named world e = (neither _ _ (neither _ _ (neither _ _ e).1).1).0
-
-bodies_found : (world : HirDatabase) → wrong_body world ≡ None → first_found (wrong_part_in world) 0 world.bodies ≡ None
-bodies_found world e = (within_table (is_nameable (length world.bodies)) _ (Table Bodies) (neither _ _ e).1).1
-
 -- a world without a failure is a checked world
 pub IsChecked-from_passes : (world : HirDatabase) → first_failure world ≡ None → IsChecked world
 IsChecked-from_passes world e =
     let holds = Holds-from_passes world e in
-    let tables = neither (wrong_item world) _ (sym (id_found world) ∙ holds.at C1) in
-    let after_adts = neither (wrong_adt world) _ tables.1 in
-    let after_names = neither (wrong_trait_or_param world) _ after_adts.1 in
-    let bodies = neither (wrong_body world) _ after_names.1 in
     record {
-      consts = λ i row at. checked_const world row (named_rows Consts (is_const_named world) world.consts (consts_named world tables.0) i row at);
-      bodies = λ i row at. checked_body world i row (found_none_at (wrong_part_in world) i world.bodies row (bodies_found world bodies.0) at) (found_none_at wrong_node_in i world.bodies row (sym (tree_found world) ∙ holds.at C2) at);
+      consts = λ i row at. checked_const world row (passes_there (is_const_named world) (slice_get world.consts i) row at (holds.met C1 (Row Consts i)));
+      bodies = λ b row at. checked_body world row (passes_there (is_typed_body_known world) (slice_get world.bodies b) row at (holds.met C1 (Row Bodies b))) (ordered holds b row at);
       layouts = λ i row at.
           let laid = of_there (λ (r : Ty × Layout). IsLaidOut world (layout_above world i) r.0 r.1) (slice_get world.layouts i) row at (holds.met C5 (Row Layouts i)) in
           checked_layout world (layout_above world i) row.0 row.1 laid;
     }
+  where
+    ordered : Holds world → (b : ℕ) (row : BodyRow) → slice_get world.bodies b ≡ Some row → (e : ℕ) (node : Expr) → slice_get row.body.exprs e ≡ Some node → is_expr_in_order row.body e node ≡ true
+    ordered holds b row at e node there =
+        passes_there (is_expr_in_order row.body e) (slice_get row.body.exprs e) node there
+        (passes_there (λ (r : BodyRow). if_at (is_expr_in_order r.body) r.body.exprs e) (slice_get world.bodies b) row at (all_met C2 world (holds.at C2) (Node b Exprs e)))
 
 -- a world in which no row of the check fails has no failure
 pub no_failure : (world : HirDatabase) → None ≡ failing_place C1 world → None ≡ failing_place C2 world → None ≡ failing_place C3 world → None ≡ failing_place C4 world → None ≡ failing_place C5 world → None ≡ failing_place C6 world → None ≡ failing_place C7 world → first_failure world ≡ None

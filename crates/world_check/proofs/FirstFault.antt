@@ -3,7 +3,7 @@ use Rattle.std.proofs.Common.{◌≡◌, ℕ, zero, suc, ◌<◌, Bool, true, fa
 use Rattle.std.specs.List.{find}
 use Rattle.world.specs.declared.database.HirDatabase.{HirDatabase}
 use Rattle.world_check.specs.Places.{place_text}
-use Rattle.world_check.specs.Rows.{FailsFirst, IsFirstFault, IsRefusal, all_rows, failing_place, first_failure, first_failure_among, row_failure}
+use Rattle.world_check.specs.Rows.{FailsFirst, IsFirstFault, IsRefusal, all_rows, failing_place, first_failure, first_failure_among, first_unmet, row_failure}
 use Rattle.world_check.specs.Tests.{meets}
 use Rattle.world_check.specs.WorldPlaces.{places}
 use Rattle.world_check.specs.declared.fault.CheckFault.{CheckFault}
@@ -37,7 +37,7 @@ first_of_all test (y ∷ xs) x e = by (test y) refl e (λ later. first_of_all te
         earlier found (suc j) other h at = found.before j other (omega arith) at
 
 fails_first : (row : CheckRow) (world : HirDatabase) (place : Place) → failing_place row world ≡ Some place → FailsFirst row world place
-unfolding failing_place
+unfolding failing_place first_unmet
 fails_first row world place e =
     let found = first_of_all (meets row world) (places world) place e in
     record {

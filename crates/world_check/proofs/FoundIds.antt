@@ -2,21 +2,24 @@
 use Rattle.std.proofs.Common.{◌≡◌, ℕ, ◌&&◌, Bool, true, false, cond, not, length, Option, Some, None, List, [], ◌∷◌, refl, sym, ◌∙◌, ap}
 use Rattle.std.specs.List.{find, position, slice_get}
 use Rattle.std.specs.Option.{option_map, option_or}
+use Rattle.types.specs.declared.ids.AliasId.{AliasId}
+use Rattle.types.specs.declared.ty.GenericArgs.{GenericArgs}
+use Rattle.types.specs.declared.ty.Ty.{Ty}
 use Rattle.world.specs.declared.database.BodyRow.{BodyRow}
 use Rattle.world.specs.declared.database.HirDatabase.{HirDatabase}
+use Rattle.world.specs.declared.impls.ConstImplRow.{ConstImplRow}
+use Rattle.world.specs.declared.impls.ImplRow.{ImplRow}
+use Rattle.world.specs.declared.layout.Layout.{Layout}
 use Rattle.check_names.specs.Known.{is_nameable}
 use Rattle.check_ids.specs.Nodes.{is_binding_in_range, is_expr_in_range, is_pat_in_range}
 use Rattle.check_ids.specs.Parts.{unless, wrong_in_list}
 use Rattle.check_ids.specs.declared.part.BodyPart.{BodyPart}
 use Rattle.check_ids.specs.declared.part.BodyPart.TheVariants as part
 use Rattle.check_items.specs.Names.{is_closure_named, is_const_impl_named, is_const_named, is_const_param_named, is_enum_named, is_function_known, is_function_named, is_impl_named, is_layout_named, is_normal_named, is_static_named, is_struct_named, is_variant_named}
-use Rattle.world_check.specs.Meets as asked
-use Rattle.world_check.specs.Meets.{is_typed_body_known, is_list_nameable, is_node_known}
+use Rattle.world_check.specs.Meets.{has_new_alias, has_new_const, has_new_function, has_new_type, is_typed_body_known, is_list_nameable, is_node_known}
 use Rattle.world_check.specs.Tests.{meets}
-use Rattle.world_check.specs.Rows.{failing_place}
-use Rattle.world_check.specs.Walks as walk
-use Rattle.world_check.specs.Walks.{part_place, wrong_adt, wrong_body, wrong_id, wrong_item, wrong_keyed_row, wrong_part_in, wrong_table, wrong_trait_or_param}
-use Rattle.world_check.specs.WorldPlaces.{numbered, of_adts, of_bodies, of_body, of_code, of_items, of_keyed_rows, of_names, of_nodes, of_table}
+use Rattle.world_check.specs.Rows.{failing_place, first_unmet}
+use Rattle.world_check.specs.WorldPlaces.{numbered, of_adts, of_bodies, of_body, of_code, of_items, of_keyed_rows, of_names, of_nodes, of_table, part_place}
 use Rattle.world_check.specs.declared.fault.CheckRow.TheVariants.{C1}
 use Rattle.world_check.specs.declared.place.NamedFunction.TheVariants.{Drop, Deref, DerefMut, Call, CallMut, CallOnce}
 use Rattle.world_check.specs.declared.place.NodeKind.{NodeKind}
@@ -25,9 +28,9 @@ use Rattle.world_check.specs.declared.place.Place.{Place}
 use Rattle.world_check.specs.declared.place.Place.TheVariants.{Table, Row, Nodes, Node, Function}
 use Rattle.world_check.specs.declared.place.TableName.{TableName}
 use Rattle.world_check.specs.declared.place.TableName.TheVariants.{Crates, Functions, Consts, Statics, Structs, Unions, Enums, Variants, Traits, Aliases, TypeParams, ConstParams, Closures, Bodies, Layouts, Normals, Impls, ConstImpls}
-use Rattle.world_check.proofs.NewKeys.{new_alias, new_const, new_function, new_type}
-use Rattle.world_check.proofs.Searches.{headed, numbered_silent, numbered_wrong, rows_first}
+use Rattle.world_check.proofs.Searches.{headed, joined, numbered_silent, numbered_wrong, rows_first}
 use Rattle.world_check.proofs.Segments.{adts, all_places, body_asked, code, each_body, items, keyed, names, one_body, there_asked}
+use Rattle.world_check.proofs.Walks.{first_found, wrong_adt, wrong_call, wrong_drop_or_deref, wrong_item, wrong_keyed_row, wrong_part_in, wrong_table, wrong_trait_or_param}
 
 -- a table whose length and whose rows are asked
 table_asked : {X : Type 0} (p : Place → Bool) (table : TableName) (test : X → Bool) (rows : List X) → p (Table table) ≡ not (is_nameable (length rows)) → ((i : ℕ) (row : X) → slice_get rows i ≡ Some row → p (Row table i) ≡ not (test row)) → find p (of_table table rows) ≡ wrong_table table test rows
@@ -122,20 +125,10 @@ ids_in_body world b row there =
         ∙ ap (λ c. cond (not (is_nameable (length row.body.labels))) (Some (Nodes b Labels)) (cond c (Some (Row Bodies b)) None)) (there_asked (is_typed_body_known world) _ row there)
         ∙ rest_asked (is_nameable (length row.body.labels)) (is_typed_body_known world row) b
 
--- the functions that the world names
-functions_placed : (a b c d e f : Bool) → cond (not a) (Some (Function Drop)) (cond (not b) (Some (Function Deref)) (cond (not c) (Some (Function DerefMut)) (cond (not d) (Some (Function Call)) (cond (not e) (Some (Function CallMut)) (cond (not f) (Some (Function CallOnce)) None)))))
-    ≡ option_or (option_or (cond a None (Some (Function Drop))) (option_or (cond b None (Some (Function Deref))) (cond c None (Some (Function DerefMut))))) (option_or (cond d None (Some (Function Call))) (option_or (cond e None (Some (Function CallMut))) (cond f None (Some (Function CallOnce)))))
-functions_placed false b c d e f = refl
-functions_placed true false c d e f = refl
-functions_placed true true false d e f = refl
-functions_placed true true true false e f = refl
-functions_placed true true true true false f = refl
-functions_placed true true true true true false = refl
-functions_placed true true true true true true = refl
-
 -- Groups of tables.
 
-items_found : (world : HirDatabase) → find (λ place. not (meets C1 world place)) (of_items world) ≡ wrong_item world
+pub items_found : (world : HirDatabase) → first_unmet C1 world (of_items world) ≡ wrong_item world
+unfolding first_unmet
 items_found world =
     let p = λ (place : Place). not (meets C1 world place) in
     items p world _ _ _ _
@@ -144,7 +137,8 @@ items_found world =
     (table_asked p Consts (is_const_named world) world.consts refl (λ i row at. there_asked (is_const_named world) _ row at))
     (table_asked p Statics (is_static_named world) world.statics refl (λ i row at. there_asked (is_static_named world) _ row at))
 
-adts_found : (world : HirDatabase) → find (λ place. not (meets C1 world place)) (of_adts world) ≡ wrong_adt world
+pub adts_found : (world : HirDatabase) → first_unmet C1 world (of_adts world) ≡ wrong_adt world
+unfolding first_unmet
 adts_found world =
     let p = λ (place : Place). not (meets C1 world place) in
     adts p world _ _ _ _
@@ -153,7 +147,8 @@ adts_found world =
     (table_asked p Enums (is_enum_named world) world.enums refl (λ i row at. there_asked (is_enum_named world) _ row at))
     (table_asked p Variants (is_variant_named world) world.variants refl (λ i row at. there_asked (is_variant_named world) _ row at))
 
-names_found : (world : HirDatabase) → find (λ place. not (meets C1 world place)) (of_names world) ≡ wrong_trait_or_param world
+pub names_found : (world : HirDatabase) → first_unmet C1 world (of_names world) ≡ wrong_trait_or_param world
+unfolding first_unmet
 names_found world =
     let p = λ (place : Place). not (meets C1 world place) in
     names p world _ _ _ _
@@ -162,33 +157,63 @@ names_found world =
     (length_asked p TypeParams world.type_params refl (λ i. refl))
     (table_asked p ConstParams (is_const_param_named world) world.const_params refl (λ i row at. there_asked (is_const_param_named world) _ row at))
 
-code_found : (world : HirDatabase) → find (λ place. not (meets C1 world place)) (of_code world) ≡ wrong_body world
+pub closures_found : (world : HirDatabase) → first_unmet C1 world (of_table Closures world.closures) ≡ wrong_table Closures (is_closure_named world) world.closures
+unfolding first_unmet
+closures_found world =
+    table_asked (λ (place : Place). not (meets C1 world place)) Closures (is_closure_named world) world.closures refl (λ i row at. there_asked (is_closure_named world) _ row at)
+
+pub bodies_found : (world : HirDatabase) → first_unmet C1 world (of_bodies 0 world.bodies) ≡ first_found (wrong_part_in world) 0 world.bodies
+unfolding first_unmet
+bodies_found world = each_body (λ place. not (meets C1 world place)) (wrong_part_in world) world.bodies (ids_in_body world)
+
+pub code_found : (world : HirDatabase) → first_unmet C1 world (of_code world) ≡ option_or (first_unmet C1 world (of_table Closures world.closures)) (cond (is_nameable (length world.bodies)) (first_unmet C1 world (of_bodies 0 world.bodies)) (Some (Table Bodies)))
+unfolding first_unmet
 code_found world =
     let p = λ (place : Place). not (meets C1 world place) in
-    code p world _ _
-    (table_asked p Closures (is_closure_named world) world.closures refl (λ i row at. there_asked (is_closure_named world) _ row at))
-    (headed p (Table Bodies) (of_bodies 0 world.bodies) (is_nameable (length world.bodies)) _ refl (each_body p (wrong_part_in world) world.bodies (ids_in_body world)))
+    code p world _ _ refl (headed p (Table Bodies) (of_bodies 0 world.bodies) (is_nameable (length world.bodies)) _ refl refl)
 
--- the test of a row with a key
-keyed_asked : (asked named number new : Bool) → not asked ≡ not (named && new) → number ≡ new → not asked ≡ not (named && number)
-keyed_asked asked named number new e f = e ∙ ap (λ b. not (named && b)) (sym f)
-
-keyed_found : (world : HirDatabase) → find (λ place. not (meets C1 world place)) (of_keyed_rows world) ≡ wrong_keyed_row world
+pub keyed_found : (world : HirDatabase) → first_unmet C1 world (of_keyed_rows world) ≡ wrong_keyed_row world
+unfolding first_unmet
 keyed_found world =
     let p = λ (place : Place). not (meets C1 world place) in
     keyed p world _ _ _ _
-    (rows_first p Layouts (walk.is_layout_known world) world.layouts refl
-    (λ i row at. keyed_asked (meets C1 world (Row Layouts i)) (is_layout_named world row) _ _ (there_asked (λ r. is_layout_named world r && asked.has_new_type world i r) _ row at) (new_type world i row at)))
-    (rows_first p Normals (walk.is_normal_known world) world.normals refl
-    (λ i row at. keyed_asked (meets C1 world (Row Normals i)) (is_normal_named world row) _ _ (there_asked (λ r. is_normal_named world r && asked.has_new_alias world i r) _ row at) (new_alias world i row at)))
-    (rows_first p Impls (walk.is_impl_known world) world.impls refl
-    (λ i row at. keyed_asked (meets C1 world (Row Impls i)) (is_impl_named world row) _ _ (there_asked (λ r. is_impl_named world r && asked.has_new_function world i r) _ row at) (new_function world i row at)))
-    (rows_first p ConstImpls (walk.is_const_impl_known world) world.const_impls refl
-    (λ i row at. keyed_asked (meets C1 world (Row ConstImpls i)) (is_const_impl_named world row) _ _ (there_asked (λ r. is_const_impl_named world r && asked.has_new_const world i r) _ row at) (new_const world i row at)))
+    (rows_first p Layouts (λ i (row : Ty × Layout). is_layout_named world row && has_new_type world i row) world.layouts refl
+    (λ i row at. there_asked (λ r. is_layout_named world r && has_new_type world i r) _ row at))
+    (rows_first p Normals (λ i (row : AliasId × GenericArgs × Ty). is_normal_named world row && has_new_alias world i row) world.normals refl
+    (λ i row at. there_asked (λ r. is_normal_named world r && has_new_alias world i r) _ row at))
+    (rows_first p Impls (λ i (row : ImplRow). is_impl_named world row && has_new_function world i row) world.impls refl
+    (λ i row at. there_asked (λ r. is_impl_named world r && has_new_function world i r) _ row at))
+    (rows_first p ConstImpls (λ i (row : ConstImplRow). is_const_impl_named world row && has_new_const world i row) world.const_impls refl
+    (λ i row at. there_asked (λ r. is_const_impl_named world r && has_new_const world i r) _ row at))
 
-pub id_found : (world : HirDatabase) → failing_place C1 world ≡ wrong_id world
-unfolding failing_place
+-- the functions that the world names itself
+
+three_asked : (f g h : Place) (a b c : Bool) → cond (not a) (Some f) (cond (not b) (Some g) (cond (not c) (Some h) None)) ≡ option_or (cond a None (Some f)) (option_or (cond b None (Some g)) (cond c None (Some h)))
+three_asked f g h false b c = refl
+three_asked f g h true false c = refl
+three_asked f g h true true false = refl
+three_asked f g h true true true = refl
+
+pub drop_or_deref_found : (world : HirDatabase) → first_unmet C1 world (Function Drop ∷ Function Deref ∷ Function DerefMut ∷ []) ≡ wrong_drop_or_deref world
+unfolding first_unmet
+drop_or_deref_found world =
+    three_asked (Function Drop) (Function Deref) (Function DerefMut) (is_function_known world world.drop_fn) (is_function_known world world.deref_fn) (is_function_known world world.deref_mut_fn)
+
+pub call_found : (world : HirDatabase) → first_unmet C1 world (Function Call ∷ Function CallMut ∷ Function CallOnce ∷ []) ≡ wrong_call world
+unfolding first_unmet
+call_found world =
+    three_asked (Function Call) (Function CallMut) (Function CallOnce) (is_function_known world world.call_fn) (is_function_known world world.call_mut_fn) (is_function_known world world.call_once_fn)
+
+-- all places, by what is found in each group
+pub id_found : (world : HirDatabase) → failing_place C1 world
+    ≡ option_or (first_unmet C1 world (of_items world))
+    (option_or (first_unmet C1 world (of_adts world))
+    (option_or (first_unmet C1 world (of_names world))
+    (option_or (first_unmet C1 world (of_code world))
+    (option_or (first_unmet C1 world (of_keyed_rows world))
+    (option_or (first_unmet C1 world (Function Drop ∷ Function Deref ∷ Function DerefMut ∷ [])) (first_unmet C1 world (Function Call ∷ Function CallMut ∷ Function CallOnce ∷ [])))))))
+unfolding failing_place first_unmet
 id_found world =
-    all_places (λ place. not (meets C1 world place)) world (wrong_item world) (wrong_adt world) (wrong_trait_or_param world) (wrong_body world) (wrong_keyed_row world) _
-    (items_found world) (adts_found world) (names_found world) (code_found world) (keyed_found world)
-    (functions_placed (is_function_known world world.drop_fn) (is_function_known world world.deref_fn) (is_function_known world world.deref_mut_fn) (is_function_known world world.call_fn) (is_function_known world world.call_mut_fn) (is_function_known world world.call_once_fn))
+    let p = λ (place : Place). not (meets C1 world place) in
+    all_places p world _ _ _ _ _ _ refl refl refl refl refl
+    (joined p (Function Drop ∷ Function Deref ∷ Function DerefMut ∷ []) (Function Call ∷ Function CallMut ∷ Function CallOnce ∷ []) _ _ refl refl)

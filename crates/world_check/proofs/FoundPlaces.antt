@@ -15,10 +15,9 @@ use Rattle.check_trees.specs.Jumps.{is_jump_inside}
 use Rattle.check_trees.specs.Tree.{is_expr_in_order, is_pat_in_order}
 use Rattle.check_trees.specs.declared.node.BodyNode.TheVariants as node
 use Rattle.world_check.specs.Meets.{if_at, if_there}
-use Rattle.world_check.specs.Rows.{failing_place}
+use Rattle.world_check.specs.Rows.{failing_place, first_unmet}
 use Rattle.world_check.specs.Tests.{meets}
-use Rattle.world_check.specs.Walks.{first_found, node_place, wrong_agreement, wrong_ellipsis_in, wrong_jump_in, wrong_label, wrong_layout, wrong_node_in, wrong_resolution, wrong_row, wrong_tag, wrong_tree}
-use Rattle.world_check.specs.WorldPlaces.{of_body}
+use Rattle.world_check.specs.WorldPlaces.{node_place, of_bodies, of_body}
 use Rattle.world_check.specs.declared.fault.CheckRow.TheVariants.{C2, C3, C4, C5, C6, C7}
 use Rattle.world_check.specs.declared.place.NodeKind.TheVariants.{Exprs, Pats, Bindings}
 use Rattle.world_check.specs.declared.place.Place.{Place}
@@ -26,6 +25,7 @@ use Rattle.world_check.specs.declared.place.Place.TheVariants.{Node, Row}
 use Rattle.world_check.specs.declared.place.TableName.TheVariants.{Crates, Functions, Consts, Statics, Structs, Unions, Enums, Variants, Closures, Layouts, Normals, Impls, ConstImpls}
 use Rattle.world_check.proofs.Searches.{nodes_first, nodes_silent, nodes_wrong, or_both, or_none, rows_first, rows_wrong, table_silent}
 use Rattle.world_check.proofs.Segments.{adts, adts_silent, all_places, bodies_silent, body_asked, code, each_body, items, items_silent, keyed, keyed_silent, names_silent, one_body, there_asked}
+use Rattle.world_check.proofs.Walks.{first_found, wrong_agreement, wrong_ellipsis_in, wrong_jump_in, wrong_label, wrong_layout, wrong_node_in, wrong_resolution, wrong_row, wrong_tag, wrong_tree}
 
 in_nodes : (b : ℕ) (e p : Option ℕ) → option_or (option_map (Node b Exprs) e) (option_or (option_map (Node b Pats) p) None) ≡ option_map (node_place b) (option_or (option_map node.Expr e) (option_map node.Pat p))
 in_nodes b None None = refl
@@ -52,7 +52,7 @@ tree_in_body world b row there =
         ∙ there_asked (is_pat_in_order row.body p) _ found at
 
 pub tree_found : (world : HirDatabase) → failing_place C2 world ≡ wrong_tree world
-unfolding failing_place
+unfolding failing_place first_unmet
 tree_found world =
     let p = λ (place : Place). not (meets C2 world place) in
     all_places p world None None None (wrong_tree world) None None
@@ -79,7 +79,7 @@ jump_in_body world b row there =
         ∙ there_asked (is_jump_inside row.body e) _ found at
 
 pub jump_found : (world : HirDatabase) → failing_place C3 world ≡ wrong_label world
-unfolding failing_place
+unfolding failing_place first_unmet
 jump_found world =
     let p = λ (place : Place). not (meets C3 world place) in
     all_places p world None None None (wrong_label world) None None
@@ -92,7 +92,7 @@ jump_found world =
     ∙ or_none (wrong_label world)
 
 pub resolution_found : (world : HirDatabase) → failing_place C4 world ≡ wrong_resolution world
-unfolding failing_place
+unfolding failing_place first_unmet
 resolution_found world =
     let p = λ (place : Place). not (meets C4 world place) in
     all_places p world None None None None (wrong_resolution world) None
@@ -109,7 +109,7 @@ resolution_found world =
     ∙ or_none (wrong_resolution world)
 
 pub layout_found : (world : HirDatabase) → failing_place C5 world ≡ wrong_layout world
-unfolding failing_place
+unfolding failing_place first_unmet
 layout_found world =
     let p = λ (place : Place). not (meets C5 world place) in
     all_places p world None None None None (option_or (wrong_layout world) None) None
@@ -127,7 +127,7 @@ layout_found world =
     ∙ or_none (wrong_layout world)
 
 pub tag_found : (world : HirDatabase) → failing_place C6 world ≡ wrong_tag world
-unfolding failing_place
+unfolding failing_place first_unmet
 tag_found world =
     let p = λ (place : Place). not (meets C6 world place) in
     all_places p world None None None None (option_or (wrong_tag world) None) None
@@ -158,11 +158,15 @@ ellipsis_in_body world b row there =
         body_asked world b row (λ body. if_there is_ellipsis_inside (slice_get body.pats p)) there
         ∙ there_asked is_ellipsis_inside _ found at
 
+pub patterns_found : (world : HirDatabase) → first_unmet C7 world (of_bodies 0 world.bodies) ≡ first_found wrong_ellipsis_in 0 world.bodies
+unfolding first_unmet
+patterns_found world = each_body (λ place. not (meets C7 world place)) wrong_ellipsis_in world.bodies (ellipsis_in_body world)
+
 joined_rows : (a b c d : Option Place) → option_or (option_or a None) (option_or b (option_or (option_or c d) None)) ≡ option_or a (option_or b (option_or c d))
 joined_rows a b c d = or_both _ _ _ _ (or_none a) (ap (option_or b) (or_none (option_or c d)))
 
 pub agreement_found : (world : HirDatabase) → failing_place C7 world ≡ wrong_agreement world
-unfolding failing_place
+unfolding failing_place first_unmet
 agreement_found world =
     let p = λ (place : Place). not (meets C7 world place) in
     all_places p world _ _ None _ None None

@@ -4,8 +4,6 @@ use Rattle.std.proofs.lemmas.Iterator.Adapters.{position_from-zero}
 use Rattle.std.specs.List.{list_all, position, position_from, slice_get}
 use Rattle.std.specs.Option.{option_map, option_or}
 use Rattle.world.specs.Failing.{first_failing}
-use Rattle.world_check.specs.Walks.{first_found}
-use Rattle.world_check.specs.declared.place.Place.{Place}
 
 -- the two parts of a conjunction
 pub both : (a b : Bool) → (a && b) ≡ true → (a ≡ true) × (b ≡ true)
@@ -20,11 +18,6 @@ neither (Some x) b e = cc
 pub not_mapped : {A B : Type 0} (f : A → B) (o : Option A) → option_map f o ≡ None → o ≡ None
 not_mapped f None e = refl
 not_mapped f (Some x) e = cc
-
--- where a table has no wrong place, it is short enough and no place was found in it
-pub within_table : (short : Bool) (found : Option Place) (p : Place) → cond short found (Some p) ≡ None → (short ≡ true) × (found ≡ None)
-within_table true found p e = (refl, e)
-within_table false found p e = cc
 
 skipped : (b : Bool) (i : ℕ) (rest : Option ℕ) → cond b rest (Some i) ≡ None → (b ≡ true) × (rest ≡ None)
 skipped true i rest e = (refl, e)
@@ -45,22 +38,6 @@ pub passes_at : {X : Type 0} (test : ℕ → X → Bool) (k : ℕ) (xs : List X)
 passes_at test k xs x e at =
     let start : k ≡ 0 + k = omega arith in
     ap (λ j. test j x) start ∙ passes_from test 0 k xs x e at
-
-found_none_from : {X : Type 0} (test : ℕ → X → Option Place) (i k : ℕ) (xs : List X) (x : X) → first_found test i xs ≡ None → slice_get xs k ≡ Some x → test (i + k) x ≡ None
-found_none_from test i k [] x e at = cc
-found_none_from test i zero (y ∷ xs) x e at =
-    let here : y ≡ x = cc in
-    let start : i + zero ≡ i = omega arith in
-    ap (λ j. test j x) start ∙ ap (test i) (sym here) ∙ (neither (test i y) (first_found test (i + 1) xs) e).0
-found_none_from test i (suc k) (y ∷ xs) x e at =
-    let step : i + suc k ≡ (i + 1) + k = omega arith in
-    ap (λ j. test j x) step ∙ found_none_from test (i + 1) k xs x (neither (test i y) (first_found test (i + 1) xs) e).1 at
-
--- where a search over all elements finds nothing, it finds nothing in each
-pub found_none_at : {X : Type 0} (test : ℕ → X → Option Place) (k : ℕ) (xs : List X) (x : X) → first_found test 0 xs ≡ None → slice_get xs k ≡ Some x → test k x ≡ None
-found_none_at test k xs x e at =
-    let start : k ≡ 0 + k = omega arith in
-    ap (λ j. test j x) start ∙ found_none_from test 0 k xs x e at
 
 not_taken : (b : Bool) (i : ℕ) (rest : Option ℕ) → cond b (Some i) rest ≡ None → (b ≡ false) × (rest ≡ None)
 not_taken true i rest e = cc

@@ -23,7 +23,6 @@ use Rattle.check_trees.specs.Tree as tree
 use Rattle.check_trees.specs.declared.node.BodyNode.TheVariants as node
 use Rattle.world_check.specs.Meets.{if_there, is_list_nameable, is_node_known}
 use Rattle.world_check.specs.Valid.{IsBodyRight}
-use Rattle.world_check.specs.Walks.{finds_nothing}
 use Rattle.world_check.specs.declared.place.NodeKind.{NodeKind}
 use Rattle.world_check.specs.declared.place.NodeKind.TheVariants.{Exprs, Pats, Bindings, Labels}
 use Rattle.world_check.proofs.InOrder.{expr_decides, jump_decides, pat_decides}
@@ -153,9 +152,12 @@ module _ (world : HirDatabase) (body : Body) (infer : InferenceResult) where
       (none_of (wrong_jump body) (none_failing_at (is_jump_inside body) body.exprs (λ k x at. (jump_decides body k x).1 (h.jumps k x at)))))
       (none_of (wrong_ellipsis body) (none_fails is_ellipsis_inside body.pats h.ellipses))
 
+-- the searches in a typed body for a part with an id out of range, a node out of order, a jump without its label and a misplaced `..` find nothing
+abbrev finds_nothing : HirDatabase → Body → InferenceResult → Bool
+finds_nothing world body infer = none_found world body infer
+
 -- the searches in a typed body decide it
-pub body_decides : (world : HirDatabase) (body : Body) (infer : InferenceResult) → Decides (finds_nothing world body infer) (IsBodyRight world body infer)
-unfolding finds_nothing
+body_decides : (world : HirDatabase) (body : Body) (infer : InferenceResult) → Decides (finds_nothing world body infer) (IsBodyRight world body infer)
 body_decides world body infer = (asked world body infer, tested world body infer)
 
 -- so an answer that says whether they find nothing decides it too

@@ -6,7 +6,7 @@ use Rattle.world.specs.declared.body.Body.{Body}
 use Rattle.world.specs.declared.database.BodyRow.{BodyRow}
 use Rattle.world.specs.declared.database.HirDatabase.{HirDatabase}
 use Rattle.world_check.specs.Meets.{in_body, if_there}
-use Rattle.world_check.specs.Walks.{first_found}
+use Rattle.world_check.proofs.Walks.{first_found}
 use Rattle.world_check.specs.WorldPlaces.{named_functions, of_adts, of_bodies, of_body, of_code, of_items, of_keyed_rows, of_names, of_nodes, of_table, places}
 use Rattle.world_check.specs.declared.place.NodeKind.{NodeKind}
 use Rattle.world_check.specs.declared.place.NodeKind.TheVariants.{Exprs, Pats, Bindings, Labels}

@@ -3,7 +3,6 @@ pub mod WorldPlaces
 pub mod Trees
 pub mod Meets
 pub mod Tests
-pub mod Walks
 pub mod Valid
 pub mod Rows
 pub mod Laid

@@ -13,9 +13,13 @@ use Rattle.world_check.specs.declared.fault.CheckRow.{CheckRow}
 use Rattle.world_check.specs.declared.fault.CheckRow.TheVariants.{C1, C2, C3, C4, C5, C6, C7}
 use Rattle.world_check.specs.declared.place.Place.{Place}
 
--- the first place, in the order of the check, that doesn't meet a row: the test of a row says whether a place meets it
+-- the first of some places that doesn't meet a row: the test of a row says whether a place meets it
+unfoldable pub first_unmet : CheckRow → HirDatabase → List Place → Option Place
+first_unmet row world some = find (λ place. not (meets row world place)) some
+
+-- the first place, in the order of the check, that doesn't meet a row
 unfoldable pub failing_place : CheckRow → HirDatabase → Option Place
-failing_place row world = find (λ place. not (meets row world place)) (places world)
+failing_place row world = first_unmet row world (places world)
 
 abbrev pub all_rows : List CheckRow
 all_rows = C1 ∷ C2 ∷ C3 ∷ C4 ∷ C5 ∷ C6 ∷ C7 ∷ []

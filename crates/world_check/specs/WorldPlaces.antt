@@ -3,6 +3,10 @@ use Rattle.std.specs.Prelude.{ℕ, ◌+◌, List, [], ◌∷◌, ◌++◌}
 use Rattle.world.specs.declared.body.Body.{Body}
 use Rattle.world.specs.declared.database.BodyRow.{BodyRow}
 use Rattle.world.specs.declared.database.HirDatabase.{HirDatabase}
+use Rattle.check_ids.specs.declared.part.BodyPart.{BodyPart}
+use Rattle.check_ids.specs.declared.part.BodyPart.TheVariants as part
+use Rattle.check_trees.specs.declared.node.BodyNode.{BodyNode}
+use Rattle.check_trees.specs.declared.node.BodyNode.TheVariants as node
 use Rattle.world_check.specs.declared.place.NamedFunction.TheVariants as function
 use Rattle.world_check.specs.declared.place.NodeKind.{NodeKind}
 use Rattle.world_check.specs.declared.place.NodeKind.TheVariants.{Exprs, Pats, Bindings, Labels}
@@ -88,3 +92,19 @@ places world =
     ++ (of_code world
     ++ (of_keyed_rows world
     ++ named_functions))))
+
+-- the place of a part of body `b`
+abbrev pub part_place : ℕ → BodyPart → Place
+part_place b part.Exprs = Nodes b Exprs
+part_place b (part.Expr i) = Node b Exprs i
+part_place b part.Pats = Nodes b Pats
+part_place b (part.Pat i) = Node b Pats i
+part_place b part.Bindings = Nodes b Bindings
+part_place b (part.Binding i) = Node b Bindings i
+part_place b part.Labels = Nodes b Labels
+part_place b part.Rest = Row Bodies b
+
+-- the place of a node of body `b`
+abbrev pub node_place : ℕ → BodyNode → Place
+node_place b (node.Expr i) = Node b Exprs i
+node_place b (node.Pat i) = Node b Pats i

@@ -1,14 +1,14 @@
 //! Normalized types and resolved impl items without aliases and parameters, right layouts and tags, and rows
 //! that agree with one another.
-ghost use Rattle.std.specs.Prelude.{◌≡◌, IfOk};
+ghost use Rattle.std.specs.Prelude.{◌≡◌, IfOk, not};
+ghost use Rattle.std.specs.List.{position};
 ghost use Rattle.check_items.specs.Agree.{has_all_params, is_closure_row};
 ghost use Rattle.check_items.specs.Closed.{is_const_impl_closed, is_impl_closed, is_normal_closed};
 ghost use Rattle.check_layouts.specs.Tags.{is_tag_right};
 ghost use Rattle.world_check.specs.Rows.{failing_place};
-ghost use Rattle.world_check.specs.Walks.{first_wrong};
 
 use crate::tables::{numbered_place, row_place};
-use crate::trees::wrong_ellipsis_among;
+use crate::trees::wrong_pattern;
 use crate::{CheckRow, Place, TableName};
 use check_items::{
     has_all_params, is_closure_row, is_const_impl_closed, is_impl_closed, is_normal_closed,
@@ -23,21 +23,21 @@ use world::{
 
 /// The first normalized type with an alias or a generic parameter in it.
 fn wrong_normal_among(rows: &[(AliasId, GenericArgs, Ty)]) -> Option<usize>
-    ensures { result ≡ first_wrong is_normal_closed rows.now }
+    ensures { result ≡ position (λ row. not (is_normal_closed row)) rows.now }
 {
     rows.iter().position(|row| !is_normal_closed(row))
 }
 
 /// The first row of resolved functions with an alias or a generic parameter in its arguments.
 fn wrong_impl_among(rows: &[ImplRow]) -> Option<usize>
-    ensures { result ≡ first_wrong is_impl_closed rows.now }
+    ensures { result ≡ position (λ row. not (is_impl_closed row)) rows.now }
 {
     rows.iter().position(|row| !is_impl_closed(row))
 }
 
 /// The first row of resolved constants with an alias or a generic parameter in its arguments.
 fn wrong_const_impl_among(rows: &[ConstImplRow]) -> Option<usize>
-    ensures { result ≡ first_wrong is_const_impl_closed rows.now }
+    ensures { result ≡ position (λ row. not (is_const_impl_closed row)) rows.now }
 {
     rows.iter().position(|row| !is_const_impl_closed(row))
 }
@@ -66,7 +66,7 @@ pub(crate) fn wrong_layout(alloc: Global, db: &HirDatabase) -> Result<Option<Pla
 
 /// The index of the first layout whose tag doesn't fit its enum.
 fn wrong_tag_among(db: &HirDatabase, rows: &[(Ty, Layout)]) -> Option<usize>
-    ensures { result ≡ first_wrong (is_tag_right db.now) rows.now }
+    ensures { result ≡ position (λ row. not (is_tag_right db.now row)) rows.now }
 {
     rows.iter().position(|row| !is_tag_right(db, row))
 }
@@ -84,14 +84,14 @@ pub(crate) fn wrong_tag(db: &HirDatabase) -> Option<Place>
 
 /// The first function whose body has another number of parameters than its signature.
 fn wrong_signature_among(db: &HirDatabase, rows: &[FunctionRow]) -> Option<usize>
-    ensures { result ≡ first_wrong (has_all_params db.now) rows.now }
+    ensures { result ≡ position (λ row. not (has_all_params db.now row)) rows.now }
 {
     rows.iter().position(|row| !has_all_params(db, row))
 }
 
 /// The first closure's row whose expression is no closure with as many parameters.
 fn wrong_closure_expr_among(db: &HirDatabase, rows: &[ClosureRow]) -> Option<usize>
-    ensures { result ≡ first_wrong (is_closure_row db.now) rows.now }
+    ensures { result ≡ position (λ row. not (is_closure_row db.now row)) rows.now }
 {
     rows.iter().position(|row| !is_closure_row(db, row))
 }
@@ -105,7 +105,7 @@ pub(crate) fn wrong_agreement(alloc: Global, db: &HirDatabase) -> Result<Option<
     let unlisted = wrong_variant(alloc, db)?;
     let closure = wrong_closure_expr_among(db, db.closures.as_slice());
     let function = wrong_signature_among(db, db.functions.as_slice());
-    let ellipsis = wrong_ellipsis_among(db.bodies.as_slice());
+    let ellipsis = wrong_pattern(db);
     let last = row_place(TableName::Closures, closure).or(ellipsis);
     let second = numbered_place(TableName::Variants, unlisted).or(last);
     Ok(row_place(TableName::Functions, function).or(second))

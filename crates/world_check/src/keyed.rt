@@ -1,10 +1,14 @@
 //! The tables whose rows have keys: ids are in range, and keys are distinct.
-ghost use Rattle.std.specs.Prelude.{◌≡◌};
+ghost use Rattle.std.specs.Prelude.{◌≡◌, Some, Decides, slice_get};
+ghost use Rattle.std.specs.Option.{option_map};
 ghost use Rattle.world.specs.Failing.{first_failing};
-ghost use Rattle.world_check.specs.Walks.{is_number, wrong_keyed_row, wrong_row_at};
+ghost use Rattle.world_check.specs.Meets.{has_new_alias, has_new_const, has_new_function, has_new_type};
+ghost use Rattle.world_check.specs.Rows.{first_unmet};
+ghost use Rattle.world_check.specs.WorldPlaces.{of_keyed_rows};
+ghost use Rattle.world_check.specs.declared.place.Place.TheVariants.{Row};
 
 use crate::tables::row_place;
-use crate::{Place, TableName};
+use crate::{CheckRow, Place, TableName};
 use check_items::{is_const_impl_named, is_impl_named, is_layout_named, is_normal_named};
 use world::{
     AliasId, ConstImplRow, GenericArgs, HirDatabase, ImplRow, ItemKey, Layout, Row, Table, Ty,
@@ -12,7 +16,7 @@ use world::{
 
 /// Whether an optional index is `i`.
 fn is_number(found: Option<u64>, i: u64) -> bool
-    ensures { result ≡ is_number found i }
+    ensures { Decides result (found ≡ Some i) }
 {
     match found {
         Some(other) => other == i,
@@ -20,72 +24,124 @@ fn is_number(found: Option<u64>, i: u64) -> bool
     }
 }
 
+/// Whether no row before row `i` has the same type.
+fn has_new_type(db: &HirDatabase, i: u64, row: &(Ty, Layout)) -> bool
+    requires { slice_get db.now.layouts i ≡ Some row.now }
+    ensures { result ≡ has_new_type db.now i row.now }
+{
+    is_number(db.layouts.place_of(&row.0), i)
+}
+
+/// Whether no row before row `i` has the same alias with the same arguments.
+fn has_new_alias(db: &HirDatabase, i: u64, row: &(AliasId, GenericArgs, Ty)) -> bool
+    requires { slice_get db.now.normals i ≡ Some row.now }
+    ensures { result ≡ has_new_alias db.now i row.now }
+{
+    let key = ItemKey {
+        id: row.0,
+        args: &row.1,
+    };
+    is_number(db.normals.place_of(key), i)
+}
+
+/// Whether no row before row `i` has the same function with the same arguments.
+fn has_new_function(db: &HirDatabase, i: u64, row: &ImplRow) -> bool
+    requires { slice_get db.now.impls i ≡ Some row.now }
+    ensures { result ≡ has_new_function db.now i row.now }
+{
+    let key = ItemKey {
+        id: row.function,
+        args: &row.args,
+    };
+    is_number(db.impls.place_of(key), i)
+}
+
+/// Whether no row before row `i` has the same constant with the same arguments.
+fn has_new_const(db: &HirDatabase, i: u64, row: &ConstImplRow) -> bool
+    requires { slice_get db.now.const_impls i ≡ Some row.now }
+    ensures { result ≡ has_new_const db.now i row.now }
+{
+    let key = ItemKey {
+        id: row.konst,
+        args: &row.args,
+    };
+    is_number(db.const_impls.place_of(key), i)
+}
+
 /// A row of a table whose rows have keys.
 trait KeyedRow {
-    ghost use Rattle.std.specs.Prelude.{ℕ, Bool};
+    ghost use Rattle.std.specs.Prelude.{◌≡◌, ℕ, Bool, List, Some, slice_get};
     ghost use Rattle.world.specs.declared.database.HirDatabase.{HirDatabase};
+
+    ghost rows: { HirDatabase → List Self };
 
     ghost is_known: { HirDatabase → ℕ → Self → Bool };
 
-    /// Whether all its ids are in range, and row `i` is the first of its table with its key.
+    /// Whether all ids of row `i` are in range, and no row before has its key.
     fn is_known(&self, db: &HirDatabase, i: u64) -> bool
+        requires { slice_get (rows db.now) i ≡ Some self.now }
         ensures { result ≡ is_known db.now i self.now };
 }
 
 impl KeyedRow for (Ty, Layout) {
-    ghost use Rattle.world_check.specs.Walks.{is_layout_known};
+    ghost use Rattle.std.specs.Prelude.{◌&&◌};
+    ghost use Rattle.check_items.specs.Names.{is_layout_named};
+    ghost use Rattle.world_check.specs.Meets.{has_new_type};
 
-    ghost is_known = { is_layout_known };
+    ghost rows = { λ world. world.layouts };
+
+    ghost is_known = { λ world i row. is_layout_named world row && has_new_type world i row };
 
     fn is_known(&self, db: &HirDatabase, i: u64) -> bool {
-        is_layout_named(db, self) && is_number(db.layouts.place_of(&self.0), i)
+        is_layout_named(db, self) && has_new_type(db, i, self)
     }
 }
 
 impl KeyedRow for (AliasId, GenericArgs, Ty) {
-    ghost use Rattle.world_check.specs.Walks.{is_normal_known};
+    ghost use Rattle.std.specs.Prelude.{◌&&◌};
+    ghost use Rattle.check_items.specs.Names.{is_normal_named};
+    ghost use Rattle.world_check.specs.Meets.{has_new_alias};
 
-    ghost is_known = { is_normal_known };
+    ghost rows = { λ world. world.normals };
+
+    ghost is_known = { λ world i row. is_normal_named world row && has_new_alias world i row };
 
     fn is_known(&self, db: &HirDatabase, i: u64) -> bool {
-        let key = ItemKey {
-            id: self.0,
-            args: &self.1,
-        };
-        is_normal_named(db, self) && is_number(db.normals.place_of(key), i)
+        is_normal_named(db, self) && has_new_alias(db, i, self)
     }
 }
 
 impl KeyedRow for ImplRow {
-    ghost use Rattle.world_check.specs.Walks.{is_impl_known};
+    ghost use Rattle.std.specs.Prelude.{◌&&◌};
+    ghost use Rattle.check_items.specs.Names.{is_impl_named};
+    ghost use Rattle.world_check.specs.Meets.{has_new_function};
 
-    ghost is_known = { is_impl_known };
+    ghost rows = { λ world. world.impls };
+
+    ghost is_known = { λ world i row. is_impl_named world row && has_new_function world i row };
 
     fn is_known(&self, db: &HirDatabase, i: u64) -> bool {
-        let key = ItemKey {
-            id: self.function,
-            args: &self.args,
-        };
-        is_impl_named(db, self) && is_number(db.impls.place_of(key), i)
+        is_impl_named(db, self) && has_new_function(db, i, self)
     }
 }
 
 impl KeyedRow for ConstImplRow {
-    ghost use Rattle.world_check.specs.Walks.{is_const_impl_known};
+    ghost use Rattle.std.specs.Prelude.{◌&&◌};
+    ghost use Rattle.check_items.specs.Names.{is_const_impl_named};
+    ghost use Rattle.world_check.specs.Meets.{has_new_const};
 
-    ghost is_known = { is_const_impl_known };
+    ghost rows = { λ world. world.const_impls };
+
+    ghost is_known = { λ world i row. is_const_impl_named world row && has_new_const world i row };
 
     fn is_known(&self, db: &HirDatabase, i: u64) -> bool {
-        let key = ItemKey {
-            id: self.konst,
-            args: &self.args,
-        };
-        is_const_impl_named(db, self) && is_number(db.const_impls.place_of(key), i)
+        is_const_impl_named(db, self) && has_new_const(db, i, self)
     }
 }
 
-/// The index of the first row that has an id out of range, or the key of an earlier row.
+/// The index of the first row of a table that has an id out of range, or the key of an earlier row.
 fn wrong_row_among<R: KeyedRow>(db: &HirDatabase, rows: &[R]) -> Option<usize>
+    requires { rows.now ≡ R.rows db.now }
     ensures { result ≡ first_failing (R.is_known db.now) 0 rows.now }
 {
     for (i, row) in rows.iter().enumerate() {
@@ -102,14 +158,16 @@ fn wrong_row<K: Ord, R: Row<K> + KeyedRow>(
     table: TableName,
     rows: &Table<K, R>,
 ) -> Option<Place>
-    ensures { result ≡ wrong_row_at table (R.is_known db.now) rows.now }
+    requires { rows.now ≡ R.rows db.now }
+    ensures { result ≡ option_map (Row table) (first_failing (R.is_known db.now) 0 rows.now) }
 {
     row_place(table, wrong_row_among(db, rows.as_slice()))
 }
 
 /// The first wrong row of the layouts, normalized types and resolved impl items.
+#[tactic(auto, using(crate::proofs::FoundIds::keyed_found))]
 pub(crate) fn wrong_keyed_row(db: &HirDatabase) -> Option<Place>
-    ensures { result ≡ wrong_keyed_row db.now }
+    ensures { result ≡ first_unmet CheckRow.C1 db.now (of_keyed_rows db.now) }
 {
     let const_impls = wrong_row(db, TableName::ConstImpls, &db.const_impls);
     let impls = wrong_row(db, TableName::Impls, &db.impls).or(const_impls);

@@ -1,11 +1,15 @@
 //! The tables whose rows are named by ids: they are short enough, and all ids in them are in range.
-ghost use Rattle.std.specs.Prelude.{◌≡◌, length};
-ghost use Rattle.check_items.specs.Names.{is_closure_named};
-ghost use Rattle.world_check.specs.Walks.{first_wrong, wrong_adt, wrong_item, wrong_length, wrong_table, wrong_trait_or_param};
+ghost use Rattle.std.specs.Prelude.{◌≡◌, if◌then◌else◌, not, length, Some};
+ghost use Rattle.std.specs.List.{position};
+ghost use Rattle.std.specs.Option.{option_map};
+ghost use Rattle.check_names.specs.Known.{is_nameable};
+ghost use Rattle.world_check.specs.Rows.{first_unmet};
+ghost use Rattle.world_check.specs.WorldPlaces.{of_adts, of_items, of_names, of_table};
+ghost use Rattle.world_check.specs.declared.place.Place.TheVariants.{Row, Table};
 ghost use Rattle.world_check.specs.declared.place.TableName.TheVariants.{Closures};
 
 use crate::tables::{in_table, row_place, wrong_length};
-use crate::{Place, TableName};
+use crate::{CheckRow, Place, TableName};
 use check_items::{
     is_closure_named, is_const_named, is_const_param_named, is_enum_named, is_function_named,
     is_static_named, is_struct_named, is_variant_named,
@@ -109,7 +113,7 @@ impl NamedRow for ClosureRow {
 
 /// The index of the first row that has an id out of range.
 fn wrong_row_among<R: NamedRow>(db: &HirDatabase, rows: &[R]) -> Option<usize>
-    ensures { result ≡ first_wrong (R.is_named db.now) rows.now }
+    ensures { result ≡ position (λ row. not (R.is_named db.now row)) rows.now }
 {
     rows.iter().position(|row| !row.is_named(db))
 }
@@ -117,22 +121,24 @@ fn wrong_row_among<R: NamedRow>(db: &HirDatabase, rows: &[R]) -> Option<usize>
 /// The table itself if it has too many rows for ids of 32 bits, else its first row that has an id out of
 /// range.
 fn wrong_table<R: NamedRow>(db: &HirDatabase, table: TableName, rows: &List<R>) -> Option<Place>
-    ensures { result ≡ wrong_table table (R.is_named db.now) rows.now }
+    ensures { result ≡ (if is_nameable (length rows.now) then option_map (Row table) (position (λ row. not (R.is_named db.now row)) rows.now) else Some (Table table)) }
 {
     let found = wrong_row_among(db, rows.as_slice());
     in_table(table, rows.len(), row_place(table, found))
 }
 
 /// The first wrong place among the closures.
+#[tactic(auto, using(crate::proofs::FoundIds::closures_found))]
 pub(crate) fn wrong_closure(db: &HirDatabase) -> Option<Place>
-    ensures { result ≡ wrong_table Closures (is_closure_named db.now) db.now.closures }
+    ensures { result ≡ first_unmet CheckRow.C1 db.now (of_table Closures db.now.closures) }
 {
     wrong_table(db, TableName::Closures, &db.closures)
 }
 
 /// The first wrong place among crates, functions, constants and statics.
+#[tactic(auto, using(crate::proofs::FoundIds::items_found))]
 pub(crate) fn wrong_item(db: &HirDatabase) -> Option<Place>
-    ensures { result ≡ wrong_item db.now }
+    ensures { result ≡ first_unmet CheckRow.C1 db.now (of_items db.now) }
 {
     let statics = wrong_table(db, TableName::Statics, &db.statics);
     let consts = wrong_table(db, TableName::Consts, &db.consts).or(statics);
@@ -141,8 +147,9 @@ pub(crate) fn wrong_item(db: &HirDatabase) -> Option<Place>
 }
 
 /// The first wrong place among structs, unions, enums and variants.
+#[tactic(auto, using(crate::proofs::FoundIds::adts_found))]
 pub(crate) fn wrong_adt(db: &HirDatabase) -> Option<Place>
-    ensures { result ≡ wrong_adt db.now }
+    ensures { result ≡ first_unmet CheckRow.C1 db.now (of_adts db.now) }
 {
     let variants = wrong_table(db, TableName::Variants, &db.variants);
     let enums = wrong_table(db, TableName::Enums, &db.enums).or(variants);
@@ -151,8 +158,9 @@ pub(crate) fn wrong_adt(db: &HirDatabase) -> Option<Place>
 }
 
 /// The first wrong place among traits, aliases and generic parameters.
+#[tactic(auto, using(crate::proofs::FoundIds::names_found))]
 pub(crate) fn wrong_trait_or_param(db: &HirDatabase) -> Option<Place>
-    ensures { result ≡ wrong_trait_or_param db.now }
+    ensures { result ≡ first_unmet CheckRow.C1 db.now (of_names db.now) }
 {
     let const_params = wrong_table(db, TableName::ConstParams, &db.const_params);
     let type_params = wrong_length(TableName::TypeParams, db.type_params.len()).or(const_params);

@@ -1,9 +1,12 @@
 //! All tables: ids are in range, lists are short enough for ids of 32 bits, and keys are distinct.
-ghost use Rattle.std.specs.Prelude.{◌≡◌, IfOk};
+ghost use Rattle.std.specs.Prelude.{◌≡◌, if◌then◌else◌, [], ◌∷◌, Some, None, IfOk};
 ghost use Rattle.std.specs.Option.{option_map};
 ghost use Rattle.check_ids.specs.Parts.{wrong_part};
-ghost use Rattle.world_check.specs.Rows.{failing_place};
-ghost use Rattle.world_check.specs.Walks.{first_found, part_place, wrong_body, wrong_call, wrong_drop_or_deref, wrong_lang_function, wrong_part_in};
+ghost use Rattle.check_items.specs.Names.{is_function_known};
+ghost use Rattle.world_check.specs.Rows.{failing_place, first_unmet};
+ghost use Rattle.world_check.specs.WorldPlaces.{of_bodies, of_code, part_place};
+ghost use Rattle.world_check.specs.declared.place.NamedFunction.TheVariants.{Drop, Deref, DerefMut, Call, CallMut, CallOnce};
+ghost use Rattle.world_check.specs.declared.place.Place.TheVariants.{Function};
 
 use crate::keyed::wrong_keyed_row;
 use crate::named::{wrong_adt, wrong_closure, wrong_item, wrong_trait_or_param};
@@ -37,7 +40,7 @@ fn wrong_part_in(
     b: u64,
     row: &BodyRow,
 ) -> Result<Option<Place>, NoMemory>
-    ensures { IfOk result (λ found. found ≡ wrong_part_in db.now b row.now) }
+    ensures { IfOk result (λ found. found ≡ option_map (part_place b) (wrong_part db.now row.now.body row.now.infer)) }
 {
     match wrong_part(alloc, db, &row.body, &row.infer)? {
         Some(part) => Ok(Some(part_place(b, part))),
@@ -45,14 +48,11 @@ fn wrong_part_in(
     }
 }
 
-/// The place of the first wrong part of these bodies.
-fn wrong_part_among(
-    alloc: Global,
-    db: &HirDatabase,
-    rows: &[BodyRow],
-) -> Result<Option<Place>, NoMemory>
-    ensures { IfOk result (λ found. found ≡ first_found (wrong_part_in db.now) 0 rows.now) }
+/// The place of the first wrong part of a body.
+fn wrong_typed_body(alloc: Global, db: &HirDatabase) -> Result<Option<Place>, NoMemory>
+    ensures { IfOk result (λ found. found ≡ first_unmet CheckRow.C1 db.now (of_bodies 0 db.now.bodies)) }
 {
+    let rows = db.bodies.as_slice();
     for (i, row) in rows.iter().enumerate() {
         if let Some(place) = wrong_part_in(alloc, db, i as u64, row)? {
             return Ok(Some(place));
@@ -62,10 +62,11 @@ fn wrong_part_among(
 }
 
 /// The first wrong place among closures and bodies.
+#[tactic(auto, using(crate::proofs::FoundIds::code_found))]
 fn wrong_body(alloc: Global, db: &HirDatabase) -> Result<Option<Place>, NoMemory>
-    ensures { IfOk result (λ found. found ≡ wrong_body db.now) }
+    ensures { IfOk result (λ found. found ≡ first_unmet CheckRow.C1 db.now (of_code db.now)) }
 {
-    let found = wrong_part_among(alloc, db, db.bodies.as_slice())?;
+    let found = wrong_typed_body(alloc, db)?;
     let bodies = in_table(TableName::Bodies, db.bodies.len(), found);
     Ok(wrong_closure(db).or(bodies))
 }
@@ -76,7 +77,7 @@ fn wrong_lang_function(
     db: &HirDatabase,
     id: Option<FunctionId>,
 ) -> Option<Place>
-    ensures { result ≡ wrong_lang_function name db.now id }
+    ensures { result ≡ (if is_function_known db.now id then None else Some (Function name)) }
 {
     if is_function_known(db, id) {
         None
@@ -86,8 +87,9 @@ fn wrong_lang_function(
 }
 
 /// The first of the functions of `Drop`, `Deref` and `DerefMut` that is out of range.
+#[tactic(auto, using(crate::proofs::FoundIds::drop_or_deref_found))]
 fn wrong_drop_or_deref(db: &HirDatabase) -> Option<Place>
-    ensures { result ≡ wrong_drop_or_deref db.now }
+    ensures { result ≡ first_unmet CheckRow.C1 db.now (Function Drop ∷ Function Deref ∷ Function DerefMut ∷ []) }
 {
     let deref_mut = wrong_lang_function(NamedFunction::DerefMut, db, db.deref_mut_fn);
     let deref = wrong_lang_function(NamedFunction::Deref, db, db.deref_fn).or(deref_mut);
@@ -95,8 +97,9 @@ fn wrong_drop_or_deref(db: &HirDatabase) -> Option<Place>
 }
 
 /// The first of the functions of `Fn`, `FnMut` and `FnOnce` that is out of range.
+#[tactic(auto, using(crate::proofs::FoundIds::call_found))]
 fn wrong_call(db: &HirDatabase) -> Option<Place>
-    ensures { result ≡ wrong_call db.now }
+    ensures { result ≡ first_unmet CheckRow.C1 db.now (Function Call ∷ Function CallMut ∷ Function CallOnce ∷ []) }
 {
     let call_once = wrong_lang_function(NamedFunction::CallOnce, db, db.call_once_fn);
     let call_mut = wrong_lang_function(NamedFunction::CallMut, db, db.call_mut_fn).or(call_once);

@@ -1,8 +1,8 @@
 //! Places of tables and of their rows.
-ghost use Rattle.std.specs.Prelude.{◌≡◌};
+ghost use Rattle.std.specs.Prelude.{◌≡◌, if◌then◌else◌, Some, None};
 ghost use Rattle.std.specs.Option.{option_map};
-ghost use Rattle.world_check.specs.Walks.{in_table, wrong_length};
-ghost use Rattle.world_check.specs.declared.place.Place.TheVariants.{Row};
+ghost use Rattle.check_names.specs.Known.{is_nameable};
+ghost use Rattle.world_check.specs.declared.place.Place.TheVariants.{Row, Table};
 
 use crate::{Place, TableName};
 use check_names::is_nameable;
@@ -29,7 +29,7 @@ pub(crate) fn numbered_place(table: TableName, found: Option<u64>) -> Option<Pla
 
 /// The table itself if it has too many rows for ids of 32 bits, else the place that was found in it.
 pub(crate) fn in_table(table: TableName, entries: u64, found: Option<Place>) -> Option<Place>
-    ensures { result ≡ in_table table entries found }
+    ensures { result ≡ (if is_nameable entries then found else Some (Table table)) }
 {
     if is_nameable(entries) {
         found
@@ -40,7 +40,7 @@ pub(crate) fn in_table(table: TableName, entries: u64, found: Option<Place>) -> 
 
 /// The table itself if it has too many rows for ids of 32 bits.
 pub(crate) fn wrong_length(table: TableName, entries: u64) -> Option<Place>
-    ensures { result ≡ wrong_length table entries }
+    ensures { result ≡ (if is_nameable entries then None else Some (Table table)) }
 {
     in_table(table, entries, None)
 }

@@ -1,8 +1,13 @@
 //! Tests of all bodies: they are trees, jumps name enclosing labels, and `..` stands within its pattern.
 ghost use Rattle.std.specs.Prelude.{◌≡◌, IfOk};
 ghost use Rattle.std.specs.Option.{option_map};
-ghost use Rattle.world_check.specs.Rows.{failing_place};
-ghost use Rattle.world_check.specs.Walks.{first_found, node_place, wrong_ellipsis_in, wrong_jump_in, wrong_node_in};
+ghost use Rattle.check_trees.specs.Ellipsis.{wrong_ellipsis};
+ghost use Rattle.check_trees.specs.Jumps.{wrong_jump};
+ghost use Rattle.check_trees.specs.Tree.{wrong_node};
+ghost use Rattle.world_check.specs.Rows.{failing_place, first_unmet};
+ghost use Rattle.world_check.specs.WorldPlaces.{node_place, of_bodies};
+ghost use Rattle.world_check.specs.declared.place.NodeKind.TheVariants.{Exprs, Pats};
+ghost use Rattle.world_check.specs.declared.place.Place.TheVariants.{Node};
 
 use crate::{CheckRow, NodeKind, Place};
 use check_trees::{BodyNode, wrong_ellipsis, wrong_jump, wrong_node};
@@ -21,7 +26,7 @@ fn node_place(b: u64, node: BodyNode) -> Place
 
 /// The place of the first node of body `b` that is not in order.
 fn wrong_node_in(alloc: Global, b: u64, row: &BodyRow) -> Result<Option<Place>, NoMemory>
-    ensures { IfOk result (λ found. found ≡ wrong_node_in b row.now) }
+    ensures { IfOk result (λ found. found ≡ option_map (node_place b) (wrong_node row.now.body)) }
 {
     match wrong_node(alloc, &row.body)? {
         Some(node) => Ok(Some(node_place(b, node))),
@@ -29,10 +34,11 @@ fn wrong_node_in(alloc: Global, b: u64, row: &BodyRow) -> Result<Option<Place>, 
     }
 }
 
-/// The place of the first node of these bodies that is not in order.
-fn wrong_node_among(alloc: Global, rows: &[BodyRow]) -> Result<Option<Place>, NoMemory>
-    ensures { IfOk result (λ found. found ≡ first_found wrong_node_in 0 rows.now) }
+/// The first node at which a body is not a tree.
+pub(crate) fn wrong_tree(alloc: Global, db: &HirDatabase) -> Result<Option<Place>, NoMemory>
+    ensures { IfOk result (λ found. found ≡ failing_place CheckRow.C2 db.now) }
 {
+    let rows = db.bodies.as_slice();
     for (i, row) in rows.iter().enumerate() {
         if let Some(place) = wrong_node_in(alloc, i as u64, row)? {
             return Ok(Some(place));
@@ -41,17 +47,9 @@ fn wrong_node_among(alloc: Global, rows: &[BodyRow]) -> Result<Option<Place>, No
     Ok(None)
 }
 
-/// The first node at which a body is not a tree.
-#[tactic(auto, using(crate::proofs::FoundPlaces::tree_found))]
-pub(crate) fn wrong_tree(alloc: Global, db: &HirDatabase) -> Result<Option<Place>, NoMemory>
-    ensures { IfOk result (λ found. found ≡ failing_place CheckRow.C2 db.now) }
-{
-    wrong_node_among(alloc, db.bodies.as_slice())
-}
-
 /// The place of the first jump of body `b` to a label that doesn't enclose it.
 fn wrong_jump_in(alloc: Global, b: u64, row: &BodyRow) -> Result<Option<Place>, NoMemory>
-    ensures { IfOk result (λ found. found ≡ wrong_jump_in b row.now) }
+    ensures { IfOk result (λ found. found ≡ option_map (Node b Exprs) (wrong_jump row.now.body)) }
 {
     match wrong_jump(alloc, &row.body)? {
         Some(i) => Ok(Some(Place::Node(b, NodeKind::Exprs, i))),
@@ -59,10 +57,11 @@ fn wrong_jump_in(alloc: Global, b: u64, row: &BodyRow) -> Result<Option<Place>, 
     }
 }
 
-/// The place of the first jump of these bodies to a label that doesn't enclose it.
-fn wrong_jump_among(alloc: Global, rows: &[BodyRow]) -> Result<Option<Place>, NoMemory>
-    ensures { IfOk result (λ found. found ≡ first_found wrong_jump_in 0 rows.now) }
+/// The first jump of the world to a label that doesn't enclose it.
+pub(crate) fn wrong_label(alloc: Global, db: &HirDatabase) -> Result<Option<Place>, NoMemory>
+    ensures { IfOk result (λ found. found ≡ failing_place CheckRow.C3 db.now) }
 {
+    let rows = db.bodies.as_slice();
     for (i, row) in rows.iter().enumerate() {
         if let Some(place) = wrong_jump_in(alloc, i as u64, row)? {
             return Ok(Some(place));
@@ -71,17 +70,9 @@ fn wrong_jump_among(alloc: Global, rows: &[BodyRow]) -> Result<Option<Place>, No
     Ok(None)
 }
 
-/// The first jump of the world to a label that doesn't enclose it.
-#[tactic(auto, using(crate::proofs::FoundPlaces::jump_found))]
-pub(crate) fn wrong_label(alloc: Global, db: &HirDatabase) -> Result<Option<Place>, NoMemory>
-    ensures { IfOk result (λ found. found ≡ failing_place CheckRow.C3 db.now) }
-{
-    wrong_jump_among(alloc, db.bodies.as_slice())
-}
-
 /// The place of the first pattern of body `b` whose `..` stands past the end of its subpatterns.
 fn wrong_ellipsis_in(b: u64, row: &BodyRow) -> Option<Place>
-    ensures { result ≡ wrong_ellipsis_in b row.now }
+    ensures { result ≡ option_map (Node b Pats) (wrong_ellipsis row.now.body) }
 {
     match wrong_ellipsis(&row.body) {
         Some(i) => Some(Place::Node(b, NodeKind::Pats, i)),
@@ -89,10 +80,11 @@ fn wrong_ellipsis_in(b: u64, row: &BodyRow) -> Option<Place>
     }
 }
 
-/// The place of the first pattern of these bodies whose `..` stands past the end of its subpatterns.
-pub(crate) fn wrong_ellipsis_among(rows: &[BodyRow]) -> Option<Place>
-    ensures { result ≡ first_found wrong_ellipsis_in 0 rows.now }
+/// The place of the first pattern of the world whose `..` stands past the end of its subpatterns.
+pub(crate) fn wrong_pattern(db: &HirDatabase) -> Option<Place>
+    ensures { result ≡ first_unmet CheckRow.C7 db.now (of_bodies 0 db.now.bodies) }
 {
+    let rows = db.bodies.as_slice();
     for (i, row) in rows.iter().enumerate() {
         if let Some(place) = wrong_ellipsis_in(i as u64, row) {
             return Some(place);

@@ -1,7 +1,11 @@
 //! The check of one typed body.
-ghost use Rattle.std.specs.Prelude.{◌≡◌, IfOk, Decides};
+ghost use Rattle.std.specs.Prelude.{◌≡◌, ◌&&◌, IfOk, Decides};
+ghost use Rattle.std.specs.Option.{is_none};
+ghost use Rattle.check_ids.specs.Parts.{wrong_part};
+ghost use Rattle.check_trees.specs.Ellipsis.{wrong_ellipsis};
+ghost use Rattle.check_trees.specs.Jumps.{wrong_jump};
+ghost use Rattle.check_trees.specs.Tree.{wrong_node};
 ghost use Rattle.world_check.specs.Valid.{IsBodyRight};
-ghost use Rattle.world_check.specs.Walks.{finds_nothing};
 
 use check_ids::wrong_part;
 use check_trees::{wrong_ellipsis, wrong_jump, wrong_node};
@@ -9,14 +13,13 @@ use std::alloc::Global;
 use world::{Body, HirDatabase, InferenceResult, NoMemory};
 
 /// Whether the searches for a wrong part, node, jump and `..` of a typed body find nothing.
-#[tactic(auto, unfolding(crate::specs::Walks::finds_nothing))]
 fn finds_nothing(
     alloc: Global,
     db: &HirDatabase,
     body: &Body,
     infer: &InferenceResult,
 ) -> Result<bool, NoMemory>
-    ensures { IfOk result (λ none. none ≡ finds_nothing db.now body.now infer.now) }
+    ensures { IfOk result (λ none. none ≡ (is_none (wrong_part db.now body.now infer.now) && is_none (wrong_node body.now) && is_none (wrong_jump body.now) && is_none (wrong_ellipsis body.now))) }
 {
     let part = wrong_part(alloc, db, body, infer)?;
     let node = wrong_node(alloc, body)?;

@@ -1,6 +1,6 @@
 use Rattle.std.proofs.Common.{rules, ◌≡◌, ◌∙◌, sym}
-use Rattle.world_check.specs.Walks.{wrong_resolution}
 use Rattle.world_check.proofs.FoundPlaces.{resolution_found}
+use Rattle.world_check.proofs.Walks.{wrong_resolution}
 use Rattle.world_check.proofs.agreement.wrong_resolution.Goals as goal
 
 pub returns : goal.returns

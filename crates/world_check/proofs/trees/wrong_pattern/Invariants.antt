@@ -1,6 +1,6 @@
 use Rattle.std.proofs.Common.{◌≡◌, drop}
-use Rattle.world_check.specs.Walks.{first_found, wrong_ellipsis_in}
-use Rattle.world_check.proofs.trees.wrong_ellipsis_among.Given as goal
+use Rattle.world_check.proofs.Walks.{first_found, wrong_ellipsis_in}
+use Rattle.world_check.proofs.trees.wrong_pattern.Given as goal
 
 abbrev pub invariant-loop-i : goal.invariant-loop-i
 invariant-loop-i l = first_found wrong_ellipsis_in l.i (drop l.i l.rows) ≡ first_found wrong_ellipsis_in 0 l.rows
