@@ -17,7 +17,7 @@ use Rattle.world.specs.declared.layout.Layout.{Layout}
 use Rattle.check_names.specs.Known.{is_nameable}
 use Rattle.check_items.specs.Agree.{has_all_params, is_closure_row, wrong_variant}
 use Rattle.check_items.specs.Closed.{is_const_impl_closed, is_impl_closed, is_normal_closed}
-use Rattle.check_items.specs.Names.{is_closure_named, is_const_impl_named, is_const_named, is_const_param_named, is_enum_named, is_function_known, is_function_named, is_impl_named, is_layout_named, is_normal_named, is_static_named, is_struct_named, is_variant_named}
+use Rattle.check_items.specs.Names.{is_const_impl_named, is_const_named, is_const_param_named, is_enum_named, is_function_known, is_function_named, is_impl_named, is_layout_named, is_normal_named, is_static_named, is_struct_named, is_variant_named}
 use Rattle.check_ids.specs.Parts.{wrong_part}
 use Rattle.check_trees.specs.Ellipsis.{wrong_ellipsis}
 use Rattle.check_trees.specs.Jumps.{wrong_jump}
@@ -29,9 +29,9 @@ use Rattle.world_check.specs.Meets.{has_new_alias, has_new_const, has_new_functi
 use Rattle.world_check.specs.WorldPlaces.{node_place, part_place}
 use Rattle.world_check.specs.declared.place.NamedFunction.{NamedFunction}
 use Rattle.world_check.specs.declared.place.NamedFunction.TheVariants.{Drop, Deref, DerefMut, Call, CallMut, CallOnce}
-use Rattle.world_check.specs.declared.place.NodeKind.TheVariants.{Exprs, Pats, Bindings, Labels}
+use Rattle.world_check.specs.declared.place.NodeKind.TheVariants.{Exprs, Pats}
 use Rattle.world_check.specs.declared.place.Place.{Place}
-use Rattle.world_check.specs.declared.place.Place.TheVariants.{Table, Row, Nodes, Node, Function}
+use Rattle.world_check.specs.declared.place.Place.TheVariants.{Table, Row, Node, Function}
 use Rattle.world_check.specs.declared.place.TableName.{TableName}
 use Rattle.world_check.specs.declared.place.TableName.TheVariants.{Crates, Functions, Consts, Statics, Structs, Unions, Enums, Variants, Traits, Aliases, TypeParams, ConstParams, Closures, Bodies, Layouts, Normals, Impls, ConstImpls}
 

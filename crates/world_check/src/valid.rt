@@ -1,5 +1,5 @@
 //! Definitions that can be evaluated, and the generic arguments that they take.
-ghost use Rattle.std.specs.Prelude.{◌≡◌, ◌==◌, length};
+ghost use Rattle.std.specs.Prelude.{◌≡◌, ◌==◌};
 ghost use Rattle.std.specs.Option.{option_copied};
 ghost use Rattle.world_check.specs.Valid.{are_of_sorts, fits, fits_const, fits_function, fits_static, is_of_sort, is_valid};
 
