@@ -43,6 +43,10 @@ first_wrong test rows = position (λ row. not (test row)) rows
 abbrev pub wrong_row : {X : Type 0} → TableName → (X → Bool) → List X → Option Place
 wrong_row table test rows = option_map (Row table) (first_wrong test rows)
 
+-- so it is where a search of the rows found an index, and a place was made of that
+pub row_found : {X : Type 0} (table : TableName) (test : X → Bool) (rows all : List X) (found : Option ℕ) (place : Option Place) → place ≡ option_map (Row table) found → found ≡ first_wrong test rows → rows ≡ all → place ≡ wrong_row table test all
+row_found table test rows all found place made is are = made ∙ ap (option_map (Row table)) (is ∙ ap (first_wrong test) are)
+
 -- the place of the first row of a table that fails a test of its index and itself
 abbrev pub wrong_row_at : {X : Type 0} → TableName → (ℕ → X → Bool) → List X → Option Place
 wrong_row_at table test rows = option_map (Row table) (first_failing test 0 rows)

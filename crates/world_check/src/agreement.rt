@@ -43,7 +43,6 @@ fn wrong_const_impl_among(rows: &[ConstImplRow]) -> Option<usize>
 }
 
 /// The first row of normalized types and resolved impl items with an alias or a generic parameter in it.
-#[tactic(auto, using(crate::proofs::FoundPlaces::resolution_found))]
 pub(crate) fn wrong_resolution(db: &HirDatabase) -> Option<Place>
     ensures { result ≡ failing_place CheckRow.C4 db.now }
 {
@@ -72,7 +71,6 @@ fn wrong_tag_among(db: &HirDatabase, rows: &[(Ty, Layout)]) -> Option<usize>
 }
 
 /// The place of the first layout whose tag doesn't fit its enum.
-#[tactic(auto, using(crate::proofs::FoundPlaces::tag_found))]
 pub(crate) fn wrong_tag(db: &HirDatabase) -> Option<Place>
     ensures { result ≡ failing_place CheckRow.C6 db.now }
 {

@@ -1,17 +1,12 @@
-use Rattle.std.proofs.Common.{◌≡◌, ◌∙◌, ℕ, Bool, List, Option, sym, ap}
+use Rattle.std.proofs.Common.{◌≡◌, ◌∙◌, sym, ap}
 use Rattle.std.specs.Option.{option_map, option_or}
 use Rattle.check_items.specs.Agree.{has_all_params, is_closure_row, wrong_variant}
-use Rattle.world_check.proofs.Walks.{first_found, first_wrong, wrong_ellipsis_in, wrong_row}
-use Rattle.world_check.specs.declared.place.Place.{Place}
+use Rattle.world_check.proofs.Walks.{first_found, row_found, wrong_ellipsis_in, wrong_row}
 use Rattle.world_check.specs.declared.place.Place.TheVariants.{Row}
-use Rattle.world_check.specs.declared.place.TableName.{TableName}
 use Rattle.world_check.specs.declared.place.TableName.TheVariants.{Functions, Variants, Closures}
 use Rattle.world_check.proofs.FoundPlaces.{agreement_found, patterns_found}
 use Rattle.world_check.proofs.Searches.{or_both}
 use Rattle.world_check.proofs.agreement.wrong_agreement.Goals as goal
-
-row_found : {X : Type 0} (table : TableName) (test : X → Bool) (rows all : List X) (found : Option ℕ) (place : Option Place) → place ≡ option_map (Row table) found → found ≡ first_wrong test rows → rows ≡ all → place ≡ wrong_row table test all
-row_found table test rows all found place e f g = e ∙ ap (option_map (Row table)) (f ∙ ap (first_wrong test) g)
 
 pub returns : goal.returns
 returns c =
