@@ -19,6 +19,6 @@ unfolding place_cell
 whole-cell world body cells place is = ap (λ (id : ProjectionId). cell_at world body cells place (elements_by body id)) is
 
 -- its type is the local's
-pub whole-type : (body : MirBody) (place : Place) → place.projection ≡ empty_id → place_type body place ≡ local_type body place.local
+pub whole-type : (world : HirDatabase) (body : MirBody) (place : Place) → place.projection ≡ empty_id → place_type world body place ≡ local_type body place.local
 unfolding place_type type_behind
-whole-type body place is = ap (λ (id : ProjectionId). type_at body place (elements_by body id)) is
+whole-type world body place is = ap (λ (id : ProjectionId). type_at world body place (elements_by body id)) is

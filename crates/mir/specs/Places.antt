@@ -1,6 +1,6 @@
 -- Places: which bytes of a local's cell one is, and of which type.
 use Rattle.std.specs.Prelude.{ℕ, ◌+◌, ◌==◌, if◌then◌else◌, nat_le, List, [], ◌∷◌, Option, Some, None, slice_get, option_map, option_and_then}
-use Rattle.either.specs.declared.Either.TheVariants.{Right}
+use Rattle.either.specs.declared.Either.TheVariants.{Left, Right}
 use Rattle.types.specs.declared.ty.Ty.{Ty}
 use Rattle.world.specs.declared.database.HirDatabase.{HirDatabase}
 use Rattle.world.specs.Lookups.{layout_of}
@@ -11,27 +11,33 @@ use Rattle.mir.specs.declared.operand.Place.{Place}
 use Rattle.mir.specs.declared.projection.ProjectionElem.TheVariants.{Field}
 use Rattle.mir.specs.Addresses.{moved}
 use Rattle.mir.specs.Elements.{PlaceElem}
-use Rattle.mir.specs.ProjectedTypes.{part_type}
+use Rattle.mir.specs.ProjectedTypes.{own_field_type, part_type}
 use Rattle.mir.specs.Projections.{Projection, projection_of}
 
 -- The elements of a place's projection. The id 0 is that of the empty one, in each store.
 abbrev pub elements_of : MirBody → Place → Option Projection
 elements_of body place = if place.projection.0 == 0 then Some [] else projection_of body.projection_store.projections place.projection
 
--- The type that an element leads to from a value of a type. So far a run goes into parts of tuples alone.
-abbrev pub elem_type : PlaceElem → Ty → Option Ty
-elem_type (Field (Right field)) ty = part_type field ty
-elem_type _ ty = None
+-- The type that an element leads to from a value of a type. So far a run goes into parts of tuples and fields of structs alone.
+abbrev pub elem_type : HirDatabase → PlaceElem → Ty → Option Ty
+elem_type world (Field (Left field)) ty = own_field_type world field ty
+elem_type world (Field (Right field)) ty = part_type field ty
+elem_type world _ ty = None
+
+-- the offset that the layout of a type has for its part at an index
+abbrev pub part_offset : HirDatabase → ℕ → Ty → Option ℕ
+part_offset world index ty = option_and_then (λ layout. slice_get layout.offsets index) (layout_of world ty)
 
 -- how far behind the value's first byte what an element leads to begins, as the layout of the value's type says
 abbrev pub elem_offset : HirDatabase → PlaceElem → Ty → Option ℕ
-elem_offset world (Field (Right field)) ty = option_and_then (λ layout. slice_get layout.offsets field.index) (layout_of world ty)
+elem_offset world (Field (Left field)) ty = part_offset world field.local_id ty
+elem_offset world (Field (Right field)) ty = part_offset world field.index ty
 elem_offset world _ ty = None
 
 -- the type of what elements lead to, one after another
-unfoldable pub type_behind : Projection → Option Ty → Option Ty
-type_behind [] ty = ty
-type_behind (elem ∷ rest) ty = type_behind rest (option_and_then (elem_type elem) ty)
+unfoldable pub type_behind : HirDatabase → Projection → Option Ty → Option Ty
+type_behind world [] ty = ty
+type_behind world (elem ∷ rest) ty = type_behind world rest (option_and_then (elem_type world elem) ty)
 
 -- the sum of two numbers, where there are both
 abbrev pub added : Option ℕ → Option ℕ → Option ℕ
@@ -41,7 +47,7 @@ added _ _ = None
 -- how far behind the value's first byte what elements lead to begins
 unfoldable pub offset_behind : HirDatabase → Projection → Option Ty → Option ℕ
 offset_behind world [] ty = Some 0
-offset_behind world (elem ∷ rest) ty = added (option_and_then (elem_offset world elem) ty) (offset_behind world rest (option_and_then (elem_type elem) ty))
+offset_behind world (elem ∷ rest) ty = added (option_and_then (elem_offset world elem) ty) (offset_behind world rest (option_and_then (elem_type world elem) ty))
 
 -- so many bytes of a cell from an offset on, where the cell has as many
 abbrev pub part_of_cell : Interval → (offset size : ℕ) → Option Interval
@@ -52,7 +58,7 @@ unfoldable pub cell_behind : HirDatabase → Projection → Option Ty → Interv
 cell_behind world [] ty cell = Some cell
 cell_behind world (elem ∷ rest) ty cell =
     option_and_then (λ offset. option_and_then (part_of_cell cell offset)
-    (option_map (λ layout. layout.size) (option_and_then (layout_of world) (type_behind (elem ∷ rest) ty))))
+    (option_map (λ layout. layout.size) (option_and_then (layout_of world) (type_behind world (elem ∷ rest) ty))))
     (offset_behind world (elem ∷ rest) ty)
 
 -- the type of a body's local
@@ -71,10 +77,10 @@ unfoldable pub place_cell : HirDatabase → MirBody → List Interval → Place 
 place_cell world body cells place = cell_at world body cells place (elements_of body place)
 
 -- the type of the value that elements of a place lead to
-abbrev pub type_at : MirBody → Place → Option Projection → Option Ty
-type_at body place (Some elements) = type_behind elements (local_type body place.local)
-type_at body place None = None
+abbrev pub type_at : HirDatabase → MirBody → Place → Option Projection → Option Ty
+type_at world body place (Some elements) = type_behind world elements (local_type body place.local)
+type_at world body place None = None
 
 -- the type of a place's value
-unfoldable pub place_type : MirBody → Place → Option Ty
-place_type body place = type_at body place (elements_of body place)
+unfoldable pub place_type : HirDatabase → MirBody → Place → Option Ty
+place_type world body place = type_at world body place (elements_of body place)

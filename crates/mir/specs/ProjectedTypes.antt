@@ -1,5 +1,5 @@
 -- The type of what an element of a projection leads to, from a place of some type. Where there is none, it is the type `Error`.
-use Rattle.std.specs.Prelude.{◌≡◌, ℕ, ◌+◌, ◌-◌, Bool, false, if◌then◌else◌, nat_le, length, Option, Some, None, slice_get, option_map, option_and_then}
+use Rattle.std.specs.Prelude.{◌≡◌, ℕ, ◌+◌, ◌-◌, ◌==◌, Bool, false, if◌then◌else◌, nat_le, List, length, Option, Some, None, slice_get, option_map, option_and_then}
 use Rattle.either.specs.declared.Either.TheVariants.{Left, Right}
 use Rattle.check_instances.specs.Instances.{ty_instance, type_argument}
 use Rattle.numbers.specs.Bytes.{low_digits}
@@ -9,6 +9,8 @@ use Rattle.types.specs.declared.ids.FieldId.{FieldId}
 use Rattle.types.specs.declared.ids.InternedClosureId.{InternedClosureId}
 use Rattle.types.specs.declared.ids.StructId.{StructId}
 use Rattle.types.specs.declared.ids.TupleFieldId.{TupleFieldId}
+use Rattle.types.specs.declared.ids.VariantId.{VariantId}
+use Rattle.types.specs.declared.ids.VariantId.TheVariants as variant
 use Rattle.types.specs.declared.scalars.UintTy.TheVariants.{Usize}
 use Rattle.types.specs.declared.ty.ComplexMemoryMap.{ComplexMemoryMap}
 use Rattle.types.specs.declared.ty.Const.{Const}
@@ -24,6 +26,7 @@ use Rattle.types.specs.declared.ty.Ty.TheVariants as type
 use Rattle.types.specs.declared.ty.UnevaluatedConst.{UnevaluatedConst}
 use Rattle.types.specs.declared.ty.ValueConst.{ValueConst}
 use Rattle.world.specs.declared.database.HirDatabase.{HirDatabase}
+use Rattle.world.specs.declared.items.FieldRow.{FieldRow}
 use Rattle.world.specs.Lookups.{fields_of, normal_row}
 use Rattle.mir.specs.declared.projection.ProjectionElem.{ProjectionElem}
 use Rattle.mir.specs.declared.projection.ProjectionElem.TheVariants.{Deref, Field, ClosureField, Index, ConstantIndex, Subslice, OpaqueCast}
@@ -67,6 +70,24 @@ field_at world field _ = None
 
 abbrev pub field_type : HirDatabase → FieldId → Ty → Option Ty
 field_type world field ty = field_at world field (out-Ty ty)
+
+-- whether there are no generic arguments
+abbrev pub are_no_args : GenericArgs → Bool
+are_no_args args = length args.0 == 0
+
+-- the fields of a struct
+abbrev pub struct_fields : HirDatabase → VariantId → Option (List FieldRow)
+struct_fields world (variant.StructId id) = fields_of world (variant.StructId id)
+struct_fields world _ = None
+
+-- The type of a field of a struct that has no generic arguments, as its row says it: there is no parameter that an argument could stand for.
+abbrev own_field_at : HirDatabase → FieldId → TyLayer → Option Ty
+own_field_at world field (layer.Adt id args) =
+    if are_no_args args then option_map (λ row. row.ty) (option_and_then (λ fields. slice_get fields field.local_id) (struct_fields world field.parent)) else None
+own_field_at world field _ = None
+
+abbrev pub own_field_type : HirDatabase → FieldId → Ty → Option Ty
+own_field_type world field ty = own_field_at world field (out-Ty ty)
 
 -- the type of a part of a tuple
 abbrev part_at : TupleFieldId → TyLayer → Option Ty

@@ -3,9 +3,12 @@
 use Rattle.std.specs.Prelude.{ℕ, zero, suc, List, [], ◌∷◌, ◌++◌, length, drop, filter, map, not, replicate, Option, Some, None, is_some, Result, Ok, Err, slice_get, option_map, option_and_then, codes, decimal, if◌then◌else◌, nat_le}
 use Rattle.std.specs.List.{concat}
 use Rattle.either.specs.declared.Either.TheVariants.{Left}
+use Rattle.types.specs.declared.ids.AdtId.TheVariants as adt
 use Rattle.types.specs.declared.ids.CallableDefId.TheVariants.{FunctionId as CalledFunction}
 use Rattle.types.specs.declared.ids.DefWithBodyId.TheVariants.{FunctionId as FunctionBody}
 use Rattle.types.specs.declared.ids.FunctionId.{FunctionId}
+use Rattle.types.specs.declared.ids.VariantId.{VariantId}
+use Rattle.types.specs.declared.ids.VariantId.TheVariants as variant
 use Rattle.world.specs.declared.database.HirDatabase.{HirDatabase}
 use Rattle.types.specs.declared.ty.ComplexMemoryMap.{ComplexMemoryMap}
 use Rattle.types.specs.declared.ty.Const.{Const, Const-F, out-Const}
@@ -17,6 +20,7 @@ use Rattle.types.specs.declared.ty.TraitRef.{TraitRef}
 use Rattle.types.specs.declared.ty.UnevaluatedConst.{UnevaluatedConst}
 use Rattle.types.specs.declared.ty.ValueConst.{ValueConst}
 use Rattle.types.specs.declared.ty.Ty.{Ty, Ty-F, out-Ty}
+use Rattle.types.specs.declared.ty.Ty.TheVariants as type
 use Rattle.world.specs.Checked.{fixed_size}
 use Rattle.world.specs.Lookups.{layout_of}
 use Rattle.world.specs.declared.layout.Layout.{Layout}
@@ -54,7 +58,7 @@ use Rattle.mir.specs.declared.operand.OperandKind.{OperandKind}
 use Rattle.mir.specs.declared.operand.OperandKind.TheVariants.{Copy, Constant}
 use Rattle.mir.specs.declared.operand.Rvalue.{Rvalue}
 use Rattle.mir.specs.declared.operand.AggregateKind.{AggregateKind}
-use Rattle.mir.specs.declared.operand.AggregateKind.TheVariants.{Array, Tuple}
+use Rattle.mir.specs.declared.operand.AggregateKind.TheVariants.{Array, Tuple, Adt}
 use Rattle.mir.specs.declared.operand.Rvalue.TheVariants.{Use, Repeat, Cast, CheckedBinaryOp, UnaryOp, Aggregate}
 use Rattle.mir.specs.declared.statement.Statement.{Statement}
 use Rattle.mir.specs.declared.statement.StatementKind.{StatementKind}
@@ -120,9 +124,9 @@ operand_bytes frame memory (Copy place) = option_and_then (cell_bytes memory) (p
 operand_bytes frame memory (Constant konst ty) = constant_bytes konst
 
 -- the type of an operand
-unfoldable pub operand_type : MirBody → OperandKind → Option Ty
-operand_type body (Copy place) = place_type body place
-operand_type body (Constant konst ty) = Some ty
+unfoldable pub operand_type : HirDatabase → MirBody → OperandKind → Option Ty
+operand_type world body (Copy place) = place_type world body place
+operand_type world body (Constant konst ty) = Some ty
 
 -- a read outside the memory, or of a place that the body lacks
 abbrev pub bad_read : MirEvalError
@@ -199,10 +203,16 @@ unfoldable pub laid_out : Option Layout → (parts : List (List ℕ)) → Result
 laid_out (Some layout) parts = placed_parts layout.size layout.offsets parts (replicate layout.size 0)
 laid_out None parts = Err (error.InternalError (codes "mismatched layout"))
 
+-- the layout of a struct's values; so far a run makes no value of a variant or a union
+abbrev pub struct_layout : HirDatabase → VariantId → GenericArgs → Option Layout
+struct_layout world (variant.StructId id) args = layout_of world (type.Adt (adt.StructId id) args)
+struct_layout world _ args = None
+
 -- the bytes of an aggregate, by those of its parts
 unfoldable pub aggregated : HirDatabase → AggregateKind → Option (List (List ℕ)) → Result (List ℕ) MirEvalError
 aggregated world (Array ty) (Some parts) = Ok (concat parts)
 aggregated world (Tuple ty) (Some parts) = laid_out (layout_of world ty) parts
+aggregated world (Adt id args) (Some parts) = laid_out (struct_layout world id args) parts
 aggregated world kind None = Err bad_read
 
 abbrev pub read : Option (List ℕ) → Result (List ℕ) MirEvalError
@@ -213,11 +223,11 @@ read None = Err bad_read
 unfoldable pub rvalue_bytes : Frame → Memory → Rvalue → Result (List ℕ) MirEvalError
 rvalue_bytes frame memory (Use operand) = read (operand_bytes frame memory operand.kind)
 rvalue_bytes frame memory (Repeat operand len) = repeats (number_in len) (operand_bytes frame memory operand.kind)
-rvalue_bytes frame memory (Cast kind operand ty) = cast_to ty (operand_type frame.body operand.kind) (operand_bytes frame memory operand.kind)
+rvalue_bytes frame memory (Cast kind operand ty) = cast_to ty (operand_type frame.program.world frame.body operand.kind) (operand_bytes frame memory operand.kind)
 rvalue_bytes frame memory (CheckedBinaryOp op left right) =
-    operated op (operand_type frame.body left.kind) (operand_type frame.body right.kind)
+    operated op (operand_type frame.program.world frame.body left.kind) (operand_type frame.program.world frame.body right.kind)
     (operand_bytes frame memory left.kind) (operand_bytes frame memory right.kind)
-rvalue_bytes frame memory (UnaryOp op operand) = operated_on op (operand_type frame.body operand.kind) (operand_bytes frame memory operand.kind)
+rvalue_bytes frame memory (UnaryOp op operand) = operated_on op (operand_type frame.program.world frame.body operand.kind) (operand_bytes frame memory operand.kind)
 rvalue_bytes frame memory (Aggregate kind operands) = aggregated frame.program.world kind (operands_bytes frame memory operands)
 
 -- the memory after bytes were copied to a cell
@@ -377,7 +387,7 @@ called_by frame memory call callee _ = Asks (body_query callee) frame memory cal
 -- where a call leads; calls of other things than functions aren't built
 unfoldable pub calls : Frame → Memory → Calling → Next
 calls frame memory call =
-    elim (option_and_then function_in (operand_type frame.body call.func.kind)) [
+    elim (option_and_then function_in (operand_type frame.program.world frame.body call.func.kind)) [
       | Some callee ↦ called_by frame memory call callee (answer_to frame.program.answers (body_query callee))
       | None ↦ faults frame (error.NotSupported (codes "form not built"))
     ]

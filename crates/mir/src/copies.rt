@@ -131,6 +131,7 @@ impl TryClone for AggregateKind {
         match self {
             AggregateKind::Array(ty) => Ok(AggregateKind::Array(ty.try_clone(alloc)?)),
             AggregateKind::Tuple(ty) => Ok(AggregateKind::Tuple(ty.try_clone(alloc)?)),
+            AggregateKind::Adt(id, args) => Ok(AggregateKind::Adt(*id, args.try_clone(alloc)?)),
         }
     }
 }

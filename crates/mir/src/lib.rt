@@ -33,7 +33,7 @@ pub use interner::Interner;
 pub use mem_fault::MemFault;
 pub use numbers::Operator as BinOp;
 pub use operand::{AggregateKind, CastKind, Operand, OperandKind, Place, Rvalue, UnOp};
-pub use projected_ty::tuple_part;
+pub use projected_ty::{struct_field, tuple_part};
 pub use projection::{PlaceElem, ProjectionElem, ProjectionId};
 pub use projection_store::ProjectionStore;
 pub use sizes::fixed_size;

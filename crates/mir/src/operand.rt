@@ -1,7 +1,7 @@
 //! What statements read and compute.
 
 use crate::{BinOp, LocalId, MirSpan, ProjectionId};
-use world::{Const, List, Ty};
+use world::{Const, GenericArgs, List, Ty, VariantId};
 
 /// Where a value lies: a local, or a part of it, or what it leads to, by the projection. The store of the body has the projection.
 #[derive(Clone, Copy, PartialEq, Eq, Hash)]
@@ -68,6 +68,8 @@ pub enum AggregateKind {
     Array(Ty),
     /// A tuple, by its own type, whose layout says where the parts lie.
     Tuple(Ty),
+    /// A struct, with its generic arguments, by the layout of whose type the fields lie.
+    Adt(VariantId, GenericArgs),
 }
 
 impl Drop for AggregateKind {
@@ -75,6 +77,7 @@ impl Drop for AggregateKind {
         match self {
             AggregateKind::Array(_ty) => {}
             AggregateKind::Tuple(_ty) => {}
+            AggregateKind::Adt(_id, _args) => {}
         }
     }
 }

@@ -8,7 +8,7 @@ use Rattle.world.specs.declared.items.FunctionRow.{FunctionRow}
 use Rattle.world.specs.declared.items.Special.{Special}
 use Rattle.types.specs.declared.ty.Ty.{Ty}
 use Rattle.source_meaning.specs.Built.{are_none, is_direct, IsBuiltAssigned, IsBuiltAssignee, IsBuiltStatement, IsBuiltStrict, IsBuiltForm}
-use Rattle.source_meaning.specs.Core.{Assigned, Assignee, ByField, ByPath, ByPattern, ByPlace, CoreExpr, Operation, Negate, Invert, Keep, Convert, Combine, MakeTuple, MakeArray, Repeat, Literal, Path, Field, Strict, Logic, If, Assign, Compound, Block, Labelled, Loop, Break, Continue, Return, Call}
+use Rattle.source_meaning.specs.Core.{Assigned, Assignee, ByField, ByPath, ByPattern, ByPlace, CoreExpr, Operation, Negate, Invert, Keep, Convert, Combine, MakeTuple, MakeArray, Repeat, MakeStruct, Literal, Path, Field, Strict, Logic, If, Assign, Compound, Block, Labelled, Loop, Break, Continue, Return, Call}
 use Rattle.source_meaning.specs.Source.{Source, node, own_type}
 use Rattle.source_meaning.specs.Valid.{IsTyped, IsPlainAssigned, IsPlainAssignee, IsPlainStatement, HasPlainForm, IsPlainNode}
 
@@ -27,7 +27,7 @@ direct_row row no_generics no_trait not_special =
     ∙ ap (λ (special : Option Special). not (is_some special)) not_special
 
 -- an operation that makes an array is of the type of one
-plain_strict_is_built : (source : Source) (e : ℕ) (operation : Operation) (types : List Ty) (ty : Ty) → own_type source e ≡ Some ty → IsTyped operation types ty → IsBuiltStrict source e operation
+plain_strict_is_built : (source : Source) (e : ℕ) (operation : Operation) (types : List Ty) (ty : Ty) → own_type source e ≡ Some ty → IsTyped source.world operation types ty → IsBuiltStrict source e operation
 plain_strict_is_built source e Negate types ty has typed = tt
 plain_strict_is_built source e Invert types ty has typed = tt
 plain_strict_is_built source e Keep types ty has typed = tt
@@ -35,6 +35,7 @@ plain_strict_is_built source e Convert types ty has typed = tt
 plain_strict_is_built source e (Combine op) types ty has typed = tt
 plain_strict_is_built source e MakeTuple types ty has typed = tt
 plain_strict_is_built source e MakeArray types ty has typed = record { element = typed.element; len = typed.len; typed = has ∙ ap Some typed.is }
+plain_strict_is_built source e (MakeStruct id args places) types ty has typed = tt
 plain_strict_is_built source e Repeat [] ty has typed = absurd typed
 plain_strict_is_built source e Repeat (one ∷ []) ty has typed = record { element = one; len = typed.len; typed = has ∙ ap Some typed.is }
 plain_strict_is_built source e Repeat (one ∷ other ∷ rest) ty has typed = absurd typed
@@ -46,7 +47,7 @@ plain_assignee_is_built source (ByPlace e) ty plain = plain.place
 
 plain_assigned_is_built : (source : Source) (to : Assigned) (ty : Ty) → IsPlainAssigned source to ty → IsBuiltAssigned source to
 plain_assigned_is_built source (ByPath e) ty plain = record { binding = plain.binding; names = plain.names; there = record { ty = ty; typed = plain.binding_has } }
-plain_assigned_is_built source (ByField base index) ty plain = tt
+plain_assigned_is_built source (ByField base elem) ty plain = tt
 
 plain_form_is_built : (source : Source) (e : ℕ) (form : Option CoreExpr) (ty : Ty) → own_type source e ≡ Some ty → HasPlainForm source e form ty → IsBuiltForm source e form
 plain_form_is_built source e (Some (Literal given)) ty has plain = tt

@@ -6,13 +6,15 @@ use Rattle.world.specs.declared.body.Statement.{Statement}
 use Rattle.world.specs.declared.body.Statement.TheVariants as statement
 use Rattle.world.specs.declared.expr.Expr.TheVariants as whole
 use Rattle.world.specs.declared.expr.Expr.{Expr}
+use Rattle.world.specs.declared.expr.RecordLitField.{RecordLitField}
+use Rattle.world.specs.declared.expr.RecordSpread.{RecordSpread}
+use Rattle.world.specs.declared.expr.RecordSpread.TheVariants as spread
 use Rattle.world.specs.declared.pat.Pat.TheVariants as pat
 use Rattle.world.specs.declared.pat.Pat.{Pat}
 use Rattle.world.specs.Lookups.{expr_of}
 use Rattle.world.specs.Checked.{IsCheckedBody}
-use Rattle.world.specs.Nodes.{optional, expr_numbers, children_of, inner_exprs_of, patterns_of, statement_children}
+use Rattle.world.specs.Nodes.{optional, expr_numbers, field_numbers, spread_children, children_of, inner_exprs_of, patterns_of, statement_children}
 use Rattle.either.specs.declared.Either.{Either}
-use Rattle.either.specs.declared.Either.TheVariants.{Left, Right}
 use Rattle.types.specs.declared.ids.ExprId.{ExprId}
 use Rattle.types.specs.declared.ids.FieldId.{FieldId}
 use Rattle.types.specs.declared.ids.PatId.{PatId}
@@ -20,7 +22,8 @@ use Rattle.types.specs.declared.ids.TupleFieldId.{TupleFieldId}
 use Rattle.types.specs.declared.operators.BinaryOp.{BinaryOp}
 use Rattle.types.specs.declared.operators.BinaryOp.TheVariants as binary
 use Rattle.numbers.specs.Operators.{of_arith, of_compare}
-use Rattle.source_meaning.specs.Core.{CoreExpr, Findings, Operation, MakeTuple, MakeArray, Repeat, Literal, Path, Field, Strict, Logic, If, Assign, Compound, Block, Labelled, Loop, Break, Continue, Return, Call, core_literal, unary_operation, unary_form, eager_form, binary_form, field_form, core_of, expr_in, field_named, is_adjusted_otherwise, is_adjusted_twice, is_dereferenced_pattern, part_in, tuple_part}
+use Rattle.source_meaning.specs.Core.{CoreExpr, Findings, Operation, MakeTuple, MakeArray, Repeat, MakeStruct, PlaceElem, Literal, Path, Field, Strict, Logic, If, Assign, Compound, Block, Labelled, Loop, Break, Continue, Return, Call, core_literal, unary_operation, unary_form, eager_form, binary_form, field_form, field_step, record_form, step_from, core_of, expr_in, field_named, is_adjusted_otherwise, is_adjusted_twice, is_dereferenced_pattern, part_in}
+use Rattle.source_meaning.specs.Structs.{StructAt, all_places}
 use Rattle.source_meaning.specs.Source.{Source, assigned_by, assigned_field, assignee_by, findings, node, pattern_expr}
 use Rattle.source_meaning.specs.Steps.{parts_of, assigned_parts, assignee_parts, statement_parts}
 use Rattle.source_meaning.proofs.Parts.{first_is_contained, nothing_is_contained, rest_is_contained, among_more, strict_parts, if_parts, compound_parts, block_parts, tail_part, call_parts}
@@ -43,9 +46,19 @@ unary_parts e given core is = let from = mapped (λ op. Strict op (e ∷ [])) gi
 
 -- a field evaluates its base
 field_part : (base : ℕ) (field : Option (Either FieldId TupleFieldId)) (core : CoreExpr) → field_form base field ≡ Some core → (child : ℕ) → Contains (parts_of (Some core)) child → Contains (base ∷ []) child
-field_part base (Some (Right field)) core is child within = let same : core ≡ Field base field.index = cc in subst (λ c. Contains (parts_of (Some c)) child) same within
-field_part base (Some (Left field)) core is child within = absurd cc
-field_part base None core is child within = absurd cc
+field_part base field core is child within =
+    let from = mapped (Field base) (option_and_then field_step field) core is in
+    subst (λ c. Contains (parts_of (Some c)) child) (sym from.2) within
+
+-- a struct literal evaluates what its fields are given
+record_part : (made : Option StructAt) (written : List RecordLitField) (base : RecordSpread) (core : CoreExpr) → record_form made written base ≡ Some core → (child : ℕ) → Contains (parts_of (Some core)) child → Contains (field_numbers written ++ spread_children base) child
+record_part (Some made) written spread.None core is child within =
+    let from = mapped (λ places. Strict (MakeStruct made.id made.args places) (field_numbers written)) (all_places made.fields written) core is in
+    Contains-append_left (field_numbers written) [] child
+    (subst (λ parts. Contains parts child) (ap (λ c. parts_of (Some c)) (sym from.2) ∙ strict_parts (MakeStruct made.id made.args from.0) (field_numbers written)) within)
+record_part (Some made) written (spread.Expr e) core is child within = absurd cc
+record_part (Some made) written spread.FieldDefaults core is child within = absurd cc
+record_part None written base core is child within = absurd cc
 
 block_part_is_child : (statements : List Statement) (tail : Option ExprId) (child : ℕ) → Contains (parts_of (Some (Block statements tail))) child → Contains (flat_map statement_children statements ++ optional tail) child
 block_part_is_child statements tail child within =
@@ -126,6 +139,7 @@ part_stands found (whole.Array elements) core is child within =
     as_child (subst (λ parts. Contains parts child) (ap (λ c. parts_of (Some c)) same ∙ strict_parts MakeArray (expr_numbers elements)) within)
 part_stands found (whole.Repeat initializer) core is child within =
     let same : core ≡ Strict Repeat (initializer.0 ∷ []) = cc in as_child (subst (λ c. Contains (parts_of (Some c)) child) same within)
+part_stands found (whole.RecordLit path written base) core is child within = as_child (record_part found.made written base core is child within)
 part_stands found _ core is child within = absurd cc
 
 -- the pattern that holds an expression as the target of an assignment
@@ -146,23 +160,22 @@ assignee_part_is_inner source p (Some e) child is within = let from = pattern_ho
 assignee_part_is_inner source p None child is within = absurd (nothing_is_contained child within)
 
 -- the field that an expression is as the target of a compound assignment
-tuple_part_base : (base : ℕ) (named : Option (Either FieldId TupleFieldId)) (field : ℕ × ℕ) → tuple_part base named ≡ Some field → base ≡ field.0
-tuple_part_base base (Some (Right named)) field is = let same : field ≡ (base, named.index) = cc in sym (ap (λ (f : ℕ × ℕ). f.0) same)
-tuple_part_base base (Some (Left named)) field is = absurd cc
-tuple_part_base base None field is = absurd cc
+step_base : (base : ℕ) (step : Option PlaceElem) (field : ℕ × PlaceElem) → step_from base step ≡ Some field → base ≡ field.0
+step_base base (Some elem) field is = let same : field ≡ (base, elem) = cc in sym (ap (λ (f : ℕ × PlaceElem). f.0) same)
+step_base base None field is = absurd cc
 
-field_from : (twice : Bool) (named : Option (Either FieldId TupleFieldId)) (found : Option Expr) (field : ℕ × ℕ) → if twice then None else option_and_then (part_in named) found ≡ Some field → (given : Expr) × (found ≡ Some given) × (children_of given ≡ field.0 ∷ [])
+field_from : (twice : Bool) (named : Option (Either FieldId TupleFieldId)) (found : Option Expr) (field : ℕ × PlaceElem) → if twice then None else option_and_then (part_in named) found ≡ Some field → (given : Expr) × (found ≡ Some given) × (children_of given ≡ field.0 ∷ [])
 field_from true named found field is = absurd cc
 field_from false named None field is = absurd cc
-field_from false named (Some (whole.Field base name)) field is = (whole.Field base name, refl, ap (λ b. b ∷ []) (tuple_part_base base.0 named field is))
+field_from false named (Some (whole.Field base name)) field is = (whole.Field base name, refl, ap (λ b. b ∷ []) (step_base base.0 (option_and_then field_step named) field is))
 field_from false named (Some _) field is = absurd cc
 
-field_holds : (source : Source) (e : ℕ) (field : ℕ × ℕ) → assigned_field source e ≡ Some field → (given : Expr) × (expr_of source.body e ≡ Some given) × (children_of given ≡ field.0 ∷ [])
+field_holds : (source : Source) (e : ℕ) (field : ℕ × PlaceElem) → assigned_field source e ≡ Some field → (given : Expr) × (expr_of source.body e ≡ Some given) × (children_of given ≡ field.0 ∷ [])
 unfolding assigned_field
 field_holds source e field is = field_from (is_adjusted_twice source.infer (record { 0 = e })) (field_named source.infer (record { 0 = e })) (expr_of source.body e) field is
 
 -- what the target of a compound assignment evaluates it holds
-assigned_part_is_child : (source : Source) (e : ℕ) (field : Option (ℕ × ℕ)) (child : ℕ) → assigned_field source e ≡ field → Contains (assigned_parts (assigned_by e field)) child →
+assigned_part_is_child : (source : Source) (e : ℕ) (field : Option (ℕ × PlaceElem)) (child : ℕ) → assigned_field source e ≡ field → Contains (assigned_parts (assigned_by e field)) child →
     (given : Expr) × (expr_of source.body e ≡ Some given) × Contains (children_of given) child
 assigned_part_is_child source e (Some field) child is within = let from = field_holds source e field is in (from.0, from.1, subst (λ held. Contains held child) (sym from.2) within)
 assigned_part_is_child source e None child is within = absurd (nothing_is_contained child within)

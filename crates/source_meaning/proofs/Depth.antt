@@ -8,7 +8,7 @@ use Rattle.types.specs.declared.operators.LogicOp.{LogicOp}
 use Rattle.world.specs.Checked.{IsCheckedBody}
 use Rattle.world.specs.Nodes.{optional}
 use Rattle.numbers.specs.declared.operator.Operator.{Operator}
-use Rattle.source_meaning.specs.Core.{Assigned, Assignee, Operation, Field, Strict, Logic, If, Assign, Compound, Block, Call}
+use Rattle.source_meaning.specs.Core.{Assigned, Assignee, Operation, PlaceElem, Field, Strict, Logic, If, Assign, Compound, Block, Call}
 use Rattle.source_meaning.specs.Source.{Source, node}
 use Rattle.source_meaning.specs.Steps.{parts_of, assigned_parts, assignee_parts, statement_parts}
 use Rattle.source_meaning.specs.Valid.{Evaluates, itself, part, NeedsLayout, own, inside}
@@ -32,7 +32,7 @@ needed_is_evaluated source own = itself
 needed_is_evaluated source (inside {e = e} {child = child} within rest) = part (sized_part_is_part source (node source e) child within) (needed_is_evaluated source rest)
 
 -- a field evaluates its base
-pub field_base_is_part : (source : Source) (e base : ℕ) (field : ℕ) → node source e ≡ Some (Field base field) → Contains (parts_of (node source e)) base
+pub field_base_is_part : (source : Source) (e base : ℕ) (field : PlaceElem) → node source e ≡ Some (Field base field) → Contains (parts_of (node source e)) base
 field_base_is_part source e base field is = subst (λ form. Contains (parts_of form) base) (sym is) (first_is_contained base [])
 
 -- a strict form evaluates its operands

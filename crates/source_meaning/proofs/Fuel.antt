@@ -10,7 +10,7 @@ use Rattle.numbers.specs.declared.operator.Operator.{Operator}
 use Rattle.source_meaning.specs.Around.{Around, Target, at_root, marking, inside, target_of}
 use Rattle.source_meaning.specs.Calls.{source_called, must_not_return, parameter_cells, started}
 use Rattle.source_meaning.specs.Core as expr
-use Rattle.source_meaning.specs.Core.{Assigned, Assignee, ByField, ByPath, ByPattern, ByPlace, CoreExpr, Operation, is_place}
+use Rattle.source_meaning.specs.Core.{Assigned, Assignee, ByField, ByPath, ByPattern, ByPlace, CoreExpr, Operation, PlaceElem, is_place}
 use Rattle.source_meaning.specs.Ends.{Cost, turns_alone, End, Go, Jumps, Break, Continue, Return, Faults, Stuck, More, IsOver, after, then_do}
 use Rattle.source_meaning.specs.Events.{marked, marked_as_operand, marked_as_place, marked_by_assigned, marked_by_statement}
 use Rattle.source_meaning.specs.Laid.{is_laid_out}
@@ -125,7 +125,7 @@ pub record Agrees (below above : Levels) : Type 0 where
   pub own : (around : Around) (e : ℕ) (path : Path) (store : Store) → IsOver ((below around).own e path store) → (above around).own e path store ≡ (below around).own e path store
 
 module _ (source : Source) (below above : Levels) (agrees : Agrees below above) where
-  field_place_agrees : (around : Around) (base : ℕ) (field : ℕ) (store : Store) → IsOver (field_place (below around) base field store) → field_place (above around) base field store ≡ field_place (below around) base field store
+  field_place_agrees : (around : Around) (base : ℕ) (field : PlaceElem) (store : Store) → IsOver (field_place (below around) base field store) → field_place (above around) base field store ≡ field_place (below around) base field store
   field_place_agrees around base field store over =
       then_do_agrees ((below around).place base store) ((above around).place base store) _ _ (agrees.place around base store) (λ place later o. refl) over
 
@@ -188,13 +188,13 @@ module _ (source : Source) (below above : Levels) (agrees : Agrees below above) 
       then_do_agrees ((below around).operand condition store) ((above around).operand condition store) _ _ (agrees.operand around condition store) (λ given later o.
       branched_agrees _ _ (branch_agrees (marking (marked_as_operand source condition) around) then_branch else_branch (is_byte 1 (operand_bytes source later given)) path later) o) over
 
-  field_agrees : (around : Around) (base : ℕ) (field : ℕ) (path : Path) (store : Store) → IsOver (field_into source (below around) base field path store) → field_into source (above around) base field path store ≡ field_into source (below around) base field path store
+  field_agrees : (around : Around) (base : ℕ) (field : PlaceElem) (path : Path) (store : Store) → IsOver (field_into source (below around) base field path store) → field_into source (above around) base field path store ≡ field_into source (below around) base field path store
   field_agrees around base field path store over =
       then_do_agrees (field_place (below around) base field store) (field_place (above around) base field store) _ _ (field_place_agrees around base field store) (λ place later o. refl) over
 
   assigned_place_agrees : (around : Around) (to : Assigned) (store : Store) → IsOver (assigned_place source (below around) to store) → assigned_place source (above around) to store ≡ assigned_place source (below around) to store
   assigned_place_agrees around (ByPath e) store over = refl
-  assigned_place_agrees around (ByField base index) store over = field_place_agrees around base index store over
+  assigned_place_agrees around (ByField base elem) store over = field_place_agrees around base elem store over
 
   compound_agrees : (around : Around) (op : Operator) (to : Assigned) (value : ℕ) (store : Store) → IsOver (compound_into source below around op to value store) → compound_into source above around op to value store ≡ compound_into source below around op to value store
   compound_agrees around op to value store over =

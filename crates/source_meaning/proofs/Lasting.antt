@@ -19,7 +19,7 @@ use Rattle.numbers.specs.Operators.{Answer, Computes, Panics, Undefined}
 use Rattle.source_meaning.specs.Around.{Around, Target, at_root, marking, inside, target_of}
 use Rattle.source_meaning.specs.Calls.{source_at, source_called, must_not_return, parameter_cells, started}
 use Rattle.source_meaning.specs.Core as expr
-use Rattle.source_meaning.specs.Core.{Assigned, Assignee, ByField, ByPath, ByPattern, ByPlace, CoreExpr, is_place}
+use Rattle.source_meaning.specs.Core.{Assigned, Assignee, ByField, ByPath, ByPattern, ByPlace, CoreExpr, PlaceElem, is_place}
 use Rattle.source_meaning.specs.Ends.{Cost, no_cost, plus, turns_alone, End, Go, Jumps, Break, Continue, Return, Faults, NoLayout, Stuck, More, GoesOn, after, then_do}
 use Rattle.source_meaning.specs.Entering.{entering}
 use Rattle.source_meaning.specs.Events.{marked, marked_as_operand, marked_as_place, marked_by_assigned, marked_by_statement}
@@ -221,11 +221,11 @@ module _ (limit : ℕ) where
     operand : (around : Around) (store : Store) → Lasts limit ((levels around).operand e store)
     into : (around : Around) (path : Path) (store : Store) → Lasts limit ((levels around).into e path store)
 
-  field_place_lasts : (below : Levels) (around : Around) (base : ℕ) (field : ℕ) (store : Store) → Lasts limit ((below around).place base store) → Lasts limit (field_place (below around) base field store)
+  field_place_lasts : (below : Levels) (around : Around) (base : ℕ) (field : PlaceElem) (store : Store) → Lasts limit ((below around).place base store) → Lasts limit (field_place (below around) base field store)
   field_place_lasts below around base field store over = then_do_lasts ((below around).place base store) _ over (λ place later. tt)
 
   place_lasts : (source : Source) (below : Levels) (around : Around) (e : ℕ) (form : Option CoreExpr) (store : Store) → ((within : Around) (path : Path) (later : Store) → Lasts limit ((below within).into e path later)) →
-      ((base : ℕ) (field : ℕ) → form ≡ Some (expr.Field base field) → Lasts limit ((below around).place base store)) → Lasts limit (place_of source below around e form store)
+      ((base : ℕ) (field : PlaceElem) → form ≡ Some (expr.Field base field) → Lasts limit ((below around).place base store)) → Lasts limit (place_of source below around e form store)
   place_lasts source below around e (Some (expr.Path name)) store over base_is = named_place_lasts (named_by source e) store
   place_lasts source below around e (Some (expr.Field base field)) store over base_is = field_place_lasts below around base field store (base_is base field refl)
   place_lasts source below around e _ store over base_is =
@@ -333,8 +333,8 @@ module _ (limit : ℕ) where
 
     assigned_place_lasts : (around : Around) (to : Assigned) (store : Store) → ((child : ℕ) → Contains (assigned_parts to) child → LastsIn below child) → Lasts limit (assigned_place source (below around) to store)
     assigned_place_lasts around (ByPath e) store ends = bound_place_lasts (compound_target source e) store
-    assigned_place_lasts around (ByField base index) store ends =
-        let base_ends = ends base (first_is_contained base []) in field_place_lasts below around base index store (base_ends.place around store)
+    assigned_place_lasts around (ByField base elem) store ends =
+        let base_ends = ends base (first_is_contained base []) in field_place_lasts below around base elem store (base_ends.place around store)
 
     compound_lasts : (around : Around) (op : Operator) (to : Assigned) (value : ℕ) (store : Store) → ((child : ℕ) → Contains (assigned_parts to ++ value ∷ []) child → LastsIn below child) → Lasts limit (compound_into source below around op to value store)
     compound_lasts around op to value store ends =

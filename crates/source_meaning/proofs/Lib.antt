@@ -5,6 +5,7 @@ pub mod Core
 pub mod Costs
 pub mod Defined
 pub mod Depth
+mod Elements
 pub mod Fuel
 pub mod Laid
 pub mod Lasting
@@ -18,4 +19,5 @@ pub mod Reached
 pub mod Runs
 pub mod Sizes
 pub mod Stores
+pub mod Structs
 pub mod Values

@@ -12,7 +12,7 @@ use Rattle.world.specs.declared.body.Statement.{Statement}
 use Rattle.world.specs.declared.body.Statement.TheVariants as statement
 use Rattle.world.specs.Checked.{IsCheckedBody}
 use Rattle.numbers.specs.declared.operator.Operator.{Operator}
-use Rattle.source_meaning.specs.Core.{Assigned, Assignee, ByField, ByPath, ByPattern, ByPlace, CoreExpr, CoreLiteral, Operation, Literal, Path, Field, Strict, Logic, If, Assign, Compound, Block, Labelled, Loop, Break, Continue, Return, Call, is_literal, is_path, is_place}
+use Rattle.source_meaning.specs.Core.{Assigned, Assignee, ByField, ByPath, ByPattern, ByPlace, CoreExpr, CoreLiteral, Operation, PlaceElem, Literal, Path, Field, Strict, Logic, If, Assign, Compound, Block, Labelled, Loop, Break, Continue, Return, Call, is_literal, is_path, is_place}
 use Rattle.source_meaning.specs.Events.{Event, Opens, Marks, Closes, own_mark, place_events, operand_events, step_events, form_events, events_in, events, events_through, Scopes, after_event, scopes_after, innermost, marks_of, marked, marked_itself, marked_as_place, marked_as_operand, marked_by_assigned, marked_by_assignee, marked_by_statement, marked_by_tail, marked_in_block}
 use Rattle.source_meaning.specs.Laws.{ScopesNest}
 use Rattle.source_meaning.specs.Source.{Source, Cell, Node, Binding, Never, node, unadjusted, diverges, never_marks, pattern, bound_by}
@@ -145,7 +145,7 @@ module _ (source : Source) (below : ℕ → List Event) (closed : (e : ℕ) → 
 
   assigned_is_closed : (to : Assigned) → IsClosed (flat_map (step_events source below) (assigned_steps to))
   assigned_is_closed (ByPath e) = none_is_closed
-  assigned_is_closed (ByField base index) = base_is_closed base
+  assigned_is_closed (ByField base elem) = base_is_closed base
 
   assign_is_closed : (to : Assignee) (value : ℕ) → IsClosed (flat_map (step_events source below) (Place value ∷ assignee_steps to))
   assign_is_closed to value = append_is_closed (place_events source below value) (flat_map (step_events source below) (assignee_steps to)) (place_is_closed value) (assignee_is_closed to)
@@ -335,12 +335,12 @@ module _ (source : Source) (checked : IsCheckedBody source.body source.infer) (e
   name_marks name is = form_marks (Some (Path name)) is ∙ no_marks
 
   -- a field evaluated into a path marks what its base does as a place
-  pub part_marks : (base : ℕ) (field : ℕ) → node source e ≡ Some (Field base field) → marked_itself source e ≡ marked_as_place source base
+  pub part_marks : (base : ℕ) (field : PlaceElem) → node source e ≡ Some (Field base field) → marked_itself source e ≡ marked_as_place source base
   unfolding marked_as_place
   part_marks base field is = form_marks (Some (Field base field)) is ∙ ap marks_of (append-nil (place_events source (events source) base))
 
   -- and so does a field as a place
-  pub field_marks : (base : ℕ) (field : ℕ) → unadjusted source e ≡ Some (Field base field) → marked_as_place source e ≡ marked_as_place source base
+  pub field_marks : (base : ℕ) (field : PlaceElem) → unadjusted source e ≡ Some (Field base field) → marked_as_place source e ≡ marked_as_place source base
   unfolding marked
   field_marks base field is =
       let plain = unadjusted-plain source e (Field base field) is in
@@ -427,9 +427,9 @@ pub path_target_marks : (source : Source) (e : ℕ) → marked_by_assigned sourc
 unfolding marked_by_assigned
 path_target_marks source e = no_marks
 
-pub field_target_marks : (source : Source) (base index : ℕ) → marked_by_assigned source (ByField base index) ≡ marked_as_place source base
+pub field_target_marks : (source : Source) (base : ℕ) (elem : PlaceElem) → marked_by_assigned source (ByField base elem) ≡ marked_as_place source base
 unfolding marked_by_assigned marked_as_place
-field_target_marks source base index = ap marks_of (append-nil (place_events source (events source) base))
+field_target_marks source base elem = ap marks_of (append-nil (place_events source (events source) base))
 
 pub let_marks : (source : Source) (pat : PatId) (e : ExprId) → marked_by_statement source (statement.Let pat (Some e) None) ≡ marked_as_place source e.0 ++ bound_by (pattern source pat.0)
 unfolding marked_by_statement marked_as_place

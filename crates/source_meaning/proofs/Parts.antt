@@ -152,7 +152,7 @@ sized_compound_parts source op to value = flat_map-append (sized_part source) (a
 
 sized_assigned_part : (source : Source) (to : Assigned) (child : ℕ) → Contains (assigned_parts to) child → Contains (flat_map (sized_part source) (assigned_steps to)) child
 sized_assigned_part source (ByPath e) child within = within
-sized_assigned_part source (ByField base index) child within = within
+sized_assigned_part source (ByField base elem) child within = within
 
 pub assigned_is_sized : (source : Source) (op : Operator) (to : Assigned) (value child : ℕ) → Contains (assigned_parts to) child → Contains (sized_parts source (Some (Compound op to value))) child
 assigned_is_sized source op to value child within =

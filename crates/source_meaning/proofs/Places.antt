@@ -1,10 +1,7 @@
 -- What lies at a place: as many bytes as its type's layout says, which are all inside the cell. So an operand has a value of its type
 -- when the operation runs.
 use Rattle.std.proofs.Common.{⊎_elim, ◌⊎◌, inl, ◌≡◌, ℕ, ◌+◌, ◌≤◌, ◌==◌, Bool, List, [], ◌∷◌, ◌++◌, length, take, drop, slice_get, get_or, if◌then◌else◌, Option, Some, None, unwrap_or, option_map, option_and_then, refl, sym, ap, ◌∙◌, subst, rules, arith, le-leb, eq-eqb, length-drop, length-take-le}
-use Rattle.std.proofs.lemmas.Option.{slice_get_within, slice_get-get_or}
-use Rattle.types.specs.declared.ty.Const.TheFolds.{the_lemmas}
 use Rattle.types.specs.declared.ty.Ty.{Ty, Bool as BoolTy}
-use Rattle.types.specs.declared.ty.Ty.TheVariants.{Tuple}
 use Rattle.world.specs.declared.database.HirDatabase.{HirDatabase}
 use Rattle.world.specs.Checked.{IsChecked}
 use Rattle.world.specs.Lookups.{layout_of}
@@ -13,23 +10,21 @@ use Rattle.numbers.specs.Operators.{kind_of}
 use Rattle.source_meaning.specs.Aggregates.{HasAggregates}
 use Rattle.source_meaning.specs.Meaning.{Value, operand_kind, values_of, is_byte}
 use Rattle.source_meaning.specs.Places.{elem_type, elem_offset, type_behind, added, offset_behind, part_of, bytes_behind, bytes_with, place_type, place_bytes, cell_with, operand_bytes, operands_bytes}
-use Rattle.source_meaning.specs.Source.{Source, Store, IsSized, Cell, PlaceElem, Part, Place, whole, projected, Binding, Operand, Literally, At, node_type, binding_type, cell_type, cell_size}
-use Rattle.source_meaning.specs.Valid.{IsNumber, IsBool, HaveTypes, AreBound, IsLaidOut, AreLaidOut}
+use Rattle.source_meaning.specs.Core.{PlaceElem}
+use Rattle.source_meaning.specs.Source.{Source, Store, IsSized, Cell, Place, whole, projected, Binding, Operand, Literally, At, node_type, binding_type, cell_type, cell_size}
+use Rattle.source_meaning.specs.Valid.{HasElem, IsNumber, IsBool, HaveTypes, AreBound, IsLaidOut, AreLaidOut}
 use Rattle.source_meaning.proofs.Aggregates.{AreBytes, with_part-there}
 use Rattle.source_meaning.proofs.Calls.{AreFor}
+use Rattle.source_meaning.proofs.Elements.{elem-inside, elem-type}
 use Rattle.source_meaning.proofs.Layouts.{bool_is_number, bool_length_is_one}
 use Rattle.source_meaning.proofs.Operators.{IsLengthOf}
 use Rattle.source_meaning.proofs.Values.{size_at, IsValueOf, AreValues, number_is_long}
 
--- the type of a part of a tuple
-pub part-type : (field : ℕ) (parts : List Ty) → elem_type (Part field) (Tuple parts) ≡ slice_get parts field
-part-type field parts = search (the_lemmas, rules)
-
 -- the type behind one element more
-pub type_behind-more : (elems : List PlaceElem) (elem : PlaceElem) (ty : Option Ty) → type_behind (elems ++ elem ∷ []) ty ≡ option_and_then (elem_type elem) (type_behind elems ty)
+pub type_behind-more : (world : HirDatabase) (elems : List PlaceElem) (elem : PlaceElem) (ty : Option Ty) → type_behind world (elems ++ elem ∷ []) ty ≡ option_and_then (elem_type world elem) (type_behind world elems ty)
 unfolding type_behind
-type_behind-more [] elem ty = refl
-type_behind-more (first ∷ rest) elem ty = type_behind-more rest elem (option_and_then (elem_type first) ty)
+type_behind-more world [] elem ty = refl
+type_behind-more world (first ∷ rest) elem ty = type_behind-more world rest elem (option_and_then (elem_type world first) ty)
 
 added-nothing : (some : Option ℕ) → added some (Some 0) ≡ added (Some 0) some
 added-nothing (Some n) = ap Some (omega arith)
@@ -43,12 +38,12 @@ added-grouped None second third = refl
 
 -- where it begins
 pub offset_behind-more : (world : HirDatabase) (elems : List PlaceElem) (elem : PlaceElem) (ty : Option Ty) →
-    offset_behind world (elems ++ elem ∷ []) ty ≡ added (offset_behind world elems ty) (option_and_then (elem_offset world elem) (type_behind elems ty))
+    offset_behind world (elems ++ elem ∷ []) ty ≡ added (offset_behind world elems ty) (option_and_then (elem_offset world elem) (type_behind world elems ty))
 unfolding offset_behind type_behind
 offset_behind-more world [] elem ty = added-nothing (option_and_then (elem_offset world elem) ty)
 offset_behind-more world (first ∷ rest) elem ty =
-    ap (added (option_and_then (elem_offset world first) ty)) (offset_behind-more world rest elem (option_and_then (elem_type first) ty))
-    ∙ added-grouped (option_and_then (elem_offset world first) ty) (offset_behind world rest (option_and_then (elem_type first) ty)) (option_and_then (elem_offset world elem) (type_behind rest (option_and_then (elem_type first) ty)))
+    ap (added (option_and_then (elem_offset world first) ty)) (offset_behind-more world rest elem (option_and_then (elem_type world first) ty))
+    ∙ added-grouped (option_and_then (elem_offset world first) ty) (offset_behind world rest (option_and_then (elem_type world first) ty)) (option_and_then (elem_offset world elem) (type_behind world rest (option_and_then (elem_type world first) ty)))
 
 -- a part that ends within bytes is there
 pub part_of-there : (offset size : ℕ) (bytes : List ℕ) → offset + size ≤ length bytes → AreBytes size (part_of offset size bytes)
@@ -103,34 +98,30 @@ module _ (source : Source) where
   unfolding place_type type_behind offset_behind
   whole_is_place cell ty is laid = record { typed = is; laid = laid; offset = 0; begins = refl; ends = let same = ap (size_at source) is in omega (arith, same) }
 
-  -- a part of a tuple is a place, and has the part's type
-  pub part_is_place : HasAggregates source.world → (place : Place) (parts : List Ty) (field : ℕ) (ty : Ty) → IsPlaceOf source place (Some (Tuple parts)) → slice_get parts field ≡ Some ty → IsPlaceOf source (projected (Part field) place) (Some ty)
+  -- what an element leads to from a place is a place, of the type that it leads to
+  pub part_is_place : HasAggregates source.world → (place : Place) (base : Ty) (elem : PlaceElem) (ty : Ty) → IsPlaceOf source place (Some base) → HasElem source.world elem base ty → IsPlaceOf source (projected elem place) (Some ty)
   unfolding place_type
-  part_is_place aggregates place parts field ty fits has =
+  part_is_place aggregates place base elem ty fits has =
       let layout = fits.laid.layout in
-      let found : layout_of source.world (Tuple parts) ≡ Some layout = fits.laid.found in
-      let inside = aggregates.tuples parts layout found in
-      let within = slice_get_within parts field ty has in
-      let behind = get_or layout.offsets field 0 in
-      let there : slice_get layout.offsets field ≡ Some behind = slice_get-get_or layout.offsets field 0 (omega (arith, within, inside.count)) in
-      let part = inside.inside field behind ty has there in
-      let size : size_at source (Some (Tuple parts)) ≡ layout.size = ap (λ given. unwrap_or (option_map (λ l. l.size) given) 0) found in
+      let found : layout_of source.world base ≡ Some layout = fits.laid.found in
+      let lies = elem-inside source.world aggregates layout elem base ty found has in
+      let part = lies.inside in
+      let size : size_at source (Some base) ≡ layout.size = ap (λ given. unwrap_or (option_map (λ l. l.size) given) 0) found in
       let size' : size_at source (Some ty) ≡ part.layout.size = ap (λ given. unwrap_or (option_map (λ l. l.size) given) 0) part.has in
       let whole_type = cell_type source place.cell in
       record {
-        typed = type_behind-more place.projection (Part field) whole_type ∙ ap (option_and_then (elem_type (Part field))) fits.typed ∙ part-type field parts ∙ has;
+        typed = type_behind-more source.world place.projection elem whole_type ∙ ap (option_and_then (elem_type source.world elem)) fits.typed ∙ elem-type source.world elem base ty has;
         laid = record { layout = part.layout; found = part.has };
-        offset = fits.offset + behind;
-        begins = offset_behind-more source.world place.projection (Part field) whole_type
-            ∙ ap (λ given. added given (option_and_then (elem_offset source.world (Part field)) (type_behind place.projection whole_type))) fits.begins
-            ∙ ap (λ given. added (Some fits.offset) (option_and_then (elem_offset source.world (Part field)) given)) fits.typed
-            ∙ ap (λ given. added (Some fits.offset) (option_and_then (λ l. slice_get l.offsets field) given)) found
-            ∙ ap (added (Some fits.offset)) there;
+        offset = fits.offset + lies.offset;
+        begins = offset_behind-more source.world place.projection elem whole_type
+            ∙ ap (λ given. added given (option_and_then (elem_offset source.world elem) (type_behind source.world place.projection whole_type))) fits.begins
+            ∙ ap (λ given. added (Some fits.offset) (option_and_then (elem_offset source.world elem) given)) fits.typed
+            ∙ ap (added (Some fits.offset)) lies.begins;
         ends = omega (arith, fits.ends, part.ends, size, size');
       }
 
   -- what elements lead to in the bytes of a value
-  behind-there : (elems : List PlaceElem) (from ty : Option Ty) (offset : ℕ) (bytes : List ℕ) → type_behind elems from ≡ ty → IsLaidOut source ty → offset_behind source.world elems from ≡ Some offset →
+  behind-there : (elems : List PlaceElem) (from ty : Option Ty) (offset : ℕ) (bytes : List ℕ) → type_behind source.world elems from ≡ ty → IsLaidOut source ty → offset_behind source.world elems from ≡ Some offset →
       offset + size_at source ty ≤ length bytes → length bytes ≡ size_at source from → AreBytes (size_at source ty) (bytes_behind source.world elems from bytes)
   unfolding bytes_behind type_behind
   behind-there [] from ty offset bytes typed laid begins ends long = record { bytes = bytes; is = refl; long = long ∙ ap (size_at source) typed }
@@ -140,7 +131,7 @@ module _ (source : Source) where
       let there = part_of-there offset (size_at source ty) bytes ends in
       record {
         bytes = there.bytes;
-        is = ap (option_and_then (λ start. option_and_then (λ count. part_of start count bytes) (option_map (λ layout. layout.size) (option_and_then (layout_of source.world) (type_behind (elem ∷ rest) from))))) begins
+        is = ap (option_and_then (λ start. option_and_then (λ count. part_of start count bytes) (option_map (λ layout. layout.size) (option_and_then (layout_of source.world) (type_behind source.world (elem ∷ rest) from))))) begins
             ∙ ap (λ given. option_and_then (λ count. part_of offset count bytes) (option_map (λ layout. layout.size) (option_and_then (layout_of source.world) given))) typed
             ∙ ap (option_and_then (λ count. part_of offset count bytes)) size
             ∙ there.is;
@@ -148,7 +139,7 @@ module _ (source : Source) where
       }
 
   -- bytes of the size of what lies behind elements can be put there, and the value has as many bytes as before
-  behind-put : (elems : List PlaceElem) (from ty : Option Ty) (offset : ℕ) (put bytes : List ℕ) → type_behind elems from ≡ ty → IsLaidOut source ty → offset_behind source.world elems from ≡ Some offset →
+  behind-put : (elems : List PlaceElem) (from ty : Option Ty) (offset : ℕ) (put bytes : List ℕ) → type_behind source.world elems from ≡ ty → IsLaidOut source ty → offset_behind source.world elems from ≡ Some offset →
       offset + size_at source ty ≤ length bytes → length bytes ≡ size_at source from → length put ≡ size_at source ty → AreBytes (length bytes) (bytes_with source.world elems from put bytes)
   unfolding bytes_with type_behind
   behind-put [] from ty offset put bytes typed laid begins ends long fits =
@@ -160,7 +151,7 @@ module _ (source : Source) where
       let there = with_part-there offset put bytes (omega (arith, ends, fits)) in
       record {
         bytes = there.bytes;
-        is = ap (option_and_then (λ start. option_and_then (λ count. if length put == count then with_part start put bytes else None) (option_map (λ layout. layout.size) (option_and_then (layout_of source.world) (type_behind (elem ∷ rest) from))))) begins
+        is = ap (option_and_then (λ start. option_and_then (λ count. if length put == count then with_part start put bytes else None) (option_map (λ layout. layout.size) (option_and_then (layout_of source.world) (type_behind source.world (elem ∷ rest) from))))) begins
             ∙ ap (λ given. option_and_then (λ count. if length put == count then with_part offset put bytes else None) (option_map (λ layout. layout.size) (option_and_then (layout_of source.world) given))) typed
             ∙ ap (option_and_then (λ count. if length put == count then with_part offset put bytes else None)) size
             ∙ ap (λ test. if test then with_part offset put bytes else None) (eq-eqb (length put) (size_at source ty) fits)

@@ -21,7 +21,7 @@ use Rattle.source_meaning.specs.Aggregates.{HasAggregates}
 use Rattle.source_meaning.specs.Around.{Opened, Target, Around, at_root, marking, entered, inside as inside_of, is_meant, meant, target_of}
 use Rattle.source_meaning.specs.Calls.{must_not_return, parameter_cells, parameters}
 use Rattle.source_meaning.specs.Core as expr
-use Rattle.source_meaning.specs.Core.{Assigned, Assignee, ByField, ByPath, ByPattern, ByPlace, CoreExpr, CoreLiteral, Truth, Number, Character, Operation, Combine, is_truth}
+use Rattle.source_meaning.specs.Core.{Assigned, Assignee, ByField, ByPath, ByPattern, ByPlace, CoreExpr, CoreLiteral, Truth, Number, Character, Operation, Combine, PlaceElem, is_truth}
 use Rattle.source_meaning.specs.Ends.{Cost, no_cost, turns_alone, plus, End, Go, Jumps, Jump, Break, Continue, Return, Faults, NoLayout, Stuck, More, JumpsNowhere, after, then_do}
 use Rattle.source_meaning.specs.Entering.{entering}
 use Rattle.source_meaning.specs.Events.{marked, marked_as_operand, marked_as_place, marked_by_assigned, marked_by_statement}
@@ -392,17 +392,17 @@ module _ (source : Source) (checked : IsChecked source.world) where
       part_is_fine outer e child (Some (expr.Block statements tail)) is (sized_block_parts source statements tail child within) fine
 
   module _ (aggregates : HasAggregates source.world) (below : Levels) (sound : (outer : List Opened) (around : Around) → Stands outer around → IsSoundLevel outer around.targets (below around)) where
-    -- the part of a tuple whose place a base is
-    part_place_is_sound : (outer : List Opened) (around : Around) (stands : Stands outer around) (base index : ℕ) (ty : Ty) (store : Store) → IsPlainField source base index ty → IsFine source outer base → IsSized source store →
-        IsSound source around.targets (λ place. IsPlaceOf source place (Some ty)) (field_place (below around) base index store)
-    part_place_is_sound outer around stands base index ty store plain fine sized =
+    -- what an element leads to from the place that a base is
+    part_place_is_sound : (outer : List Opened) (around : Around) (stands : Stands outer around) (base : ℕ) (elem : PlaceElem) (ty : Ty) (store : Store) → IsPlainField source base elem ty → IsFine source outer base → IsSized source store →
+        IsSound source around.targets (λ place. IsPlaceOf source place (Some ty)) (field_place (below around) base elem store)
+    part_place_is_sound outer around stands base elem ty store plain fine sized =
         then_do_is_sound source around.targets (PlaceFits base) (λ place. IsPlaceOf source place (Some ty)) ((below around).place base store) _ ((sound outer around stands).place base store fine sized) (λ place later sized' fits. (
           sized',
-          part_is_place source aggregates place plain.parts index ty (subst (IsPlaceOf source place) plain.base_has fits) plain.part_has,
+          part_is_place source aggregates place plain.base_ty elem ty (subst (IsPlaceOf source place) plain.base_has fits) plain.has_elem,
         ))
 
     -- a field is a part of its base's place, and has its own type
-    field_is_sound : (outer : List Opened) (around : Around) (stands : Stands outer around) (e base : ℕ) (field : ℕ) (store : Store) → node source e ≡ Some (expr.Field base field) → IsFine source outer e → IsSized source store →
+    field_is_sound : (outer : List Opened) (around : Around) (stands : Stands outer around) (e base : ℕ) (field : PlaceElem) (store : Store) → node source e ≡ Some (expr.Field base field) → IsFine source outer e → IsSized source store →
         IsSound source around.targets (λ place. IsPlaceOf source place (own_type source e)) (field_place (below around) base field store)
     field_is_sound outer around stands e base field store is fine sized =
         let plain = fine.plain e itself in
@@ -575,7 +575,7 @@ module _ (source : Source) (checked : IsChecked source.world) where
     assigned_place_is_sound : (outer : List Opened) (around : Around) (stands : Stands outer around) (to : Assigned) (ty : Ty) (store : Store) → IsPlainAssigned source to ty → AreBindingsLaidOut source → ((child : ℕ) → Contains (assigned_parts to) child → IsFine source outer child) → IsSized source store →
         IsSound source around.targets (λ place. IsPlaceOf source place (Some ty)) (assigned_place source (below around) to store)
     assigned_place_is_sound outer around stands (ByPath e) ty store plain laid parts sized = bound_place_is_sound around.targets (compound_target source e) plain.binding ty store laid plain.names plain.binding_has sized
-    assigned_place_is_sound outer around stands (ByField base index) ty store plain laid parts sized = part_place_is_sound outer around stands base index ty store plain (parts base (first_is_contained base [])) sized
+    assigned_place_is_sound outer around stands (ByField base elem) ty store plain laid parts sized = part_place_is_sound outer around stands base elem ty store plain (parts base (first_is_contained base [])) sized
 
     -- what an operator makes of what lies at a place and a value has the size of the place's type
     combined_is_sound : (targets : List Target) (op : Operator) (ty other_ty : Ty) (value : ℕ) (place : Place) (given : Operand) (store : Store) → IsCombined op ty other_ty ty → node_type source value ≡ Some other_ty → IsSized source store → IsPlaceOf source place (Some ty) → OperandFits value given →

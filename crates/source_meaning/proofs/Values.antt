@@ -1,8 +1,9 @@
 -- What operations make of values of the types that they are on: a value of the result's size, or a panic.
-use Rattle.std.proofs.Common.{⊎_elim, ◌⊎◌, ◌≡◌, ℕ, suc, ◌*◌, false, true, List, [], ◌∷◌, length, map, flat_map, slice_get, All, IfSome, Option, Some, unwrap_or, option_map, option_and_then, refl, sym, ap, ◌∙◌, subst, arith, length-append}
+use Rattle.std.proofs.Common.{⊎_elim, ◌⊎◌, ◌≡◌, ℕ, zero, suc, ◌*◌, false, true, List, [], ◌∷◌, length, map, flat_map, slice_get, All, IfSome, Option, Some, unwrap_or, option_map, option_and_then, refl, sym, ap, ◌∙◌, subst, arith, length-append}
 use Rattle.std.proofs.lemmas.List.Elements.{All-head, All-tail}
 use Rattle.types.specs.declared.ty.Ty.{Ty, Bool as BoolTy, Int as IntType, Uint as UintType, Char as CharType}
-use Rattle.types.specs.declared.ty.Ty.TheVariants.{Array, Tuple}
+use Rattle.types.specs.declared.ids.AdtId.TheVariants as adt
+use Rattle.types.specs.declared.ty.Ty.TheVariants.{Adt, Array, Tuple}
 use Rattle.world.specs.declared.layout.Layout.{Layout}
 use Rattle.world.specs.Checked.{IsChecked, fixed_size}
 use Rattle.world.specs.Lookups.{layout_of}
@@ -10,12 +11,14 @@ use Rattle.numbers.specs.declared.operator.Operator.{Operator}
 use Rattle.numbers.specs.declared.operator.Operator.TheVariants.{Add, Sub, Mul, Div, Rem, BitXor, BitAnd, BitOr, Shl, Shr, Eq, Ne, Lt, Le, Gt, Ge}
 use Rattle.numbers.specs.Operators.{computed, negated, inverted, is_shift, is_comparison, is_on_booleans, kind_of}
 use Rattle.source_meaning.specs.Aggregates.{array_length, made, laid_out, repeated_for, IsPartInside, HasParts, HasAggregates}
-use Rattle.source_meaning.specs.Core.{Operation, Negate, Invert, Keep, Convert, Combine, MakeTuple, MakeArray, Repeat}
-use Rattle.source_meaning.specs.Meaning.{Value, converted_to, answered}
+use Rattle.source_meaning.specs.Core.{Operation, Negate, Invert, Keep, Convert, Combine, MakeTuple, MakeArray, Repeat, MakeStruct}
+use Rattle.source_meaning.specs.Meaning.{Value, converted_to, answered, struct_of}
 use Rattle.source_meaning.specs.Source.{Source}
+use Rattle.source_meaning.specs.Structs.{picked}
 use Rattle.source_meaning.specs.Valid.{IsNumber, IsBool, AreIntegers, AreScalars, AreShifted, AreCompared, IsCombined, IsTyped, IsLaidOut}
 use Rattle.source_meaning.proofs.Aggregates.{AreInside, constructed-there, length-repeated, length_of_array}
 use Rattle.source_meaning.proofs.Layouts.{number_has_length, number_has_size, integer_is_number, bool_is_number, scalar_is_number, bool_length_is_one}
+use Rattle.source_meaning.proofs.Structs.{fields-are-parts, picked-more, picked-none, picks-first}
 use Rattle.source_meaning.proofs.Operators.{Fits, IsLengthOf, IsAllowed, allowed_on_integer, allowed_on_scalar, allowed_on_number, length_is_width, converted_fits, unshifted_fits, compared_fits, shift_fits, negated_fits, inverted_fits}
 
 -- how many bytes the values of a type have
@@ -148,6 +151,25 @@ module _ (source : Source) where
         let there = constructed-there layout.size layout.offsets (map (λ value. value.bytes) values) (parts_are_inside layout.size layout.offsets types values has.count has.inside are) in
         subst (λ given. Fits layout.size (made given)) (sym there.is) there.long
 
+    -- the value at the place of a type
+    value-at : (types : List Ty) (values : List Value) → AreValues source types values → (k : ℕ) (ty : Ty) → slice_get types k ≡ Some ty → (value : Value) × (slice_get values k ≡ Some value) × IsValueOf source ty value
+    value-at [] values are k ty at = absurd cc
+    value-at (one ∷ types) [] are k ty at = absurd are
+    value-at (one ∷ types) (value ∷ values) are zero ty at = let same : one ≡ ty = cc in (value, refl, subst (λ t. IsValueOf source t value) same are.0)
+    value-at (one ∷ types) (value ∷ values) are (suc k) ty at = value-at types values are.1 k ty at
+
+    -- and those at places
+    picked-values : (places : List ℕ) (types : List Ty) (values : List Value) (given : List Ty) → AreValues source types values → picked places types ≡ Some given → (chosen : List Value) × (picked places values ≡ Some chosen) × AreValues source given chosen
+    picked-values [] types values given are is =
+        let none : Some given ≡ Some [] = sym is ∙ picked-none types in
+        let same : given ≡ [] = cc in
+        ([], picked-none values, subst (λ types. AreValues source types []) (sym same) tt)
+    picked-values (place ∷ places) types values given are is =
+        let from = picks-first place places types given is in
+        let first = value-at types values are place from.first from.there in
+        let rest = picked-values places types values from.others are from.rest in
+        (first.0 ∷ rest.0, picked-more place places values first.0 rest.0 first.1 rest.1, subst (λ types. AreValues source types (first.0 ∷ rest.0)) (sym from.are) (first.2, rest.2))
+
     -- the elements of an array have the size of its element each
     length-elements : (element : Ty) (inner : Layout) (types : List Ty) (values : List Value) → layout_of source.world element ≡ Some inner → All (λ one. one ≡ element) types → AreValues source types values →
         length (flat_map (λ value. value.bytes) values) ≡ length types * inner.size
@@ -159,7 +181,7 @@ module _ (source : Source) where
         omega (arith, length-append value.bytes (flat_map (λ one. one.bytes) values), value_is_long element inner value found is, length-elements element inner types values found (All-tail (λ one. one ≡ element) ty types each) are.1)
 
     -- what an operation makes of values of types that fit it has the size of its own type
-    pub typed_fits : HasAggregates source.world → (operation : Operation) (types : List Ty) (values : List Value) (ty : Ty) → IsLaidOut source (Some ty) → IsTyped operation types ty → AreValues source types values →
+    pub typed_fits : HasAggregates source.world → (operation : Operation) (types : List Ty) (values : List Value) (ty : Ty) → IsLaidOut source (Some ty) → IsTyped source.world operation types ty → AreValues source types values →
         Fits (size_at source (Some ty)) (answered source.world (Some ty) operation values)
     unfolding answered
     typed_fits aggregates Negate (a ∷ []) values ty laid typed are =
@@ -192,6 +214,14 @@ module _ (source : Source) where
         subst (λ size. Fits size (laid_out (layout_of source.world ty) (map (λ value. value.bytes) values))) (sym (laid_size ty laid))
         (subst (λ layout. Fits laid.layout.size (laid_out layout (map (λ value. value.bytes) values))) (sym laid.found)
         (tuple_fits types values laid.layout (aggregates.tuples types laid.layout found) are))
+    typed_fits aggregates (MakeStruct id args places) types values ty laid typed are =
+        let found : layout_of source.world (Adt (adt.StructId id) args) ≡ Some laid.layout = subst (λ t. layout_of source.world t ≡ Some laid.layout) typed.is laid.found in
+        let chosen = picked-values places types values typed.given are typed.picks in
+        let has = fields-are-parts source.world args typed.fields typed.given laid.layout typed.each (aggregates.structs id args typed.fields laid.layout typed.found found) in
+        subst (λ size. Fits size (struct_of (layout_of source.world (Adt (adt.StructId id) args)) (picked places values))) (sym (laid_size ty laid))
+        (subst (λ layout. Fits laid.layout.size (struct_of layout (picked places values))) (sym found)
+        (subst (λ fields. Fits laid.layout.size (struct_of (Some laid.layout) fields)) (sym chosen.1)
+        (tuple_fits typed.given chosen.0 laid.layout has chosen.2)))
     typed_fits aggregates MakeArray types values ty laid typed are =
         let found : layout_of source.world (Array typed.element typed.len) ≡ Some laid.layout = subst (λ t. layout_of source.world t ≡ Some laid.layout) typed.is laid.found in
         let has = aggregates.arrays typed.element typed.len laid.layout found in

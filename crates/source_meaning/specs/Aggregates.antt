@@ -1,5 +1,8 @@
--- Values that have parts: tuples and arrays.
+-- Values that have parts: tuples, arrays and structs.
 use Rattle.std.specs.Prelude.{◌≡◌, ℕ, ◌+◌, ◌*◌, ◌≤◌, List, length, Option, Some, None, slice_get, IfSome}
+use Rattle.types.specs.declared.ids.AdtId.TheVariants as adt
+use Rattle.types.specs.declared.ids.StructId.{StructId}
+use Rattle.types.specs.declared.ids.VariantId.TheVariants as variant
 use Rattle.types.specs.declared.ty.ComplexMemoryMap.{ComplexMemoryMap}
 use Rattle.types.specs.declared.ty.Const.{Const}
 use Rattle.types.specs.declared.ty.Const.TheOpen as layer
@@ -8,15 +11,17 @@ use Rattle.types.specs.declared.ty.GenericArgs.{GenericArgs}
 use Rattle.types.specs.declared.ty.MemoryMap.{MemoryMap}
 use Rattle.types.specs.declared.ty.TraitRef.{TraitRef}
 use Rattle.types.specs.declared.ty.Ty.{Ty, Ty-F, out-Ty}
-use Rattle.types.specs.declared.ty.Ty.TheVariants.{Array, Tuple}
+use Rattle.types.specs.declared.ty.Ty.TheVariants.{Adt, Array, Tuple}
 use Rattle.types.specs.declared.ty.UnevaluatedConst.{UnevaluatedConst}
 use Rattle.types.specs.declared.ty.ValueConst.{ValueConst}
 use Rattle.world.specs.declared.database.HirDatabase.{HirDatabase}
+use Rattle.world.specs.declared.items.FieldRow.{FieldRow}
 use Rattle.world.specs.declared.layout.Layout.{Layout}
-use Rattle.world.specs.Lookups.{layout_of}
+use Rattle.world.specs.Lookups.{fields_of, layout_of}
 use Rattle.numbers.specs.Aggregates.{constructed, repeated}
 use Rattle.numbers.specs.Constants.{number_in}
 use Rattle.numbers.specs.Operators.{Answer, Computes, Undefined}
+use Rattle.source_meaning.specs.Structs.{field_type}
 
 -- a type's variant
 abbrev TyLayer : Type 0
@@ -62,7 +67,13 @@ pub record HasElements (world : HirDatabase) (element : Ty) (len : Const) (layou
   pub has : layout_of world element ≡ Some inner
   pub product : IfSome (number_in len) (λ count. layout.size ≡ count * inner.size)
 
--- in a checked world the layout of each tuple and of each array says so
+-- the layout of a struct at generic arguments has an offset for each field, and each field that has a type there lies inside
+pub record HasFields (world : HirDatabase) (args : GenericArgs) (fields : List FieldRow) (layout : Layout) : Type 0 where
+  pub count : length layout.offsets ≡ length fields
+  pub inside : (k offset : ℕ) (field : FieldRow) (ty : Ty) → slice_get fields k ≡ Some field → field_type world args field ≡ Some ty → slice_get layout.offsets k ≡ Some offset → IsPartInside world layout.size offset ty
+
+-- in a checked world the layout of each tuple, of each array and of each struct says so
 pub record HasAggregates (world : HirDatabase) : Type 0 where
   pub tuples : (types : List Ty) (layout : Layout) → layout_of world (Tuple types) ≡ Some layout → HasParts world types layout
+  pub structs : (id : StructId) (args : GenericArgs) (fields : List FieldRow) (layout : Layout) → fields_of world (variant.StructId id) ≡ Some fields → layout_of world (Adt (adt.StructId id) args) ≡ Some layout → HasFields world args fields layout
   pub arrays : (element : Ty) (len : Const) (layout : Layout) → layout_of world (Array element len) ≡ Some layout → HasElements world element len layout

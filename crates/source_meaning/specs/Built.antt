@@ -51,10 +51,10 @@ abbrev pub IsBuiltAssignee : Source → Assignee → Type 0
 IsBuiltAssignee source (ByPattern pat) = AssignsBinding source pat
 IsBuiltAssignee source (ByPlace e) = is_place (unadjusted source e) ≡ true
 
--- the target of a compound assignment that is built: a path to a binding of the body, or a part of a tuple
+-- the target of a compound assignment that is built: a path to a binding of the body, or a part of a tuple or a struct
 abbrev pub IsBuiltAssigned : Source → Assigned → Type 0
 IsBuiltAssigned source (ByPath e) = CombinesBinding source e
-IsBuiltAssigned source (ByField base index) = Unit {0}
+IsBuiltAssigned source (ByField base elem) = Unit {0}
 
 -- a statement that is built: a `let` of a name with an initializer and without `else`, or an expression
 abbrev pub IsBuiltStatement : Source → Statement → Type 0

@@ -4,7 +4,7 @@ use Rattle.std.specs.BTreeMap.{is_at}
 use Rattle.std.specs.List.{list_any}
 use Rattle.std.specs.Map.{lookup}
 use Rattle.either.specs.declared.Either.{Either}
-use Rattle.either.specs.declared.Either.TheVariants.{Right}
+use Rattle.either.specs.declared.Either.TheVariants.{Left, Right}
 use Rattle.numbers.specs.declared.operator.Operator.{Operator}
 use Rattle.numbers.specs.Operators.{kind_of, of_arith, of_compare}
 use Rattle.types.specs.contracts.ids.ExprIdOrd.TheImpl as ExprIdOrd
@@ -14,13 +14,17 @@ use Rattle.types.specs.declared.ids.ExprId.{ExprId}
 use Rattle.types.specs.declared.ids.LabelId.{LabelId}
 use Rattle.types.specs.declared.ids.FieldId.{FieldId}
 use Rattle.types.specs.declared.ids.PatId.{PatId}
+use Rattle.types.specs.declared.ids.StructId.{StructId}
 use Rattle.types.specs.declared.ids.TupleFieldId.{TupleFieldId}
+use Rattle.types.specs.declared.ids.VariantId.{VariantId}
+use Rattle.types.specs.declared.ids.VariantId.TheVariants as variant
 use Rattle.types.specs.declared.operators.ArithOp.{ArithOp}
 use Rattle.types.specs.declared.operators.BinaryOp.{BinaryOp}
 use Rattle.types.specs.declared.operators.BinaryOp.TheVariants as binary
 use Rattle.types.specs.declared.operators.LogicOp.{LogicOp}
 use Rattle.types.specs.declared.operators.UnaryOp.{UnaryOp}
 use Rattle.types.specs.declared.operators.UnaryOp.TheVariants as unary
+use Rattle.types.specs.declared.ty.GenericArgs.{GenericArgs}
 use Rattle.types.specs.declared.ty.Ty.{Ty}
 use Rattle.world.specs.declared.adjust.Adjust.{Adjust}
 use Rattle.world.specs.declared.adjust.Adjust.TheVariants as adjust
@@ -28,6 +32,9 @@ use Rattle.world.specs.declared.adjust.Adjustment.{Adjustment}
 use Rattle.world.specs.declared.body.Statement.{Statement}
 use Rattle.world.specs.declared.expr.Expr.TheVariants as expr
 use Rattle.world.specs.declared.expr.Expr.{Expr}
+use Rattle.world.specs.declared.expr.RecordLitField.{RecordLitField}
+use Rattle.world.specs.declared.expr.RecordSpread.{RecordSpread}
+use Rattle.world.specs.declared.expr.RecordSpread.TheVariants as spread
 use Rattle.world.specs.declared.infer.BindingMode.TheVariants as mode
 use Rattle.world.specs.declared.infer.BindingMode.{BindingMode}
 use Rattle.world.specs.declared.infer.InferenceResult.{InferenceResult}
@@ -38,7 +45,8 @@ use Rattle.world.specs.declared.literal.Literal.TheVariants as literal
 use Rattle.world.specs.declared.pat.Pat.TheVariants as pat
 use Rattle.world.specs.declared.pat.Pat.{Pat}
 use Rattle.world.specs.Lookups.{type_of}
-use Rattle.world.specs.Nodes.{expr_numbers}
+use Rattle.world.specs.Nodes.{expr_numbers, field_numbers}
+use Rattle.source_meaning.specs.Structs.{StructAt, all_places}
 
 -- a literal with a meaning: a truth value, a whole number, or a character, by its code point
 pub data CoreLiteral : Type 0 where
@@ -48,7 +56,8 @@ pub data CoreLiteral : Type 0 where
 
 -- What is computed from operands that are all evaluated: unary minus, `!`, an operator on two operands, or a cast, which either is a
 -- coercion and keeps the bytes as they are, or converts a number, a truth value or a character to a type of another size or sign.
--- Besides, values that have parts: a tuple and an array of the operands, and an array of one operand as often as its type says.
+-- Besides, values that have parts: a tuple and an array of the operands, an array of one operand as often as its type says, and a struct, at
+-- generic arguments, each field of which is the operand at its place.
 pub data Operation : Type 0 where
   Negate : Operation
   Invert : Operation
@@ -58,6 +67,12 @@ pub data Operation : Type 0 where
   MakeTuple : Operation
   MakeArray : Operation
   Repeat : Operation
+  MakeStruct : (id : StructId) → (args : GenericArgs) → (places : List ℕ) → Operation
+
+-- one step from a value into it: to the part of a tuple at an index, or to a field of a struct
+pub data PlaceElem : Type 0 where
+  Part : (index : ℕ) → PlaceElem
+  FieldOf : (field : FieldId) → PlaceElem
 
 -- What an assignment writes to, which is its assignee in the Rust Reference, by the pattern that its target is: the place of the expression
 -- that the pattern holds, or what any other pattern says. So far only a path to a binding says something.
@@ -66,11 +81,11 @@ pub data Assignee : Type 0 where
   ByPlace : (e : ℕ) → Assignee
 
 -- What a compound assignment reads and writes, which is its assigned operand in the Rust Reference, by the expression that its left operand
--- is: a part of a tuple, by the tuple and the part's index, or what any other expression names. So far only a path to a binding names
+-- is: a part of a tuple or a field of a struct, by its base and the step into it, or what any other expression names. So far only a path to a binding names
 -- something.
 pub data Assigned : Type 0 where
   ByPath : (e : ℕ) → Assigned
-  ByField : (base index : ℕ) → Assigned
+  ByField : (base : ℕ) → (elem : PlaceElem) → Assigned
 
 -- An expression of a form that has a meaning. A strict form evaluates all its operands from left to right, and then
 -- computes one operation. `&&` and `||` evaluate their right operand only where the left one doesn't decide, and `if` one of
@@ -78,11 +93,11 @@ pub data Assigned : Type 0 where
 -- ends a loop or a labelled block around it, with a value or without, and a `continue` starts it again. A `return` ends the
 -- body, with a value or without. A call evaluates its arguments from left to right, and then enters the body of a function: the one that
 -- its callee's type names, or, where it is a method call, the one that it is resolved to; the receiver is its first argument. A field is
--- a part of its base, which is a tuple.
+-- a part of its base, which is a tuple or a struct.
 pub data CoreExpr : Type 0 where
   Literal : CoreLiteral → CoreExpr
   Path : (name : List ℕ) → CoreExpr
-  Field : (base index : ℕ) → CoreExpr
+  Field : (base : ℕ) → (elem : PlaceElem) → CoreExpr
   Strict : Operation → (operands : List ℕ) → CoreExpr
   Logic : LogicOp → (left right : ℕ) → CoreExpr
   If : (condition then_branch : ℕ) → (else_branch : Option ExprId) → CoreExpr
@@ -131,11 +146,26 @@ binary_form to lhs rhs (binary.Assignment op) = compound_form to rhs op
 abbrev pub unary_form : ℕ → Option Operation → Option CoreExpr
 unary_form e operation = option_map (λ op. Strict op (e ∷ [])) operation
 
--- a field, by what inference resolved it to: so far a part of a tuple, by its index, and none of a struct, a variant or a union. The name
--- that is written isn't looked at.
+-- the step to a field, by what has it: so far one of a struct, and none of a variant or a union
+abbrev pub step_to : FieldId → VariantId → Option PlaceElem
+step_to field (variant.StructId id) = Some (FieldOf field)
+step_to field _ = None
+
+-- the step that a field expression takes, by what inference resolved it to. The name that is written isn't looked at.
+abbrev pub field_step : Either FieldId TupleFieldId → Option PlaceElem
+field_step (Left field) = step_to field field.parent
+field_step (Right field) = Some (Part field.index)
+
+-- a field of a base, by what inference resolved it to
 abbrev pub field_form : ℕ → Option (Either FieldId TupleFieldId) → Option CoreExpr
-field_form base (Some (Right field)) = Some (Field base field.index)
-field_form base _ = None
+field_form base named = option_map (Field base) (option_and_then field_step named)
+
+-- A struct literal without a base, by the struct that it makes and the fields that are written: each field of the struct has to be written
+-- once. One with a base, and one of a variant or a union, has no meaning so far.
+abbrev pub record_form : Option StructAt → List RecordLitField → RecordSpread → Option CoreExpr
+record_form (Some made) written spread.None =
+    option_map (λ places. Strict (MakeStruct made.id made.args places) (field_numbers written)) (all_places made.fields written)
+record_form _ written _ = None
 
 -- What the form of an expression depends on besides the expression itself.
 pub record Findings : Type 0 where
@@ -145,6 +175,8 @@ pub record Findings : Type 0 where
   pub casts : ExprId → Option Operation
   -- what it is resolved to, where it names a field
   pub field : Option (Either FieldId TupleFieldId)
+  -- the struct that it makes a value of, where it is resolved to one
+  pub made : Option StructAt
   -- what a pattern is as the target of an assignment
   pub assignee : PatId → Assignee
   -- what an expression is as the target of a compound assignment
@@ -171,6 +203,7 @@ core_of found (expr.MethodCall receiver args name) = Some (Call None (receiver.0
 core_of found (expr.Tuple parts) = Some (Strict MakeTuple (expr_numbers parts))
 core_of found (expr.Array elements) = Some (Strict MakeArray (expr_numbers elements))
 core_of found (expr.Repeat initializer) = Some (Strict Repeat (initializer.0 ∷ []))
+core_of found (expr.RecordLit path written base) = record_form found.made written base
 core_of found _ = None
 
 -- the type that a step leads to, where it is `NeverToAny`, the one from `!` to any type
@@ -262,13 +295,13 @@ pattern_names_item infer p =
 unfoldable pub is_dereferenced_pattern : InferenceResult → PatId → Bool
 is_dereferenced_pattern infer p = is_positive (lookup (is_at (PatIdOrd.ghosts.cmp p)) infer.pat_adjustments)
 
--- the base and the index of the part of a tuple that an expression is, where it is a field that is resolved to one
-abbrev pub tuple_part : (base : ℕ) → Option (Either FieldId TupleFieldId) → Option (ℕ × ℕ)
-tuple_part base (Some (Right field)) = Some (base, field.index)
-tuple_part base _ = None
+-- a base, and the step from it
+abbrev pub step_from : (base : ℕ) → Option PlaceElem → Option (ℕ × PlaceElem)
+step_from base step = option_map (λ elem. (base, elem)) step
 
-abbrev pub part_in : Option (Either FieldId TupleFieldId) → Expr → Option (ℕ × ℕ)
-part_in named (expr.Field base name) = tuple_part base.0 named
+-- the base and the step of the field that an expression is, where it is one
+abbrev pub part_in : Option (Either FieldId TupleFieldId) → Expr → Option (ℕ × PlaceElem)
+part_in named (expr.Field base name) = step_from base.0 (option_and_then field_step named)
 part_in named _ = None
 
 -- the expression that a pattern holds as the target of an assignment

@@ -13,4 +13,5 @@ pub mod Meaning
 pub mod Places
 pub mod Source
 pub mod Steps
+pub mod Structs
 pub mod Valid

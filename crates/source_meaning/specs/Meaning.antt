@@ -4,7 +4,9 @@ use Rattle.std.specs.Prelude.{◌≡◌, ℕ, zero, suc, pos, Bool, true, false,
 use Rattle.types.specs.declared.ids.BindingId.{BindingId}
 use Rattle.types.specs.declared.ids.ExprId.{ExprId}
 use Rattle.types.specs.declared.ids.LabelId.{LabelId}
+use Rattle.types.specs.declared.ids.AdtId.TheVariants as adt
 use Rattle.types.specs.declared.ty.Ty.{Ty}
+use Rattle.types.specs.declared.ty.Ty.TheVariants.{Adt}
 use Rattle.types.specs.declared.operators.LogicOp.{LogicOp}
 use Rattle.types.specs.declared.operators.LogicOp.TheVariants as logic
 use Rattle.world.specs.declared.body.Statement.{Statement}
@@ -22,14 +24,15 @@ use Rattle.source_meaning.specs.Aggregates.{array_length, laid_out, repeated_for
 use Rattle.source_meaning.specs.Calls.{source_called, must_not_return, parameter_cells, started}
 use Rattle.source_meaning.specs.Contents.{Contents, bytes_in, holding}
 use Rattle.source_meaning.specs.Core as expr
-use Rattle.source_meaning.specs.Core.{Assigned, Assignee, ByField, ByPath, ByPattern, ByPlace, CoreExpr, CoreLiteral, Truth, Number, Character, Operation, Negate, Invert, Keep, Convert, Combine, MakeTuple, MakeArray, Repeat, is_place}
+use Rattle.source_meaning.specs.Core.{Assigned, Assignee, ByField, ByPath, ByPattern, ByPlace, CoreExpr, CoreLiteral, Truth, Number, Character, Operation, Negate, Invert, Keep, Convert, Combine, MakeTuple, MakeArray, Repeat, MakeStruct, PlaceElem, is_place}
 use Rattle.source_meaning.specs.Ends.{Cost, no_cost, turns_alone, bytes_alone, plus, one_level_more, End, Go, Jumps, Break, Continue, Return, Faults, Panic, Undefined as UndefinedBehavior, NoLayout, Stuck, More, after, then_do, IsOver}
 use Rattle.source_meaning.specs.Entering.{room_of, entering, run_cost}
 use Rattle.source_meaning.specs.Laid.{is_laid_out}
 use Rattle.source_meaning.specs.Around.{Around, Target, at_root, marking, inside, target_of}
 use Rattle.source_meaning.specs.Events.{marked, marked_as_place, marked_as_operand, marked_by_assigned, marked_by_statement, marked_by_tail, marked_in_block}
 use Rattle.source_meaning.specs.Places.{cell_with, place_bytes, operand_type, operand_bytes, operands_bytes}
-use Rattle.source_meaning.specs.Source.{Source, node, unadjusted, own_type, own_layout, named_by, pattern, target, compound_target, root, Cell, Result, Node, Binding, Path, Part, Place, whole, projected, never_marks, own_path, Store, zeroed, with_cell_bytes, Operand, Literally, At, drops}
+use Rattle.source_meaning.specs.Structs.{picked}
+use Rattle.source_meaning.specs.Source.{Source, node, unadjusted, own_type, own_layout, named_by, pattern, target, compound_target, root, Cell, Result, Node, Binding, Path, Place, whole, projected, never_marks, own_path, Store, zeroed, with_cell_bytes, Operand, Literally, At, drops}
 
 -- the byte of a truth value: 1 for true
 abbrev pub truth_byte : Bool → ℕ
@@ -88,6 +91,11 @@ abbrev pub converted_to : Option ℕ → Value → Answer
 converted_to (Some size) one = converted one.kind size one.bytes
 converted_to None one = Undefined
 
+-- a struct of a layout, by the values of its fields in order, where each has one
+abbrev pub struct_of : Option Layout → Option (List Value) → Answer
+struct_of layout (Some fields) = laid_out layout (map (λ field. field.bytes) fields)
+struct_of layout None = Undefined
+
 -- What an operation makes of its operands' values; `ty`: the type of the expression that it is. The elements of an array lie one behind
 -- another.
 unfoldable pub answered : HirDatabase → (ty : Option Ty) → Operation → List Value → Answer
@@ -98,6 +106,7 @@ answered world ty Convert (one ∷ []) = converted_to (option_and_then fixed_siz
 answered world ty (Combine op) (left ∷ right ∷ []) = computed op left.kind right.kind left.bytes right.bytes
 answered world ty MakeTuple parts = laid_out (option_and_then (layout_of world) ty) (map (λ part. part.bytes) parts)
 answered world ty MakeArray parts = Computes (flat_map (λ part. part.bytes) parts)
+answered world ty (MakeStruct id args places) parts = struct_of (layout_of world (Adt (adt.StructId id) args)) (picked places parts)
 answered world ty Repeat (one ∷ []) = repeated_for (option_and_then array_length ty) one.bytes
 answered world ty _ _ = Undefined
 
@@ -137,14 +146,14 @@ named_place (Some (LocalBinding b)) store = Go (whole (Binding b.0)) store no_co
 named_place _ store = Stuck
 
 -- the place of a field: that of its base, with one more element
-abbrev pub field_place : Level → (base index : ℕ) → Store → End Place
-field_place below base index store = then_do (below.place base store) (λ place later. Go (projected (Part index) place) later no_cost)
+abbrev pub field_place : Level → (base : ℕ) → (elem : PlaceElem) → Store → End Place
+field_place below base elem store = then_do (below.place base store) (λ place later. Go (projected elem place) later no_cost)
 
 -- a path is the place that it names; an expression that is no place goes into a cell of its own, which is then its
 -- place
 abbrev pub place_of : Source → Levels → Around → ℕ → Option CoreExpr → Store → End Place
 place_of source below around e (Some (expr.Path name)) store = named_place (named_by source e) store
-place_of source below around e (Some (expr.Field base index)) store = field_place (below around) base index store
+place_of source below around e (Some (expr.Field base elem)) store = field_place (below around) base elem store
 place_of source below around e _ store =
     then_do ((below (marking (Node e ∷ []) around)).into e (record { cell = Node e }) store) (λ _ later. Go (whole (Node e)) later no_cost)
 
@@ -228,9 +237,9 @@ named_into (Some (LocalBinding b)) path store = put store path (store (Binding b
 named_into _ path store = Stuck
 
 -- the base of a field is evaluated to a place, and then the bytes of the part are copied
-abbrev pub field_into : Source → Level → (base index : ℕ) → Path → Store → End (Unit {0})
-field_into source below base index path store =
-    then_do (field_place below base index store) (λ place later. copy_to later path (place_bytes source later place))
+abbrev pub field_into : Source → Level → (base : ℕ) → (elem : PlaceElem) → Path → Store → End (Unit {0})
+field_into source below base elem path store =
+    then_do (field_place below base elem store) (λ place later. copy_to later path (place_bytes source later place))
 
 -- a name is bound: the bytes of a place go into the binding's cell
 abbrev pub bind : Source → Option BindingId → Place → Store → End (Unit {0})
@@ -288,7 +297,7 @@ assign_into source below around to value store =
 -- the place that a compound assignment reads and writes
 abbrev pub assigned_place : Source → Level → Assigned → Store → End Place
 assigned_place source below (ByPath e) store = bound_place (compound_target source e) store
-assigned_place source below (ByField base index) store = field_place below base index store
+assigned_place source below (ByField base elem) store = field_place below base elem store
 
 -- The target's place, then the value's operand, and then one operation that reads both and writes to the place. The path that the assignment is
 -- evaluated into isn't written, as for any assignment.
@@ -424,7 +433,7 @@ call_into source below callees around e callee args path store =
 abbrev pub into_of : Source → Levels → Callees → Around → ℕ → Option CoreExpr → Path → Store → End (Unit {0})
 into_of source below callees around e (Some (expr.Literal l)) path store = put_literal source e store path (literal_bytes source e l)
 into_of source below callees around e (Some (expr.Path name)) path store = named_into (named_by source e) path store
-into_of source below callees around e (Some (expr.Field base index)) path store = field_into source (below around) base index path store
+into_of source below callees around e (Some (expr.Field base elem)) path store = field_into source (below around) base elem path store
 into_of source below callees around e (Some (expr.Strict operation operands)) path store = strict_into source below around e operation operands path store
 into_of source below callees around e (Some (expr.Logic op left right)) path store = logic_into source below around op left right path store
 into_of source below callees around e (Some (expr.If condition then_branch else_branch)) path store = if_into source below around condition then_branch else_branch path store

@@ -1,6 +1,9 @@
 -- Places: which bytes of a cell one is, and of which type. What lies behind elements is what they lead to, from a value on, where the first
 -- one is applied first.
 use Rattle.std.specs.Prelude.{ℕ, ◌+◌, ◌==◌, List, [], ◌∷◌, length, take, drop, Option, Some, None, option_and_then, option_map, slice_get, if◌then◌else◌, nat_le}
+use Rattle.types.specs.declared.ids.FieldId.{FieldId}
+use Rattle.types.specs.declared.ids.VariantId.{VariantId}
+use Rattle.types.specs.declared.ids.VariantId.TheVariants as variant
 use Rattle.types.specs.declared.ty.ComplexMemoryMap.{ComplexMemoryMap}
 use Rattle.types.specs.declared.ty.Const.{Const}
 use Rattle.types.specs.declared.ty.GenericArg.{GenericArg}
@@ -12,10 +15,11 @@ use Rattle.types.specs.declared.ty.Const.TheOpen as layer
 use Rattle.types.specs.declared.ty.UnevaluatedConst.{UnevaluatedConst}
 use Rattle.types.specs.declared.ty.ValueConst.{ValueConst}
 use Rattle.world.specs.declared.database.HirDatabase.{HirDatabase}
-use Rattle.world.specs.Lookups.{layout_of}
+use Rattle.world.specs.Lookups.{fields_of, layout_of}
 use Rattle.numbers.specs.Aggregates.{with_part}
 use Rattle.source_meaning.specs.Contents.{Contents, holding}
-use Rattle.source_meaning.specs.Source.{Source, Store, cell_type, PlaceElem, Part, Place, Operand, Literally, At}
+use Rattle.source_meaning.specs.Core.{PlaceElem, Part, FieldOf}
+use Rattle.source_meaning.specs.Source.{Source, Store, cell_type, Place, Operand, Literally, At}
 
 -- a type's variant
 abbrev TyLayer : Type 0
@@ -26,18 +30,30 @@ abbrev part_at : (index : ℕ) → TyLayer → Option Ty
 part_at index (layer.Tuple parts) = slice_get parts index
 part_at index _ = None
 
--- the type that an element leads to from a value of a type
-abbrev pub elem_type : PlaceElem → Ty → Option Ty
-elem_type (Part index) ty = part_at index (out-Ty ty)
+-- The type of a field of a struct without generic arguments, as its row says it: there is no parameter that an argument could stand for.
+abbrev pub field_at : HirDatabase → FieldId → VariantId → TyLayer → Option Ty
+field_at world field (variant.StructId id) (layer.Adt of args) =
+    if length args.0 == 0 then option_map (λ row. row.ty) (option_and_then (λ fields. slice_get fields field.local_id) (fields_of world (variant.StructId id))) else None
+field_at world field parent _ = None
 
--- how many bytes behind the first byte of a value of a type that part begins: the offset that the layout of the type has for it
+-- the type that an element leads to from a value of a type
+abbrev pub elem_type : HirDatabase → PlaceElem → Ty → Option Ty
+elem_type world (Part index) ty = part_at index (out-Ty ty)
+elem_type world (FieldOf field) ty = field_at world field field.parent (out-Ty ty)
+
+-- the offset that the layout of a type has for its part at an index
+abbrev pub part_offset : HirDatabase → ℕ → Ty → Option ℕ
+part_offset world index ty = option_and_then (λ layout. slice_get layout.offsets index) (layout_of world ty)
+
+-- how many bytes behind the first byte of a value of a type that part begins
 abbrev pub elem_offset : HirDatabase → PlaceElem → Ty → Option ℕ
-elem_offset world (Part index) ty = option_and_then (λ layout. slice_get layout.offsets index) (layout_of world ty)
+elem_offset world (Part index) ty = part_offset world index ty
+elem_offset world (FieldOf field) ty = part_offset world field.local_id ty
 
 -- the type of what lies behind elements, from a value of a type
-unfoldable pub type_behind : List PlaceElem → Option Ty → Option Ty
-type_behind [] ty = ty
-type_behind (elem ∷ rest) ty = type_behind rest (option_and_then (elem_type elem) ty)
+unfoldable pub type_behind : HirDatabase → List PlaceElem → Option Ty → Option Ty
+type_behind world [] ty = ty
+type_behind world (elem ∷ rest) ty = type_behind world rest (option_and_then (elem_type world elem) ty)
 
 -- the sum of two numbers, where both are there
 abbrev pub added : Option ℕ → Option ℕ → Option ℕ
@@ -47,7 +63,7 @@ added _ _ = None
 -- how many bytes behind the value's first byte that begins: the sum of the elements' offsets, each in the type before it
 unfoldable pub offset_behind : HirDatabase → List PlaceElem → Option Ty → Option ℕ
 offset_behind world [] ty = Some 0
-offset_behind world (elem ∷ rest) ty = added (option_and_then (elem_offset world elem) ty) (offset_behind world rest (option_and_then (elem_type elem) ty))
+offset_behind world (elem ∷ rest) ty = added (option_and_then (elem_offset world elem) ty) (offset_behind world rest (option_and_then (elem_type world elem) ty))
 
 -- so many bytes from an offset on, where there are as many
 abbrev pub part_of : (offset size : ℕ) → Contents → Option Contents
@@ -59,7 +75,7 @@ unfoldable pub bytes_behind : HirDatabase → List PlaceElem → Option Ty → C
 bytes_behind world [] ty bytes = Some bytes
 bytes_behind world (elem ∷ rest) ty bytes =
     option_and_then (λ offset. option_and_then (λ size. part_of offset size bytes)
-    (option_map (λ layout. layout.size) (option_and_then (layout_of world) (type_behind (elem ∷ rest) ty)))) (offset_behind world (elem ∷ rest) ty)
+    (option_map (λ layout. layout.size) (option_and_then (layout_of world) (type_behind world (elem ∷ rest) ty)))) (offset_behind world (elem ∷ rest) ty)
 
 -- The bytes of a value of a type after others were put behind elements, where these are as many as lie there. Without elements they take
 -- the place of all.
@@ -67,11 +83,11 @@ unfoldable pub bytes_with : HirDatabase → List PlaceElem → Option Ty → (pu
 bytes_with world [] ty put bytes = if length put == length bytes then Some put else None
 bytes_with world (elem ∷ rest) ty put bytes =
     option_and_then (λ offset. option_and_then (λ size. if length put == size then with_part offset put bytes else None)
-    (option_map (λ layout. layout.size) (option_and_then (layout_of world) (type_behind (elem ∷ rest) ty)))) (offset_behind world (elem ∷ rest) ty)
+    (option_map (λ layout. layout.size) (option_and_then (layout_of world) (type_behind world (elem ∷ rest) ty)))) (offset_behind world (elem ∷ rest) ty)
 
 -- the type of a place's value, and its bytes now, where its type and the layouts on the way say which they are
 unfoldable pub place_type : Source → Place → Option Ty
-place_type source place = type_behind place.projection (cell_type source place.cell)
+place_type source place = type_behind source.world place.projection (cell_type source place.cell)
 
 unfoldable pub place_bytes : Source → Store → Place → Option Contents
 place_bytes source store place = bytes_behind source.world place.projection (cell_type source place.cell) (store place.cell)

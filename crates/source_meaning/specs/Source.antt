@@ -14,9 +14,11 @@ use Rattle.types.specs.declared.ty.Ty.{Ty}
 use Rattle.types.specs.declared.ids.BindingId.{BindingId}
 use Rattle.types.specs.declared.ids.ExprId.{ExprId}
 use Rattle.types.specs.declared.ids.PatId.{PatId}
+use Rattle.types.specs.declared.ids.VariantId.{VariantId}
 use Rattle.world.specs.Lookups.{layout_of, type_of, expr_of, is_copy}
 use Rattle.source_meaning.specs.Contents.{Contents, holding}
-use Rattle.source_meaning.specs.Core.{Assigned, Assignee, ByField, ByPath, ByPattern, ByPlace, CoreExpr, Findings, cast_operation, core_of, expr_in, field_named, is_adjusted_otherwise, is_adjusted_twice, named_path, part_in, type_after, is_adjusted_pattern, is_dereferenced_pattern, path_of, pattern_names_item, local_named, name_of, names_item, never_target}
+use Rattle.source_meaning.specs.Core.{Assigned, Assignee, ByField, ByPath, ByPattern, ByPlace, CoreExpr, Findings, PlaceElem, cast_operation, core_of, expr_in, field_named, is_adjusted_otherwise, is_adjusted_twice, named_path, part_in, type_after, is_adjusted_pattern, is_dereferenced_pattern, path_of, pattern_names_item, local_named, name_of, names_item, never_target}
+use Rattle.source_meaning.specs.Structs.{struct_made}
 
 -- a typed body in its world, and the arguments of its generics, of which there are none in any body that has a meaning so far
 pub record Source : Type 0 where
@@ -41,20 +43,24 @@ assignee_by p None = ByPattern p
 abbrev pub assignee : Source → PatId → Assignee
 assignee source p = assignee_by p.0 (pattern_expr source p.0)
 
--- The base and the index of the part of a tuple that an expression is as the left operand of a compound assignment, where it is one. One
+-- The base and the step of the field that an expression is as the left operand of a compound assignment, where it is one. One
 -- adjustment, of whatever kind, isn't looked at: inference adds one there, by which an operator's method would borrow the operand.
-unfoldable pub assigned_field : Source → ℕ → Option (ℕ × ℕ)
+unfoldable pub assigned_field : Source → ℕ → Option (ℕ × PlaceElem)
 assigned_field source e =
     if is_adjusted_twice source.infer (record { 0 = e }) then None
     else option_and_then (part_in (field_named source.infer (record { 0 = e }))) (expr_of source.body e)
 
 -- what an expression is as the target of a compound assignment
-abbrev pub assigned_by : ℕ → Option (ℕ × ℕ) → Assigned
+abbrev pub assigned_by : ℕ → Option (ℕ × PlaceElem) → Assigned
 assigned_by e (Some field) = ByField field.0 field.1
 assigned_by e None = ByPath e
 
 abbrev pub assigned : Source → ExprId → Assigned
 assigned source e = assigned_by e.0 (assigned_field source e.0)
+
+-- the struct, variant or union that an expression is resolved to
+abbrev pub variant_named : Source → ℕ → Option VariantId
+variant_named source e = lookup (is_at (ExprIdOrd.ghosts.cmp (record { 0 = e }))) source.infer.variant_res
 
 -- what the form of an expression of the source depends on
 abbrev pub findings : Source → ℕ → Findings
@@ -62,6 +68,7 @@ findings source e = record {
   names_item = names_item source.infer (record { 0 = e });
   casts = cast_operation source.infer (record { 0 = e });
   field = field_named source.infer (record { 0 = e });
+  made = struct_made source.world (variant_named source e) (type_of source.infer e);
   assignee = assignee source;
   assigned = assigned source;
 }
@@ -190,10 +197,6 @@ drops source cells = length (filter (is_dropped source) cells)
 -- where a value is written: to all of a cell
 pub record Path : Type 0 where
   pub cell : Cell
-
--- one step from a value into it: to the part of a tuple at an index
-pub data PlaceElem : Type 0 where
-  Part : (index : ℕ) → PlaceElem
 
 -- Where a value is read: a cell, or what elements lead to in it, the first one applied first. Places are read late: when an operation
 -- runs.

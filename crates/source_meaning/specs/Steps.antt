@@ -40,7 +40,7 @@ assignee_steps (ByPlace e) = Place e ∷ []
 
 abbrev pub assigned_steps : Assigned → List Step
 assigned_steps (ByPath e) = []
-assigned_steps (ByField base index) = Place base ∷ []
+assigned_steps (ByField base elem) = Place base ∷ []
 
 -- The steps of each form, in order of lowering. The callee of a call isn't evaluated: it is named by a path, whose type is a function's own.
 abbrev pub steps_of : CoreExpr → List Step

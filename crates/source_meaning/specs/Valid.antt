@@ -3,25 +3,33 @@ use Rattle.std.specs.Prelude.{◌≡◌, ℕ, true, cond, List, [], ◌∷◌, l
 use Rattle.world.specs.declared.body.Statement.{Statement}
 use Rattle.world.specs.declared.body.Statement.TheVariants as statement
 use Rattle.types.specs.declared.ids.BindingId.{BindingId}
+use Rattle.types.specs.declared.ids.AdtId.TheVariants as adt
 use Rattle.types.specs.declared.ids.ExprId.{ExprId}
+use Rattle.types.specs.declared.ids.FieldId.{FieldId}
 use Rattle.types.specs.declared.ids.FunctionId.{FunctionId}
 use Rattle.types.specs.declared.ids.LabelId.{LabelId}
+use Rattle.types.specs.declared.ids.StructId.{StructId}
+use Rattle.types.specs.declared.ids.VariantId.TheVariants as variant
 use Rattle.world.specs.declared.infer.ValueNs.TheVariants.{LocalBinding}
+use Rattle.world.specs.declared.database.HirDatabase.{HirDatabase}
+use Rattle.world.specs.declared.items.FieldRow.{FieldRow}
 use Rattle.world.specs.declared.items.FunctionRow.{FunctionRow}
 use Rattle.world.specs.declared.layout.Layout.{Layout}
 use Rattle.types.specs.declared.ty.Const.{Const}
-use Rattle.types.specs.declared.ty.Ty.TheVariants.{Array as ArrayTy, Tuple as TupleTy}
+use Rattle.types.specs.declared.ty.GenericArgs.{GenericArgs}
+use Rattle.types.specs.declared.ty.Ty.TheVariants.{Adt as AdtTy, Array as ArrayTy, Tuple as TupleTy}
 use Rattle.types.specs.declared.ty.Ty.{Ty, Bool as BoolTy, Int as IntTy, Uint as UintTy, Char as CharTy, Never as NeverTy}
 use Rattle.world.specs.declared.expr.Expr.TheVariants as whole
-use Rattle.world.specs.Lookups.{expr_of, layout_of, function_row}
+use Rattle.world.specs.Lookups.{expr_of, fields_of, layout_of, function_row}
 use Rattle.numbers.specs.Constants.{number_in}
 use Rattle.numbers.specs.declared.operator.Operator.{Operator}
 use Rattle.numbers.specs.declared.operator.Operator.TheVariants.{Add, Sub, Mul, Div, Rem, BitXor, BitAnd, BitOr, Shl, Shr, Eq, Ne, Lt, Le, Gt, Ge}
 use Rattle.source_meaning.specs.Around.{Opened, meant}
 use Rattle.source_meaning.specs.Calls.{function_called, source_of, source_called, parameters}
 use Rattle.source_meaning.specs.Core as expr
-use Rattle.source_meaning.specs.Core.{Assigned, Assignee, ByField, ByPath, ByPattern, ByPlace, CoreExpr, CoreLiteral, Truth, Number, Character, Operation, Negate, Invert, Keep, Convert, Combine, MakeTuple, MakeArray, Repeat, is_place, is_truth, IsNoCall}
+use Rattle.source_meaning.specs.Core.{Assigned, Assignee, ByField, ByPath, ByPattern, ByPlace, CoreExpr, CoreLiteral, Truth, Number, Character, Operation, Negate, Invert, Keep, Convert, Combine, MakeTuple, MakeArray, Repeat, MakeStruct, PlaceElem, Part, FieldOf, is_place, is_truth, IsNoCall}
 use Rattle.source_meaning.specs.Source.{Source, node, unadjusted, diverges, own_type, node_type, binding_type, pattern, pattern_type, target, compound_target, named_by, root}
+use Rattle.source_meaning.specs.Structs.{AreFieldTypes, field_type, picked}
 use Rattle.source_meaning.specs.Steps.{Step, steps_of, step_part, parts_of}
 use Rattle.source_meaning.specs.Steps as step
 
@@ -114,19 +122,29 @@ pub record IsArrayOfOne (one ty : Ty) : Type 0 where
   pub is : ty ≡ ArrayTy one len
   pub known : number_in len ≡ Some count
 
+-- a struct at these arguments, whose fields are of the operands' types at their places
+pub record IsStructOf (world : HirDatabase) (id : StructId) (args : GenericArgs) (places : List ℕ) (types : List Ty) (ty : Ty) : Type 0 where
+  pub is : ty ≡ AdtTy (adt.StructId id) args
+  pub fields : List FieldRow
+  pub found : fields_of world (variant.StructId id) ≡ Some fields
+  pub given : List Ty
+  pub picks : picked places types ≡ Some given
+  pub each : AreFieldTypes world args fields given
+
 -- The types of an operation's operands and of its result fit one another: `-` is on an integer, `!` on an integer or
 -- `bool`, and gives a value of the same type. A cast that is a coercion keeps its type, and any other one is between integers, `bool` and
--- `char`. A tuple has the types of its parts, and an array that of its elements, and as many as its type says.
-abbrev pub IsTyped : Operation → List Ty → Ty → Type 0
-IsTyped Negate (one ∷ []) ty = IsInteger ty × (one ≡ ty)
-IsTyped Invert (one ∷ []) ty = IsScalar ty × (one ≡ ty)
-IsTyped Keep (one ∷ []) ty = one ≡ ty
-IsTyped Convert (one ∷ []) ty = IsNumber one × IsNumber ty
-IsTyped (Combine op) (left ∷ right ∷ []) ty = IsCombined op left right ty
-IsTyped MakeTuple types ty = ty ≡ TupleTy types
-IsTyped MakeArray types ty = IsArrayOf types ty
-IsTyped Repeat (one ∷ []) ty = IsArrayOfOne one ty
-IsTyped _ _ ty = ⊥
+-- `char`. A tuple has the types of its parts, an array that of its elements, and as many as its type says, and a struct those of its fields.
+abbrev pub IsTyped : HirDatabase → Operation → List Ty → Ty → Type 0
+IsTyped world Negate (one ∷ []) ty = IsInteger ty × (one ≡ ty)
+IsTyped world Invert (one ∷ []) ty = IsScalar ty × (one ≡ ty)
+IsTyped world Keep (one ∷ []) ty = one ≡ ty
+IsTyped world Convert (one ∷ []) ty = IsNumber one × IsNumber ty
+IsTyped world (Combine op) (left ∷ right ∷ []) ty = IsCombined op left right ty
+IsTyped world MakeTuple types ty = ty ≡ TupleTy types
+IsTyped world MakeArray types ty = IsArrayOf types ty
+IsTyped world (MakeStruct id args places) types ty = IsStructOf world id args places types ty
+IsTyped world Repeat (one ∷ []) ty = IsArrayOfOne one ty
+IsTyped world _ _ ty = ⊥
 
 -- operands have these types, one each
 abbrev pub HaveTypes : Source → List ℕ → List Ty → Type 0
@@ -138,7 +156,7 @@ HaveTypes source _ _ = ⊥
 pub record IsPlainStrict (source : Source) (operation : Operation) (operands : List ℕ) (ty : Ty) : Type 0 where
   pub types : List Ty
   pub operands_have : HaveTypes source operands types
-  pub typed : IsTyped operation types ty
+  pub typed : IsTyped source.world operation types ty
 
 -- a name pattern binds a binding of its type, which is the initializer's
 pub record IsPlainLet (source : Source) (pat e : ℕ) : Type 0 where
@@ -207,16 +225,41 @@ pub record IsPlainPath (source : Source) (e : ℕ) (ty : Ty) : Type 0 where
   pub named : named_by source e ≡ Some (LocalBinding binding)
   pub binding_has : binding_type source binding.0 ≡ Some ty
 
--- the base of a field is a tuple that has a part at the index which inference resolved the field to, and the field has that part's type
-pub record IsPlainField (source : Source) (base index : ℕ) (ty : Ty) : Type 0 where
+-- a tuple that has a part of a type at an index
+pub record HasPart (index : ℕ) (base ty : Ty) : Type 0 where
   pub parts : List Ty
-  pub base_has : node_type source base ≡ Some (TupleTy parts)
+  pub is : base ≡ TupleTy parts
   pub part_has : slice_get parts index ≡ Some ty
+
+-- a struct without generic arguments that has a field of a type, which is its row's
+pub record HasField (world : HirDatabase) (field : FieldId) (base ty : Ty) : Type 0 where
+  pub id : StructId
+  pub parent : field.parent ≡ variant.StructId id
+  pub args : GenericArgs
+  pub no_args : args.0 ≡ []
+  pub is : base ≡ AdtTy (adt.StructId id) args
+  pub fields : List FieldRow
+  pub found : fields_of world (variant.StructId id) ≡ Some fields
+  pub row : FieldRow
+  pub there : slice_get fields field.local_id ≡ Some row
+  pub typed : row.ty ≡ ty
+  pub field_has : field_type world args row ≡ Some ty
+
+-- a type has what an element leads to, of a type
+abbrev pub HasElem : HirDatabase → PlaceElem → (base ty : Ty) → Type 0
+HasElem world (Part index) base ty = HasPart index base ty
+HasElem world (FieldOf field) base ty = HasField world field base ty
+
+-- the type of a field's base has what inference resolved the field to, of the field's type
+pub record IsPlainField (source : Source) (base : ℕ) (elem : PlaceElem) (ty : Ty) : Type 0 where
+  pub base_ty : Ty
+  pub base_has : node_type source base ≡ Some base_ty
+  pub has_elem : HasElem source.world elem base_ty ty
 
 -- the target of a compound assignment is a place of a type
 abbrev pub IsPlainAssigned : Source → Assigned → Ty → Type 0
 IsPlainAssigned source (ByPath e) ty = IsPlainNamed source e ty
-IsPlainAssigned source (ByField base index) ty = IsPlainField source base index ty
+IsPlainAssigned source (ByField base elem) ty = IsPlainField source base elem ty
 
 -- The target of a compound assignment is a place of a type whose values the operator takes as its left operands and gives as results. The
 -- value has the type of its right operand.
@@ -269,7 +312,7 @@ pub record IsPlainCall (source : Source) (e : ℕ) (callee : Option ℕ) (args :
 abbrev pub HasPlainForm : Source → ℕ → Option CoreExpr → Ty → Type 0
 HasPlainForm source e (Some (expr.Literal l)) ty = IsPlainLiteral l ty
 HasPlainForm source e (Some (expr.Path name)) ty = IsPlainPath source e ty
-HasPlainForm source e (Some (expr.Field base index)) ty = IsPlainField source base index ty
+HasPlainForm source e (Some (expr.Field base elem)) ty = IsPlainField source base elem ty
 HasPlainForm source e (Some (expr.Strict operation operands)) ty = IsPlainStrict source operation operands ty
 HasPlainForm source e (Some (expr.Logic op left right)) ty = IsPlainLogic source left right ty
 HasPlainForm source e (Some (expr.If condition then_branch else_branch)) ty = IsPlainIf source condition then_branch else_branch ty
