@@ -67,7 +67,7 @@ module _ (frame : Frame) where
     begins-called None is = begins-nested (nat_le (suc (levels_over frame.below)) frame.program.nesting) is refl
 
   begins-by : (memory : Memory) (call : Calling) (callee : FunctionId × GenericArgs) (told : Option Answer)
-      → option_and_then function_in (operand_type frame.body call.func.kind) ≡ Some callee → answer_to frame.program.answers (body_query callee) ≡ told
+      → option_and_then function_in (operand_type frame.program.world frame.body call.func.kind) ≡ Some callee → answer_to frame.program.answers (body_query callee) ≡ told
       → Begins frame (calls frame memory call)
   unfolding calls called_by
   begins-by memory call callee (Some (answer.Body body)) is told_is = rw (is, told_is, calls) (begins-called memory call callee.0 body.value call.target refl)
@@ -77,13 +77,13 @@ module _ (frame : Frame) where
   begins-by memory call callee None is told_is = rw (is, told_is, calls) refl
 
   begins-of : (memory : Memory) (call : Calling) (callee : Option (FunctionId × GenericArgs))
-      → option_and_then function_in (operand_type frame.body call.func.kind) ≡ callee → Begins frame (calls frame memory call)
+      → option_and_then function_in (operand_type frame.program.world frame.body call.func.kind) ≡ callee → Begins frame (calls frame memory call)
   unfolding calls
   begins-of memory call (Some callee) is = begins-by memory call callee (answer_to frame.program.answers (body_query callee)) is refl
   begins-of memory call None is = rw (is, calls) tt
 
   begins-calls : (memory : Memory) (call : Calling) → Begins frame (calls frame memory call)
-  begins-calls memory call = begins-of memory call (option_and_then function_in (operand_type frame.body call.func.kind)) refl
+  begins-calls memory call = begins-of memory call (option_and_then function_in (operand_type frame.program.world frame.body call.func.kind)) refl
 
   begins-small : (memory : Memory) (targets : SwitchTargets) (bytes : List ℕ) (small : Bool) → nat_le (length bytes) 16 ≡ small
       → Begins frame (switched frame memory targets (Some bytes))

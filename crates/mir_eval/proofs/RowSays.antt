@@ -88,16 +88,16 @@ module _ (frame : Frame) (memory : Memory) where
   pub combined : (op : Operator) (kind : Kind) (left right : Source) (made : Option Made) (left_pieces right_pieces : List (List ℕ)) (l r : List ℕ) → l ≡ concat left_pieces → r ≡ concat right_pieces →
       ((one : OperandKind) → IsSource (code_in frame) left one → operand_bytes frame memory one ≡ Some (concat left_pieces)) → ((one : OperandKind) → IsSource (code_in frame) right one → operand_bytes frame memory one ≡ Some (concat right_pieces)) →
       IfSome made (λ m. computed op (Some kind) (Some kind) l r ≡ Computes (made_bytes m)) →
-      IfSome made (λ m. (one other : OperandKind) → AreOperands (code_in frame) kind left right one other → operated op (operand_type frame.body one) (operand_type frame.body other) (operand_bytes frame memory one) (operand_bytes frame memory other) ≡ Ok (made_bytes m))
+      IfSome made (λ m. (one other : OperandKind) → AreOperands (code_in frame) kind left right one other → operated op (operand_type frame.program.world frame.body one) (operand_type frame.program.world frame.body other) (operand_bytes frame memory one) (operand_bytes frame memory other) ≡ Ok (made_bytes m))
   combined op kind left right None left_pieces right_pieces l r le re lf rf computes = tt
   combined op kind left right (Some m) left_pieces right_pieces l r le re lf rf computes =
       λ one other are.
-      operated_if_made made_bytes (Some m) op kind (operand_type frame.body one) (operand_type frame.body other) (operand_bytes frame memory one) (operand_bytes frame memory other) l r
+      operated_if_made made_bytes (Some m) op kind (operand_type frame.program.world frame.body one) (operand_type frame.program.world frame.body other) (operand_bytes frame memory one) (operand_bytes frame memory other) l r
       are.left_kind are.right_kind (lf one are.left ∙ ap Some (sym le)) (rf other are.right ∙ ap Some (sym re)) computes
 
   module _ (out : Result Memory MirEvalError) (to : Spot) where
     combines : (op : Operator) (kind : Kind) (left right : Source) (m : Made) →
-        ((one other : OperandKind) → AreOperands (code_in frame) kind left right one other → operated op (operand_type frame.body one) (operand_type frame.body other) (operand_bytes frame memory one) (operand_bytes frame memory other) ≡ Ok (made_bytes m)) →
+        ((one other : OperandKind) → AreOperands (code_in frame) kind left right one other → operated op (operand_type frame.program.world frame.body one) (operand_type frame.program.world frame.body other) (operand_bytes frame memory one) (operand_bytes frame memory other) ≡ Ok (made_bytes m)) →
         out ≡ copied memory (spot_cell frame.cells to) (Ok (made_bytes m)) →
         (statement : StatementKind) → Says (code_in frame) (action.Combine op kind to left right) statement → out ≡ after_statement frame memory statement
     unfolding after_statement rvalue_bytes
@@ -105,7 +105,7 @@ module _ (frame : Frame) (memory : Memory) where
         is
         ∙ ap (λ (cell : Option Interval). copied memory cell (Ok (made_bytes m))) (sym (says.0 frame.cells))
         ∙ ap (copied memory (place_cell frame.program.world frame.body frame.cells place))
-        (sym (makes one.kind other.kind says.2) ∙ ap (λ (o : Operator). operated o (operand_type frame.body one.kind) (operand_type frame.body other.kind) (operand_bytes frame memory one.kind) (operand_bytes frame memory other.kind)) (sym says.1))
+        (sym (makes one.kind other.kind says.2) ∙ ap (λ (o : Operator). operated o (operand_type frame.program.world frame.body one.kind) (operand_type frame.program.world frame.body other.kind) (operand_bytes frame memory one.kind) (operand_bytes frame memory other.kind)) (sym says.1))
     combines op kind left right m makes is (Assign place (Use given)) says = absurd says
     combines op kind left right m makes is (Assign place (UnaryOp operator given)) says = absurd says
     combines op kind left right m makes is (Assign place (Cast cast given ty)) says = absurd says
@@ -117,7 +117,7 @@ module _ (frame : Frame) (memory : Memory) where
 
     -- a statement that assigns what an operator makes
     pub does-combine : (given : Action) (op : Operator) (kind : Kind) (left right : Source) (m : Made) → given ≡ action.Combine op kind to left right →
-        ((one other : OperandKind) → AreOperands (code_in frame) kind left right one other → operated op (operand_type frame.body one) (operand_type frame.body other) (operand_bytes frame memory one) (operand_bytes frame memory other) ≡ Ok (made_bytes m)) →
+        ((one other : OperandKind) → AreOperands (code_in frame) kind left right one other → operated op (operand_type frame.program.world frame.body one) (operand_type frame.program.world frame.body other) (operand_bytes frame memory one) (operand_bytes frame memory other) ≡ Ok (made_bytes m)) →
         out ≡ copied memory (spot_cell frame.cells to) (Ok (made_bytes m)) →
         (statement : StatementKind) → Says (code_in frame) given statement → out ≡ after_statement frame memory statement
     does-combine given op kind left right m same makes is statement says =

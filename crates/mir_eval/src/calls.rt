@@ -86,11 +86,15 @@ fn function_in(ty: &Ty) -> Option<Function<'_>>
 
 /// The function that an operand's type names, with its generic arguments.
 #[tactic(auto, unfolding(mir::specs::Run::operand_type))]
-pub(crate) fn callee<'r>(body: &'r MirBody, func: &'r OperandKind) -> Option<Function<'r>>
-    ensures { option_map function_is result ≡ option_and_then function_in (operand_type body.now func.now) }
+pub(crate) fn callee<'r>(
+    db: &'r HirDatabase,
+    body: &'r MirBody,
+    func: &'r OperandKind,
+) -> Option<Function<'r>>
+    ensures { option_map function_is result ≡ option_and_then function_in (operand_type db.now body.now func.now) }
 {
     match func {
-        OperandKind::Copy(place) => match place_type(body, *place) {
+        OperandKind::Copy(place) => match place_type(db, body, *place) {
             Some(ty) => function_in(ty),
             None => None,
         },

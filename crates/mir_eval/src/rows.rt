@@ -56,7 +56,7 @@ fn combine<M: Memory>(
     left: &Source,
     right: &Source,
 ) -> Option<Made>
-    ensures { IfSome result (λ made. (one other : OperandKind) → AreOperands (code_in (frame_of frame.entry)) kind left.now right.now one other → operated op (operand_type frame.entry.body.now.body one) (operand_type frame.entry.body.now.body other) (operand_bytes (frame_of frame.entry) (M.areas memory.now) one) (operand_bytes (frame_of frame.entry) (M.areas memory.now) other) ≡ Ok (made_bytes made)) }
+    ensures { IfSome result (λ made. (one other : OperandKind) → AreOperands (code_in (frame_of frame.entry)) kind left.now right.now one other → operated op (operand_type frame.entry.program.now.db.now frame.entry.body.now.body one) (operand_type frame.entry.program.now.db.now frame.entry.body.now.body other) (operand_bytes (frame_of frame.entry) (M.areas memory.now) one) (operand_bytes (frame_of frame.entry) (M.areas memory.now) other) ≡ Ok (made_bytes made)) }
 {
     let left_view = source(frame, memory, left)?;
     let right_view = source(frame, memory, right)?;

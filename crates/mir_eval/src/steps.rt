@@ -124,7 +124,7 @@ fn operate<M: Memory>(
     left: &OperandKind,
     right: &OperandKind,
 ) -> Result<([u8; 16], u8), Fault>
-    ensures bytes { operated_bytes result ≡ operated op (operand_type frame.entry.body.now.body left.now) (operand_type frame.entry.body.now.body right.now) (operand_bytes (frame_of frame.entry) (M.areas memory.now) left.now) (operand_bytes (frame_of frame.entry) (M.areas memory.now) right.now) }
+    ensures bytes { operated_bytes result ≡ operated op (operand_type frame.entry.program.now.db.now frame.entry.body.now.body left.now) (operand_type frame.entry.program.now.db.now frame.entry.body.now.body right.now) (operand_bytes (frame_of frame.entry) (M.areas memory.now) left.now) (operand_bytes (frame_of frame.entry) (M.areas memory.now) right.now) }
     ensures count { IfOk result (λ r. r.1 ≤ 16) }
 {
     let Some(left_view) = operand(frame, memory, left) else {
@@ -133,8 +133,8 @@ fn operate<M: Memory>(
     let Some(right_view) = operand(frame, memory, right) else {
         return Err(Fault::BadRead);
     };
-    let left_kind = operand_kind(frame.body.body(), left);
-    let right_kind = operand_kind(frame.body.body(), right);
+    let left_kind = operand_kind(frame.program.db, frame.body.body(), left);
+    let right_kind = operand_kind(frame.program.db, frame.body.body(), right);
     // No operator has an answer for operands of more than 16 bytes.
     let Some(left_bytes) = gather(&left_view) else {
         return Err(Fault::Undefined);
@@ -159,13 +159,13 @@ fn operate_on<M: Memory>(
     op: UnOp,
     kind: &OperandKind,
 ) -> Result<([u8; 16], u8), Fault>
-    ensures bytes { operated_bytes result ≡ operated_on op (operand_type frame.entry.body.now.body kind.now) (operand_bytes (frame_of frame.entry) (M.areas memory.now) kind.now) }
+    ensures bytes { operated_bytes result ≡ operated_on op (operand_type frame.entry.program.now.db.now frame.entry.body.now.body kind.now) (operand_bytes (frame_of frame.entry) (M.areas memory.now) kind.now) }
     ensures count { IfOk result (λ r. r.1 ≤ 16) }
 {
     let Some(view) = operand(frame, memory, kind) else {
         return Err(Fault::BadRead);
     };
-    let own = operand_kind(frame.body.body(), kind);
+    let own = operand_kind(frame.program.db, frame.body.body(), kind);
     match gather(&view) {
         Some(bytes) => match op {
             UnOp::Not => answered(invert(own, bytes.bytes())),
@@ -183,7 +183,7 @@ fn cast<M: Memory>(
     kind: &OperandKind,
     ty: &Ty,
 ) -> Result<([u8; 16], u8), Fault>
-    ensures bytes { operated_bytes result ≡ cast_to ty.now (operand_type frame.entry.body.now.body kind.now) (operand_bytes (frame_of frame.entry) (M.areas memory.now) kind.now) }
+    ensures bytes { operated_bytes result ≡ cast_to ty.now (operand_type frame.entry.program.now.db.now frame.entry.body.now.body kind.now) (operand_bytes (frame_of frame.entry) (M.areas memory.now) kind.now) }
     ensures count { IfOk result (λ r. r.1 ≤ 16) }
 {
     let Some(view) = operand(frame, memory, kind) else {
@@ -192,7 +192,7 @@ fn cast<M: Memory>(
     let Some(size) = fixed_size(ty) else {
         return Err(Fault::Undefined);
     };
-    let own = operand_kind(frame.body.body(), kind);
+    let own = operand_kind(frame.program.db, frame.body.body(), kind);
     match gather(&view) {
         Some(bytes) => answered(convert(own, size, bytes.bytes())),
         None => Err(Fault::Undefined),

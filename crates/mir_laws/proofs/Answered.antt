@@ -23,7 +23,7 @@ module _ (frame : Frame) (memory : Memory) (call : Calling) where
   query_is callee None q asks = cc
 
   asks_nothing_by : (callee : FunctionId × GenericArgs) (later : List (Query × Answer)) (a : Answer)
-      → option_and_then function_in (operand_type frame.body call.func.kind) ≡ Some callee → answer_to later (body_query callee) ≡ Some a
+      → option_and_then function_in (operand_type frame.program.world frame.body call.func.kind) ≡ Some callee → answer_to later (body_query callee) ≡ Some a
       → IsTrue (answers_kind (body_query callee) a) → AsksNothing (calls (telling later frame) memory call)
   unfolding calls called_by
   asks_nothing_by callee later (answer.Body body) is told_is right =
@@ -34,7 +34,7 @@ module _ (frame : Frame) (memory : Memory) (call : Calling) where
   asks_nothing_by callee later (answer.Discriminant number) is told_is right = absurd cc
 
   asks_nothing : (callee : Option (FunctionId × GenericArgs)) (q : Query) (later : List (Query × Answer)) (a : Answer)
-      → option_and_then function_in (operand_type frame.body call.func.kind) ≡ callee → calls frame memory call ≡ Asks q frame memory call
+      → option_and_then function_in (operand_type frame.program.world frame.body call.func.kind) ≡ callee → calls frame memory call ≡ Asks q frame memory call
       → answer_to later q ≡ Some a → IsTrue (answers_kind q a) → AsksNothing (calls (telling later frame) memory call)
   unfolding calls
   asks_nothing (Some callee) q later a is asks told_is right =
@@ -45,4 +45,4 @@ module _ (frame : Frame) (memory : Memory) (call : Calling) where
 
 pub answered_calls : AnsweredCallsGoOn
 answered_calls frame memory call q later a asks told_is right =
-    asks_nothing frame memory call (option_and_then function_in (operand_type frame.body call.func.kind)) q later a refl asks told_is right
+    asks_nothing frame memory call (option_and_then function_in (operand_type frame.program.world frame.body call.func.kind)) q later a refl asks told_is right

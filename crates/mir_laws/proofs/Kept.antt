@@ -44,7 +44,7 @@ module _ (frame : Frame) where
       subst (Keeps frame) (sym asks) (record { callee = callee; wanted = refl; unanswered = unanswered; asks = asks; program = refl })
 
   kept_by : (memory : Memory) (call : Calling) (callee : FunctionId × GenericArgs) (told : Option Answer)
-      → option_and_then function_in (operand_type frame.body call.func.kind) ≡ Some callee → answer_to frame.program.answers (body_query callee) ≡ told
+      → option_and_then function_in (operand_type frame.program.world frame.body call.func.kind) ≡ Some callee → answer_to frame.program.answers (body_query callee) ≡ told
       → Keeps frame (calls frame memory call)
   unfolding calls called_by
   kept_by memory call callee (Some (answer.Body body)) is told_is =
@@ -57,13 +57,13 @@ module _ (frame : Frame) where
   kept_by memory call callee None is told_is = kept_asking memory call callee (rw (is, told_is, calls)) (λ a a_is right. absurd cc)
 
   kept_of : (memory : Memory) (call : Calling) (callee : Option (FunctionId × GenericArgs))
-      → option_and_then function_in (operand_type frame.body call.func.kind) ≡ callee → Keeps frame (calls frame memory call)
+      → option_and_then function_in (operand_type frame.program.world frame.body call.func.kind) ≡ callee → Keeps frame (calls frame memory call)
   unfolding calls
   kept_of memory call (Some callee) is = kept_by memory call callee (answer_to frame.program.answers (body_query callee)) is refl
   kept_of memory call None is = rw (is, calls) tt
 
   pub kept_calls : (memory : Memory) (call : Calling) → Keeps frame (calls frame memory call)
-  kept_calls memory call = kept_of memory call (option_and_then function_in (operand_type frame.body call.func.kind)) refl
+  kept_calls memory call = kept_of memory call (option_and_then function_in (operand_type frame.program.world frame.body call.func.kind)) refl
 
   kept_small : (memory : Memory) (targets : SwitchTargets) (bytes : List ℕ) (small : Bool) → nat_le (length bytes) 16 ≡ small
       → Keeps frame (switched frame memory targets (Some bytes))

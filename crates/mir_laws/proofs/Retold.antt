@@ -65,7 +65,7 @@ module _ (later : List (Query × Answer)) (frame : Frame) where
 
   -- a call of a function, by the answer to the query for its body before the run was told more
   retold_by : (memory : Memory) (call : Calling) (callee : FunctionId × GenericArgs) (told : Option Answer) → Extends frame.program.answers later
-      → option_and_then function_in (operand_type frame.body call.func.kind) ≡ Some callee → answer_to frame.program.answers (body_query callee) ≡ told
+      → option_and_then function_in (operand_type frame.program.world frame.body call.func.kind) ≡ Some callee → answer_to frame.program.answers (body_query callee) ≡ told
       → calls (telling later frame) memory call ≡ retold later (calls frame memory call)
   unfolding calls called_by
   retold_by memory call callee (Some (answer.Body body)) extends is told_is =
@@ -79,14 +79,14 @@ module _ (later : List (Query × Answer)) (frame : Frame) where
   retold_by memory call callee None extends is told_is = rw (is, told_is, is, calls)
 
   retold_of : (memory : Memory) (call : Calling) (callee : Option (FunctionId × GenericArgs)) → Extends frame.program.answers later
-      → option_and_then function_in (operand_type frame.body call.func.kind) ≡ callee
+      → option_and_then function_in (operand_type frame.program.world frame.body call.func.kind) ≡ callee
       → calls (telling later frame) memory call ≡ retold later (calls frame memory call)
   unfolding calls
   retold_of memory call (Some callee) extends is = retold_by memory call callee (answer_to frame.program.answers (body_query callee)) extends is refl
   retold_of memory call None extends is = rw (is, calls)
 
   pub retold_calls : (memory : Memory) (call : Calling) → Extends frame.program.answers later → calls (telling later frame) memory call ≡ retold later (calls frame memory call)
-  retold_calls memory call extends = retold_of memory call (option_and_then function_in (operand_type frame.body call.func.kind)) extends refl
+  retold_calls memory call extends = retold_of memory call (option_and_then function_in (operand_type frame.program.world frame.body call.func.kind)) extends refl
 
   retold_small : (memory : Memory) (targets : SwitchTargets) (bytes : List ℕ) (small : Bool) → nat_le (length bytes) 16 ≡ small
       → switched (telling later frame) memory targets (Some bytes) ≡ retold later (switched frame memory targets (Some bytes))

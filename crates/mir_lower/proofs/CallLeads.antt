@@ -23,7 +23,7 @@ frame-of frame call id body intervals = record { program = frame.program; body =
 
 -- where a call leads
 module _ (frame : Frame) (memory : Memory) (call : Calling) (id : FunctionId) where
-  pub leads-by : (ty : Ty) → mir_type frame.body call.func.kind ≡ Some ty → mir_function_in ty ≡ Some (without_arguments id) → calls frame memory call ≡ called_by frame memory call (without_arguments id) (answer_to frame.program.answers (body_query (without_arguments id)))
+  pub leads-by : (ty : Ty) → mir_type frame.program.world frame.body call.func.kind ≡ Some ty → mir_function_in ty ≡ Some (without_arguments id) → calls frame memory call ≡ called_by frame memory call (without_arguments id) (answer_to frame.program.answers (body_query (without_arguments id)))
   unfolding calls
   leads-by ty typed names =
       ap (λ (o : Option (FunctionId × GenericArgs)). elim o [

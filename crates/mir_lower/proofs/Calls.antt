@@ -126,9 +126,9 @@ lays-call source s1 new e callee es form below grows laid plain layouts f (insid
     below child operand.0 operand.1 (plain-part source e child (argument_is_part source e callee es child form operand.0) laid plain) (layouts-before source s1 new grows layouts) f rest
 
 -- the type of the operand that names the callee
-callee-type : (frame : Frame) (operand : OperandKind) (source : Source) (e : ℕ) (callee : Option ℕ) → (is : IsCalleeOperand source e callee operand) → mir_type frame.body operand ≡ Some is.ty
+callee-type : (frame : Frame) (operand : OperandKind) (source : Source) (e : ℕ) (callee : Option ℕ) → (is : IsCalleeOperand source e callee operand) → mir_type frame.program.world frame.body operand ≡ Some is.ty
 unfolding mir_type
-callee-type frame operand source e callee is = ap (mir_type frame.body) is.is
+callee-type frame operand source e callee is = ap (mir_type frame.program.world frame.body) is.is
 
 -- without bytes for each argument a call has no meaning
 enters-nothing : (callees : Callees) (diverging : Bool) (callee : Option Source) (path : Path) (store : Store) → entered_into callees diverging callee None path store ≡ Stuck

@@ -99,7 +99,7 @@ module _ (source : Source) (whole : Shape) (frame : Frame) (lands : Landings) (f
     (sound : IsSound source whole) (is : IsFrameOf whole frame) (holds : Holds whole frame store memory)
     (fuel : ℕ) (serves : Serves (suc fuel) source frame.program)
     (call : Calling) (values : List (List ℕ)) (fit : ShowAll whole frame store call.args values)
-    (e : ℕ) (callee : Option ℕ) (ty : Ty) (typed : mir_type frame.body call.func.kind ≡ Some ty)
+    (e : ℕ) (callee : Option ℕ) (ty : Ty) (typed : mir_type frame.program.world frame.body call.func.kind ≡ Some ty)
     (id : FunctionId) (named : function_in ty ≡ Some id) (names : function_called source e callee ≡ Some id) (makes : MakesCall source id)
     (c : Cell) (is-whole : call.destination.projection ≡ empty_id) (found : local_of whole c ≡ Some call.destination.local.0)
     (at : (budget : ℕ) → run_from frame memory from budget ≡ going_on budget (calls frame memory call)) where

@@ -39,7 +39,7 @@ unfolding mir_bytes mir_type
 literal-fits source whole frame e literal operand is =
     record {
       bytes = λ store memory holds. ap (mir_bytes frame memory) is.is_constant.is_constant ∙ is.is_constant.bytes_are;
-      ty = ap (mir_type frame.body) is.is_constant.is_constant;
+      ty = ap (mir_type frame.program.world frame.body) is.is_constant.is_constant;
     }
 
 -- what a literal means as an operand

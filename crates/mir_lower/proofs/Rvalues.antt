@@ -57,7 +57,7 @@ kinds operands = map (λ (operand : MirOperand). operand.kind) operands
 -- an operand of the graph has the bytes of a value, and its kind
 pub record Reads (frame : Frame) (memory : Memory) (x : MirOperand) (value : Value) : Type 0 where
   pub bytes_are : mir_bytes frame memory x.kind ≡ Some value.bytes
-  pub kind_is : option_and_then kind_of (mir_type frame.body x.kind) ≡ value.kind
+  pub kind_is : option_and_then kind_of (mir_type frame.program.world frame.body x.kind) ≡ value.kind
 
 -- operands of the graph have the bytes of values, one each
 abbrev pub ReadAll : Frame → Memory → List MirOperand → List Value → Type 0
@@ -73,7 +73,7 @@ Computes source e operation operands rvalue =
 
 -- Operands that fit those of the source have their values, where these have some.
 
-kind-of-read : (source : Source) (whole : Shape) (frame : Frame) (x : MirOperand) (value : Operand) → Fits source x.kind whole frame value → option_and_then kind_of (mir_type frame.body x.kind) ≡ operand_kind source value
+kind-of-read : (source : Source) (whole : Shape) (frame : Frame) (x : MirOperand) (value : Operand) → Fits source x.kind whole frame value → option_and_then kind_of (mir_type frame.program.world frame.body x.kind) ≡ operand_kind source value
 kind-of-read source whole frame x value fits = ap (option_and_then kind_of) fits.ty
 
 read-one : (source : Source) (whole : Shape) (frame : Frame) (store : Store) (memory : Memory) → Holds whole frame store memory → (x : MirOperand) (value : Operand) → Fits source x.kind whole frame value → (given : Value) → value_of source store value ≡ Some given → Reads frame memory x given
@@ -125,7 +125,7 @@ two-answer world ty op left right = refl
 unary-bytes : (frame : Frame) (memory : Memory) (op : UnOp) (x : MirOperand) (value : Value) → Reads frame memory x value → rvalue_bytes frame memory (Unary op x) ≡ answer (computed_of op value.kind value.bytes)
 unfolding rvalue_bytes operated_on
 unary-bytes frame memory op x value reads =
-    ap (operated_on op (mir_type frame.body x.kind)) reads.bytes_are
+    ap (operated_on op (mir_type frame.program.world frame.body x.kind)) reads.bytes_are
     ∙ ap (λ k. answer (computed_of op k value.bytes)) reads.kind_is
 
 unary-computes : (source : Source) (e : ℕ) (op : UnOp) (x : MirOperand) → Computes source e (operation_of op) (x ∷ []) (Unary op x)
@@ -168,8 +168,8 @@ cast-read ty from value is =
 cast-bytes : (source : Source) (frame : Frame) (memory : Memory) (ty : Ty) (x : MirOperand) (value : Value) → Reads frame memory x value → rvalue_bytes frame memory (Cast IntToInt x ty) ≡ answer (answered source.world (Some ty) Convert (value ∷ []))
 unfolding rvalue_bytes
 cast-bytes source frame memory ty x value reads =
-    ap (cast_to ty (mir_type frame.body x.kind)) reads.bytes_are
-    ∙ cast-read ty (mir_type frame.body x.kind) value reads.kind_is
+    ap (cast_to ty (mir_type frame.program.world frame.body x.kind)) reads.bytes_are
+    ∙ cast-read ty (mir_type frame.program.world frame.body x.kind) value reads.kind_is
     ∙ ap answer (cast-answer source.world ty value)
 
 cast-computes : (source : Source) (e : ℕ) (ty : Ty) (x : MirOperand) → own_type source e ≡ Some ty → Computes source e Convert (x ∷ []) (Cast IntToInt x ty)
@@ -182,8 +182,8 @@ cast-computes source e ty x typed frame (value ∷ more ∷ rest) memory same re
 binary-bytes : (frame : Frame) (memory : Memory) (op : Operator) (x y : MirOperand) (left right : Value) → Reads frame memory x left → Reads frame memory y right → rvalue_bytes frame memory (CheckedBinaryOp op x y) ≡ answer (computed op left.kind right.kind left.bytes right.bytes)
 unfolding rvalue_bytes operated
 binary-bytes frame memory op x y left right one other =
-    let left-type = mir_type frame.body x.kind in
-    let right-type = mir_type frame.body y.kind in
+    let left-type = mir_type frame.program.world frame.body x.kind in
+    let right-type = mir_type frame.program.world frame.body y.kind in
     ap (λ b. operated op left-type right-type b (mir_bytes frame memory y.kind)) one.bytes_are
     ∙ ap (operated op left-type right-type (Some left.bytes)) other.bytes_are
     ∙ ap (λ k. answer (computed op k (option_and_then kind_of right-type) left.bytes right.bytes)) one.kind_is

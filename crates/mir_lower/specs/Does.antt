@@ -124,7 +124,7 @@ LeadsTo at whole frame place = place ≡ at
 -- an operand of the graph has the bytes of the source's operand whenever store and memory agree, and its type
 pub record Fits (source : Source) (operand : OperandKind) (whole : Shape) (frame : Frame) (value : Operand) : Type 0 where
   pub bytes : (store : Store) (memory : Memory) → Holds whole frame store memory → mir_bytes frame memory operand ≡ operand_bytes source store value
-  pub ty : mir_type frame.body operand ≡ operand_type source value
+  pub ty : mir_type frame.program.world frame.body operand ≡ operand_type source value
 
 -- operands of the graph have the bytes and types of the source's, one each
 abbrev pub FitAll : Source → List OperandKind → Shape → Frame → List Operand → Type 0

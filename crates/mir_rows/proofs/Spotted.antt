@@ -39,7 +39,7 @@ module _ (code : Prepared) (place : Place) where
 
   -- and elsewhere what the elements lead to is a part of one
   pub part : (place.projection.0 == 0) ≡ false → (elements : Projection) → Some elements ≡ projection_of code.body.projection_store.projections place.projection → (length elements == 0) ≡ false →
-      (offset : ℕ) → Some offset ≡ offset_behind code.world elements (local_type code.body place.local) → (seen : Ty) → Some seen ≡ type_behind elements (local_type code.body place.local) →
+      (offset : ℕ) → Some offset ≡ offset_behind code.world elements (local_type code.body place.local) → (seen : Ty) → Some seen ≡ type_behind code.world elements (local_type code.body place.local) →
       (layout : Layout) → Some layout ≡ layout_of code.world seen → IsSpot code place (spot.Part place.local offset layout.size)
   unfolding place_cell
   part some [] are empty offset at seen is layout laid cells = absurd cc

@@ -24,12 +24,12 @@ from-here elements i elem less is = drop_more elements i elem less ∙ ap (λ (e
 
 module _ (elements : Projection) (i : ℕ) (elem : PlaceElem) (less : i < length elements) (is : elem ≡ get_or elements i elem) where
   -- the type behind one more element
-  pub type-next : (ty : Option Ty) → type_behind (drop i elements) ty ≡ type_behind (drop (i + 1) elements) (option_and_then (elem_type elem) ty)
+  pub type-next : (world : HirDatabase) (ty : Option Ty) → type_behind world (drop i elements) ty ≡ type_behind world (drop (i + 1) elements) (option_and_then (elem_type world elem) ty)
   unfolding type_behind
-  type-next ty = ap (λ (es : Projection). type_behind es ty) (from-here elements i elem less is)
+  type-next world ty = ap (λ (es : Projection). type_behind world es ty) (from-here elements i elem less is)
 
   -- the offset behind one more element
-  offset-next : (world : HirDatabase) (ty : Option Ty) → offset_behind world (drop i elements) ty ≡ added (option_and_then (elem_offset world elem) ty) (offset_behind world (drop (i + 1) elements) (option_and_then (elem_type elem) ty))
+  offset-next : (world : HirDatabase) (ty : Option Ty) → offset_behind world (drop i elements) ty ≡ added (option_and_then (elem_offset world elem) ty) (offset_behind world (drop (i + 1) elements) (option_and_then (elem_type world elem) ty))
   unfolding offset_behind
   offset-next world ty = ap (λ (es : Projection). offset_behind world es ty) (from-here elements i elem less is)
 
@@ -44,9 +44,9 @@ module _ (elements : Projection) (i : ℕ) (elem : PlaceElem) (less : i < length
   -- an offset that is known so far is added to those behind it
   module _ (world : HirDatabase) (offset : ℕ) (ty : Option Ty) (whole : Option ℕ) (so_far : added (Some offset) (offset_behind world (drop i elements) ty) ≡ whole) where
     pub offset-more : (more : ℕ) → option_and_then (elem_offset world elem) ty ≡ Some more
-        → added (Some (offset + more)) (offset_behind world (drop (i + 1) elements) (option_and_then (elem_type elem) ty)) ≡ whole
+        → added (Some (offset + more)) (offset_behind world (drop (i + 1) elements) (option_and_then (elem_type world elem) ty)) ≡ whole
     offset-more more found =
-        let rest = offset_behind world (drop (i + 1) elements) (option_and_then (elem_type elem) ty) in
+        let rest = offset_behind world (drop (i + 1) elements) (option_and_then (elem_type world elem) ty) in
         sym (added-assoc offset more rest)
         ∙ ap (λ (o : Option ℕ). added (Some offset) (added o rest)) (sym found)
         ∙ ap (added (Some offset)) (sym (offset-next world ty))
@@ -54,15 +54,15 @@ module _ (elements : Projection) (i : ℕ) (elem : PlaceElem) (less : i < length
 
     pub offset-missing : option_and_then (elem_offset world elem) ty ≡ None → None ≡ whole
     offset-missing missing =
-        ap (λ (o : Option ℕ). added (Some offset) (added o (offset_behind world (drop (i + 1) elements) (option_and_then (elem_type elem) ty)))) (sym missing)
+        ap (λ (o : Option ℕ). added (Some offset) (added o (offset_behind world (drop (i + 1) elements) (option_and_then (elem_type world elem) ty)))) (sym missing)
         ∙ ap (added (Some offset)) (sym (offset-next world ty))
         ∙ so_far
 
 -- no element is left
 module _ (elements : Projection) (i : ℕ) (none : length elements ≤ i) where
-  pub type-last : (ty : Option Ty) → type_behind (drop i elements) ty ≡ ty
+  pub type-last : (world : HirDatabase) (ty : Option Ty) → type_behind world (drop i elements) ty ≡ ty
   unfolding type_behind
-  type-last ty = ap (λ (es : Projection). type_behind es ty) (drop_all i elements none)
+  type-last world ty = ap (λ (es : Projection). type_behind world es ty) (drop_all i elements none)
 
   pub offset-last : (world : HirDatabase) (offset : ℕ) (ty : Option Ty) → added (Some offset) (offset_behind world (drop i elements) ty) ≡ Some offset
   unfolding offset_behind
@@ -76,11 +76,11 @@ added-zero None = refl
 added-zero (Some n) = let same : 0 + n ≡ n = omega arith in ap Some same
 
 -- the type that one more element leads to, where there is one so far
-pub seen-next : (elem : PlaceElem) (seen : Option (Bor Ty)) (ty : Bor Ty) (next : Option (Bor Ty)) → seen ≡ Some ty → option_copied next ≡ elem_type elem ty.now → option_copied next ≡ option_and_then (elem_type elem) (option_copied seen)
-seen-next elem seen ty next is leads = leads ∙ ap (λ (s : Option (Bor Ty)). option_and_then (elem_type elem) (option_copied s)) (sym is)
+pub seen-next : (world : HirDatabase) (elem : PlaceElem) (seen : Option (Bor Ty)) (ty : Bor Ty) (next : Option (Bor Ty)) → seen ≡ Some ty → option_copied next ≡ elem_type world elem ty.now → option_copied next ≡ option_and_then (elem_type world elem) (option_copied seen)
+seen-next world elem seen ty next is leads = leads ∙ ap (λ (s : Option (Bor Ty)). option_and_then (elem_type world elem) (option_copied s)) (sym is)
 
-pub none-next : (elem : PlaceElem) (seen : Option (Bor Ty)) → seen ≡ None → None ≡ option_and_then (elem_type elem) (option_copied seen)
-none-next elem seen is = ap (λ (s : Option (Bor Ty)). option_and_then (elem_type elem) (option_copied s)) (sym is)
+pub none-next : (world : HirDatabase) (elem : PlaceElem) (seen : Option (Bor Ty)) → seen ≡ None → None ≡ option_and_then (elem_type world elem) (option_copied seen)
+none-next world elem seen is = ap (λ (s : Option (Bor Ty)). option_and_then (elem_type world elem) (option_copied s)) (sym is)
 
 -- the part of a cell that has this offset and is of this type
 module _ (world : HirDatabase) (elements : Projection) (ty : Option Ty) (cell : Interval) where
@@ -94,19 +94,19 @@ module _ (world : HirDatabase) (elements : Projection) (ty : Option Ty) (cell : 
     by [] none = refl
     by (elem ∷ rest) none = absurd (let zero-long : length (elem ∷ rest) ≡ 0 = eqb-true (length (elem ∷ rest)) 0 none in omega (arith, zero-long))
 
-  behind-some : (length elements == 0) ≡ false → Found (offset_behind world elements ty) (type_behind elements ty) ≡ cell_behind world elements ty cell
+  behind-some : (length elements == 0) ≡ false → Found (offset_behind world elements ty) (type_behind world elements ty) ≡ cell_behind world elements ty cell
   unfolding cell_behind
   behind-some = by elements where
-    by : (elems : Projection) → (length elems == 0) ≡ false → Found (offset_behind world elems ty) (type_behind elems ty) ≡ cell_behind world elems ty cell
+    by : (elems : Projection) → (length elems == 0) ≡ false → Found (offset_behind world elems ty) (type_behind world elems ty) ≡ cell_behind world elems ty cell
     by [] some = absurd cc
     by (elem ∷ rest) some = refl
 
-  pub behind-by : (length elements == 0) ≡ false → (offset : Option ℕ) → offset ≡ offset_behind world elements ty → (seen : Option Ty) → seen ≡ type_behind elements ty → Found offset seen ≡ cell_behind world elements ty cell
+  pub behind-by : (length elements == 0) ≡ false → (offset : Option ℕ) → offset ≡ offset_behind world elements ty → (seen : Option Ty) → seen ≡ type_behind world elements ty → Found offset seen ≡ cell_behind world elements ty cell
   behind-by some offset is seen same =
       ap (λ (o : Option ℕ). Found o seen) is ∙ ap (Found (offset_behind world elements ty)) same ∙ behind-some some
 
   -- the layout of the type, or none
-  pub laid-by : (length elements == 0) ≡ false → (offset : ℕ) → Some offset ≡ offset_behind world elements ty → (seen : Ty) → Some seen ≡ type_behind elements ty → (layout : Option Layout) → layout ≡ layout_of world seen
+  pub laid-by : (length elements == 0) ≡ false → (offset : ℕ) → Some offset ≡ offset_behind world elements ty → (seen : Ty) → Some seen ≡ type_behind world elements ty → (layout : Option Layout) → layout ≡ layout_of world seen
       → option_and_then (part_of_cell cell offset) (option_map (λ layout. layout.size) layout) ≡ cell_behind world elements ty cell
   laid-by some offset is seen same layout laid =
       ap (λ (l : Option Layout). option_and_then (part_of_cell cell offset) (option_map (λ layout. layout.size) l)) laid
@@ -139,7 +139,7 @@ behind-ends : (world : HirDatabase) (elements : Projection) (ty : Option Ty) (ce
 unfolding cell_behind
 behind-ends world [] ty cell ends = ends
 behind-ends world (elem ∷ rest) ty cell ends =
-    by (offset_behind world (elem ∷ rest) ty) (option_map (λ layout. layout.size) (option_and_then (layout_of world) (type_behind (elem ∷ rest) ty))) where
+    by (offset_behind world (elem ∷ rest) ty) (option_map (λ layout. layout.size) (option_and_then (layout_of world) (type_behind world (elem ∷ rest) ty))) where
       by : (offset size : Option ℕ) → IfSome (option_and_then (λ n. option_and_then (part_of_cell cell n) size) offset) HasEnd
       by None size = tt
       by (Some offset) None = tt

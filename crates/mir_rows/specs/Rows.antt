@@ -51,8 +51,8 @@ IsSource code (source.Constant short) kind = constant_in kind ≡ Some (short_by
 pub record AreOperands (code : Prepared) (kind : Kind) (first second : Source) (one other : OperandKind) : Type 0 where
   pub left : IsSource code first one
   pub right : IsSource code second other
-  pub left_kind : option_and_then kind_of (operand_type code.body one) ≡ Some kind
-  pub right_kind : option_and_then kind_of (operand_type code.body other) ≡ Some kind
+  pub left_kind : option_and_then kind_of (operand_type code.world code.body one) ≡ Some kind
+  pub right_kind : option_and_then kind_of (operand_type code.world code.body other) ≡ Some kind
 
 -- an action is what a statement of a body does, by the layouts of a world
 abbrev pub Says : Prepared → Action → StatementKind → Type 0

@@ -65,8 +65,8 @@ fn combine(
     ensures { IfSome result (λ action. Says (prepared db.now body.now) action (Assign to (CheckedBinaryOp op left.now right.now))) }
 {
     let to = spot_of(db, body, to)?;
-    let kind = operand_kind(body, &left.kind)?;
-    if operand_kind(body, &right.kind)? == kind {
+    let kind = operand_kind(db, body, &left.kind)?;
+    if operand_kind(db, body, &right.kind)? == kind {
         Some(Action::Combine {
             op,
             kind,

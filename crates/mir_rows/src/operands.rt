@@ -8,7 +8,7 @@ ghost use Rattle.mir.specs.Run.{constant_bytes, operand_type};
 use crate::places::place_type;
 use mir::{MirBody, OperandKind};
 use numbers::Kind;
-use world::Const;
+use world::{Const, HirDatabase};
 
 /// The bytes of a constant, where it is a value.
 #[inline(always)]
@@ -23,11 +23,11 @@ pub fn constant_bytes(konst: &Const) -> Option<&[u8]>
 
 /// What the bytes of an operand are, where they are a number or a truth value.
 #[tactic(auto, unfolding(mir::specs::Run::operand_type))]
-pub fn operand_kind(body: &MirBody, kind: &OperandKind) -> Option<Kind>
-    ensures { result ≡ option_and_then kind_of (operand_type body.now kind.now) }
+pub fn operand_kind(db: &HirDatabase, body: &MirBody, kind: &OperandKind) -> Option<Kind>
+    ensures { result ≡ option_and_then kind_of (operand_type db.now body.now kind.now) }
 {
     match kind {
-        OperandKind::Copy(place) => match place_type(body, *place) {
+        OperandKind::Copy(place) => match place_type(db, body, *place) {
             Some(ty) => Kind::of(ty),
             None => None,
         },

@@ -2,14 +2,17 @@
 
 ghost use Rattle.std.specs.Prelude.{◌≡◌, ℕ, ◌*◌, ◌^◌, ◌≤◌, IfSome, Some, option_and_then, option_map, slice_get};
 ghost use Rattle.std.specs.Option.{option_copied};
-ghost use Rattle.mir.specs.Places.{cell_at, cell_behind, elem_offset, elem_type, local_type, offset_behind, part_of_cell, place_cell, place_type, type_at, type_behind};
+ghost use Rattle.mir.specs.Places.{cell_at, cell_behind, elem_offset, elem_type, local_type, offset_behind, part_of_cell, part_offset, place_cell, place_type, type_at, type_behind};
 ghost use Rattle.mir.specs.Projections.{projection_of};
 ghost use Rattle.world.specs.Lookups.{layout_of};
 ghost use Rattle.mir_rows.specs.Places.{HasEnd, HaveEnds};
 
 use crate::spots::part;
 use either::Either;
-use mir::{Interner, Interval, LocalId, MirBody, Place, PlaceElem, ProjectionElem, tuple_part};
+use mir::{
+    Interner, Interval, LocalId, MirBody, Place, PlaceElem, ProjectionElem, struct_field,
+    tuple_part,
+};
 use world::{HirDatabase, Ty};
 
 /// The type of a local.
@@ -24,12 +27,23 @@ pub(crate) fn local_type(body: &MirBody, local: LocalId) -> Option<&Ty>
 }
 
 /// The type that an element leads to from a value of a type.
-fn elem_type<'a>(elem: &PlaceElem, ty: &'a Ty) -> Option<&'a Ty>
-    ensures { option_copied result ≡ elem_type elem.now ty.now }
+fn elem_type<'a>(db: &'a HirDatabase, elem: &PlaceElem, ty: &'a Ty) -> Option<&'a Ty>
+    ensures { option_copied result ≡ elem_type db.now elem.now ty.now }
 {
     match elem {
+        ProjectionElem::Field(Either::Left(field)) => struct_field(db, *field, ty),
         ProjectionElem::Field(Either::Right(field)) => tuple_part(ty, *field),
         _ => None,
+    }
+}
+
+/// The offset that the layout of a type has for its part at an index.
+fn part_offset(db: &HirDatabase, index: u32, ty: &Ty) -> Option<u64>
+    ensures { result ≡ part_offset db.now index ty.now }
+{
+    match db.layout_of(ty) {
+        Some(layout) => layout.offsets.get(index as u64).copied(),
+        None => None,
     }
 }
 
@@ -38,22 +52,24 @@ fn elem_offset(db: &HirDatabase, elem: &PlaceElem, ty: &Ty) -> Option<u64>
     ensures { result ≡ elem_offset db.now elem.now ty.now }
 {
     match elem {
-        ProjectionElem::Field(Either::Right(field)) => match db.layout_of(ty) {
-            Some(layout) => layout.offsets.get(field.index as u64).copied(),
-            None => None,
-        },
+        ProjectionElem::Field(Either::Left(field)) => part_offset(db, field.local_id, ty),
+        ProjectionElem::Field(Either::Right(field)) => part_offset(db, field.index, ty),
         _ => None,
     }
 }
 
 /// The type of what elements lead to, one after another.
-pub(crate) fn type_behind<'a>(elements: &[PlaceElem], ty: Option<&'a Ty>) -> Option<&'a Ty>
-    ensures { option_copied result ≡ type_behind elements.now (option_copied ty.entry) }
+pub(crate) fn type_behind<'a>(
+    db: &'a HirDatabase,
+    elements: &[PlaceElem],
+    ty: Option<&'a Ty>,
+) -> Option<&'a Ty>
+    ensures { option_copied result ≡ type_behind db.now elements.now (option_copied ty.entry) }
 {
     let mut seen = ty;
     for elem in elements {
         seen = match seen {
-            Some(ty) => elem_type(elem, ty),
+            Some(ty) => elem_type(db, elem, ty),
             None => None,
         };
     }
@@ -78,7 +94,7 @@ pub(crate) fn offset_behind(
             return None;
         };
         offset += more as u128;
-        seen = elem_type(elem, ty);
+        seen = elem_type(db, elem, ty);
     }
     Some(offset)
 }
@@ -111,7 +127,7 @@ fn cell_behind(
     let Some(offset) = offset_behind(db, elements, ty) else {
         return None;
     };
-    let Some(seen) = type_behind(elements, ty) else {
+    let Some(seen) = type_behind(db, elements, ty) else {
         return None;
     };
     match db.layout_of(seen) {
@@ -179,24 +195,24 @@ pub fn place_cell(
 
 /// The type of a place's value, by the elements that the id of its projection stands for.
 #[inline(never)]
-fn type_at(body: &MirBody, place: Place) -> Option<&Ty>
-    ensures { option_copied result ≡ type_at body.now place (projection_of body.now.projection_store.projections place.projection) }
+fn type_at<'a>(db: &'a HirDatabase, body: &'a MirBody, place: Place) -> Option<&'a Ty>
+    ensures { option_copied result ≡ type_at db.now body.now place (projection_of body.now.projection_store.projections place.projection) }
 {
     let Some(elements) = elements(body, place) else {
         return None;
     };
-    type_behind(elements, local_type(body, place.local))
+    type_behind(db, elements, local_type(body, place.local))
 }
 
 /// The type of a place's value.
 #[inline(always)]
 #[tactic(auto, unfolding(mir::specs::Places::place_type, mir::specs::Places::type_behind))]
-pub fn place_type(body: &MirBody, place: Place) -> Option<&Ty>
-    ensures { option_copied result ≡ place_type body.now place }
+pub fn place_type<'a>(db: &'a HirDatabase, body: &'a MirBody, place: Place) -> Option<&'a Ty>
+    ensures { option_copied result ≡ place_type db.now body.now place }
 {
     if place.projection.0 == 0 {
         local_type(body, place.local)
     } else {
-        type_at(body, place)
+        type_at(db, body, place)
     }
 }

@@ -35,7 +35,7 @@ pub(crate) fn spot_of(db: &HirDatabase, body: &MirBody, place: Place) -> Option<
     }
     let ty = local_type(body, place.local);
     let offset = offset_behind(db, elements, ty)?;
-    let seen = type_behind(elements, ty)?;
+    let seen = type_behind(db, elements, ty)?;
     let layout = db.layout_of(seen)?;
     if offset > u64::MAX as u128 {
         return None;

@@ -16,5 +16,5 @@ returns c =
     let elements = c.in_ok-elements.elements.now in
     part (prepared c.args.db.now c.args.body.now) c.args.place (search rules) elements c.in_ok-elements.ensures (sym c.is_empty.ensures ∙ c.if-is_empty.false)
     c.in_ok-offset.offset (c.in_ok-offset.ensures ∙ ap (offset_behind c.args.db.now elements) c.local_type-ty.ensures)
-    c.in_ok-seen.seen.now (c.in_ok-seen.ensures ∙ ap (type_behind elements) c.local_type-ty.ensures)
+    c.in_ok-seen.seen.now (c.in_ok-seen.ensures ∙ ap (type_behind c.args.db.now elements) c.local_type-ty.ensures)
     c.in_ok-layout.layout.now c.in_ok-layout.ensures
