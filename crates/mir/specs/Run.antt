@@ -208,12 +208,21 @@ abbrev pub struct_layout : HirDatabase → VariantId → GenericArgs → Option 
 struct_layout world (variant.StructId id) args = layout_of world (type.Adt (adt.StructId id) args)
 struct_layout world _ args = None
 
+-- a value of a type with this layout, by the bytes of its parts, where each has some
+abbrev pub composed : Option Layout → Option (List (List ℕ)) → Result (List ℕ) MirEvalError
+composed layout (Some parts) = laid_out layout parts
+composed layout None = Err bad_read
+
+-- parts one behind another, where each has some
+abbrev pub joined : Option (List (List ℕ)) → Result (List ℕ) MirEvalError
+joined (Some parts) = Ok (concat parts)
+joined None = Err bad_read
+
 -- the bytes of an aggregate, by those of its parts
 unfoldable pub aggregated : HirDatabase → AggregateKind → Option (List (List ℕ)) → Result (List ℕ) MirEvalError
-aggregated world (Array ty) (Some parts) = Ok (concat parts)
-aggregated world (Tuple ty) (Some parts) = laid_out (layout_of world ty) parts
-aggregated world (Adt id args) (Some parts) = laid_out (struct_layout world id args) parts
-aggregated world kind None = Err bad_read
+aggregated world (Array ty) parts = joined parts
+aggregated world (Tuple ty) parts = composed (layout_of world ty) parts
+aggregated world (Adt id args) parts = composed (struct_layout world id args) parts
 
 abbrev pub read : Option (List ℕ) → Result (List ℕ) MirEvalError
 read (Some bytes) = Ok bytes

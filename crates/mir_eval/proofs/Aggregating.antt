@@ -3,13 +3,10 @@ use Rattle.std.proofs.Common.{◌≡◌, ℕ, zero, suc, ◌+◌, ◌≤◌, Boo
 use Rattle.std.specs.Prelude.{is_some, option_map}
 use Rattle.std.specs.List.{concat}
 use Rattle.std.proofs.lemmas.List.{drop_all}
-use Rattle.types.specs.declared.ty.Ty.{Ty}
-use Rattle.world.specs.declared.database.HirDatabase.{HirDatabase}
 use Rattle.mir.specs.declared.errors.MirEvalError.{MirEvalError}
-use Rattle.mir.specs.declared.operand.AggregateKind.TheVariants.{Array}
 use Rattle.mir.specs.declared.operand.Operand.{Operand}
 use Rattle.mir.specs.Memory.{Memory}
-use Rattle.mir.specs.Run.{Frame, aggregated, bad_read, before, operand_bytes, operands_bytes}
+use Rattle.mir.specs.Run.{Frame, bad_read, before, joined, operand_bytes, operands_bytes}
 use Rattle.mir_mem.proofs.Placed.{drop-some}
 
 -- bytes that others stand behind
@@ -85,20 +82,18 @@ module _ (frame : Frame) (memory : Memory) where
       ∙ sym (ap (joined-with done) (before-some operands i operand bytes is are) ∙ joined-before done bytes (operands_bytes frame memory (drop (suc i) operands)))
       ∙ same
 
-  all-joined : (world : HirDatabase) (ty : Ty) (done : List ℕ) (parts : Option (List (List ℕ))) → Some (done ++ []) ≡ joined-with [] parts → Ok done ≡ aggregated world (Array ty) parts
-  unfolding aggregated
-  all-joined world ty done (Some parts) is = let same : done ++ [] ≡ concat parts = cc in ap Ok (sym (append-nil done) ∙ same)
-  all-joined world ty done None is = absurd cc
+  all-joined : (done : List ℕ) (parts : Option (List (List ℕ))) → Some (done ++ []) ≡ joined-with [] parts → Ok done ≡ joined parts
+  all-joined done (Some parts) is = let same : done ++ [] ≡ concat parts = cc in ap Ok (sym (append-nil done) ∙ same)
+  all-joined done None is = absurd cc
 
   -- the bytes of all
-  pub joined-last : (world : HirDatabase) (ty : Ty) (operands : List Operand) (i : ℕ) (done : List ℕ) → length operands ≤ i → joined-with done (operands_bytes frame memory (drop i operands)) ≡ joined-with [] (operands_bytes frame memory operands) →
-      Ok done ≡ aggregated world (Array ty) (operands_bytes frame memory operands)
-  joined-last world ty operands i done none same =
-      all-joined world ty done (operands_bytes frame memory operands) (sym (ap (joined-with done) (all-left operands i none)) ∙ same)
+  pub joined-last : (operands : List Operand) (i : ℕ) (done : List ℕ) → length operands ≤ i → joined-with done (operands_bytes frame memory (drop i operands)) ≡ joined-with [] (operands_bytes frame memory operands) →
+      Ok done ≡ joined (operands_bytes frame memory operands)
+  joined-last operands i done none same =
+      all-joined done (operands_bytes frame memory operands) (sym (ap (joined-with done) (all-left operands i none)) ∙ same)
 
-  pub array-unreadable : (world : HirDatabase) (ty : Ty) (parts : Option (List (List ℕ))) → parts ≡ None → ◌≡◌ {A = Result (List ℕ) MirEvalError} (Err bad_read) (aggregated world (Array ty) parts)
-  unfolding aggregated
-  array-unreadable world ty parts is = sym (ap (aggregated world (Array ty)) is)
+  pub array-unreadable : (parts : Option (List (List ℕ))) → parts ≡ None → ◌≡◌ {A = Result (List ℕ) MirEvalError} (Err bad_read) (joined parts)
+  array-unreadable parts is = sym (ap joined is)
 
   record Split (first : Option (List ℕ)) (rest : Option (List (List ℕ))) (parts : List (List ℕ)) : Type 0 where
     part : List ℕ

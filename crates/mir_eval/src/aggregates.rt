@@ -1,12 +1,10 @@
-//! Values that are made of operands: one value again and again, arrays, and tuples.
+//! Values that are made of operands: one value again and again, arrays, tuples, and structs.
 
-ghost use Rattle.std.specs.Prelude.{◌≡◌, ℕ, List, replicate, is_some, slice_get, Some, Err};
-ghost use Rattle.world.specs.Lookups.{layout_of};
-ghost use Rattle.types.specs.declared.ty.Ty.{Ty};
+ghost use Rattle.std.specs.Prelude.{◌≡◌, ℕ, List, replicate, is_some, slice_get, IfOk, Some, Err};
+ghost use Rattle.std.specs.Option.{option_copied};
 ghost use Rattle.numbers.specs.Constants.{number_in};
-ghost use Rattle.mir.specs.declared.operand.AggregateKind.TheVariants.{Array};
 ghost use Rattle.mir.specs.declared.address.Interval.{Interval};
-ghost use Rattle.mir.specs.Run.{aggregated, copied, operand_bytes, operands_bytes, placed_parts, repeats};
+ghost use Rattle.mir.specs.Run.{aggregated, composed, copied, joined, operand_bytes, operands_bytes, placed_parts, repeats, struct_layout};
 ghost use Rattle.mir_mem.specs.Construction.{placed_at};
 ghost use Rattle.mir_eval.specs.declared.faults.Fault.TheVariants.{NoMemory};
 ghost use Rattle.mir_eval.specs.Frames.{frame_of};
@@ -19,7 +17,10 @@ use crate::steps::operand;
 use mir::{AggregateKind, Interval, Operand, OperandKind};
 use mir_mem::{Memory, append, is_too_long, put_view, repeat, zeros};
 use numbers::number_in;
-use world::{Bytes, Const, Layout};
+use std::alloc::Global;
+use world::{
+    AdtId, Bytes, Const, GenericArgs, HirDatabase, Layout, NoMemory, TryClone, Ty, VariantId,
+};
 
 /// Copies bytes that were computed to a cell.
 #[tactic(auto, unfolding(mir::specs::Run::copied))]
@@ -82,7 +83,7 @@ fn joined<M: Memory>(
     memory: &M,
     operands: &[Operand],
 ) -> Result<Bytes, Fault>
-    ensures { (ty : Ty) → OrNoMemory result (bytes_of result ≡ aggregated frame.entry.program.now.db.now (Array ty) (operands_bytes (frame_of frame.entry) (M.areas memory.now) operands.now)) }
+    ensures { OrNoMemory result (bytes_of result ≡ joined (operands_bytes (frame_of frame.entry) (M.areas memory.now) operands.now)) }
 {
     let mut all = Vec::new(frame.program.alloc);
     for part in operands {
@@ -147,8 +148,45 @@ fn laid_out<M: Memory>(
     Ok(Bytes::from_vec(all))
 }
 
-/// The bytes of an array or a tuple, by the operands that it is made of.
-#[tactic(auto, unfolding(mir::specs::Run::aggregated, mir::specs::Run::laid_out))]
+/// The bytes of a value of a type with this layout, by the operands that it is made of.
+#[tactic(auto, unfolding(mir::specs::Run::laid_out))]
+fn composed<M: Memory>(
+    frame: StackFrame<'_, '_>,
+    memory: &M,
+    layout: Option<&Layout>,
+    operands: &[Operand],
+) -> Result<Bytes, Fault>
+    ensures { OrNoMemory result (bytes_of result ≡ composed (option_copied layout.entry) (operands_bytes (frame_of frame.entry) (M.areas memory.now) operands.now)) }
+{
+    if !are_readable(frame, memory, operands) {
+        return Err(Fault::BadRead);
+    }
+    match layout {
+        Some(layout) => laid_out(frame, memory, layout, operands),
+        None => Err(Fault::NoLayout),
+    }
+}
+
+/// The layout of a struct's values.
+fn struct_layout<'a>(
+    alloc: Global,
+    db: &'a HirDatabase,
+    id: VariantId,
+    args: &GenericArgs,
+) -> Result<Option<&'a Layout>, NoMemory>
+    ensures { IfOk result (λ layout. option_copied layout ≡ struct_layout db.now id args.now) }
+{
+    match id {
+        VariantId::StructId(id) => {
+            let ty = Ty::Adt(AdtId::StructId(id), args.try_clone(alloc)?);
+            Ok(db.layout_of(&ty))
+        }
+        _ => Ok(None),
+    }
+}
+
+/// The bytes of an array, a tuple or a struct, by the operands that it is made of.
+#[tactic(auto, unfolding(mir::specs::Run::aggregated))]
 pub(crate) fn aggregate<M: Memory>(
     frame: StackFrame<'_, '_>,
     memory: &M,
@@ -160,12 +198,13 @@ pub(crate) fn aggregate<M: Memory>(
     match kind {
         AggregateKind::Array(_) => joined(frame, memory, operands),
         AggregateKind::Tuple(ty) => {
-            if !are_readable(frame, memory, operands) {
-                return Err(Fault::BadRead);
-            }
-            match frame.program.db.layout_of(ty) {
-                Some(layout) => laid_out(frame, memory, layout, operands),
-                None => Err(Fault::NoLayout),
+            composed(frame, memory, frame.program.db.layout_of(ty), operands)
+        }
+        AggregateKind::Adt(id, args) => {
+            let program = frame.program;
+            match struct_layout(program.alloc, program.db, *id, args) {
+                Ok(layout) => composed(frame, memory, layout, operands),
+                Err(_) => Err(Fault::NoMemory),
             }
         }
     }

@@ -429,7 +429,7 @@ impl<'a, M: Memory + Drop> Run<'a, M> {
         let Some(call) = call_at(body.as_ref().body(), block) else {
             unreachable!()
         };
-        match callee(body.as_ref().body(), &call.func.kind) {
+        match callee(self.program.db, body.as_ref().body(), &call.func.kind) {
             Some(function) => self.call_function(alloc, call, function, block),
             None => self.fault(alloc, Fault::NoFunction),
         }

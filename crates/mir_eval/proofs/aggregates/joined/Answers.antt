@@ -19,17 +19,15 @@ loop-part-preserved g c =
 
 pub returns-in_default : goal.returns-in_default
 returns-in_default g c =
-    λ ty.
     let at = c.loop-part in
     let frame = frame_of c.args.frame in
     let memory = g.M.Memory.areas c.args.memory.now in
     let operands = c.args.operands.now in
-    inl (array-unreadable frame memory c.args.frame.program.now.db.now ty (operands_bytes frame memory operands)
+    inl (array-unreadable frame memory (operands_bytes frame memory operands)
     (unreadable frame memory operands at.part-index c.part-item.result (slice_get-at operands at.part-index c.part-item.result c.loop-part-test.true c.part-item.is) (sym c.in_default.ensures)))
 
 pub returns : goal.returns
 returns g c =
-    λ ty.
     let at = c.loop-part in
     inl (ap Ok c.from_vec.ensures
-    ∙ joined-last (frame_of c.args.frame) (g.M.Memory.areas c.args.memory.now) c.args.frame.program.now.db.now ty c.args.operands.now at.part-index at.all.items c.loop-part-test.false at.invariant)
+    ∙ joined-last (frame_of c.args.frame) (g.M.Memory.areas c.args.memory.now) c.args.operands.now at.part-index at.all.items c.loop-part-test.false at.invariant)

@@ -29,7 +29,7 @@ loop-elem-preserved c =
     record {
       sum =
           ap (λ (t : Option Ty). added (Some (at.offset + more)) (offset_behind c.args.db.now (drop (at.elem-index + 1) c.args.elements.now) t))
-          (seen-next elem at.seen c.in-Some.ty c.elem_type-seen.result c.in-Some.is c.elem_type-seen.ensures)
+          (seen-next c.args.db.now elem at.seen c.in-Some.ty c.elem_type-seen.result c.in-Some.is c.elem_type-seen.ensures)
           ∙ offset-more c.args.elements.now at.elem-index elem c.loop-elem-test.true c.elem-item.is c.args.db.now at.offset (option_copied at.seen) _ at.invariant.sum more
           (ap (λ (s : Option (Bor Ty)). option_and_then (elem_offset c.args.db.now elem) (option_copied s)) c.in-Some.is ∙ sym c.in-Some-elem_offset.ensures);
       small = let so_far = at.invariant.small in omega (arith, so_far, fits);
