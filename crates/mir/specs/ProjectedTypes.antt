@@ -76,7 +76,7 @@ abbrev pub are_no_args : GenericArgs → Bool
 are_no_args args = length args.0 == 0
 
 -- the fields of a struct
-abbrev pub struct_fields : HirDatabase → VariantId → Option (List FieldRow)
+abbrev struct_fields : HirDatabase → VariantId → Option (List FieldRow)
 struct_fields world (variant.StructId id) = fields_of world (variant.StructId id)
 struct_fields world _ = None
 

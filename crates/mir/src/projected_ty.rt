@@ -6,7 +6,7 @@ ghost use Rattle.std.specs.Option.{option_copied};
 ghost use Rattle.types.specs.declared.ty.GenericArgs.{GenericArgs as Args};
 ghost use Rattle.check_instances.specs.Instances.{type_argument};
 ghost use Rattle.numbers.specs.Constants.{number_in};
-ghost use Rattle.mir.specs.ProjectedTypes.{IsProjected, element_type, field_type, or_error, own_field_type, part_type, pointee, seen, struct_fields, subslice_type, usize_const};
+ghost use Rattle.mir.specs.ProjectedTypes.{IsProjected, element_type, field_type, or_error, own_field_type, part_type, pointee, seen, subslice_type, usize_const};
 
 use crate::ProjectionElem;
 use check_instances::{NoInstance, ty_instance};
@@ -14,8 +14,8 @@ use either::Either;
 use numbers::number_in;
 use std::alloc::Global;
 use world::{
-    AdtId, Box, Bytes, Const, Crate, FieldId, FieldRow, GenericArg, GenericArgs, HirDatabase,
-    InternedClosureId, List, MemoryMap, NoMemory, TryClone, TupleFieldId, Ty, UintTy, ValueConst,
+    AdtId, Box, Bytes, Const, Crate, FieldId, GenericArg, GenericArgs, HirDatabase,
+    InternedClosureId, MemoryMap, NoMemory, TryClone, TupleFieldId, Ty, UintTy, ValueConst,
     VariantId,
 };
 
@@ -112,16 +112,6 @@ fn field_ty(alloc: Global, db: &HirDatabase, ty: &Ty, field: FieldId) -> Result<
     }
 }
 
-/// The fields of a struct.
-fn struct_fields(db: &HirDatabase, id: VariantId) -> Option<&List<FieldRow>>
-    ensures { option_copied result ≡ struct_fields db.now id }
-{
-    match id {
-        VariantId::StructId(_) => db.field_types(id),
-        _ => None,
-    }
-}
-
 /// The type of a field of a struct that has no generic arguments, as its row says it.
 pub fn struct_field<'a>(db: &'a HirDatabase, field: FieldId, ty: &Ty) -> Option<&'a Ty>
     ensures { option_copied result ≡ own_field_type db.now field ty.now }
@@ -132,7 +122,10 @@ pub fn struct_field<'a>(db: &'a HirDatabase, field: FieldId, ty: &Ty) -> Option<
     if args.0.len() != 0 {
         return None;
     }
-    let Some(fields) = struct_fields(db, field.parent) else {
+    let VariantId::StructId(_) = field.parent else {
+        return None;
+    };
+    let Some(fields) = db.field_types(field.parent) else {
         return None;
     };
     match fields.get(field.local_id as u64) {
