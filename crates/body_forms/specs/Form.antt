@@ -1,9 +1,10 @@
 -- The form of an expression, as far as forms have a meaning.
-use Rattle.std.specs.Prelude.{◌≡◌, ℕ, false, [], ◌∷◌, Option, Some, None, pos}
-use Rattle.source_meaning.specs.Core.{Assigned as CoreAssigned, Assignee as CoreAssignee, ByField, ByPath, ByPattern, ByPlace, CoreExpr, CoreLiteral, Findings, Truth, Number, Character, Operation, Negate, Invert, Keep, Convert, Combine, MakeTuple, MakeArray, Repeat, core_of, is_place}
+use Rattle.std.specs.Prelude.{◌≡◌, ℕ, false, List, [], ◌∷◌, Option, Some, None, IsSome, option_map, pos}
+use Rattle.source_meaning.specs.Core.{Assigned as CoreAssigned, Assignee as CoreAssignee, ByField, ByPath, ByPattern, ByPlace, CoreExpr, CoreLiteral, Findings, Truth, Number, Character, Operation, Negate, Invert, Keep, Convert, Combine, MakeTuple, MakeArray, Repeat, MakeStruct, PlaceElem, Part, FieldOf, core_of, is_place}
 use Rattle.source_meaning.specs.Core as expr
 use Rattle.source_meaning.specs.Source.{Source, node, unadjusted}
-use Rattle.world.specs.Nodes.{expr_numbers}
+use Rattle.source_meaning.specs.Structs.{StructAt as CoreStruct, all_places}
+use Rattle.world.specs.Nodes.{expr_numbers, field_numbers}
 use Rattle.world.specs.declared.expr.Expr.{Expr}
 use Rattle.mir.specs.declared.operand.UnOp.{UnOp}
 use Rattle.mir.specs.declared.operand.UnOp.TheVariants as one
@@ -11,12 +12,16 @@ use Rattle.body_forms.specs.declared.form.Assigned.{Assigned}
 use Rattle.body_forms.specs.declared.form.Assigned.TheVariants as assigned
 use Rattle.body_forms.specs.declared.form.Assignee.{Assignee}
 use Rattle.body_forms.specs.declared.form.Assignee.TheVariants as assignee
+use Rattle.body_forms.specs.declared.form.FieldStep.{FieldStep}
+use Rattle.body_forms.specs.declared.form.FieldStep.TheVariants as step
 use Rattle.body_forms.specs.declared.form.Form.{Form}
 use Rattle.body_forms.specs.declared.form.Form.TheVariants as form
 use Rattle.body_forms.specs.declared.form.PlaceForm.{PlaceForm}
 use Rattle.body_forms.specs.declared.form.PlaceForm.TheVariants as place
 use Rattle.body_forms.specs.declared.literal.LiteralValue.{LiteralValue}
 use Rattle.body_forms.specs.declared.literal.LiteralValue.TheVariants as literal
+use Rattle.body_forms.specs.declared.structs.StructAt.{StructAt}
+use Rattle.body_forms.specs.declared.structs.StructLiteral.{StructLiteral}
 use Rattle.body_forms.specs.Refusals.{IsIncomplete, LacksPart, IsUnbuiltForm}
 
 -- the literal that a value of the code is
@@ -33,7 +38,20 @@ operation_of one.Neg = Negate
 
 -- what may be found out of an expression whose form depends on nothing but itself
 abbrev pub no_findings : Findings
-no_findings = record { names_item = false; casts = λ operand. None; field = None; assignee = λ pat. ByPattern pat.0; assigned = λ e. ByPath e.0 }
+no_findings = record { names_item = false; casts = λ operand. None; field = None; made = None; assignee = λ pat. ByPattern pat.0; assigned = λ e. ByPath e.0 }
+
+-- the step into a value that a step to a field is
+abbrev pub core_elem : FieldStep → PlaceElem
+core_elem (step.Part index) = Part index
+core_elem (step.Field field) = FieldOf field
+
+-- the struct that a literal makes a value of
+abbrev pub core_struct : StructAt → CoreStruct
+core_struct made = record { id = made.id; args = made.args.now; fields = made.fields.now }
+
+-- the places of a literal's written fields, in the order of its struct's fields
+abbrev pub literal_places : StructLiteral → Option (List ℕ)
+literal_places literal = all_places literal.made.fields.now literal.written.now
 
 -- the target of an assignment, and of a compound one
 abbrev pub core_assignee : Assignee → CoreAssignee
@@ -42,19 +60,20 @@ core_assignee (assignee.Place e) = ByPlace e.0
 
 abbrev pub core_assigned : Assigned → CoreAssigned
 core_assigned (assigned.Path e) = ByPath e.0
-core_assigned (assigned.Field base index) = ByField base.0 index
+core_assigned (assigned.Field base taken) = ByField base.0 (core_elem taken)
 
 -- the form with a meaning that a form of the code is, where it is one
 abbrev pub core_form : Form → Option CoreExpr
 core_form (form.Literal value) = Some (expr.Literal (core_value value))
 core_form (form.Path name) = Some (expr.Path name.now)
-core_form (form.Field base field) = Some (expr.Field base.0 field)
+core_form (form.Field base taken) = Some (expr.Field base.0 (core_elem taken))
 core_form (form.Unary op e) = Some (expr.Strict (operation_of op) (e.0 ∷ []))
 core_form (form.Coercion e) = Some (expr.Strict Keep (e.0 ∷ []))
 core_form (form.Cast e) = Some (expr.Strict Convert (e.0 ∷ []))
 core_form (form.Tuple parts) = Some (expr.Strict MakeTuple (expr_numbers parts.now))
 core_form (form.Array elements) = Some (expr.Strict MakeArray (expr_numbers elements.now))
 core_form (form.Repeat e) = Some (expr.Strict Repeat (e.0 ∷ []))
+core_form (form.Struct literal) = option_map (λ places. expr.Strict (MakeStruct literal.made.id literal.made.args.now places) (field_numbers literal.written.now)) (literal_places literal)
 core_form (form.Binary op lhs rhs) = Some (expr.Strict (Combine op) (lhs.0 ∷ rhs.0 ∷ []))
 core_form (form.Logic op lhs rhs) = Some (expr.Logic op lhs.0 rhs.0)
 core_form (form.If condition then_branch else_branch) = Some (expr.If condition.0 then_branch.0 else_branch)
@@ -71,10 +90,11 @@ core_form (form.MethodCall receiver args) = Some (expr.Call None (receiver.0 ∷
 core_form form.Incomplete = None
 core_form form.Unbuilt = None
 
--- why an expression has no form with a meaning
+-- why an expression has no form with a meaning; a struct literal that has one gives all fields of its struct
 abbrev pub IsCause : Expr → Form → Type 0
 IsCause e form.Incomplete = IsIncomplete e
 IsCause e form.Unbuilt = IsIncomplete e → ⊥
+IsCause e (form.Struct literal) = IsSome (literal_places literal)
 IsCause e _ = Unit {0}
 
 -- the form of an expression whose value isn't adjusted, by what is found out of it
@@ -86,6 +106,7 @@ pub record IsFormOf (found : Findings) (e : Expr) (f : Form) : Type 0 where
 abbrev pub IsCauseAt : Source → ℕ → Form → Type 0
 IsCauseAt source e form.Incomplete = LacksPart source e
 IsCauseAt source e form.Unbuilt = IsUnbuiltForm source e
+IsCauseAt source e (form.Struct literal) = IsSome (literal_places literal)
 IsCauseAt source e _ = Unit {0}
 
 -- the form of an expression of a source
@@ -96,5 +117,5 @@ pub record HasForm (source : Source) (e : ℕ) (f : Form) : Type 0 where
 -- what an expression of a source is for those that use its place; an adjusted one is a value
 abbrev pub IsPlaceForm : Source → ℕ → PlaceForm → Type 0
 IsPlaceForm source e (place.Path name) = unadjusted source e ≡ Some (expr.Path name.now)
-IsPlaceForm source e (place.Field base field) = unadjusted source e ≡ Some (expr.Field base.0 field)
+IsPlaceForm source e (place.Field base taken) = unadjusted source e ≡ Some (expr.Field base.0 (core_elem taken))
 IsPlaceForm source e place.Value = is_place (unadjusted source e) ≡ false

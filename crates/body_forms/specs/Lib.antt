@@ -1,8 +1,9 @@
 pub mod Callees
 pub mod Contexts
 pub mod Copies
-pub mod Listed
 pub mod Form
+pub mod Listed
 pub mod Literals
-pub mod Refusals
 pub mod Operations
+pub mod Refusals
+pub mod Structs

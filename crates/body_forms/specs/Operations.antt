@@ -1,10 +1,14 @@
 -- What the operations of strict forms are in the graph.
 use Rattle.std.specs.Prelude.{◌≡◌, ℕ, List, [], ◌∷◌, Some}
+use Rattle.types.specs.declared.ids.StructId.{StructId}
+use Rattle.types.specs.declared.ids.VariantId.TheVariants as variant
 use Rattle.types.specs.declared.ty.Const.{Const}
+use Rattle.types.specs.declared.ty.GenericArgs.{GenericArgs}
 use Rattle.types.specs.declared.ty.Ty.{Ty}
 use Rattle.types.specs.declared.ty.Ty.TheVariants.{Array as ArrayTy}
-use Rattle.source_meaning.specs.Core.{Operation, Negate, Invert, Keep, Convert, Combine, MakeTuple, MakeArray, Repeat}
+use Rattle.source_meaning.specs.Core.{Operation, Negate, Invert, Keep, Convert, Combine, MakeTuple, MakeArray, Repeat, MakeStruct}
 use Rattle.source_meaning.specs.Source.{Source, own_type}
+use Rattle.source_meaning.specs.Structs.{picked}
 use Rattle.mir.specs.declared.operand.AggregateKind.{AggregateKind}
 use Rattle.mir.specs.declared.operand.AggregateKind.TheVariants as kind
 use Rattle.mir.specs.declared.operand.CastKind.TheVariants.{IntToInt}
@@ -67,6 +71,12 @@ pub record IsMade (IsOf : AggregateKind → Type 0) (operands : List Operand) (r
   pub of : IsOf given
   pub is : r ≡ rvalue.Aggregate given operands
 
+-- a struct at these arguments of the operands that are at places, in the order of the places
+pub record IsStruct (id : StructId) (args : GenericArgs) (places : List ℕ) (operands : List Operand) (r : Rvalue) : Type 0 where
+  pub fields : List Operand
+  pub picks : picked places operands ≡ Some fields
+  pub is : r ≡ rvalue.Aggregate (kind.Adt (variant.StructId id) args) fields
+
 -- an rvalue is what an operation of an expression makes of operands
 abbrev pub IsRvalueOf : Source → ℕ → Operation → List Operand → Rvalue → Type 0
 IsRvalueOf source e Negate (x ∷ []) r = r ≡ rvalue.UnaryOp one.Neg x
@@ -76,5 +86,6 @@ IsRvalueOf source e Convert (x ∷ []) r = IsCast source e x r
 IsRvalueOf source e (Combine op) (x ∷ y ∷ []) r = r ≡ rvalue.CheckedBinaryOp op x y
 IsRvalueOf source e MakeTuple operands r = IsMade (IsTuple source e) operands r
 IsRvalueOf source e MakeArray operands r = IsMade (IsArray source e) operands r
+IsRvalueOf source e (MakeStruct id args places) operands r = IsStruct id args places operands r
 IsRvalueOf source e Repeat (x ∷ []) r = IsRepeat source e x r
 IsRvalueOf source e _ _ r = ⊥

@@ -1,23 +1,25 @@
 //! The form of an expression, as far as forms have a meaning.
 
 ghost use Rattle.std.specs.Prelude.{◌≡◌, ◌<◌, ℕ, List, false, length, Some, None, IfSome, IfNone};
-ghost use Rattle.std.specs.Option.{option_and_then, option_copied};
-ghost use Rattle.source_meaning.specs.Core.{are_many, are_other_steps, cast_operation, expr_in, field_named, is_adjusted_otherwise, is_adjusted_twice, is_adjusted_pattern, is_by_reference, is_dereferenced_pattern, is_positive, is_literal, name_of, named_path, names_item, part_in, path_of, pattern_names_item, tuple_part};
+ghost use Rattle.std.specs.Option.{option_and_then, option_copied, option_map};
+ghost use Rattle.source_meaning.specs.Core.{are_many, are_other_steps, cast_operation, expr_in, field_named, field_step, is_adjusted_otherwise, is_adjusted_twice, is_adjusted_pattern, is_by_reference, is_dereferenced_pattern, is_positive, is_literal, name_of, named_path, names_item, part_in, path_of, pattern_names_item, step_from};
 ghost use Rattle.source_meaning.specs.Core as expr;
 ghost use Rattle.source_meaning.specs.Source.{assigned, assigned_by, assignee, compound_path, findings, pattern, pattern_expr, target_path, unadjusted};
 ghost use Rattle.world.specs.declared.expr.Expr.TheVariants as whole;
 ghost use Rattle.world.specs.Lookups.{expr_of};
 ghost use Rattle.body_forms.specs.Contexts.{source_of};
-ghost use Rattle.body_forms.specs.Form.{IsFormOf, IsPlaceForm, HasForm, core_assigned, core_assignee, core_value, no_findings};
+ghost use Rattle.body_forms.specs.Form.{IsFormOf, IsPlaceForm, HasForm, core_assigned, core_assignee, core_elem, core_struct, core_value, no_findings};
 
 use crate::context::Context;
 use crate::inferred::{diverges, is_coercion, is_conversion, step_target};
 use crate::literal::LiteralValue;
+use crate::structs::{StructAt, StructLiteral, gives_all_fields, struct_made};
 use either::Either;
 use mir::{BinOp, UnOp};
 use world::{
     Adjustment, BinaryOp, BindingId, BindingMode, Expr, ExprId, FieldId, LabelId, List, Literal,
-    LogicOp, Pat, PatId, Statement, Text, TupleFieldId, UnaryOp,
+    LogicOp, Pat, PatId, RecordLitField, RecordSpread, Statement, Text, TupleFieldId, UnaryOp,
+    VariantId,
 };
 
 /// What an assignment writes to, by the pattern that its target is.
@@ -29,13 +31,22 @@ pub enum Assignee {
     Place(ExprId),
 }
 
+/// The step from a base to what a field expression names.
+#[derive(Clone, Copy)]
+pub enum FieldStep {
+    /// To a part of a tuple, by its index.
+    Part(u32),
+    /// To a field of a struct.
+    Field(FieldId),
+}
+
 /// The place that a compound assignment reads and writes.
 #[derive(Clone, Copy)]
 pub enum Assigned {
     /// The binding that the path names which the left operand is.
     Path(ExprId),
-    /// A part of a tuple: its base, and the part's index.
-    Field(ExprId, u32),
+    /// A part of a tuple or a field of a struct: its base, and the step from there.
+    Field(ExprId, FieldStep),
 }
 
 /// What lowering does with an expression. Its variants are the forms that have a meaning, and two for the others.
@@ -43,8 +54,8 @@ pub enum Assigned {
 pub enum Form<'a> {
     Literal(LiteralValue),
     Path(&'a Text),
-    /// A part of a tuple: its base, and the part's index.
-    Field(ExprId, u32),
+    /// A part of a tuple or a field of a struct: its base, and the step from there.
+    Field(ExprId, FieldStep),
     Unary(UnOp, ExprId),
     /// A cast that is a coercion.
     Coercion(ExprId),
@@ -54,6 +65,8 @@ pub enum Form<'a> {
     Array(&'a List<ExprId>),
     /// An array of one value as often as its type says.
     Repeat(ExprId),
+    /// A struct literal without a base, which gives each field of its struct.
+    Struct(StructLiteral<'a>),
     Binary(BinOp, ExprId, ExprId),
     Logic(LogicOp, ExprId, ExprId),
     If(ExprId, ExprId, Option<ExprId>),
@@ -127,13 +140,27 @@ fn path_form<'a>(names_item: bool, name: &'a Text) -> Form<'a>
     }
 }
 
-/// The form of a field of a base, by what it is resolved to: a part of a tuple is built so far.
+/// The step that a field expression takes, by what it is resolved to: to a part of a tuple, or to a field of a struct.
+fn field_step(named: Option<&Either<FieldId, TupleFieldId>>) -> Option<FieldStep>
+    ensures { option_map core_elem result ≡ option_and_then field_step (option_copied named.entry) }
+{
+    match named {
+        Some(Either::Left(field)) => match field.parent {
+            VariantId::StructId(_) => Some(FieldStep::Field(*field)),
+            _ => None,
+        },
+        Some(Either::Right(field)) => Some(FieldStep::Part(field.index)),
+        None => None,
+    }
+}
+
+/// The form of a field of a base, by what it is resolved to.
 fn field_form<'a>(base: ExprId, named: Option<&Either<FieldId, TupleFieldId>>) -> Form<'a>
     ensures { (name : List ℕ) → IsFormOf (record no_findings { field = option_copied named.entry }) (whole.Field base name) result }
 {
-    match named {
-        Some(Either::Right(field)) => Form::Field(base, field.index),
-        _ => Form::Unbuilt,
+    match field_step(named) {
+        Some(step) => Form::Field(base, step),
+        None => Form::Unbuilt,
     }
 }
 
@@ -161,6 +188,27 @@ fn cast_form<'a>(context: &Context<'_>, cast: ExprId, operand: ExprId) -> Form<'
         Form::Cast(operand)
     } else {
         Form::Unbuilt
+    }
+}
+
+/// The form of a struct literal, by the struct that it makes a value of.
+fn record_form<'a>(
+    made: Option<StructAt<'a>>,
+    written: &'a List<RecordLitField>,
+    base: &RecordSpread,
+) -> Form<'a>
+    ensures { (path : Option (List ℕ)) → IsFormOf (record no_findings { made = option_map core_struct made }) (whole.RecordLit path written.now base.now) result }
+{
+    match (made, base) {
+        (Some(made), RecordSpread::None) => {
+            let literal = StructLiteral { made, written };
+            if gives_all_fields(literal) {
+                Form::Struct(literal)
+            } else {
+                Form::Unbuilt
+            }
+        }
+        _ => Form::Unbuilt,
     }
 }
 
@@ -195,6 +243,9 @@ fn form_of<'a>(context: &Context<'a>, e: ExprId, expr: &'a Expr) -> Form<'a>
         Expr::Tuple { exprs } => Form::Tuple(exprs),
         Expr::Array { elements } => Form::Array(elements),
         Expr::Repeat { initializer } => Form::Repeat(*initializer),
+        Expr::RecordLit { fields, spread, .. } => {
+            record_form(struct_made(context, e), fields, spread)
+        }
         Expr::Missing => Form::Incomplete,
         _ => Form::Unbuilt,
     }
@@ -277,8 +328,8 @@ pub fn literal_at(context: &Context<'_>, e: ExprId) -> Option<LiteralValue>
 #[derive(Clone, Copy)]
 pub enum PlaceForm<'a> {
     Path(&'a Text),
-    /// A part of a tuple: its base, and the part's index.
-    Field(ExprId, u32),
+    /// A part of a tuple or a field of a struct: its base, and the step from there.
+    Field(ExprId, FieldStep),
     Value,
 }
 
@@ -292,7 +343,7 @@ pub fn place_form_at<'a>(context: &Context<'a>, e: ExprId) -> PlaceForm<'a>
     }
     match form_at(context, e) {
         Form::Path(name) => PlaceForm::Path(name),
-        Form::Field(base, index) => PlaceForm::Field(base, index),
+        Form::Field(base, step) => PlaceForm::Field(base, step),
         _ => PlaceForm::Value,
     }
 }
@@ -442,11 +493,11 @@ fn field_assigned(
     base: ExprId,
     named: Option<&Either<FieldId, TupleFieldId>>,
 ) -> Assigned
-    ensures { core_assigned result ≡ assigned_by e.0 (tuple_part base.0 (option_copied named.entry)) }
+    ensures { core_assigned result ≡ assigned_by e.0 (step_from base.0 (option_and_then field_step (option_copied named.entry))) }
 {
-    match named {
-        Some(Either::Right(field)) => Assigned::Field(base, field.index),
-        _ => Assigned::Path(e),
+    match field_step(named) {
+        Some(step) => Assigned::Field(base, step),
+        None => Assigned::Path(e),
     }
 }
 

@@ -8,12 +8,13 @@ mod form;
 mod inferred;
 mod literal;
 mod operation;
+mod structs;
 mod unbuilt;
 
 pub use call::{lower_callee, method_args, must_not_return};
 pub use context::Context;
 pub use form::{
-    Assigned, Assignee, Form, PlaceForm, compound_path, form_at, literal_at, name_bound,
+    Assigned, Assignee, FieldStep, Form, PlaceForm, compound_path, form_at, literal_at, name_bound,
     place_form_at, target_path,
 };
 pub use inferred::{
@@ -21,4 +22,5 @@ pub use inferred::{
 };
 pub use literal::{LiteralValue, lower_literal};
 pub use operation::{Several, Single, kind_of, made_of};
+pub use structs::{StructAt, StructLiteral, struct_value, written_exprs};
 pub use unbuilt::{form_not_built, type_error};

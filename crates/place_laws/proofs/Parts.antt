@@ -7,7 +7,8 @@ use Rattle.types.specs.declared.ty.Ty.{Ty}
 use Rattle.world.specs.declared.database.HirDatabase.{HirDatabase}
 use Rattle.numbers.specs.Aggregates.{constructed, with_part, with_parts}
 use Rattle.source_meaning.specs.Places.{added, bytes_behind, elem_offset, offset_behind, part_of, place_bytes, place_type, type_behind}
-use Rattle.source_meaning.specs.Source.{PlaceElem, Part, cell_type}
+use Rattle.source_meaning.specs.Core.{PlaceElem, Part}
+use Rattle.source_meaning.specs.Source.{cell_type}
 use Rattle.source_meaning.proofs.Aggregates.{length-with_part, with_part-within}
 use Rattle.source_meaning.proofs.Places.{offset_behind-more}
 use Rattle.place_laws.specs.Parts.{ArePartsApart, FieldsAreParts, PartsAreRead, TuplesHaveTheirParts}
@@ -49,7 +50,7 @@ part-of-part offset size at count bytes read found within =
 -- The bytes of a field.
 
 -- what elements lead to, of which there is one at least, by where it begins and by its size
-at-end : (world : HirDatabase) (elems : List PlaceElem) (elem : PlaceElem) (ty : Option Ty) (bytes : List ℕ) → bytes_behind world (elems ++ elem ∷ []) ty bytes ≡ option_and_then (λ offset. option_and_then (λ size. part_of offset size bytes) (size_at world (type_behind (elems ++ elem ∷ []) ty))) (offset_behind world (elems ++ elem ∷ []) ty)
+at-end : (world : HirDatabase) (elems : List PlaceElem) (elem : PlaceElem) (ty : Option Ty) (bytes : List ℕ) → bytes_behind world (elems ++ elem ∷ []) ty bytes ≡ option_and_then (λ offset. option_and_then (λ size. part_of offset size bytes) (size_at world (type_behind world (elems ++ elem ∷ []) ty))) (offset_behind world (elems ++ elem ∷ []) ty)
 unfolding bytes_behind
 at-end world [] elem ty bytes = refl
 at-end world (first ∷ rest) elem ty bytes = refl
@@ -65,7 +66,7 @@ is-part : (world : HirDatabase) (elems : List PlaceElem) (ty : Option Ty) (bytes
 unfolding bytes_behind offset_behind
 is-part world [] ty bytes read found =
     record { offset = 0; begins = refl; size = length bytes; is = reads 0 (length bytes) bytes (omega arith) ∙ ap Some (take-length bytes) ∙ found }
-is-part world (elem ∷ rest) ty bytes read found = by_spot (offset_behind world (elem ∷ rest) ty) refl (size_at world (type_behind (elem ∷ rest) ty)) found
+is-part world (elem ∷ rest) ty bytes read found = by_spot (offset_behind world (elem ∷ rest) ty) refl (size_at world (type_behind world (elem ∷ rest) ty)) found
   where
     by_spot : (offset : Option ℕ) → offset_behind world (elem ∷ rest) ty ≡ offset → (size : Option ℕ) → option_and_then (λ at. option_and_then (λ n. part_of at n bytes) size) offset ≡ Some read → IsPart world (elem ∷ rest) ty bytes read
     by_spot (Some offset) begins (Some size) is = record { offset = offset; begins = begins; size = size; is = is }
@@ -80,11 +81,11 @@ fields source store place elem ty bytes offset size typed found at has within =
     let base = is-part source.world place.projection from all bytes found in
     let begins : offset_behind source.world (place.projection ++ elem ∷ []) from ≡ Some (base.offset + offset) =
     offset_behind-more source.world place.projection elem from
-    ∙ ap (λ given. added given (option_and_then (elem_offset source.world elem) (type_behind place.projection from))) base.begins
+    ∙ ap (λ given. added given (option_and_then (elem_offset source.world elem) (type_behind source.world place.projection from))) base.begins
     ∙ ap (λ given. added (Some base.offset) (option_and_then (elem_offset source.world elem) given)) typed
     ∙ ap (added (Some base.offset)) at in
     at-end source.world place.projection elem from all
-    ∙ ap (option_and_then (λ start. option_and_then (λ count. part_of start count all) (size_at source.world (type_behind (place.projection ++ elem ∷ []) from)))) begins
+    ∙ ap (option_and_then (λ start. option_and_then (λ count. part_of start count all) (size_at source.world (type_behind source.world (place.projection ++ elem ∷ []) from)))) begins
     ∙ ap (option_and_then (λ count. part_of (base.offset + offset) count all)) has
     ∙ part-of-part base.offset base.size offset size all bytes base.is within
 

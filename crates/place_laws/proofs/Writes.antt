@@ -8,7 +8,8 @@ use Rattle.world.specs.declared.database.HirDatabase.{HirDatabase}
 use Rattle.world.specs.Lookups.{layout_of}
 use Rattle.numbers.specs.Aggregates.{with_part}
 use Rattle.source_meaning.specs.Places.{bytes_behind, bytes_with, cell_with, offset_behind, part_of, place_bytes, type_behind}
-use Rattle.source_meaning.specs.Source.{Store, Cell, Result, Node, Binding, Never, PlaceElem, cell_type, same_cell, with_cell_bytes}
+use Rattle.source_meaning.specs.Core.{PlaceElem}
+use Rattle.source_meaning.specs.Source.{Store, Cell, Result, Node, Binding, Never, cell_type, same_cell, with_cell_bytes}
 use Rattle.source_meaning.proofs.Aggregates.{length-with_part, with_part-within}
 use Rattle.place_laws.specs.Writes.{KeepsTheRest, WritesAreRead, WritesKeepOthers, WritesKeepTheRest}
 use Rattle.place_laws.proofs.Placed.{among-first, among-last, placed-first, placed-last, placed-there}
@@ -31,18 +32,18 @@ size_at world ty = option_map (λ layout. layout.size) (option_and_then (layout_
 record IsPut (world : HirDatabase) (elems : List PlaceElem) (ty : Option Ty) (put before after : List ℕ) : Type 0 where
   offset : ℕ
   begins : offset_behind world elems ty ≡ Some offset
-  has : size_at world (type_behind elems ty) ≡ Some (length put)
+  has : size_at world (type_behind world elems ty) ≡ Some (length put)
   is : with_part offset put before ≡ Some after
 
 is-put : (world : HirDatabase) (elem : PlaceElem) (rest : List PlaceElem) (ty : Option Ty) (put before after : List ℕ) → bytes_with world (elem ∷ rest) ty put before ≡ Some after → IsPut world (elem ∷ rest) ty put before after
 unfolding bytes_with
-is-put world elem rest ty put before after written = by_spot (offset_behind world (elem ∷ rest) ty) refl (size_at world (type_behind (elem ∷ rest) ty)) refl written
+is-put world elem rest ty put before after written = by_spot (offset_behind world (elem ∷ rest) ty) refl (size_at world (type_behind world (elem ∷ rest) ty)) refl written
   where
-    by_test : (offset size : ℕ) → offset_behind world (elem ∷ rest) ty ≡ Some offset → size_at world (type_behind (elem ∷ rest) ty) ≡ Some size → (test : Bool) → (length put == size) ≡ test → (if test then with_part offset put before else None) ≡ Some after → IsPut world (elem ∷ rest) ty put before after
+    by_test : (offset size : ℕ) → offset_behind world (elem ∷ rest) ty ≡ Some offset → size_at world (type_behind world (elem ∷ rest) ty) ≡ Some size → (test : Bool) → (length put == size) ≡ test → (if test then with_part offset put before else None) ≡ Some after → IsPut world (elem ∷ rest) ty put before after
     by_test offset size begins has true same is = record { offset = offset; begins = begins; has = has ∙ ap Some (sym (eqb-true (length put) size same)); is = is }
     by_test offset size begins has false same is = absurd cc
 
-    by_spot : (offset : Option ℕ) → offset_behind world (elem ∷ rest) ty ≡ offset → (size : Option ℕ) → size_at world (type_behind (elem ∷ rest) ty) ≡ size → option_and_then (λ at. option_and_then (λ n. if length put == n then with_part at put before else None) size) offset ≡ Some after → IsPut world (elem ∷ rest) ty put before after
+    by_spot : (offset : Option ℕ) → offset_behind world (elem ∷ rest) ty ≡ offset → (size : Option ℕ) → size_at world (type_behind world (elem ∷ rest) ty) ≡ size → option_and_then (λ at. option_and_then (λ n. if length put == n then with_part at put before else None) size) offset ≡ Some after → IsPut world (elem ∷ rest) ty put before after
     by_spot (Some offset) begins (Some size) has is = by_test offset size begins has (length put == size) refl is
     by_spot (Some offset) begins None has is = absurd cc
     by_spot None begins size has is = absurd cc
@@ -64,7 +65,7 @@ behind-written world (elem ∷ rest) ty put before after written =
     let given = is-put world elem rest ty put before after written in
     let inside = with_part-within given.offset put before after given.is in
     let long = length-with_part given.offset put before after given.is in
-    ap (option_and_then (λ at. option_and_then (λ size. part_of at size after) (size_at world (type_behind (elem ∷ rest) ty)))) given.begins
+    ap (option_and_then (λ at. option_and_then (λ size. part_of at size after) (size_at world (type_behind world (elem ∷ rest) ty)))) given.begins
     ∙ ap (option_and_then (λ size. part_of given.offset size after)) given.has
     ∙ ap (λ fits. if fits then Some (take (length put) (drop given.offset after)) else None) (le-leb (given.offset + length put) (length after) (omega (arith, inside.0, long)))
     ∙ ap (λ bytes. Some (take (length put) (drop given.offset bytes))) inside.1
@@ -123,15 +124,15 @@ part-kept offset size at count before after keeps apart =
         apart
 
 behind-others : (world : HirDatabase) (elem : PlaceElem) (rest : List PlaceElem) (ty : Option Ty) (offset size at count : ℕ) (before after : List ℕ) → KeepsTheRest offset size before after →
-    offset_behind world (elem ∷ rest) ty ≡ Some at → size_at world (type_behind (elem ∷ rest) ty) ≡ Some count → (at + count ≤ offset) ⊎ (offset + size ≤ at) →
+    offset_behind world (elem ∷ rest) ty ≡ Some at → size_at world (type_behind world (elem ∷ rest) ty) ≡ Some count → (at + count ≤ offset) ⊎ (offset + size ≤ at) →
     bytes_behind world (elem ∷ rest) ty after ≡ bytes_behind world (elem ∷ rest) ty before
 unfolding bytes_behind
 behind-others world elem rest ty offset size at count before after keeps begins has apart =
     found after ∙ part-kept offset size at count before after keeps apart ∙ sym (found before)
   where
-    found : (bytes : List ℕ) → option_and_then (λ o. option_and_then (λ n. part_of o n bytes) (size_at world (type_behind (elem ∷ rest) ty))) (offset_behind world (elem ∷ rest) ty) ≡ part_of at count bytes
+    found : (bytes : List ℕ) → option_and_then (λ o. option_and_then (λ n. part_of o n bytes) (size_at world (type_behind world (elem ∷ rest) ty))) (offset_behind world (elem ∷ rest) ty) ≡ part_of at count bytes
     found bytes =
-        ap (option_and_then (λ o. option_and_then (λ n. part_of o n bytes) (size_at world (type_behind (elem ∷ rest) ty)))) begins
+        ap (option_and_then (λ o. option_and_then (λ n. part_of o n bytes) (size_at world (type_behind world (elem ∷ rest) ty)))) begins
         ∙ ap (option_and_then (λ n. part_of at n bytes)) has
 
 pub others : WritesKeepOthers

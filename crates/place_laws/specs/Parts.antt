@@ -5,7 +5,8 @@ use Rattle.world.specs.Lookups.{layout_of}
 use Rattle.world.specs.declared.layout.Layout.{Layout}
 use Rattle.numbers.specs.Aggregates.{constructed}
 use Rattle.source_meaning.specs.Places.{elem_offset, part_of, place_bytes, place_type}
-use Rattle.source_meaning.specs.Source.{Source, Store, Place, PlaceElem, Part, projected}
+use Rattle.source_meaning.specs.Core.{PlaceElem, Part}
+use Rattle.source_meaning.specs.Source.{Source, Store, Place, projected}
 use Rattle.place_laws.specs.Writes.{size_of}
 
 -- The bytes of a place with one element more are bytes of the place without it: as many as the type has that the element leads to, from the

@@ -2,7 +2,8 @@
 use Rattle.std.specs.Prelude.{◌≡◌, ◌⊎◌, ℕ, ◌+◌, ◌≤◌, List, ◌∷◌, length, take, drop, Option, Some, option_map, option_and_then}
 use Rattle.world.specs.Lookups.{layout_of}
 use Rattle.source_meaning.specs.Places.{cell_with, offset_behind, place_bytes, type_behind}
-use Rattle.source_meaning.specs.Source.{Source, Store, Cell, Place, PlaceElem, cell_type, with_cell_bytes}
+use Rattle.source_meaning.specs.Core.{PlaceElem}
+use Rattle.source_meaning.specs.Source.{Source, Store, Cell, Place, cell_type, with_cell_bytes}
 
 -- the store after bytes were put in a cell has them at the place where they were put
 abbrev pub WritesAreRead : Type 0
@@ -31,7 +32,7 @@ part_in cell elem rest = record { cell = cell; projection = elem ∷ rest }
 
 -- how many bytes the type has that elements lead to
 abbrev pub size_of : Source → Place → Option ℕ
-size_of source place = option_map (λ layout. layout.size) (option_and_then (layout_of source.world) (type_behind place.projection (cell_type source place.cell)))
+size_of source place = option_map (λ layout. layout.size) (option_and_then (layout_of source.world) (type_behind source.world place.projection (cell_type source place.cell)))
 
 -- a part of the same cell that ends before the place, or begins behind it
 pub record LiesApart (source : Source) (place other : Place) (size : ℕ) : Type 0 where

@@ -1,5 +1,5 @@
 -- What an element leads to from a value of a type that has it: of which type that is, and that it lies inside.
-use Rattle.std.proofs.Common.{◌≡◌, ℕ, ◌+◌, ◌==◌, List, slice_get, get_or, length, Option, Some, None, option_map, option_and_then, if◌then◌else◌, ap, sym, ◌∙◌, subst, rules, arith}
+use Rattle.std.proofs.Common.{◌≡◌, ℕ, ◌==◌, List, slice_get, get_or, length, Option, Some, None, option_map, option_and_then, if◌then◌else◌, ap, ◌∙◌, subst, rules, arith}
 use Rattle.std.proofs.lemmas.Option.{slice_get_within, slice_get-get_or}
 use Rattle.types.specs.declared.ids.AdtId.TheVariants as adt
 use Rattle.types.specs.declared.ids.FieldId.{FieldId}

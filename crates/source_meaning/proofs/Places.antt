@@ -1,6 +1,6 @@
 -- What lies at a place: as many bytes as its type's layout says, which are all inside the cell. So an operand has a value of its type
 -- when the operation runs.
-use Rattle.std.proofs.Common.{⊎_elim, ◌⊎◌, inl, ◌≡◌, ℕ, ◌+◌, ◌≤◌, ◌==◌, Bool, List, [], ◌∷◌, ◌++◌, length, take, drop, slice_get, get_or, if◌then◌else◌, Option, Some, None, unwrap_or, option_map, option_and_then, refl, sym, ap, ◌∙◌, subst, rules, arith, le-leb, eq-eqb, length-drop, length-take-le}
+use Rattle.std.proofs.Common.{⊎_elim, ◌⊎◌, inl, ◌≡◌, ℕ, ◌+◌, ◌≤◌, ◌==◌, Bool, List, [], ◌∷◌, ◌++◌, length, take, drop, if◌then◌else◌, Option, Some, None, unwrap_or, option_map, option_and_then, refl, sym, ap, ◌∙◌, subst, arith, le-leb, eq-eqb, length-drop, length-take-le}
 use Rattle.types.specs.declared.ty.Ty.{Ty, Bool as BoolTy}
 use Rattle.world.specs.declared.database.HirDatabase.{HirDatabase}
 use Rattle.world.specs.Checked.{IsChecked}

@@ -3,7 +3,6 @@ use Rattle.std.specs.Prelude.{◌≡◌, ℕ, ◌==◌, List, [], ◌∷◌, len
 use Rattle.std.specs.Cmp.Lexicographic.{pointwise}
 use Rattle.check_instances.specs.Instances.{ty_instance}
 use Rattle.types.specs.declared.ids.AdtId.TheVariants as adt
-use Rattle.types.specs.declared.ids.FieldId.{FieldId}
 use Rattle.types.specs.declared.ids.StructId.{StructId}
 use Rattle.types.specs.declared.ids.VariantId.{VariantId}
 use Rattle.types.specs.declared.ids.VariantId.TheVariants as variant
