@@ -45,6 +45,12 @@ abbrev pub core_elem : FieldStep → PlaceElem
 core_elem (step.Part index) = Part index
 core_elem (step.Field field) = FieldOf field
 
+-- An element of a place of the source, as the graph has it. Which tuple of its body a part belongs to isn't looked at, and is always the
+-- greatest number of 32 bits.
+abbrev pub elem_of : PlaceElem → GraphElem
+elem_of (Part index) = Field (Right (record { tuple = 2 ^ 32 - 1; index = index }))
+elem_of (FieldOf field) = Field (Left field)
+
 -- the struct that a literal makes a value of
 abbrev pub core_struct : StructAt → CoreStruct
 core_struct made = record { id = made.id; args = made.args.now; fields = made.fields.now }

@@ -8,14 +8,14 @@ ghost use Rattle.source_meaning.specs.Source.{assigned, assigned_by, assignee, c
 ghost use Rattle.world.specs.declared.expr.Expr.TheVariants as whole;
 ghost use Rattle.world.specs.Lookups.{expr_of};
 ghost use Rattle.body_forms.specs.Contexts.{source_of};
-ghost use Rattle.body_forms.specs.Form.{IsFormOf, IsPlaceForm, HasForm, core_assigned, core_assignee, core_elem, core_struct, core_value, no_findings};
+ghost use Rattle.body_forms.specs.Form.{IsFormOf, IsPlaceForm, HasForm, core_assigned, core_assignee, core_elem, core_struct, elem_of, core_value, no_findings};
 
 use crate::context::Context;
 use crate::inferred::{diverges, is_coercion, is_conversion, step_target};
 use crate::literal::LiteralValue;
 use crate::structs::{StructAt, StructLiteral, gives_all_fields, struct_made};
 use either::Either;
-use mir::{BinOp, UnOp};
+use mir::{BinOp, PlaceElem, UnOp};
 use world::{
     Adjustment, BinaryOp, BindingId, BindingMode, Expr, ExprId, FieldId, LabelId, List, Literal,
     LogicOp, Pat, PatId, RecordLitField, RecordSpread, Statement, Text, TupleFieldId, UnaryOp,
@@ -151,6 +151,19 @@ fn field_step(named: Option<&Either<FieldId, TupleFieldId>>) -> Option<FieldStep
         },
         Some(Either::Right(field)) => Some(FieldStep::Part(field.index)),
         None => None,
+    }
+}
+
+/// The element of a place that a step to a field is.
+pub fn place_elem(step: FieldStep) -> PlaceElem
+    ensures { result ≡ elem_of (core_elem step) }
+{
+    match step {
+        FieldStep::Part(index) => PlaceElem::Field(Either::Right(TupleFieldId {
+            tuple: u32::MAX,
+            index,
+        })),
+        FieldStep::Field(field) => PlaceElem::Field(Either::Left(field)),
     }
 }
 

@@ -83,8 +83,9 @@ fn are_written(fields: &[FieldRow], written: &[RecordLitField]) -> bool
     ensures { result ≡ is_some (places_named fields.now written.now) }
 {
     for field in fields {
-        if place_named(&field.name, written).is_none() {
-            return false;
+        match place_named(&field.name, written) {
+            Some(_place) => {}
+            None => return false,
         }
     }
     true
@@ -130,7 +131,8 @@ fn arranged(
         let Some(operand) = operands.get(place) else {
             unreachable!()
         };
-        all.push(operand.try_clone(alloc)?)?;
+        let copy = operand.try_clone(alloc)?;
+        all.push(copy)?;
     }
     Ok(all)
 }

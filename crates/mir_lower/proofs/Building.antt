@@ -6,7 +6,7 @@ use Rattle.mir.specs.declared.ids.LocalId.{LocalId}
 use Rattle.source_meaning.specs.Around.{is_meant, meant}
 use Rattle.source_meaning.specs.Built.{IsBinding, NamesBinding, CallsFunction, IsBuiltAssigned, IsBuiltAssignee, IsBuiltStatement, IsBuiltStrict}
 use Rattle.numbers.specs.declared.operator.Operator.{Operator}
-use Rattle.source_meaning.specs.Core.{Assigned, Assignee, ByField, ByPath, CoreExpr, CoreLiteral, Operation}
+use Rattle.source_meaning.specs.Core.{Assigned, Assignee, ByField, ByPath, CoreExpr, CoreLiteral, Operation, PlaceElem}
 use Rattle.source_meaning.specs.Core as expr
 use Rattle.source_meaning.specs.Source.{Source, Binding, node}
 use Rattle.source_meaning.specs.Steps.{assigned_parts, assignee_parts, parts_of, statement_parts}
@@ -52,8 +52,8 @@ built-path source e name is named = built-node source e (Some (expr.Path name)) 
 pub one-built : (source : Source) (e : ℕ) → IsBuilt source e → All (IsBuilt source) (e ∷ [])
 one-built source e built = All-cons (IsBuilt source) e [] built (All-nil (IsBuilt source))
 
-pub built-field : (source : Source) (e base index : ℕ) → node source e ≡ Some (expr.Field base index) → IsBuilt source base → IsBuilt source e
-built-field source e base index is built = built-node source e (Some (expr.Field base index)) is tt (one-built source base built)
+pub built-field : (source : Source) (e base : ℕ) (elem : PlaceElem) → node source e ≡ Some (expr.Field base elem) → IsBuilt source base → IsBuilt source e
+built-field source e base elem is built = built-node source e (Some (expr.Field base elem)) is tt (one-built source base built)
 
 pub built-strict : (source : Source) (e : ℕ) (operation : Operation) (operands : List ℕ) → node source e ≡ Some (expr.Strict operation operands) → IsBuiltStrict source e operation → All (IsBuilt source) operands → IsBuilt source e
 built-strict source e operation operands is own built =
@@ -82,7 +82,7 @@ built-assign source e to value is own parts built =
 
 compound-built : (source : Source) (to : Assigned) (value : ℕ) (op : Operator) → All (IsBuilt source) (assigned_parts to) → IsBuilt source value → All (IsBuilt source) (parts_of (Some (expr.Compound op to value)))
 compound-built source (ByPath e) value op parts built = one-built source value built
-compound-built source (ByField base index) value op parts built = two-built source base value (All-head (IsBuilt source) base [] parts) built
+compound-built source (ByField base elem) value op parts built = two-built source base value (All-head (IsBuilt source) base [] parts) built
 
 pub built-compound : (source : Source) (e : ℕ) (op : Operator) (to : Assigned) (value : ℕ) → node source e ≡ Some (expr.Compound op to value) → IsBuiltAssigned source to → All (IsBuilt source) (assigned_parts to) → IsBuilt source value → IsBuilt source e
 built-compound source e op to value is own parts built =

@@ -18,7 +18,7 @@ use Rattle.mir.specs.Memory.{Memory}
 use Rattle.mir.specs.Run.{Frame}
 use Rattle.mir.specs.WholePlaces.{whole_place}
 use Rattle.source_meaning.specs.Around.{Around, marking}
-use Rattle.source_meaning.specs.Core.{Assigned, ByField, ByPath, Combine, is_truth, local_named}
+use Rattle.source_meaning.specs.Core.{Assigned, ByField, ByPath, Combine, is_truth, local_named, PlaceElem}
 use Rattle.source_meaning.specs.Core as expr
 use Rattle.source_meaning.specs.Ends.{then_do}
 use Rattle.source_meaning.specs.Events.{marked_as_operand, marked_by_assigned}
@@ -55,8 +55,8 @@ use Rattle.mir_lower.proofs.Writing.{first-bytes, writing, written-values}
 pub combined-part : (source : Source) (e : ℕ) (op : Operator) (to : Assigned) (value : ℕ) → node source e ≡ Some (expr.Compound op to value) → Contains (parts_of (node source e)) value
 combined-part source e op to value form = combined_is_part source e op to value form
 
-pub combined-base-part : (source : Source) (e : ℕ) (op : Operator) (base index value : ℕ) → node source e ≡ Some (expr.Compound op (ByField base index) value) → Contains (parts_of (node source e)) base
-combined-base-part source e op base index value form = combined_target_is_part source e op (ByField base index) value base form (0, omega arith, refl)
+pub combined-base-part : (source : Source) (e : ℕ) (op : Operator) (base : ℕ) (elem : PlaceElem) (value : ℕ) → node source e ≡ Some (expr.Compound op (ByField base elem) value) → Contains (parts_of (node source e)) base
+combined-base-part source e op base elem value form = combined_target_is_part source e op (ByField base elem) value base form (0, omega arith, refl)
 
 -- a target that is a path to a binding names it
 pub names-combined : (source : Source) (e : ℕ) (name : _) (named : ValueNs) (binding : BindingId) → Some name ≡ compound_path source e → Some named ≡ named_by source e → named ≡ LocalBinding binding → compound_target source e ≡ Some binding
@@ -83,10 +83,10 @@ lowers-own-path source s e local sound opened named =
     }
 
 -- that of a field is found by its base
-pub lowers-own-field : (source : Source) (s0 s1 : Shape) (base index : ℕ) (place : GraphPlace) → LowersField source s0 s1 base index place → LowersAssigned source s0 s1 (ByField base index) place
-lowers-own-field source s0 s1 base index place lowered =
+pub lowers-own-field : (source : Source) (s0 s1 : Shape) (base : ℕ) (elem : PlaceElem) (place : GraphPlace) → LowersField source s0 s1 base elem place → LowersAssigned source s0 s1 (ByField base elem) place
+lowers-own-field source s0 s1 base elem place lowered =
     record {
-      keeps = subst (λ (m : List Cell). Keeps source s0 s1 m) (sym (field_target_marks source base index)) lowered.keeps;
+      keeps = subst (λ (m : List Cell). Keeps source s0 s1 m) (sym (field_target_marks source base elem)) lowered.keeps;
       does = lowered.does;
       laid = λ child within. subst (LaysOut source s1) (one-of base child within) lowered.laid;
     }
@@ -94,7 +94,7 @@ lowers-own-field source s0 s1 base index place lowered =
 -- the types of what a compound assignment evaluates
 sized-either : (source : Source) (to : Assigned) (value child : ℕ) → Contains (flat_map (sized_part source) (assigned_steps to ++ step.Operand value ∷ [])) child → Contains (assigned_parts to) child ⊎ Contains (flat_map (sized_part source) (step.Operand value ∷ [])) child
 sized-either source (ByPath e) value child within = inr within
-sized-either source (ByField base index) value child within = Contains-append_cases (base ∷ []) (flat_map (sized_part source) (step.Operand value ∷ [])) child within
+sized-either source (ByField base elem) value child within = Contains-append_cases (base ∷ []) (flat_map (sized_part source) (step.Operand value ∷ [])) child within
 
 lays-compound : (source : Source) (s0 s1 s2 new : Shape) (e : ℕ) (op : Operator) (to : Assigned) (value : ℕ) (place : GraphPlace) → node source e ≡ Some (expr.Compound op to value) → LowersAssigned source s0 s1 to place → (is_truth (unadjusted source value) ≡ false → LaysOut source s2 value) → Grows s1 new → Grows s2 new → IsLaidOutNode source e → LaysOut source new e
 lays-compound source s0 s1 s2 new e op to value place form assigned below grows1 grows2 laid plain layouts f own = laid

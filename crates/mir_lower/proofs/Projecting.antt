@@ -6,8 +6,10 @@ use Rattle.mir.specs.Elements.{PlaceElem as GraphElem}
 use Rattle.mir.specs.Projections.{AreInterned, HasId, Projection, projection_of}
 use Rattle.mir.specs.declared.operand.Place.{Place as GraphPlace}
 use Rattle.mir.specs.declared.projection.ProjectionId.{ProjectionId}
-use Rattle.source_meaning.specs.Source.{Source, Place, Part, projected}
-use Rattle.mir_lower.specs.Does.{IsAt, elem_of, elements_of, here}
+use Rattle.source_meaning.specs.Core.{PlaceElem}
+use Rattle.source_meaning.specs.Source.{Source, Place, projected}
+use Rattle.body_forms.specs.Form.{elem_of}
+use Rattle.mir_lower.specs.Does.{IsAt, elements_of, here}
 use Rattle.mir_lower.specs.Graph.{Shape, IsProjected, elements_in, never_of, temp_of, with_projections}
 use Rattle.mir_lower.specs.Growth.{Grows, Spares, IsSound, IsOpen, count_at, statement_at, terminator_at}
 use Rattle.mir_lower.proofs.Lists.{slice_get_below}
@@ -63,12 +65,12 @@ unfolding count_at
 projected-here old new place elem made is = ap here is.rest
 
 -- the place that was made is the one that the source's element leads to
-pub projected-at : (old new : Shape) (field : ℕ) (place made : GraphPlace) → IsProjected old new place (elem_of (Part field)) made → (at : Place) → IsAt old place at → IsAt new made (projected (Part field) at)
+pub projected-at : (old new : Shape) (field : PlaceElem) (place made : GraphPlace) → IsProjected old new place (elem_of field) made → (at : Place) → IsAt old place at → IsAt new made (projected field at)
 projected-at old new field place made is at same =
-    let found = local_of-grows old new (projected-grows old new place (elem_of (Part field)) made is) at.cell place.local.0 same.found in
+    let found = local_of-grows old new (projected-grows old new place (elem_of field) made is) at.cell place.local.0 same.found in
     record {
       found = found ∙ ap (λ local. Some local.0) (sym is.local);
-      elements = is.longer (elements_of at.projection) same.elements ∙ ap Some (sym (map-append elem_of at.projection (Part field ∷ [])));
+      elements = is.longer (elements_of at.projection) same.elements ∙ ap Some (sym (map-append elem_of at.projection (field ∷ [])));
     }
 
 -- a place of the graph has a projection that the graph has

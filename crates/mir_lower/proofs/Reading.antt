@@ -1,10 +1,13 @@
 -- What lies at a place of the graph: the bytes that the source has there.
 use Rattle.std.proofs.Common.{◌≡◌, ℕ, ◌+◌, ◌-◌, ◌≤◌, ◌⊎◌, inl, inr, Bool, true, false, cond, leb, List, [], ◌∷◌, length, take, drop, Option, Some, None, option_and_then, option_map, refl, sym, ap, ◌∙◌, arith}
-use Rattle.std.specs.Prelude.{slice_get}
+use Rattle.std.specs.Prelude.{◌==◌, if◌then◌else◌, slice_get}
 use Rattle.std.proofs.Math.Seq.{take-take}
 use Rattle.std.proofs.lemmas.Bool.{cases_eq}
 use Rattle.std.proofs.lemmas.List.{drop-drop, drop-take}
 use borrow.Author.Tests.{leb-true}
+use Rattle.types.specs.declared.ids.FieldId.{FieldId}
+use Rattle.types.specs.declared.ids.VariantId.{VariantId}
+use Rattle.types.specs.declared.ids.VariantId.TheVariants as variant
 use Rattle.types.specs.declared.ty.ComplexMemoryMap.{ComplexMemoryMap}
 use Rattle.types.specs.declared.ty.Const.{Const}
 use Rattle.types.specs.declared.ty.Const.TheOpen as layer
@@ -34,8 +37,10 @@ use Rattle.mir_mem.proofs.Parts.{bytes_at-some, part_of-inside}
 use Rattle.mir_mem.proofs.Writing.{kept-some}
 use Rattle.source_meaning.specs.Places as source_place
 use Rattle.source_meaning.specs.Places.{place_bytes, bytes_behind}
-use Rattle.source_meaning.specs.Source.{Source, Store, cell_type, PlaceElem, Part, Place, At}
-use Rattle.mir_lower.specs.Does.{IsAt, IsFrameOf, Fits, Holds, elem_of, elements_of}
+use Rattle.source_meaning.specs.Core.{PlaceElem, Part, FieldOf}
+use Rattle.source_meaning.specs.Source.{Source, Store, cell_type, Place, At}
+use Rattle.body_forms.specs.Form.{elem_of}
+use Rattle.mir_lower.specs.Does.{IsAt, IsFrameOf, Fits, Holds, elements_of}
 use Rattle.mir_lower.specs.Graph.{Shape, elements_in}
 use Rattle.mir_lower.specs.Growth.{IsSound}
 use Rattle.mir_lower.proofs.Holding.{interval-of}
@@ -47,28 +52,42 @@ use Rattle.mir_lower.proofs.Stack.{length-cell_bytes}
 abbrev TyLayer : Type 0
 TyLayer = Ty-F Const GenericArg MemoryMap Ty ComplexMemoryMap GenericArgs TraitRef UnevaluatedConst ValueConst
 
-by_layer : (index : ℕ) (ty : Ty) (one : TyLayer) → out-Ty ty ≡ one → graph.elem_type (elem_of (Part index)) ty ≡ source_place.elem_type (Part index) ty
-by_layer index ty (layer.Tuple parts) is = rw (is) refl
-by_layer index ty _ is = rw (is) refl
+by_layer : (world : HirDatabase) (index : ℕ) (ty : Ty) (one : TyLayer) → out-Ty ty ≡ one → graph.elem_type world (elem_of (Part index)) ty ≡ source_place.elem_type world (Part index) ty
+by_layer world index ty (layer.Tuple parts) is = rw (is) refl
+by_layer world index ty _ is = rw (is) refl
 
-same_elem-type : (elem : PlaceElem) (ty : Ty) → graph.elem_type (elem_of elem) ty ≡ source_place.elem_type elem ty
-same_elem-type (Part index) ty = by_layer index ty (out-Ty ty) refl
+none-either : {A : Type 0} (test : Bool) → (if test then None else None) ≡ None {A = A}
+none-either true = refl
+none-either false = refl
+
+by_parent : (world : HirDatabase) (field : FieldId) (parent : VariantId) (ty : Ty) (one : TyLayer) → field.parent ≡ parent → out-Ty ty ≡ one → graph.elem_type world (elem_of (FieldOf field)) ty ≡ source_place.elem_type world (FieldOf field) ty
+by_parent world field (variant.StructId id) ty (layer.Adt of args) of_struct is = rw (of_struct, is) refl
+by_parent world field (variant.EnumVariantId id) ty (layer.Adt of args) of_struct is = rw (of_struct, is) (none-either (length args.0 == 0))
+by_parent world field (variant.UnionId id) ty (layer.Adt of args) of_struct is = rw (of_struct, is) (none-either (length args.0 == 0))
+by_parent world field (variant.StructId id) ty _ of_struct is = rw (of_struct, is) refl
+by_parent world field (variant.EnumVariantId id) ty _ of_struct is = rw (of_struct, is) refl
+by_parent world field (variant.UnionId id) ty _ of_struct is = rw (of_struct, is) refl
+
+same_elem-type : (world : HirDatabase) (elem : PlaceElem) (ty : Ty) → graph.elem_type world (elem_of elem) ty ≡ source_place.elem_type world elem ty
+same_elem-type world (Part index) ty = by_layer world index ty (out-Ty ty) refl
+same_elem-type world (FieldOf field) ty = by_parent world field field.parent ty (out-Ty ty) refl refl
 
 same_elem-offset : (world : HirDatabase) (elem : PlaceElem) (ty : Ty) → graph.elem_offset world (elem_of elem) ty ≡ source_place.elem_offset world elem ty
 same_elem-offset world (Part index) ty = refl
+same_elem-offset world (FieldOf field) ty = refl
 
-next-type : (elem : PlaceElem) (ty : Option Ty) → option_and_then (graph.elem_type (elem_of elem)) ty ≡ option_and_then (source_place.elem_type elem) ty
-next-type elem (Some ty) = same_elem-type elem ty
-next-type elem None = refl
+next-type : (world : HirDatabase) (elem : PlaceElem) (ty : Option Ty) → option_and_then (graph.elem_type world (elem_of elem)) ty ≡ option_and_then (source_place.elem_type world elem) ty
+next-type world elem (Some ty) = same_elem-type world elem ty
+next-type world elem None = refl
 
 next-offset : (world : HirDatabase) (elem : PlaceElem) (ty : Option Ty) → option_and_then (graph.elem_offset world (elem_of elem)) ty ≡ option_and_then (source_place.elem_offset world elem) ty
 next-offset world elem (Some ty) = same_elem-offset world elem ty
 next-offset world elem None = refl
 
-pub same-type : (elems : List PlaceElem) (ty : Option Ty) → graph.type_behind (elements_of elems) ty ≡ source_place.type_behind elems ty
+pub same-type : (world : HirDatabase) (elems : List PlaceElem) (ty : Option Ty) → graph.type_behind world (elements_of elems) ty ≡ source_place.type_behind world elems ty
 unfolding graph.type_behind source_place.type_behind
-same-type [] ty = refl
-same-type (elem ∷ rest) ty = ap (graph.type_behind (elements_of rest)) (next-type elem ty) ∙ same-type rest (option_and_then (source_place.elem_type elem) ty)
+same-type world [] ty = refl
+same-type world (elem ∷ rest) ty = ap (graph.type_behind world (elements_of rest)) (next-type world elem ty) ∙ same-type world rest (option_and_then (source_place.elem_type world elem) ty)
 
 same_added : (one other : Option ℕ) → graph.added one other ≡ source_place.added one other
 same_added (Some one) (Some other) = refl
@@ -79,9 +98,9 @@ pub same-offset : (world : HirDatabase) (elems : List PlaceElem) (ty : Option Ty
 unfolding graph.offset_behind source_place.offset_behind
 same-offset world [] ty = refl
 same-offset world (elem ∷ rest) ty =
-    let behind = option_and_then (source_place.elem_type elem) ty in
-    ap (λ first. graph.added first (graph.offset_behind world (elements_of rest) (option_and_then (graph.elem_type (elem_of elem)) ty))) (next-offset world elem ty)
-    ∙ ap (λ next. graph.added (option_and_then (source_place.elem_offset world elem) ty) (graph.offset_behind world (elements_of rest) next)) (next-type elem ty)
+    let behind = option_and_then (source_place.elem_type world elem) ty in
+    ap (λ first. graph.added first (graph.offset_behind world (elements_of rest) (option_and_then (graph.elem_type world (elem_of elem)) ty))) (next-offset world elem ty)
+    ∙ ap (λ next. graph.added (option_and_then (source_place.elem_offset world elem) ty) (graph.offset_behind world (elements_of rest) next)) (next-type world elem ty)
     ∙ ap (graph.added (option_and_then (source_place.elem_offset world elem) ty)) (same-offset world rest behind)
     ∙ same_added (option_and_then (source_place.elem_offset world elem) ty) (source_place.offset_behind world rest behind)
 
@@ -148,9 +167,9 @@ behind-read : (world : HirDatabase) (memory : Memory) (cell : Interval) (bytes :
 unfolding cell_behind bytes_behind graph.type_behind source_place.type_behind
 behind-read world memory cell bytes found [] ty = found
 behind-read world memory cell bytes found (elem ∷ rest) ty =
-    ap (λ t. option_and_then (cell_bytes memory) (option_and_then (λ at. option_and_then (part_of_cell cell at) (size_at world t)) (graph.offset_behind world (elements_of (elem ∷ rest)) ty))) (same-type (elem ∷ rest) ty)
-    ∙ ap (λ offset. option_and_then (cell_bytes memory) (option_and_then (λ at. option_and_then (part_of_cell cell at) (size_at world (source_place.type_behind (elem ∷ rest) ty))) offset)) (same-offset world (elem ∷ rest) ty)
-    ∙ spot-read memory cell bytes found (size_at world (source_place.type_behind (elem ∷ rest) ty)) (source_place.offset_behind world (elem ∷ rest) ty)
+    ap (λ t. option_and_then (cell_bytes memory) (option_and_then (λ at. option_and_then (part_of_cell cell at) (size_at world t)) (graph.offset_behind world (elements_of (elem ∷ rest)) ty))) (same-type world (elem ∷ rest) ty)
+    ∙ ap (λ offset. option_and_then (cell_bytes memory) (option_and_then (λ at. option_and_then (part_of_cell cell at) (size_at world (source_place.type_behind world (elem ∷ rest) ty))) offset)) (same-offset world (elem ∷ rest) ty)
+    ∙ spot-read memory cell bytes found (size_at world (source_place.type_behind world (elem ∷ rest) ty)) (source_place.offset_behind world (elem ∷ rest) ty)
 
 -- A place of the graph that is one of the source has its bytes, whenever store and memory agree, and its type.
 module _ (source : Source) (whole : Shape) (frame : Frame) (place : GraphPlace) (at : Place) (sound : IsSound source whole) (is : IsFrameOf whole frame) (world : frame.program.world ≡ source.world) (same : IsAt whole place at) where
@@ -182,5 +201,6 @@ module _ (source : Source) (whole : Shape) (frame : Frame) (place : GraphPlace) 
             let cell = interval-of frame memory place.local.0 (store at.cell) (holds.shows at.cell place.local.0 same.found) in
             ap (λ elements. option_and_then (cell_bytes memory) (cell_at frame.program.world frame.body frame.cells place elements)) found-elements
             ∙ cell-is store memory holds cell.0 cell.1 cell.2 at.projection;
-        ty = ap (type_at frame.body place) found-elements ∙ ap (graph.type_behind (elements_of at.projection)) local-type ∙ same-type at.projection (cell_type source at.cell);
+        ty = ap (type_at frame.program.world frame.body place) found-elements ∙ ap (graph.type_behind frame.program.world (elements_of at.projection)) local-type
+            ∙ ap (λ w. graph.type_behind w (elements_of at.projection) (cell_type source at.cell)) world ∙ same-type source.world at.projection (cell_type source at.cell);
       }

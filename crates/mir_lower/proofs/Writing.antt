@@ -22,7 +22,8 @@ use Rattle.source_meaning.specs.Core.{Operation}
 use Rattle.source_meaning.specs.Meaning.{Value, answer_at, answered, answered_for, copy_at, operand_kind, put_all, put_at, values_of}
 use Rattle.source_meaning.specs.Places as source_place
 use Rattle.source_meaning.specs.Places.{bytes_with, cell_with, place_bytes}
-use Rattle.source_meaning.specs.Source.{Source, Store, cell_type, PlaceElem, Place, Operand, At, with_cell_bytes}
+use Rattle.source_meaning.specs.Core.{PlaceElem}
+use Rattle.source_meaning.specs.Source.{Source, Store, cell_type, Place, Operand, At, with_cell_bytes}
 use Rattle.mir_lower.specs.Does.{here, Holds, IsAt, IsFrameOf, Landings, Nothing, Reaches, elements_of}
 use Rattle.mir_lower.specs.Graph.{Shape, local_of, with_statement}
 use Rattle.mir_lower.specs.Growth.{Grows, IsOpen, IsSound}
@@ -37,11 +38,11 @@ use Rattle.mir_lower.proofs.Stack.{read-apart}
 -- where elements lead to in a cell: as far as those of the source do, and over as many bytes
 behind-is : (world : HirDatabase) (cell : Interval) (elem : PlaceElem) (rest : List PlaceElem) (ty : Option Ty) →
     cell_behind world (elements_of (elem ∷ rest)) ty cell
-    ≡ option_and_then (λ at. option_and_then (part_of_cell cell at) (size_at world (source_place.type_behind (elem ∷ rest) ty))) (source_place.offset_behind world (elem ∷ rest) ty)
+    ≡ option_and_then (λ at. option_and_then (part_of_cell cell at) (size_at world (source_place.type_behind world (elem ∷ rest) ty))) (source_place.offset_behind world (elem ∷ rest) ty)
 unfolding cell_behind
 behind-is world cell elem rest ty =
-    ap (λ t. option_and_then (λ at. option_and_then (part_of_cell cell at) (size_at world t)) (graph.offset_behind world (elements_of (elem ∷ rest)) ty)) (same-type (elem ∷ rest) ty)
-    ∙ ap (option_and_then (λ at. option_and_then (part_of_cell cell at) (size_at world (source_place.type_behind (elem ∷ rest) ty)))) (same-offset world (elem ∷ rest) ty)
+    ap (λ t. option_and_then (λ at. option_and_then (part_of_cell cell at) (size_at world t)) (graph.offset_behind world (elements_of (elem ∷ rest)) ty)) (same-type world (elem ∷ rest) ty)
+    ∙ ap (option_and_then (λ at. option_and_then (part_of_cell cell at) (size_at world (source_place.type_behind world (elem ∷ rest) ty)))) (same-offset world (elem ∷ rest) ty)
 
 -- A place of the graph that is one of the source is written as that is, whenever store and memory agree; afterwards they agree again.
 module _ (source : Source) (whole : Shape) (frame : Frame) (place : GraphPlace) (at : Place) (sound : IsSound source whole) (is : IsFrameOf whole frame) (world : frame.program.world ≡ source.world) (same : IsAt whole place at) where
@@ -51,7 +52,7 @@ module _ (source : Source) (whole : Shape) (frame : Frame) (place : GraphPlace) 
   cell-written memory old bytes all cell there found [] made = (cell, there, whole-patched memory cell old bytes all found made)
   cell-written memory old bytes all cell there found (elem ∷ rest) made =
       let ty = cell_type source at.cell in
-      let part = part-patched memory cell old bytes all found (size_at source.world (source_place.type_behind (elem ∷ rest) ty)) (source_place.offset_behind source.world (elem ∷ rest) ty) made in (
+      let part = part-patched memory cell old bytes all found (size_at source.world (source_place.type_behind source.world (elem ∷ rest) ty)) (source_place.offset_behind source.world (elem ∷ rest) ty) made in (
         part.0,
         ap (option_and_then (cell_behind frame.program.world (elements_of (elem ∷ rest)) (graph.local_type frame.body place.local))) there
             ∙ ap (λ w. cell_behind w (elements_of (elem ∷ rest)) (graph.local_type frame.body place.local) cell) world

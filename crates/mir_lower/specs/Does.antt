@@ -1,6 +1,6 @@
 -- What the code of a graph does: from a point of it to another, or to the end of the run.
 use Rattle.std.specs.Prelude.{◌≡◌, ◌⊎◌, ℕ, ◌-◌, ◌^◌, List, ◌∷◌, [], map, Option, Some, unwrap_or}
-use Rattle.either.specs.declared.Either.TheVariants.{Right}
+use Rattle.either.specs.declared.Either.TheVariants.{Left, Right}
 use Rattle.mir.specs.Elements.{PlaceElem as GraphElem}
 use Rattle.mir.specs.Projections.{Projection}
 use Rattle.mir.specs.declared.operand.Place.{Place as GraphPlace}
@@ -13,7 +13,8 @@ use Rattle.source_meaning.specs.Core.{Assigned, Assignee}
 use Rattle.source_meaning.specs.Ends.{Cost, cost_of, End, Go, Jumps, Faults, Stuck, More, Jump, Break, Continue, Return}
 use Rattle.source_meaning.specs.Meaning.{level_at, operands_of, assigned_place, assignee_place, copy_at, field_place, statements_of, tail_into, bind}
 use Rattle.source_meaning.specs.Places.{operand_bytes, operand_type, place_bytes}
-use Rattle.source_meaning.specs.Source.{Source, pattern, Cell, Result, PlaceElem, Part, Place, Store, Operand}
+use Rattle.source_meaning.specs.Core.{PlaceElem, Part, FieldOf}
+use Rattle.source_meaning.specs.Source.{Source, pattern, Cell, Result, Place, Store, Operand}
 use Rattle.world.specs.declared.body.Statement.{Statement}
 use Rattle.types.specs.declared.ids.ExprId.{ExprId}
 use Rattle.mir_lower.specs.Graph.{Shape, OpenTarget, elements_in, local_of}
@@ -103,12 +104,7 @@ pub record Performs (source : Source) (old new : Shape) {A : Type 0} (claim : Sh
 abbrev pub Nothing : Shape → Frame → Unit {0} → Type 0
 Nothing whole frame done = Unit {0}
 
--- An element of a place of the source, as the graph has it. Which tuple of its body a part belongs to isn't looked at, and is always the
--- greatest number of 32 bits.
-abbrev pub elem_of : PlaceElem → GraphElem
-elem_of (Part index) = Field (Right (record { tuple = 2 ^ 32 - 1; index = index }))
-
--- and all elements of a place
+-- the elements of a place of the source, as the graph has them
 abbrev pub elements_of : List PlaceElem → Projection
 elements_of elems = map elem_of elems
 
@@ -159,8 +155,8 @@ abbrev pub DoesPlace : Source → Shape → Shape → ℕ → GraphPlace → Typ
 DoesPlace source old new e place = Finds source old new place (λ around fuel store. (level_at source fuel around).place e store)
 
 -- or the place of a field, by that of its base
-abbrev pub DoesField : Source → Shape → Shape → (base index : ℕ) → GraphPlace → Type 0
-DoesField source old new base index place = Finds source old new place (λ around fuel store. field_place (level_at source fuel around) base index store)
+abbrev pub DoesField : Source → Shape → Shape → (base : ℕ) → (elem : PlaceElem) → GraphPlace → Type 0
+DoesField source old new base elem place = Finds source old new place (λ around fuel store. field_place (level_at source fuel around) base elem store)
 
 -- the code runs statements, evaluates a tail, or binds a pattern to a place's value
 abbrev pub DoesStatements : Source → Shape → Shape → List Statement → Type 0

@@ -4,7 +4,7 @@ use Rattle.mir.specs.declared.body.Local.{Local}
 use Rattle.mir.specs.declared.operand.Place.{Place as GraphPlace}
 use Rattle.mir.specs.declared.operand.OperandKind.{OperandKind}
 use Rattle.source_meaning.specs.Core as expr
-use Rattle.source_meaning.specs.Core.{Assigned, Assignee, CoreExpr, is_truth}
+use Rattle.source_meaning.specs.Core.{Assigned, Assignee, CoreExpr, is_truth, PlaceElem}
 use Rattle.world.specs.declared.body.Statement.{Statement}
 use Rattle.types.specs.declared.ids.BindingId.{BindingId}
 use Rattle.types.specs.declared.ids.ExprId.{ExprId}
@@ -66,9 +66,9 @@ pub record LowersPlace (source : Source) (old new : Shape) (e : ℕ) (place : Gr
   pub laid : LaysOut source new e
 
 -- the place of a field was lowered, by that of its base; only what the base marks is marked
-pub record LowersField (source : Source) (old new : Shape) (base index : ℕ) (place : GraphPlace) : Type 0 where
+pub record LowersField (source : Source) (old new : Shape) (base : ℕ) (elem : PlaceElem) (place : GraphPlace) : Type 0 where
   pub keeps : Keeps source old new (marked_as_place source base)
-  pub does : DoesField source old new base index place
+  pub does : DoesField source old new base elem place
   pub laid : LaysOut source new base
 
 -- an expression was lowered to an operand

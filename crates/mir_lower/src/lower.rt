@@ -14,14 +14,15 @@ ghost use Rattle.source_meaning.specs.Steps.{assigned_parts, assignee_parts, par
 ghost use Rattle.world.specs.declared.body.Statement.TheVariants as statement_kind;
 ghost use Rattle.body_forms.specs.Callees.{callee_number};
 ghost use Rattle.body_forms.specs.Contexts.{source_of};
-ghost use Rattle.body_forms.specs.Form.{core_assigned, core_assignee, core_value};
+ghost use Rattle.body_forms.specs.Form.{core_assigned, core_assignee, core_elem, core_form, core_value, literal_places};
+ghost use Rattle.body_forms.specs.declared.form.Form.TheVariants.{Struct};
 ghost use Rattle.mir_lower.specs.Graph.{shape, local_of};
 ghost use Rattle.mir_lower.specs.Growth.{IsPlaced, IsReady, ArePartsReady, IsReadyPart};
 ghost use Rattle.body_forms.specs.Operations.{several_operation, single_operation};
 ghost use Rattle.mir_lower.specs.Lowered.{HasStatements, LowersAssigned, LowersAssignee, LowersInto, LowersField, LowersPlace, LowersOperand, LowersOperands, LowersStatements, LowersTail, IsStatementOf, LowersOwn};
 ghost use Rattle.mir_lower.specs.Built.{IsBuilt, IsBuiltThrough};
 ghost use Rattle.mir_lower.specs.Refusals.{RefusesAt};
-ghost use Rattle.std.specs.Prelude.{All, Contains, IfSome, map};
+ghost use Rattle.std.specs.Prelude.{All, Contains, IfSome, IsSome, map};
 ghost use Rattle.world.specs.Nodes.{expr_numbers, optional};
 
 use crate::branch::{fork, go_on};
@@ -33,13 +34,12 @@ use crate::locals::{
     assign, bind, combined_local, fake_read, named_local, new_never, new_temp, target_local, write,
 };
 use body_forms::{
-    Assigned, Assignee, Context, Form, LiteralValue, PlaceForm, Several, Single, diverges, form_at,
-    form_not_built, kind_of, literal_at, lower_callee, lower_literal, made_of, method_args,
-    place_form_at,
+    Assigned, Assignee, Context, FieldStep, Form, LiteralValue, PlaceForm, Several, Single,
+    StructLiteral, diverges, form_at, form_not_built, kind_of, literal_at, lower_callee,
+    lower_literal, made_of, method_args, place_elem, place_form_at, struct_value, written_exprs,
 };
-use either::Either;
-use mir::{BinOp, LocalId, MirLowerError, MirSpan, Operand, OperandKind, Place, PlaceElem, Rvalue};
-use world::{ExprId, LabelId, List, LogicOp, PatId, Statement, Text, TryClone, TupleFieldId};
+use mir::{BinOp, LocalId, MirLowerError, MirSpan, Operand, OperandKind, Place, Rvalue};
+use world::{ExprId, LabelId, List, LogicOp, PatId, Statement, Text, TryClone};
 
 /// A place as an operand.
 fn copied(place: Place, e: ExprId) -> Operand
@@ -135,7 +135,7 @@ fn lower_place(context: &Context<'_>, graph: &mut Graph, e: ExprId) -> Result<Pl
 {
     match place_form_at(context, e) {
         PlaceForm::Path(name) => Ok(Place::from(named_local(context, graph, e, name)?)),
-        PlaceForm::Field(base, index) => lower_field(context, graph, e, base, index),
+        PlaceForm::Field(base, step) => lower_field(context, graph, e, base, step),
         PlaceForm::Value => lower_temp(context, graph, e),
     }
 }
@@ -148,20 +148,16 @@ fn lower_field(
     graph: &mut Graph,
     e: ExprId,
     base: ExprId,
-    index: u32,
+    step: FieldStep,
 ) -> Result<Place, MirLowerError>
     requires ready { ArePartsReady (source_of context.now) (shape graph.old) e.0 }
     requires part { Contains (parts_of (node (source_of context.now) e.0)) base.0 }
-    ensures lowered { IfOk result (λ place. LowersField (source_of context.now) (shape graph.old) (shape graph.new) base.0 index place) }
+    ensures lowered { IfOk result (λ place. LowersField (source_of context.now) (shape graph.old) (shape graph.new) base.0 (core_elem step) place) }
     ensures built { OnOk result (IsBuilt (source_of context.now) base.0) }
     ensures refused { IfErr result (RefusesAt (source_of context.now) e.0) }
 {
     let place = lower_place(context, graph, base)?;
-    let part = TupleFieldId {
-        tuple: u32::MAX,
-        index,
-    };
-    let place = graph.project(place, PlaceElem::Field(Either::Right(part)))?;
+    let place = graph.project(place, place_elem(step))?;
     Ok(place)
 }
 
@@ -172,17 +168,17 @@ fn field_into(
     graph: &mut Graph,
     e: ExprId,
     base: ExprId,
-    index: u32,
+    step: FieldStep,
     to: LocalId,
 ) -> Result<(), MirLowerError>
     requires ready { IsReady (source_of context.now) (shape graph.old) e.0 }
-    requires form { node (source_of context.now) e.0 ≡ Some (expr.Field base.0 index) }
+    requires form { node (source_of context.now) e.0 ≡ Some (expr.Field base.0 (core_elem step)) }
     ensures lowered { OnOk result ((cell : Cell) → local_of (shape graph.old) cell ≡ Some to.0
         → LowersOwn (source_of context.now) (shape graph.old) (shape graph.new) e.0 cell) }
     ensures built { OnOk result (IsBuilt (source_of context.now) e.0) }
     ensures refused { IfErr result (RefusesAt (source_of context.now) e.0) }
 {
-    let from = lower_field(context, graph, e, base, index)?;
+    let from = lower_field(context, graph, e, base, step)?;
     assign(graph, to, Rvalue::Use(copied(from, e)), MirSpan::ExprId(e))
 }
 
@@ -241,7 +237,7 @@ fn lower_own(
     match form_at(context, e) {
         Form::Literal(literal) => literal_into(context, graph, e, literal, to),
         Form::Path(name) => name_into(context, graph, e, name, to),
-        Form::Field(base, index) => field_into(context, graph, e, base, index, to),
+        Form::Field(base, step) => field_into(context, graph, e, base, step, to),
         Form::Unary(op, operand) => {
             lower_single(context, graph, e, Single::Unary(op), operand, to)
         }
@@ -256,6 +252,7 @@ fn lower_own(
         Form::Array(elements) => {
             lower_aggregate(context, graph, e, Several::Array, elements.as_slice(), to)
         }
+        Form::Struct(literal) => lower_struct(context, graph, e, literal, to),
         Form::Binary(op, lhs, rhs) => lower_binary(context, graph, e, op, lhs, rhs, to),
         Form::Logic(op, lhs, rhs) => lower_logic(context, graph, e, op, lhs, rhs, to),
         Form::If(condition, then_branch, else_branch) => {
@@ -329,6 +326,29 @@ fn lower_aggregate(
         Rvalue::Aggregate(kind, operands),
         MirSpan::ExprId(e),
     )
+}
+
+/// A struct: the operands of its fields in the order in which they are written, and then the struct of all.
+#[cycle(lower)]
+fn lower_struct(
+    context: &Context<'_>,
+    graph: &mut Graph,
+    e: ExprId,
+    literal: StructLiteral<'_>,
+    to: LocalId,
+) -> Result<(), MirLowerError>
+    requires ready { IsReady (source_of context.now) (shape graph.old) e.0 }
+    requires form { node (source_of context.now) e.0 ≡ core_form (Struct literal) }
+    requires given { IsSome (literal_places literal) }
+    ensures lowered { OnOk result ((cell : Cell) → local_of (shape graph.old) cell ≡ Some to.0
+        → LowersOwn (source_of context.now) (shape graph.old) (shape graph.new) e.0 cell) }
+    ensures built { OnOk result (IsBuilt (source_of context.now) e.0) }
+    ensures refused { IfErr result (RefusesAt (source_of context.now) e.0) }
+{
+    let parts = written_exprs(context.alloc, literal.written.as_slice())?;
+    let operands = lower_operands(context, graph, e, parts.as_slice())?;
+    let made = struct_value(context.alloc, literal, operands.as_slice())?;
+    assign(graph, to, made, MirSpan::ExprId(e))
 }
 
 /// An operator on two operands: the operands from left to right, and then the operation.
@@ -507,7 +527,7 @@ fn lower_assigned(
 {
     match to {
         Assigned::Path(target) => Ok(Place::from(combined_local(context, graph, target)?)),
-        Assigned::Field(base, index) => lower_field(context, graph, e, base, index),
+        Assigned::Field(base, step) => lower_field(context, graph, e, base, step),
     }
 }
 

@@ -6,12 +6,12 @@ use Rattle.std.proofs.lemmas.List.{drop-drop, drop-take, take-take}
 use Rattle.types.specs.declared.ty.Ty.{Ty}
 use Rattle.world.specs.declared.database.HirDatabase.{HirDatabase}
 use Rattle.numbers.specs.Aggregates.{constructed, with_part, with_parts}
-use Rattle.source_meaning.specs.Places.{added, bytes_behind, elem_offset, offset_behind, part_of, place_bytes, place_type, type_behind}
-use Rattle.source_meaning.specs.Core.{PlaceElem, Part}
+use Rattle.source_meaning.specs.Places.{added, bytes_behind, elem_offset, offset_behind, part_of, part_offset, place_bytes, place_type, type_behind}
+use Rattle.source_meaning.specs.Core.{PlaceElem, Part, FieldOf}
 use Rattle.source_meaning.specs.Source.{cell_type}
 use Rattle.source_meaning.proofs.Aggregates.{length-with_part, with_part-within}
 use Rattle.source_meaning.proofs.Places.{offset_behind-more}
-use Rattle.place_laws.specs.Parts.{ArePartsApart, FieldsAreParts, PartsAreRead, TuplesHaveTheirParts}
+use Rattle.place_laws.specs.Parts.{ArePartsApart, FieldsAreParts, HasItsPart, PartsAreRead, StructsHaveTheirFields, TuplesHaveTheirParts}
 use Rattle.place_laws.specs.Writes.{KeepsTheRest}
 use Rattle.place_laws.proofs.Placed.{placed-first, placed-last, placed-there}
 use Rattle.place_laws.proofs.Writes.{part-kept, size_at}
@@ -161,9 +161,15 @@ offset-of : (size : ℕ) (offsets : List ℕ) (given : List (List ℕ)) (bytes :
 unfolding constructed
 offset-of size offsets given bytes k part is at = has-offset offsets given (replicate size 0) bytes is k part at
 
-pub tuples : TuplesHaveTheirParts
-tuples source store place ty layout given bytes k part typed laid made found apart at has =
+has-its-part : (elem : PlaceElem) (k : ℕ) → ((world : HirDatabase) (ty : Ty) → elem_offset world elem ty ≡ part_offset world k ty) → HasItsPart elem k
+has-its-part elem k takes source store place ty layout given bytes part typed laid made found apart at has =
     let offset = offset-of layout.size layout.offsets given bytes k part made at in
     let read = is-read offset.0 (length part) bytes part (parts layout.size layout.offsets given bytes k offset.0 part made apart offset.1 at) in
-    fields source store place (Part k) ty bytes offset.0 (length part) typed found (ap (option_and_then (λ l. slice_get l.offsets k)) laid ∙ offset.1) has read.inside
+    fields source store place elem ty bytes offset.0 (length part) typed found (takes source.world ty ∙ ap (option_and_then (λ l. slice_get l.offsets k)) laid ∙ offset.1) has read.inside
     ∙ ap Some (sym read.is)
+
+pub tuples : TuplesHaveTheirParts
+tuples k = has-its-part (Part k) k (λ world ty. refl)
+
+pub structs : StructsHaveTheirFields
+structs field = has-its-part (FieldOf field) field.local_id (λ world ty. refl)

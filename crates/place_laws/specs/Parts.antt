@@ -1,11 +1,12 @@
 -- What lies at the parts of a value.
 use Rattle.std.specs.Prelude.{◌≡◌, ◌≢◌, ◌⊎◌, ℕ, ◌+◌, ◌≤◌, List, length, take, drop, slice_get, Some}
+use Rattle.types.specs.declared.ids.FieldId.{FieldId}
 use Rattle.types.specs.declared.ty.Ty.{Ty}
 use Rattle.world.specs.Lookups.{layout_of}
 use Rattle.world.specs.declared.layout.Layout.{Layout}
 use Rattle.numbers.specs.Aggregates.{constructed}
 use Rattle.source_meaning.specs.Places.{elem_offset, part_of, place_bytes, place_type}
-use Rattle.source_meaning.specs.Core.{PlaceElem, Part}
+use Rattle.source_meaning.specs.Core.{PlaceElem, Part, FieldOf}
 use Rattle.source_meaning.specs.Source.{Source, Store, Place, projected}
 use Rattle.place_laws.specs.Writes.{size_of}
 
@@ -31,11 +32,20 @@ PartsAreRead =
     constructed size offsets parts ≡ Some bytes → ArePartsApart offsets parts → slice_get offsets k ≡ Some offset → slice_get parts k ≡ Some part →
     part_of offset (length part) bytes ≡ Some part
 
--- The field at an index of a tuple, which was made of parts that lie apart, is the part at that index, if it is as long as the field's type.
-abbrev pub TuplesHaveTheirParts : Type 0
-TuplesHaveTheirParts =
-    (source : Source) (store : Store) (place : Place) (ty : Ty) (layout : Layout) (parts : List (List ℕ)) (bytes : List ℕ) (k : ℕ) (part : List ℕ) →
+-- What an element leads to that takes the offset at an index, from a value that was made of parts which lie apart, is the part at that index,
+-- if it is as long as the element's type.
+abbrev pub HasItsPart : (elem : PlaceElem) → (k : ℕ) → Type 0
+HasItsPart elem k =
+    (source : Source) (store : Store) (place : Place) (ty : Ty) (layout : Layout) (parts : List (List ℕ)) (bytes part : List ℕ) →
     place_type source place ≡ Some ty → layout_of source.world ty ≡ Some layout →
     constructed layout.size layout.offsets parts ≡ Some bytes → place_bytes source store place ≡ Some bytes →
-    ArePartsApart layout.offsets parts → slice_get parts k ≡ Some part → size_of source (projected (Part k) place) ≡ Some (length part) →
-    place_bytes source store (projected (Part k) place) ≡ Some part
+    ArePartsApart layout.offsets parts → slice_get parts k ≡ Some part → size_of source (projected elem place) ≡ Some (length part) →
+    place_bytes source store (projected elem place) ≡ Some part
+
+-- so does the part of a tuple at an index
+abbrev pub TuplesHaveTheirParts : Type 0
+TuplesHaveTheirParts = (k : ℕ) → HasItsPart (Part k) k
+
+-- and each field of a struct, by its index among the struct's fields
+abbrev pub StructsHaveTheirFields : Type 0
+StructsHaveTheirFields = (field : FieldId) → HasItsPart (FieldOf field) field.local_id

@@ -2,7 +2,7 @@
 //! the functions here have no code: each is a law about it.
 #![tactic(auto)]
 
-ghost use Rattle.place_laws.specs.Parts.{FieldsAreParts, PartsAreRead, TuplesHaveTheirParts};
+ghost use Rattle.place_laws.specs.Parts.{FieldsAreParts, PartsAreRead, StructsHaveTheirFields, TuplesHaveTheirParts};
 ghost use Rattle.place_laws.specs.Writes.{WritesAreRead, WritesKeepOthers, WritesKeepTheRest};
 
 /// The bytes of a field lie in those of its base, from the field's offset on.
@@ -18,6 +18,11 @@ pub fn parts_are_read()
 /// The field of a tuple at an index is the part that the tuple was made of at that index, if no two parts share a byte.
 pub fn tuples_have_their_parts()
     ensures { TuplesHaveTheirParts }
+{}
+
+/// Each field of a struct is the part that the struct was made of for it, if no two parts share a byte.
+pub fn structs_have_their_fields()
+    ensures { StructsHaveTheirFields }
 {}
 
 /// What is put at a place lies there afterwards.

@@ -5,7 +5,7 @@ pub mod Core
 pub mod Costs
 pub mod Defined
 pub mod Depth
-mod Elements
+pub mod Elements
 pub mod Fuel
 pub mod Laid
 pub mod Lasting

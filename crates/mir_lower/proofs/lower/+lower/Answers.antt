@@ -111,23 +111,23 @@ lower_place-returns-in_ok-named_local-in-Path-clause-built t c =
 pub lower_place-lower_field-requires : goal.lower_place-lower_field-requires
 lower_place-lower_field-requires t c =
     let source = source_of c.args.context.now in
-    let form : unadjusted source c.args.e.0 ≡ Some (expr.Field c.in-Field.base.0 c.in-Field.index) = subst (IsPlaceForm source c.args.e.0) c.in-Field.is c.place_form_at.ensures in
+    let form : unadjusted source c.args.e.0 ≡ Some (expr.Field c.in-Field.base.0 (core_elem c.in-Field.step)) = subst (IsPlaceForm source c.args.e.0) c.in-Field.is c.place_form_at.ensures in
     let node-is = (unadjusted-plain source c.args.e.0 _ form).1 in
-    (omega arith, (parts-ready source (shape c.args.graph.now) c.args.e.0 (λ outer. ap (λ n. opened_in c.args.e.0 n outer) node-is) c.requires.ready, base-part source c.args.e.0 c.in-Field.base.0 c.in-Field.index node-is))
+    (omega arith, (parts-ready source (shape c.args.graph.now) c.args.e.0 (λ outer. ap (λ n. opened_in c.args.e.0 n outer) node-is) c.requires.ready, base-part source c.args.e.0 c.in-Field.base.0 (core_elem c.in-Field.step) node-is))
 
 pub lower_place-returns-in-Field-clause-lowered : goal.lower_place-returns-in-Field-clause-lowered
 lower_place-returns-in-Field-clause-lowered t c =
     let source = source_of c.args.context.now in
-    let form : unadjusted source c.args.e.0 ≡ Some (expr.Field c.in-Field.base.0 c.in-Field.index) = subst (IsPlaceForm source c.args.e.0) c.in-Field.is c.place_form_at.ensures in
+    let form : unadjusted source c.args.e.0 ≡ Some (expr.Field c.in-Field.base.0 (core_elem c.in-Field.step)) = subst (IsPlaceForm source c.args.e.0) c.in-Field.is c.place_form_at.ensures in
     IfOk-weaker c.lower_field.result _ _
-    (λ place lowered. lowers-field source (shape c.args.graph.now) (shape c.lower_field.new.graph) c.args.e.0 c.in-Field.base.0 c.in-Field.index place c.requires.ready form lowered)
+    (λ place lowered. lowers-field source (shape c.args.graph.now) (shape c.lower_field.new.graph) c.args.e.0 c.in-Field.base.0 (core_elem c.in-Field.step) place c.requires.ready form lowered)
     c.lower_field.ensures.lowered
 
 pub lower_place-returns-in-Field-clause-built : goal.lower_place-returns-in-Field-clause-built
 lower_place-returns-in-Field-clause-built t c =
     let source = source_of c.args.context.now in
-    let form : unadjusted source c.args.e.0 ≡ Some (expr.Field c.in-Field.base.0 c.in-Field.index) = subst (IsPlaceForm source c.args.e.0) c.in-Field.is c.place_form_at.ensures in
-    on_ok_weaker c.lower_field.result (λ built. built-field source c.args.e.0 c.in-Field.base.0 c.in-Field.index (unadjusted-plain source c.args.e.0 _ form).1 built) c.lower_field.ensures.built
+    let form : unadjusted source c.args.e.0 ≡ Some (expr.Field c.in-Field.base.0 (core_elem c.in-Field.step)) = subst (IsPlaceForm source c.args.e.0) c.in-Field.is c.place_form_at.ensures in
+    on_ok_weaker c.lower_field.result (λ built. built-field source c.args.e.0 c.in-Field.base.0 (core_elem c.in-Field.step) (unadjusted-plain source c.args.e.0 _ form).1 built) c.lower_field.ensures.built
 
 -- the place of a field
 
@@ -154,25 +154,25 @@ lower_field-returns-in_err-place-2-clause-refused t c =
 pub lower_field-returns-clause-lowered : goal.lower_field-returns-clause-lowered
 lower_field-returns-clause-lowered t c =
     let source = source_of c.args.context.now in
-    finds-field source (shape c.args.graph.now) (shape c.lower_place.new.graph) (shape c.project.new.self) c.args.base.0 c.args.index c.in_ok-place.place c.in_ok-place-2.place c.in_ok-place.ensures.lowered c.in_ok-place-2.ensures
+    finds-field source (shape c.args.graph.now) (shape c.lower_place.new.graph) (shape c.project.new.self) c.args.base.0 (core_elem c.args.step) c.in_ok-place.place c.in_ok-place-2.place c.in_ok-place.ensures.lowered c.in_ok-place-2.ensures
 
 -- a field's bytes
 
 pub field_into-lower_field-requires : goal.field_into-lower_field-requires
 field_into-lower_field-requires t c =
     let source = source_of c.args.context.now in
-    (omega arith, (parts-ready source (shape c.args.graph.now) c.args.e.0 (λ outer. ap (λ n. opened_in c.args.e.0 n outer) c.requires.form) c.requires.ready, base-part source c.args.e.0 c.args.base.0 c.args.index c.requires.form))
+    (omega arith, (parts-ready source (shape c.args.graph.now) c.args.e.0 (λ outer. ap (λ n. opened_in c.args.e.0 n outer) c.requires.form) c.requires.ready, base-part source c.args.e.0 c.args.base.0 (core_elem c.args.step) c.requires.form))
 
 pub field_into-returns-clause-lowered : goal.field_into-returns-clause-lowered
 field_into-returns-clause-lowered t c =
     let source = source_of c.args.context.now in
     on_ok_weaker c.assign.result
-    (λ added cell local. lowers-field-into source (shape c.args.graph.now) (shape c.lower_field.new.graph) (shape c.assign.new.graph) c.args.e.0 c.args.base.0 c.args.index c.args.to c.in_ok-from.from c.copied.result (ExprId c.args.e) c.requires.ready c.requires.form c.in_ok-from.ensures.lowered c.copied.ensures added cell local)
+    (λ added cell local. lowers-field-into source (shape c.args.graph.now) (shape c.lower_field.new.graph) (shape c.assign.new.graph) c.args.e.0 c.args.base.0 (core_elem c.args.step) c.args.to c.in_ok-from.from c.copied.result (ExprId c.args.e) c.requires.ready c.requires.form c.in_ok-from.ensures.lowered c.copied.ensures added cell local)
     c.assign.ensures.added
 
 pub field_into-returns-clause-built : goal.field_into-returns-clause-built
 field_into-returns-clause-built t c =
-    on_ok_weaker c.assign.result (λ added. built-field (source_of c.args.context.now) c.args.e.0 c.args.base.0 c.args.index c.requires.form c.in_ok-from.ensures.built) c.assign.ensures.added
+    on_ok_weaker c.assign.result (λ added. built-field (source_of c.args.context.now) c.args.e.0 c.args.base.0 (core_elem c.args.step) c.requires.form c.in_ok-from.ensures.built) c.assign.ensures.added
 
 pub field_into-returns-clause-refused : goal.field_into-returns-clause-refused
 field_into-returns-clause-refused t c =
@@ -792,7 +792,7 @@ pub lower_assigned-lower_field-requires : goal.lower_assigned-lower_field-requir
 lower_assigned-lower_field-requires t c =
     let source = source_of c.args.context.now in
     let form = subst (λ (to : Assigned). node source c.args.e.0 ≡ Some (expr.Compound c.requires.form.0 (core_assigned to) c.requires.form.1)) c.in-Field.is c.requires.form.2 in
-    (omega arith, (c.requires.ready, combined-base-part source c.args.e.0 c.requires.form.0 c.in-Field.base.0 c.in-Field.index c.requires.form.1 form))
+    (omega arith, (c.requires.ready, combined-base-part source c.args.e.0 c.requires.form.0 c.in-Field.base.0 (core_elem c.in-Field.step) c.requires.form.1 form))
 
 pub lower_assigned-returns-in-Field-clause-lowered : goal.lower_assigned-returns-in-Field-clause-lowered
 lower_assigned-returns-in-Field-clause-lowered t c =
@@ -801,7 +801,7 @@ lower_assigned-returns-in-Field-clause-lowered t c =
     let s1 = shape c.lower_field.new.graph in
     IfOk-weaker c.lower_field.result _ _
     (λ place lowered. subst (λ (to : Assigned). LowersAssigned source s0 s1 (core_assigned to) place) (sym c.in-Field.is)
-    (lowers-own-field source s0 s1 c.in-Field.base.0 c.in-Field.index place lowered))
+    (lowers-own-field source s0 s1 c.in-Field.base.0 (core_elem c.in-Field.step) place lowered))
     c.lower_field.ensures.lowered
 
 pub lower_assigned-returns-in-Field-clause-built : goal.lower_assigned-returns-in-Field-clause-built
