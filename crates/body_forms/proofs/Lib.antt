@@ -4,4 +4,4 @@ pub mod Copies
 pub mod Listed
 pub mod Forms
 pub mod Results
-pub mod Structs
+pub mod Arranged

@@ -51,6 +51,7 @@ pub mod Standing
 pub mod Steps
 pub mod Stopping
 pub mod Strict
+pub mod Structs
 pub mod Taking
 pub mod Whole
 pub mod Writing

@@ -1,11 +1,15 @@
 -- What the graph's rvalues give: what the operations that they are answer.
-use Rattle.std.proofs.Common.{◌≡◌, ℕ, List, [], ◌∷◌, ◌++◌, map, flat_map, Option, Some, None, option_and_then, option_map, Result, Ok, Err, replicate, refl, sym, ap, ◌∙◌, subst}
+use Rattle.std.proofs.Common.{◌≡◌, ℕ, zero, suc, List, [], ◌∷◌, ◌++◌, map, slice_get, flat_map, Option, Some, None, option_and_then, option_map, Result, Ok, Err, replicate, refl, sym, ap, ◌∙◌, subst}
 use Rattle.std.specs.List.{concat}
 use Rattle.numbers.specs.Aggregates.{with_part, with_parts, constructed}
 use Rattle.numbers.specs.Constants.{number_in}
 use Rattle.numbers.specs.declared.operator.Operator.{Operator}
 use Rattle.numbers.specs.Operators.{Answer, Computes as Computed, Panics, Undefined, computed, converted, kind_of}
+use Rattle.types.specs.declared.ids.AdtId.TheVariants as adt
+use Rattle.types.specs.declared.ids.StructId.{StructId}
+use Rattle.types.specs.declared.ids.VariantId.TheVariants as variant
 use Rattle.types.specs.declared.ty.Const.{Const}
+use Rattle.types.specs.declared.ty.GenericArgs.{GenericArgs}
 use Rattle.types.specs.declared.ty.Ty.{Ty}
 use Rattle.types.specs.declared.ty.Ty.TheVariants as type
 use Rattle.world.specs.Checked.{fixed_size}
@@ -25,12 +29,14 @@ use Rattle.mir.specs.declared.operand.UnOp.TheVariants as one
 use Rattle.mir.specs.Memory.{Memory}
 use Rattle.mir.specs.Run.{Frame, aggregated, before, cast_to, laid_out as mir_laid_out, part_outside, placed_parts, read, repeats, rvalue_bytes, operated, operated_on, computed_of, answered as answer, operand_bytes as mir_bytes, operand_type as mir_type, operands_bytes}
 use Rattle.source_meaning.specs.Aggregates.{array_length, laid_out, made, repeated_for}
-use Rattle.source_meaning.specs.Core.{Operation, Negate, Invert, Keep, Convert, Combine, MakeTuple, MakeArray, Repeat}
-use Rattle.source_meaning.specs.Meaning.{Value, operand_kind, value_of, values_of, answered, converted_to}
+use Rattle.source_meaning.specs.Core.{Operation, Negate, Invert, Keep, Convert, Combine, MakeTuple, MakeArray, Repeat, MakeStruct}
+use Rattle.source_meaning.specs.Meaning.{Value, operand_kind, value_of, values_of, answered, converted_to, struct_of}
 use Rattle.source_meaning.specs.Places.{operand_bytes}
 use Rattle.body_forms.specs.Form.{operation_of}
 use Rattle.source_meaning.specs.Source.{Source, own_type, Store, Operand}
+use Rattle.source_meaning.specs.Structs.{picked}
 use Rattle.source_meaning.proofs.Aggregates.{length_of_array}
+use Rattle.source_meaning.proofs.Structs.{picked-more, picked-none, picks-first}
 use Rattle.mir_lower.specs.Does.{Holds, Fits, FitAll}
 use Rattle.mir_lower.specs.Graph.{Shape}
 use Rattle.body_forms.specs.Operations.{IsKindOf, IsRvalueOf, several_operation}
@@ -289,6 +295,56 @@ repeat-computes source e element len x typed frame (given ∷ []) memory same re
     (subst (Agrees (repeated_for (number_in len) given.bytes)) (sym runs) (repeat-agrees (number_in len) given.bytes))
 repeat-computes source e element len x typed frame (value ∷ more ∷ rest) memory same reads = absurd reads.1
 
+-- Structs: the operands at places have the values at these.
+
+value-read : (frame : Frame) (memory : Memory) (operands : List MirOperand) (values : List Value) → ReadAll frame memory operands values → (k : ℕ) (x : MirOperand) → slice_get operands k ≡ Some x → (value : Value) × (slice_get values k ≡ Some value) × Reads frame memory x value
+value-read frame memory [] values reads k x at = absurd cc
+value-read frame memory (one ∷ operands) [] reads k x at = absurd reads
+value-read frame memory (one ∷ operands) (value ∷ values) reads zero x at = let same : one ≡ x = cc in (value, refl, subst (λ (y : MirOperand). Reads frame memory y value) same reads.0)
+value-read frame memory (one ∷ operands) (value ∷ values) reads (suc k) x at = value-read frame memory operands values reads.1 k x at
+
+record ChosenRead (frame : Frame) (memory : Memory) (places : List ℕ) (fields : List MirOperand) (values : List Value) : Type 0 where
+  chosen : List Value
+  picks : picked places values ≡ Some chosen
+  reads : ReadAll frame memory fields chosen
+
+chosen-read : (frame : Frame) (memory : Memory) (places : List ℕ) (operands : List MirOperand) (values : List Value) (fields : List MirOperand) → ReadAll frame memory operands values → picked places operands ≡ Some fields → ChosenRead frame memory places fields values
+chosen-read frame memory [] operands values fields reads is =
+    let none : Some fields ≡ Some [] = sym is ∙ picked-none operands in
+    let same : fields ≡ [] = cc in
+    record { chosen = []; picks = picked-none values; reads = subst (λ (f : List MirOperand). ReadAll frame memory f []) (sym same) tt }
+chosen-read frame memory (place ∷ places) operands values fields reads is =
+    let from = picks-first place places operands fields is in
+    let first = value-read frame memory operands values reads place from.first from.there in
+    let rest = chosen-read frame memory places operands values from.others reads from.rest in
+    record {
+      chosen = first.0 ∷ rest.chosen;
+      picks = picked-more place places values first.0 rest.chosen first.1 rest.picks;
+      reads = subst (λ (f : List MirOperand). ReadAll frame memory f (first.0 ∷ rest.chosen)) (sym from.are) (first.2, rest.reads);
+    }
+
+struct-answer : (world : HirDatabase) (ty : Option Ty) (id : StructId) (args : GenericArgs) (places : List ℕ) (values chosen : List Value) → picked places values ≡ Some chosen →
+    answered world ty (MakeStruct id args places) values ≡ laid_out (layout_of world (type.Adt (adt.StructId id) args)) (map (λ (part : Value). part.bytes) chosen)
+unfolding answered
+struct-answer world ty id args places values chosen is = ap (struct_of (layout_of world (type.Adt (adt.StructId id) args))) is
+
+struct-bytes : (source : Source) (frame : Frame) (memory : Memory) (id : StructId) (args : GenericArgs) (fields : List MirOperand) (parts : List (List ℕ)) → frame.program.world ≡ source.world → operands_bytes frame memory fields ≡ Some parts →
+    rvalue_bytes frame memory (Aggregate (kind.Adt (variant.StructId id) args) fields) ≡ mir_laid_out (layout_of source.world (type.Adt (adt.StructId id) args)) parts
+unfolding rvalue_bytes aggregated
+struct-bytes source frame memory id args fields parts same is =
+    ap (aggregated frame.program.world (kind.Adt (variant.StructId id) args)) is ∙ ap (λ world. mir_laid_out (layout_of world (type.Adt (adt.StructId id) args)) parts) same
+
+struct-computes : (source : Source) (e : ℕ) (id : StructId) (args : GenericArgs) (places : List ℕ) (operands fields : List MirOperand) → picked places operands ≡ Some fields →
+    Computes source e (MakeStruct id args places) operands (Aggregate (kind.Adt (variant.StructId id) args) fields)
+struct-computes source e id args places operands fields picks frame all memory same reads =
+    let from = chosen-read frame memory places operands all fields reads picks in
+    let parts = map (λ (part : Value). part.bytes) from.chosen in
+    let ty = type.Adt (adt.StructId id) args in
+    let answers = struct-answer source.world (own_type source e) id args places all from.chosen from.picks in
+    let runs = struct-bytes source frame memory id args fields parts same (parts-bytes frame memory fields from.chosen from.reads) in
+    subst (λ given. Agrees given (rvalue_bytes frame memory (Aggregate (kind.Adt (variant.StructId id) args) fields))) (sym answers)
+    (subst (Agrees (laid_out (layout_of source.world ty) parts)) (sym runs) (laid-agrees (layout_of source.world ty) parts))
+
 -- an aggregate of a kind is what the operation makes
 pub is-aggregate : (source : Source) (e : ℕ) (several : Several) (given : _) (operands : List MirOperand) → IsKindOf source e several given → IsRvalueOf source e (several_operation several) operands (Aggregate given operands)
 is-aggregate source e several.Tuple given operands of = record { given = given; of = of; is = refl }
@@ -305,6 +361,8 @@ rvalue-computes source e MakeTuple operands r is =
     subst (Computes source e MakeTuple operands) (sym (is.is ∙ ap (λ given. Aggregate given operands) is.of.is)) (tuple-computes source e is.of.ty operands is.of.typed)
 rvalue-computes source e MakeArray operands r is =
     subst (Computes source e MakeArray operands) (sym (is.is ∙ ap (λ given. Aggregate given operands) is.of.is)) (array-computes source e is.of.element operands)
+rvalue-computes source e (MakeStruct id args places) operands r is =
+    subst (Computes source e (MakeStruct id args places) operands) (sym is.is) (struct-computes source e id args places operands is.fields is.picks)
 rvalue-computes source e Repeat (x ∷ []) r is = subst (Computes source e Repeat (x ∷ [])) (sym is.is) (repeat-computes source e is.element is.len x is.typed)
 rvalue-computes source e Negate [] r is = absurd is
 rvalue-computes source e Negate (x ∷ y ∷ rest) r is = absurd is

@@ -743,7 +743,7 @@ fn lower_call(
     Ok(())
 }
 
-/// The operands of a call's arguments, or of the parts of a tuple or an array, from left to right.
+/// The operands of a call's arguments, or of the parts of a tuple, an array or a struct, from left to right.
 #[cycle(lower)]
 fn lower_operands(
     context: &Context<'_>,
@@ -754,6 +754,7 @@ fn lower_operands(
     requires ready { ArePartsReady (source_of context.now) (shape graph.old) e.0 }
     requires parts { parts_of (node (source_of context.now) e.0) ≡ expr_numbers args.now }
     ensures lowered { IfOk result (λ operands. LowersOperands (source_of context.now) (shape graph.old) (shape graph.new) (expr_numbers args.now) (map (λ operand. operand.kind) operands)) }
+    ensures many { IfOk result (λ operands. length operands ≡ length args.now) }
     ensures built { OnOk result (All (IsBuilt (source_of context.now)) (expr_numbers args.now)) }
     ensures refused { IfErr result (RefusesAt (source_of context.now) e.0) }
 {

@@ -1,5 +1,5 @@
 use Rattle.std.proofs.Common.{sym}
-use Rattle.body_forms.proofs.Structs.{named-last, named-next, none-named}
+use Rattle.body_forms.proofs.Arranged.{named-last, named-next, none-named}
 use Rattle.body_forms.proofs.structs.are_written.Goals as goal
 
 pub loop-field-preserved : goal.loop-field-preserved

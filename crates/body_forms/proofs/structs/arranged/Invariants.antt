@@ -1,6 +1,6 @@
 use Rattle.std.proofs.Common.{◌≡◌, drop}
 use Rattle.body_forms.specs.Structs.{arranged}
-use Rattle.body_forms.proofs.Structs.{arranged-with}
+use Rattle.body_forms.proofs.Arranged.{arranged-with}
 use Rattle.body_forms.proofs.structs.arranged.Given as goal
 
 -- with those of the fields from here on they are those of all

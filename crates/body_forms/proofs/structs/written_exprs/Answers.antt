@@ -1,4 +1,4 @@
-use Rattle.body_forms.proofs.Structs.{exprs-last, exprs-next}
+use Rattle.body_forms.proofs.Arranged.{exprs-last, exprs-next}
 use Rattle.body_forms.proofs.structs.written_exprs.Goals as goal
 
 pub loop-field-preserved : goal.loop-field-preserved

@@ -1,5 +1,5 @@
 -- Each form does what it means, by what its parts do; each refusal has its cause.
-use Rattle.std.proofs.Common.{List, [], ◌∷◌, ◌≡◌, ◌+◌, drop, get_or, map, take, Option, Some, refl, sym, ap, ◌∙◌, subst, arith}
+use Rattle.std.proofs.Common.{List, [], ◌∷◌, ◌≡◌, ◌+◌, drop, length, get_or, map, take, Option, Some, refl, sym, ap, ◌∙◌, subst, arith}
 use Rattle.std.proofs.lemmas.List.{drop_all, map-append, take_all, take_more}
 use Rattle.std.proofs.lemmas.Result.{IfOk-weaker, on_ok_weaker, IfErr-weaker}
 use Rattle.mir.specs.declared.errors.MirLowerError.TheVariants as refusal
@@ -9,7 +9,7 @@ use Rattle.source_meaning.specs.Source.{Result, Node, Never, node, unadjusted}
 use Rattle.source_meaning.proofs.Never.{unadjusted-plain}
 use Rattle.body_forms.specs.Callees.{callee_number}
 use Rattle.body_forms.specs.Contexts.{source_of}
-use Rattle.mir_lower.specs.Graph.{shape, target_of_blocks}
+use Rattle.mir_lower.specs.Graph.{IsProjected, shape, target_of_blocks}
 use Rattle.mir_lower.specs.Growth.{Grows, IsPlaced, IsInside}
 use Rattle.source_meaning.specs.Valid.{opened_in}
 use Rattle.mir_lower.specs.Lowered.{HasStatements, LowersAssigned, LowersAssignee, LowersPlace, LowersOperand, LowersOperands, LowersStatements, LowersTail}
@@ -18,8 +18,8 @@ use Rattle.mir.specs.declared.operand.OperandKind.{OperandKind}
 use Rattle.mir.specs.declared.operand.Place.{Place}
 use Rattle.mir.specs.declared.operand.Rvalue.TheVariants.{Aggregate, CheckedBinaryOp}
 use Rattle.source_meaning.specs.Core as expr
-use Rattle.source_meaning.specs.Core.{ByPath, ByPattern, Combine}
-use Rattle.body_forms.specs.Form.{IsPlaceForm, core_assigned, core_assignee, core_value}
+use Rattle.source_meaning.specs.Core.{ByPath, ByPattern, Combine, MakeStruct}
+use Rattle.body_forms.specs.Form.{IsPlaceForm, core_assigned, core_assignee, core_elem, core_value}
 use Rattle.body_forms.specs.Refusals.{IsUnbuilt}
 use Rattle.body_forms.specs.declared.form.Assigned.{Assigned}
 use Rattle.body_forms.specs.declared.form.Assignee.{Assignee}
@@ -34,7 +34,7 @@ use Rattle.mir_lower.proofs.Adjusting.{lowers-undiverted, lowers-diverted}
 use Rattle.mir_lower.proofs.Assignments.{assigns-place, value-part, target-part, lowers-target-path, lowers-target-place, lowers-assign}
 use Rattle.mir_lower.proofs.Calls.{Collects, argument-in, arguments-from, built-arguments, collects-none, collects-more, collects-all, has-called, lowers-call}
 use Rattle.source_meaning.proofs.Parts.{call_parts, strict_parts}
-use Rattle.world.specs.Nodes.{expr_numbers}
+use Rattle.world.specs.Nodes.{expr_numbers, field_numbers}
 use Rattle.mir_lower.proofs.Compounds.{combined-part, combined-base-part, lowers-own-path, lowers-own-field, lowers-compound, refuses-combined}
 use Rattle.mir_lower.proofs.Blocks.{idles-read, lowers-none, lowers-more, lowers-let, lowers-expr-statement, lowers-tail, lowers-no-tail, block-inner, lowers-block}
 use Rattle.mir_lower.proofs.Drops.{opened-within, scope-left}
@@ -42,6 +42,7 @@ use Rattle.mir_lower.proofs.Fields.{base-part, finds-field, lowers-field, lowers
 use Rattle.mir_lower.proofs.Projecting.{place-known}
 use Rattle.mir_lower.proofs.Operands.{lowers-literal-operand, lowers-place-operand, lowers-temp, lowers-name}
 use Rattle.mir_lower.proofs.Rvalues.{is-aggregate}
+use Rattle.mir_lower.proofs.Structs.{all-operands, as-many-written, one-more-operand, struct-form}
 use Rattle.mir_lower.proofs.Strict.{lowers-strict, lowers-one, lowers-two, first-part, second-part}
 use Rattle.body_forms.specs.Operations.{several_operation, single_operation}
 use Rattle.mir_lower.proofs.Refused.{refuses-here, refuses-no-memory, refuses-part, refuses-unbuilt, refuses-unbuilt-form, refuses-statement, without-initializer, with-else, item-is-unbuilt, refuses-pattern, refuses-target, refused-exit, part-below, part-of-statement, refuses-break}
@@ -154,7 +155,8 @@ lower_field-returns-in_err-place-2-clause-refused t c =
 pub lower_field-returns-clause-lowered : goal.lower_field-returns-clause-lowered
 lower_field-returns-clause-lowered t c =
     let source = source_of c.args.context.now in
-    finds-field source (shape c.args.graph.now) (shape c.lower_place.new.graph) (shape c.project.new.self) c.args.base.0 (core_elem c.args.step) c.in_ok-place.place c.in_ok-place-2.place c.in_ok-place.ensures.lowered c.in_ok-place-2.ensures
+    finds-field source (shape c.args.graph.now) (shape c.lower_place.new.graph) (shape c.project.new.self) c.args.base.0 (core_elem c.args.step) c.in_ok-place.place c.in_ok-place-2.place c.in_ok-place.ensures.lowered
+    (subst (λ elem. IsProjected (shape c.lower_place.new.graph) (shape c.project.new.self) c.in_ok-place.place elem c.in_ok-place-2.place) c.place_elem.ensures c.in_ok-place-2.ensures)
 
 -- a field's bytes
 
@@ -345,6 +347,68 @@ lower_aggregate-returns-clause-built t c =
 
 pub lower_aggregate-returns-clause-refused : goal.lower_aggregate-returns-clause-refused
 lower_aggregate-returns-clause-refused t c =
+    IfErr-weaker c.assign.result _ _ (λ error none. refuses-no-memory (source_of c.args.context.now) c.args.e.0 error none) c.assign.ensures.refused
+
+-- a struct
+
+pub lower_struct-returns-in_err-parts-clause-refused : goal.lower_struct-returns-in_err-parts-clause-refused
+lower_struct-returns-in_err-parts-clause-refused t c =
+    refused-exit (RefusesAt (source_of c.args.context.now) c.args.e.0) _ c.from_residual.result c.from_residual.ensures.1
+    (λ error none. refuses-no-memory (source_of c.args.context.now) c.args.e.0 error none)
+
+pub lower_struct-lower_operands-requires : goal.lower_struct-lower_operands-requires
+lower_struct-lower_operands-requires t c =
+    let source = source_of c.args.context.now in
+    let literal = c.args.literal in
+    let has = struct-form source c.args.e.0 literal c.requires.form c.requires.given in (
+      omega arith,
+      (
+        parts-ready source (shape c.args.graph.now) c.args.e.0 (λ outer. ap (λ n. opened_in c.args.e.0 n outer) has.form) c.requires.ready,
+        ap parts_of has.form ∙ strict_parts (MakeStruct literal.made.id literal.made.args.now has.places) (field_numbers literal.written.now) ∙ sym c.in_ok-parts.ensures,
+      ),
+    )
+
+pub lower_struct-returns-in_err-operands-clause-refused : goal.lower_struct-returns-in_err-operands-clause-refused
+lower_struct-returns-in_err-operands-clause-refused t c =
+    let source = source_of c.args.context.now in
+    refused-exit (RefusesAt source c.args.e.0) _ c.from_residual-in_err-operands.result c.from_residual-in_err-operands.ensures.1
+    (λ error same. subst (RefusesAt source c.args.e.0) (sym same) c.in_err-operands.ensures.refused)
+
+pub lower_struct-struct_value-requires : goal.lower_struct-struct_value-requires
+lower_struct-struct_value-requires t c =
+    record { given = c.requires.given; many = c.in_ok-operands.ensures.many ∙ as-many-written c.in_ok-parts.parts c.args.literal.written.now c.in_ok-parts.ensures }
+
+pub lower_struct-returns-in_err-made-clause-refused : goal.lower_struct-returns-in_err-made-clause-refused
+lower_struct-returns-in_err-made-clause-refused t c =
+    refused-exit (RefusesAt (source_of c.args.context.now) c.args.e.0) _ c.from_residual-in_err-made.result c.from_residual-in_err-made.ensures.1
+    (λ error none. refuses-no-memory (source_of c.args.context.now) c.args.e.0 error none)
+
+pub lower_struct-returns-clause-lowered : goal.lower_struct-returns-clause-lowered
+lower_struct-returns-clause-lowered t c =
+    let source = source_of c.args.context.now in
+    let literal = c.args.literal in
+    let has = struct-form source c.args.e.0 literal c.requires.form c.requires.given in
+    let s0 = shape c.args.graph.now in
+    let s1 = shape c.lower_operands.new.graph in
+    let es = field_numbers literal.written.now in
+    let operands = c.in_ok-operands.operands in
+    let given : LowersOperands source s0 s1 es (map (λ (operand : Operand). operand.kind) operands) =
+    subst (λ (list : List ℕ). LowersOperands source s0 s1 list (map (λ (operand : Operand). operand.kind) operands)) c.in_ok-parts.ensures c.in_ok-operands.ensures.lowered in
+    on_ok_weaker c.assign.result
+    (λ added cell local. lowers-strict source s0 s1 (shape c.assign.new.graph) c.args.e.0 (MakeStruct literal.made.id literal.made.args.now has.places) es operands c.in_ok-made.made c.args.to (ExprId c.args.e) c.requires.ready has.form given
+    (c.in_ok-made.ensures source c.args.e.0 has.places has.are) added cell local)
+    c.assign.ensures.added
+
+pub lower_struct-returns-clause-built : goal.lower_struct-returns-clause-built
+lower_struct-returns-clause-built t c =
+    let source = source_of c.args.context.now in
+    let literal = c.args.literal in
+    let has = struct-form source c.args.e.0 literal c.requires.form c.requires.given in
+    on_ok_weaker c.assign.result
+    (λ added. built-strict source c.args.e.0 (MakeStruct literal.made.id literal.made.args.now has.places) (field_numbers literal.written.now) has.form tt (subst (All (IsBuilt source)) c.in_ok-parts.ensures c.in_ok-operands.ensures.built)) c.assign.ensures.added
+
+pub lower_struct-returns-clause-refused : goal.lower_struct-returns-clause-refused
+lower_struct-returns-clause-refused t c =
     IfErr-weaker c.assign.result _ _ (λ error none. refuses-no-memory (source_of c.args.context.now) c.args.e.0 error none) c.assign.ensures.refused
 
 -- an operator on two operands
@@ -1463,6 +1527,7 @@ lower_operands-loop-arg-init t c =
     let es = expr_numbers c.args.args.now in (
       subst (λ (operands : List Operand). Collects source s s es es (map (λ (operand : Operand). operand.kind) operands)) (sym c.new-operands.ensures) (collects-none source s es c.requires.ready.sound c.requires.ready.«open»),
       All-nil (λ arg. IsBuilt source arg.0),
+      ap (λ (operands : List Operand). length operands + length c.args.args.now) c.new-operands.ensures,
     )
 
 pub lower_operands-lower_operand-requires : goal.lower_operands-lower_operand-requires
@@ -1501,6 +1566,7 @@ lower_operands-loop-arg-preserved t c =
       subst (λ (list : List OperandKind). Collects source s0 (shape c.lower_operand.new.graph) (expr_numbers c.args.args.now) (expr_numbers (drop (i + 1) c.args.args.now)) list) (sym pushed)
           (collects-more source s0 (shape c.loop-arg.graph) (shape c.lower_operand.new.graph) (expr_numbers c.args.args.now) _ (expr_numbers (drop (i + 1) c.args.args.now)) (kinds c.loop-arg.operands) operand.kind so-far c.in_ok-operand.ensures.lowered),
       All-more (λ arg. IsBuilt source arg.0) c.args.args.now i _ c.loop-arg-test.true c.loop-arg.invariant.1 c.in_ok-operand.ensures.built,
+      one-more-operand c.args.args.now c.loop-arg.operands operand _ i c.loop-arg-test.true c.in_ok-push.ensures.ok c.loop-arg.invariant.2,
     )
 
 pub lower_operands-returns-clause-lowered : goal.lower_operands-returns-clause-lowered
@@ -1510,6 +1576,9 @@ lower_operands-returns-clause-lowered t c =
     let none : expr_numbers (drop c.loop-arg.arg-index args) ≡ [] = ap expr_numbers (drop_all c.loop-arg.arg-index args c.loop-arg-test.false) in
     collects-all source (shape c.args.graph.now) (shape c.loop-arg.graph) (expr_numbers args) (map (λ (operand : Operand). operand.kind) c.loop-arg.operands)
     (subst (λ (rest : List ℕ). Collects source (shape c.args.graph.now) (shape c.loop-arg.graph) (expr_numbers args) rest (map (λ (operand : Operand). operand.kind) c.loop-arg.operands)) none c.loop-arg.invariant.0)
+
+pub lower_operands-returns-clause-many : goal.lower_operands-returns-clause-many
+lower_operands-returns-clause-many t c = all-operands c.args.args.now c.loop-arg.operands c.loop-arg.arg-index c.loop-arg-test.false c.loop-arg.invariant.2
 
 pub lower_operands-returns-clause-built : goal.lower_operands-returns-clause-built
 lower_operands-returns-clause-built t c =

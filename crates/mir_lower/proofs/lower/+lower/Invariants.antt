@@ -1,7 +1,7 @@
 -- A part has a lower number than its expression. At one expression the operand comes before the place, the place before
 -- its local, that before what is evaluated into it, then the expression itself, the forms, the targets of assignments, the
 -- statements of a block, one of them, and its kind.
-use Rattle.std.proofs.Common.{◌+◌, ◌*◌, drop, map, take}
+use Rattle.std.proofs.Common.{◌≡◌, ◌+◌, ◌*◌, drop, length, map, take}
 use Rattle.std.specs.Prelude.{All}
 use Rattle.types.specs.declared.ids.ExprId.{ExprId}
 use Rattle.mir.specs.declared.operand.Operand.{Operand}
@@ -39,6 +39,9 @@ decreases-lower_single l = 11 * l.e.0 + 4
 
 abbrev pub decreases-lower_aggregate : goal.decreases-lower_aggregate
 decreases-lower_aggregate l = 11 * l.e.0 + 4
+
+abbrev pub decreases-lower_struct : goal.decreases-lower_struct
+decreases-lower_struct l = 11 * l.e.0 + 4
 
 abbrev pub decreases-lower_compound : goal.decreases-lower_compound
 decreases-lower_compound l = 11 * l.e.0 + 5
@@ -111,3 +114,4 @@ abbrev pub invariant-lower_operands-loop-arg : goal.invariant-lower_operands-loo
 invariant-lower_operands-loop-arg l =
     Collects (source_of l.context) (shape l.initial.graph) (shape l.graph) (expr_numbers l.args) (expr_numbers (drop l.arg-index l.args)) (map (λ (operand : Operand). operand.kind) l.operands)
     × All (λ (arg : ExprId). IsBuilt (source_of l.context) arg.0) (take l.arg-index l.args)
+    × (length l.operands + length (drop l.arg-index l.args) ≡ length l.args)

@@ -9,7 +9,7 @@ returns-then-is_empty c = behind-none c.args.db.now c.args.elements.now (option_
 
 pub returns-in_default : goal.returns-in_default
 returns-in_default c =
-    behind-by c.args.db.now c.args.elements.now (option_copied c.args.ty) c.args.cell (sym c.is_empty.ensures ∙ c.if-is_empty.false) None c.in_default.ensures _ (λ i. type_behind c.args.elements.now (option_copied c.args.ty))
+    behind-by c.args.db.now c.args.elements.now (option_copied c.args.ty) c.args.cell (sym c.is_empty.ensures ∙ c.if-is_empty.false) None c.in_default.ensures _ (λ i. type_behind c.args.db.now c.args.elements.now (option_copied c.args.ty))
 
 pub returns-in_default-type_behind : goal.returns-in_default-type_behind
 returns-in_default-type_behind c =
