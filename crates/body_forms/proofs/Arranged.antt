@@ -2,7 +2,6 @@
 use Rattle.std.proofs.Common.{◌≡◌, ℕ, zero, suc, ◌+◌, ◌<◌, ◌≤◌, ◌==◌, Bool, true, false, cond, List, [], ◌∷◌, ◌++◌, length, drop, map, get_or, slice_get, Option, Some, None, option_map, option_and_then, if◌then◌else◌, refl, sym, ap, ◌∙◌, subst, arith, ltb-true, append-nil, append_assoc}
 use Rattle.std.specs.Prelude.{is_some, nat_lt, IsSome, position}
 use Rattle.std.specs.Cmp.Lexicographic.{pointwise}
-use Rattle.core.specs.List.{position_or_len}
 use Rattle.std.proofs.lemmas.List.{drop_all, drop_more}
 use Rattle.types.specs.declared.ids.ExprId.{ExprId}
 use Rattle.world.specs.declared.expr.RecordLitField.{RecordLitField}
@@ -105,15 +104,15 @@ slice_get_in (y ∷ xs) (suc i) within = slice_get_in xs i (omega arith)
 
 -- Where each field is written, and there is an operand for each written field, the operands are those at the places.
 
-place-within : (name : List ℕ) (written : List RecordLitField) (place : ℕ) → place_named name written ≡ Some place → place < length written
-place-within name written place is = by_test (nat_lt found (length written)) refl is
+below-by : (k n place : ℕ) → cond (nat_lt k n) (Some k) None ≡ Some place → place < n
+below-by k n place is = by_test (nat_lt k n) refl is
   where
-    found : ℕ
-    found = position_or_len (λ (field : RecordLitField). pointwise ◌==◌ field.name name) written
-
-    by_test : (test : Bool) → nat_lt found (length written) ≡ test → cond test (Some found) None ≡ Some place → place < length written
-    by_test true less same = let at : found ≡ place = cc in subst (λ n. n < length written) at (ltb-true found (length written) less)
+    by_test : (test : Bool) → nat_lt k n ≡ test → cond test (Some k) None ≡ Some place → place < n
+    by_test true less same = let at : k ≡ place = cc in subst (λ m. m < n) at (ltb-true k n less)
     by_test false less same = absurd cc
+
+place-within : (name : List ℕ) (written : List RecordLitField) (place : ℕ) → place_named name written ≡ Some place → place < length written
+place-within name written place is = below-by _ (length written) place is
 
 pub record AreArranged (fields : List FieldRow) (written : List RecordLitField) (places : List ℕ) (operands : List Operand) : Type 0 where
   pub all : List Operand

@@ -3,7 +3,7 @@ use Rattle.std.proofs.Common.{◌≡◌, ℕ, true, false, List, Option, Some, N
 use Rattle.std.proofs.lemmas.Bool.{false≢true}
 use Rattle.std.proofs.lemmas.List.Elements.{All-contains}
 use Rattle.source_meaning.specs.Built.{AssignsBinding, CombinesBinding, CallsFunction, is_direct, IsBuiltAssigned, IsBuiltAssignee, IsBuiltStatement, IsBuiltForm}
-use Rattle.source_meaning.specs.Core.{Assigned, Assignee, ByField, ByPath, ByPattern, ByPlace, CoreExpr, Findings, Negate, Invert, Keep, Convert, Combine, MakeTuple, MakeArray, Repeat, core_of, local_named}
+use Rattle.source_meaning.specs.Core.{Assigned, Assignee, ByField, ByPath, ByPattern, ByPlace, CoreExpr, Findings, Negate, Invert, Keep, Convert, Combine, MakeTuple, MakeStruct, MakeArray, Repeat, core_of, local_named}
 use Rattle.source_meaning.specs.Core as expr
 use Rattle.source_meaning.specs.Source.{Source, node, target_path, pattern_named_by, compound_path, named_by, binding_type}
 use Rattle.types.specs.declared.ids.BindingId.{BindingId}
@@ -195,6 +195,7 @@ built-has-array source e (Some (expr.Strict Keep operands)) text built none = no
 built-has-array source e (Some (expr.Strict Convert operands)) text built none = none
 built-has-array source e (Some (expr.Strict (Combine op) operands)) text built none = none
 built-has-array source e (Some (expr.Strict MakeTuple operands)) text built none = none
+built-has-array source e (Some (expr.Strict (MakeStruct id args places) operands)) text built none = none
 built-has-array source e (Some (expr.Literal l)) text built none = none
 built-has-array source e (Some (expr.Path name)) text built none = none
 built-has-array source e (Some (expr.Field base field)) text built none = none

@@ -1,6 +1,6 @@
 -- The form of an expression, by its variant and by how its value is adjusted.
-use Rattle.std.proofs.Common.{◌≡◌, ℕ, Bool, true, false, ◌&&◌, cond, if◌then◌else◌, Some, None, option_and_then, refl, ap, ◌∙◌, inl, inr}
-use Rattle.source_meaning.specs.Core.{Findings, Keep, Convert, cast_operation, core_of, is_adjusted_otherwise, is_coercion, is_number_type, is_literal, is_place, value_type}
+use Rattle.std.proofs.Common.{◌≡◌, ℕ, Bool, true, false, ◌&&◌, cond, if◌then◌else◌, List, Option, Some, None, option_and_then, option_map, refl, ap, ◌∙◌, inl, inr}
+use Rattle.source_meaning.specs.Core.{CoreExpr, Findings, Keep, Convert, cast_operation, core_of, is_adjusted_otherwise, is_coercion, is_number_type, is_literal, is_place, value_type}
 use Rattle.source_meaning.specs.Source.{Source, diverges, findings, node, unadjusted}
 use Rattle.types.specs.declared.ids.ExprId.{ExprId}
 use Rattle.world.specs.declared.expr.Expr.{Expr}
@@ -9,30 +9,31 @@ use Rattle.world.specs.declared.infer.InferenceResult.{InferenceResult}
 use Rattle.world.specs.Lookups.{expr_of, type_of}
 use Rattle.body_forms.specs.declared.form.Form.{Form}
 use Rattle.body_forms.specs.declared.form.Form.TheVariants as form
-use Rattle.body_forms.specs.Form.{IsFormOf, IsCauseAt, HasForm, core_form}
+use Rattle.body_forms.specs.Form.{IsFormOf, IsCauseAt, HasForm, core_form, literal_places}
 
 -- an expression of none of the forms that have a meaning
-pub otherwise : (found : Findings) (e : Expr) → ((l : _) → e ≡ whole.Literal l → ⊥) → ((name : _) → e ≡ whole.Path name → ⊥) → ((base : _) (name : _) → e ≡ whole.Field base name → ⊥) → ((operand : _) (op : _) → e ≡ whole.UnaryOp operand op → ⊥) → ((operand : _) → e ≡ whole.Cast operand → ⊥) → ((lhs : _) (rhs : _) (op : _) → e ≡ whole.BinaryOp lhs rhs op → ⊥) → ((condition : _) (then_branch : _) (else_branch : _) → e ≡ whole.If condition then_branch else_branch → ⊥) → ((target : _) (value : _) → e ≡ whole.Assignment target value → ⊥) → ((statements : _) (tail : _) (label : _) → e ≡ whole.Block statements tail label → ⊥) → ((body : _) (label : _) → e ≡ whole.Loop body label → ⊥) → ((value : _) (label : _) → e ≡ whole.Break value label → ⊥) → ((label : _) → e ≡ whole.Continue label → ⊥) → ((value : _) → e ≡ whole.Return value → ⊥) → ((callee : _) (args : _) → e ≡ whole.Call callee args → ⊥) → ((receiver : _) (args : _) (name : _) → e ≡ whole.MethodCall receiver args name → ⊥) → ((parts : _) → e ≡ whole.Tuple parts → ⊥) → ((elements : _) → e ≡ whole.Array elements → ⊥) → ((initializer : _) → e ≡ whole.Repeat initializer → ⊥) → (e ≡ whole.Missing → ⊥) → IsFormOf found e form.Unbuilt
-otherwise found (whole.Literal l) literal path part unary cast binary either assigned block loop break continue return call method tuple array repeat missing = absurd (literal l refl)
-otherwise found (whole.Path name) literal path part unary cast binary either assigned block loop break continue return call method tuple array repeat missing = absurd (path name refl)
-otherwise found (whole.Field base name) literal path part unary cast binary either assigned block loop break continue return call method tuple array repeat missing = absurd (part base name refl)
-otherwise found (whole.UnaryOp operand op) literal path part unary cast binary either assigned block loop break continue return call method tuple array repeat missing = absurd (unary operand op refl)
-otherwise found (whole.Cast operand) literal path part unary cast binary either assigned block loop break continue return call method tuple array repeat missing = absurd (cast operand refl)
-otherwise found (whole.BinaryOp lhs rhs op) literal path part unary cast binary either assigned block loop break continue return call method tuple array repeat missing = absurd (binary lhs rhs op refl)
-otherwise found (whole.If condition then_branch else_branch) literal path part unary cast binary either assigned block loop break continue return call method tuple array repeat missing = absurd (either condition then_branch else_branch refl)
-otherwise found (whole.Assignment target value) literal path part unary cast binary either assigned block loop break continue return call method tuple array repeat missing = absurd (assigned target value refl)
-otherwise found (whole.Block statements tail label) literal path part unary cast binary either assigned block loop break continue return call method tuple array repeat missing = absurd (block statements tail label refl)
-otherwise found (whole.Loop body label) literal path part unary cast binary either assigned block loop break continue return call method tuple array repeat missing = absurd (loop body label refl)
-otherwise found (whole.Break value label) literal path part unary cast binary either assigned block loop break continue return call method tuple array repeat missing = absurd (break value label refl)
-otherwise found (whole.Continue label) literal path part unary cast binary either assigned block loop break continue return call method tuple array repeat missing = absurd (continue label refl)
-otherwise found (whole.Return value) literal path part unary cast binary either assigned block loop break continue return call method tuple array repeat missing = absurd (return value refl)
-otherwise found (whole.Call callee args) literal path part unary cast binary either assigned block loop break continue return call method tuple array repeat missing = absurd (call callee args refl)
-otherwise found (whole.MethodCall receiver args name) literal path part unary cast binary either assigned block loop break continue return call method tuple array repeat missing = absurd (method receiver args name refl)
-otherwise found (whole.Tuple parts) literal path part unary cast binary either assigned block loop break continue return call method tuple array repeat missing = absurd (tuple parts refl)
-otherwise found (whole.Array elements) literal path part unary cast binary either assigned block loop break continue return call method tuple array repeat missing = absurd (array elements refl)
-otherwise found (whole.Repeat initializer) literal path part unary cast binary either assigned block loop break continue return call method tuple array repeat missing = absurd (repeat initializer refl)
-otherwise found whole.Missing literal path part unary cast binary either assigned block loop break continue return call method tuple array repeat missing = absurd (missing refl)
-otherwise found _ literal path part unary cast binary either assigned block loop break continue return call method tuple array repeat missing = record { core = refl; cause = λ lacks. lacks }
+pub otherwise : (found : Findings) (e : Expr) → ((l : _) → e ≡ whole.Literal l → ⊥) → ((name : _) → e ≡ whole.Path name → ⊥) → ((base : _) (name : _) → e ≡ whole.Field base name → ⊥) → ((operand : _) (op : _) → e ≡ whole.UnaryOp operand op → ⊥) → ((operand : _) → e ≡ whole.Cast operand → ⊥) → ((lhs : _) (rhs : _) (op : _) → e ≡ whole.BinaryOp lhs rhs op → ⊥) → ((condition : _) (then_branch : _) (else_branch : _) → e ≡ whole.If condition then_branch else_branch → ⊥) → ((target : _) (value : _) → e ≡ whole.Assignment target value → ⊥) → ((statements : _) (tail : _) (label : _) → e ≡ whole.Block statements tail label → ⊥) → ((body : _) (label : _) → e ≡ whole.Loop body label → ⊥) → ((value : _) (label : _) → e ≡ whole.Break value label → ⊥) → ((label : _) → e ≡ whole.Continue label → ⊥) → ((value : _) → e ≡ whole.Return value → ⊥) → ((callee : _) (args : _) → e ≡ whole.Call callee args → ⊥) → ((receiver : _) (args : _) (name : _) → e ≡ whole.MethodCall receiver args name → ⊥) → ((parts : _) → e ≡ whole.Tuple parts → ⊥) → ((elements : _) → e ≡ whole.Array elements → ⊥) → ((initializer : _) → e ≡ whole.Repeat initializer → ⊥) → ((path : _) (written : _) (base : _) → e ≡ whole.RecordLit path written base → ⊥) → (e ≡ whole.Missing → ⊥) → IsFormOf found e form.Unbuilt
+otherwise found (whole.Literal l) literal path part unary cast binary either assigned block loop break continue return call method tuple array repeat literal_of_struct missing = absurd (literal l refl)
+otherwise found (whole.Path name) literal path part unary cast binary either assigned block loop break continue return call method tuple array repeat literal_of_struct missing = absurd (path name refl)
+otherwise found (whole.Field base name) literal path part unary cast binary either assigned block loop break continue return call method tuple array repeat literal_of_struct missing = absurd (part base name refl)
+otherwise found (whole.UnaryOp operand op) literal path part unary cast binary either assigned block loop break continue return call method tuple array repeat literal_of_struct missing = absurd (unary operand op refl)
+otherwise found (whole.Cast operand) literal path part unary cast binary either assigned block loop break continue return call method tuple array repeat literal_of_struct missing = absurd (cast operand refl)
+otherwise found (whole.BinaryOp lhs rhs op) literal path part unary cast binary either assigned block loop break continue return call method tuple array repeat literal_of_struct missing = absurd (binary lhs rhs op refl)
+otherwise found (whole.If condition then_branch else_branch) literal path part unary cast binary either assigned block loop break continue return call method tuple array repeat literal_of_struct missing = absurd (either condition then_branch else_branch refl)
+otherwise found (whole.Assignment target value) literal path part unary cast binary either assigned block loop break continue return call method tuple array repeat literal_of_struct missing = absurd (assigned target value refl)
+otherwise found (whole.Block statements tail label) literal path part unary cast binary either assigned block loop break continue return call method tuple array repeat literal_of_struct missing = absurd (block statements tail label refl)
+otherwise found (whole.Loop body label) literal path part unary cast binary either assigned block loop break continue return call method tuple array repeat literal_of_struct missing = absurd (loop body label refl)
+otherwise found (whole.Break value label) literal path part unary cast binary either assigned block loop break continue return call method tuple array repeat literal_of_struct missing = absurd (break value label refl)
+otherwise found (whole.Continue label) literal path part unary cast binary either assigned block loop break continue return call method tuple array repeat literal_of_struct missing = absurd (continue label refl)
+otherwise found (whole.Return value) literal path part unary cast binary either assigned block loop break continue return call method tuple array repeat literal_of_struct missing = absurd (return value refl)
+otherwise found (whole.Call callee args) literal path part unary cast binary either assigned block loop break continue return call method tuple array repeat literal_of_struct missing = absurd (call callee args refl)
+otherwise found (whole.MethodCall receiver args name) literal path part unary cast binary either assigned block loop break continue return call method tuple array repeat literal_of_struct missing = absurd (method receiver args name refl)
+otherwise found (whole.Tuple parts) literal path part unary cast binary either assigned block loop break continue return call method tuple array repeat literal_of_struct missing = absurd (tuple parts refl)
+otherwise found (whole.Array elements) literal path part unary cast binary either assigned block loop break continue return call method tuple array repeat literal_of_struct missing = absurd (array elements refl)
+otherwise found (whole.Repeat initializer) literal path part unary cast binary either assigned block loop break continue return call method tuple array repeat literal_of_struct missing = absurd (repeat initializer refl)
+otherwise found (whole.RecordLit path' written base') literal path part unary cast binary either assigned block loop break continue return call method tuple array repeat literal_of_struct missing = absurd (literal_of_struct path' written base' refl)
+otherwise found whole.Missing literal path part unary cast binary either assigned block loop break continue return call method tuple array repeat literal_of_struct missing = absurd (missing refl)
+otherwise found _ literal path part unary cast binary either assigned block loop break continue return call method tuple array repeat literal_of_struct missing = record { core = refl; cause = λ lacks. lacks }
 
 node-adjusted : (source : Source) (e : ℕ) → is_adjusted_otherwise source.infer (record { 0 = e }) ≡ true → node source e ≡ None
 unfolding node
@@ -56,6 +57,7 @@ form-plain source e given f is there of =
     by-form : (f : Form) → IsFormOf (findings source e) given f → IsCauseAt source e f
     by-form form.Incomplete of = record { expr = given; stands = there; plain = is; lacks = of.cause }
     by-form form.Unbuilt of = inr (record { expr = given; stands = there; no_form = of.core; complete = of.cause })
+    by-form (form.Struct literal) of = of.cause
     by-form _ of = tt
 
 -- an adjusted expression is none of the forms for those that use its value
@@ -63,8 +65,17 @@ pub unadjusted-none : (source : Source) (e : ℕ) → diverges source e ≡ true
 unadjusted-none source e is = ap (λ (test : Bool). cond test None (node source e)) is
 
 -- a form that is no literal's, and one that is no place's
+no-literal-strict : (form_with : List ℕ → CoreExpr) → ((places : List ℕ) → is_literal (Some (form_with places)) ≡ false) → (places : Option (List ℕ)) → is_literal (option_map form_with places) ≡ false
+no-literal-strict form_with each (Some places) = each places
+no-literal-strict form_with each None = refl
+
+no-place-strict : (form_with : List ℕ → CoreExpr) → ((places : List ℕ) → is_place (Some (form_with places)) ≡ false) → (places : Option (List ℕ)) → is_place (option_map form_with places) ≡ false
+no-place-strict form_with each (Some places) = each places
+no-place-strict form_with each None = refl
+
 no-literal-form : (f : Form) → ((l : _) → f ≡ form.Literal l → ⊥) → is_literal (core_form f) ≡ false
 no-literal-form (form.Literal l) differ = absurd (differ l refl)
+no-literal-form (form.Struct literal) differ = no-literal-strict _ (λ places. refl) (literal_places literal)
 no-literal-form _ differ = refl
 
 pub no-literal : (source : Source) (e : ℕ) (f : Form) → HasForm source e f → ((l : _) → f ≡ form.Literal l → ⊥) → is_literal (node source e) ≡ false
@@ -73,6 +84,7 @@ no-literal source e f has differ = ap is_literal has.core ∙ no-literal-form f 
 no-place-form : (f : Form) → ((name : _) → f ≡ form.Path name → ⊥) → ((base : _) (field : _) → f ≡ form.Field base field → ⊥) → is_place (core_form f) ≡ false
 no-place-form (form.Path name) path part = absurd (path name refl)
 no-place-form (form.Field base field) path part = absurd (part base field refl)
+no-place-form (form.Struct literal) path part = no-place-strict _ (λ places. refl) (literal_places literal)
 no-place-form _ path part = refl
 
 pub no-place : (source : Source) (e : ℕ) (f : Form) → HasForm source e f → ((name : _) → f ≡ form.Path name → ⊥) → ((base : _) (field : _) → f ≡ form.Field base field → ⊥) → is_place (node source e) ≡ false

@@ -1,11 +1,14 @@
 -- The form of an expression, as far as forms have a meaning.
-use Rattle.std.specs.Prelude.{◌≡◌, ℕ, false, List, [], ◌∷◌, Option, Some, None, IsSome, option_map, pos}
+use Rattle.std.specs.Prelude.{◌≡◌, ℕ, ◌-◌, ◌^◌, false, List, [], ◌∷◌, Option, Some, None, IsSome, option_map, pos}
 use Rattle.source_meaning.specs.Core.{Assigned as CoreAssigned, Assignee as CoreAssignee, ByField, ByPath, ByPattern, ByPlace, CoreExpr, CoreLiteral, Findings, Truth, Number, Character, Operation, Negate, Invert, Keep, Convert, Combine, MakeTuple, MakeArray, Repeat, MakeStruct, PlaceElem, Part, FieldOf, core_of, is_place}
 use Rattle.source_meaning.specs.Core as expr
 use Rattle.source_meaning.specs.Source.{Source, node, unadjusted}
 use Rattle.source_meaning.specs.Structs.{StructAt as CoreStruct, all_places}
 use Rattle.world.specs.Nodes.{expr_numbers, field_numbers}
 use Rattle.world.specs.declared.expr.Expr.{Expr}
+use Rattle.either.specs.declared.Either.TheVariants.{Left, Right}
+use Rattle.mir.specs.Elements.{PlaceElem as GraphElem}
+use Rattle.mir.specs.declared.projection.ProjectionElem.TheVariants.{Field}
 use Rattle.mir.specs.declared.operand.UnOp.{UnOp}
 use Rattle.mir.specs.declared.operand.UnOp.TheVariants as one
 use Rattle.body_forms.specs.declared.form.Assigned.{Assigned}

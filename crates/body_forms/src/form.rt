@@ -1,6 +1,6 @@
 //! The form of an expression, as far as forms have a meaning.
 
-ghost use Rattle.std.specs.Prelude.{◌≡◌, ◌<◌, ℕ, List, false, length, Some, None, IfSome, IfNone};
+ghost use Rattle.std.specs.Prelude.{◌≡◌, ◌<◌, ℕ, List, Option, false, length, Some, None, IfSome, IfNone};
 ghost use Rattle.std.specs.Option.{option_and_then, option_copied, option_map};
 ghost use Rattle.source_meaning.specs.Core.{are_many, are_other_steps, cast_operation, expr_in, field_named, field_step, is_adjusted_otherwise, is_adjusted_twice, is_adjusted_pattern, is_by_reference, is_dereferenced_pattern, is_positive, is_literal, name_of, named_path, names_item, part_in, path_of, pattern_names_item, step_from};
 ghost use Rattle.source_meaning.specs.Core as expr;

@@ -48,11 +48,7 @@ fn struct_args(id: StructId, ty: &Ty) -> Option<&GenericArgs>
 }
 
 /// A struct with its fields, at the generic arguments of a type, where this is the struct.
-fn struct_with<'a>(
-    context: &Context<'a>,
-    id: StructId,
-    ty: Option<&'a Ty>,
-) -> Option<StructAt<'a>>
+fn struct_with<'a>(context: &Context<'a>, id: StructId, ty: Option<&'a Ty>) -> Option<StructAt<'a>>
     ensures { option_map core_struct result ≡ struct_made context.now.db.now (Some (variant.StructId id)) (option_copied ty.entry) }
 {
     let args = struct_args(id, ty?)?;
@@ -96,10 +92,7 @@ pub(crate) fn gives_all_fields(literal: StructLiteral<'_>) -> bool
     ensures { result ≡ is_some (all_places literal.entry.made.fields.now literal.entry.written.now) }
 {
     literal.made.fields.len() == literal.written.len()
-        && are_written(
-            literal.made.fields.as_slice(),
-            literal.written.as_slice(),
-        )
+        && are_written(literal.made.fields.as_slice(), literal.written.as_slice())
 }
 
 /// The expressions that a literal gives to its fields, in the order in which they are written.
@@ -143,8 +136,8 @@ pub fn struct_value(
     literal: StructLiteral<'_>,
     operands: &[Operand],
 ) -> Result<Rvalue, NoMemory>
-    requires given { IsSome (all_places literal.entry.made.fields.now literal.entry.written.now) }
-    requires many { length operands.now ≡ length literal.entry.written.now }
+    requires given { IsSome (all_places literal.made.fields.now literal.written.now) }
+    requires many { length operands.now ≡ length literal.written.now }
     ensures { IfOk result (λ made. (source : Source) (e : ℕ) (places : List ℕ) → all_places literal.entry.made.fields.now literal.entry.written.now ≡ Some places
         → IsRvalueOf source e (expr.MakeStruct literal.entry.made.id literal.entry.made.args.now places) operands.now made) }
 {
@@ -156,8 +149,5 @@ pub fn struct_value(
         operands,
     )?;
     let args = made.args.try_clone(alloc)?;
-    Ok(Rvalue::Aggregate(
-        AggregateKind::Adt(VariantId::StructId(made.id), args),
-        all,
-    ))
+    Ok(Rvalue::Aggregate(AggregateKind::Adt(VariantId::StructId(made.id), args), all))
 }

@@ -1,6 +1,6 @@
--- A field's form is by what it is resolved to. The other variants have no form with a meaning.
+-- A field's form is by what it is resolved to, and a struct literal's by the struct that it makes. The other variants have no form with a meaning.
 use Rattle.std.proofs.Common.{sym, ap, ◌∙◌, subst}
-use Rattle.source_meaning.specs.Core.{field_form}
+use Rattle.source_meaning.specs.Core.{field_form, record_form}
 use Rattle.source_meaning.specs.Source.{findings}
 use Rattle.world.specs.declared.expr.Expr.{Expr}
 use Rattle.body_forms.specs.Contexts.{source_of}
@@ -14,6 +14,12 @@ returns-in-Field c =
     subst (λ (x : Expr). IsFormOf (findings (source_of c.args.context.now) c.args.e.0) x c.field_form.result) (sym c.in-Field.is)
     (record { core = ap (field_form c.in-Field.expr.0) (sym c.field_named.ensures) ∙ given.core; cause = given.cause })
 
+pub returns-in-RecordLit : goal.returns-in-RecordLit
+returns-in-RecordLit c =
+    let given = c.record_form.ensures c.in-RecordLit.path in
+    subst (λ (x : Expr). IsFormOf (findings (source_of c.args.context.now) c.args.e.0) x c.record_form.result) (sym c.in-RecordLit.is)
+    (record { core = ap (λ made. record_form made c.in-RecordLit.fields c.in-RecordLit.spread) (sym c.struct_made.ensures) ∙ given.core; cause = given.cause })
+
 pub returns-in_default : goal.returns-in_default
 returns-in_default c =
-    otherwise _ c.args.expr.now c.in_default.not-Literal c.in_default.not-Path c.in_default.not-Field c.in_default.not-UnaryOp c.in_default.not-Cast c.in_default.not-BinaryOp c.in_default.not-If c.in_default.not-Assignment c.in_default.not-Block c.in_default.not-Loop c.in_default.not-Break c.in_default.not-Continue c.in_default.not-Return c.in_default.not-Call c.in_default.not-MethodCall c.in_default.not-Tuple c.in_default.not-Array c.in_default.not-Repeat c.in_default.not-Missing
+    otherwise _ c.args.expr.now c.in_default.not-Literal c.in_default.not-Path c.in_default.not-Field c.in_default.not-UnaryOp c.in_default.not-Cast c.in_default.not-BinaryOp c.in_default.not-If c.in_default.not-Assignment c.in_default.not-Block c.in_default.not-Loop c.in_default.not-Break c.in_default.not-Continue c.in_default.not-Return c.in_default.not-Call c.in_default.not-MethodCall c.in_default.not-Tuple c.in_default.not-Array c.in_default.not-Repeat c.in_default.not-RecordLit c.in_default.not-Missing
