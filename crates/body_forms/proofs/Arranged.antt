@@ -1,7 +1,6 @@
 -- The written fields of a struct literal, and the operands that they give to the fields of the struct.
-use Rattle.std.proofs.Common.{◌≡◌, ℕ, zero, suc, ◌+◌, ◌<◌, ◌≤◌, ◌==◌, Bool, true, false, cond, List, [], ◌∷◌, ◌++◌, length, drop, map, get_or, slice_get, Option, Some, None, option_map, option_and_then, if◌then◌else◌, refl, sym, ap, ◌∙◌, subst, arith, ltb-true, append-nil, append_assoc}
-use Rattle.std.specs.Prelude.{is_some, nat_lt, IsSome, position}
-use Rattle.std.specs.Cmp.Lexicographic.{pointwise}
+use Rattle.std.proofs.Common.{◌≡◌, ℕ, zero, suc, ◌+◌, ◌<◌, ◌≤◌, ◌==◌, Bool, true, false, cond, List, [], ◌∷◌, ◌++◌, length, drop, get_or, slice_get, Option, Some, None, option_map, option_and_then, if◌then◌else◌, refl, sym, ap, ◌∙◌, subst, arith, ltb-true, append-nil, append_assoc}
+use Rattle.std.specs.Prelude.{is_some, nat_lt, IsSome}
 use Rattle.std.proofs.lemmas.List.{drop_all, drop_more}
 use Rattle.types.specs.declared.ids.ExprId.{ExprId}
 use Rattle.world.specs.declared.expr.RecordLitField.{RecordLitField}
@@ -156,3 +155,6 @@ all-are-named fields written places is = by_test (length fields == length writte
 pub the-value : {A : Type 0} (given : Option A) → IsSome given → (x : A) × (given ≡ Some x)
 the-value (Some x) some = (x, refl)
 the-value None some = absurd cc
+
+pub none-has-none : {A : Type 0} (given : Option A) → given ≡ None → IsSome given → ⊥
+none-has-none given none some = let never : false ≡ true = sym (ap is_some none) ∙ some in absurd cc

@@ -210,7 +210,7 @@ fn record_form<'a>(
     written: &'a List<RecordLitField>,
     base: &RecordSpread,
 ) -> Form<'a>
-    ensures { (path : Option (List ℕ)) → IsFormOf (record no_findings { made = option_map core_struct made }) (whole.RecordLit path written.now base.now) result }
+    ensures { (path : Option (List ℕ)) → IsFormOf (record no_findings { made = option_map core_struct made.entry }) (whole.RecordLit path written.now base.now) result }
 {
     match (made, base) {
         (Some(made), RecordSpread::None) => {

@@ -111,7 +111,7 @@ fn arranged(
     alloc: Global,
     fields: &[FieldRow],
     written: &[RecordLitField],
-    operands: &[Operand],
+    operands: &List<Operand>,
 ) -> Result<List<Operand>, NoMemory>
     requires { IsSome (arranged fields.now written.now operands.now) }
     ensures { IfOk result (λ all. arranged fields.now written.now operands.now ≡ Some all) }
@@ -121,7 +121,7 @@ fn arranged(
         let Some(place) = place_named(&field.name, written) else {
             unreachable!()
         };
-        let Some(operand) = operands.get(place) else {
+        let Some(operand) = operands.get(place as u64) else {
             unreachable!()
         };
         let copy = operand.try_clone(alloc)?;
@@ -134,7 +134,7 @@ fn arranged(
 pub fn struct_value(
     alloc: Global,
     literal: StructLiteral<'_>,
-    operands: &[Operand],
+    operands: &List<Operand>,
 ) -> Result<Rvalue, NoMemory>
     requires given { IsSome (all_places literal.made.fields.now literal.written.now) }
     requires many { length operands.now ≡ length literal.written.now }

@@ -347,7 +347,7 @@ fn lower_struct(
 {
     let parts = written_exprs(context.alloc, literal.written.as_slice())?;
     let operands = lower_operands(context, graph, e, parts.as_slice())?;
-    let made = struct_value(context.alloc, literal, operands.as_slice())?;
+    let made = struct_value(context.alloc, literal, &operands)?;
     assign(graph, to, made, MirSpan::ExprId(e))
 }
 
