@@ -28,24 +28,24 @@ struct State { low: u32, high: u32, steps: u64 }
 
 const TWO: Two = Two { a: 1, b: 2 };
 const TWO_OTHER_ORDER: Two = Two { b: 2, a: 1 };
-const TWO_EDGES: Two = Two { a: u16::MAX, b: 1 << 31 };
+const TWO_EDGES: Two = Two { a: 65_535, b: 1 << 31 };
 const LAID: Laid = Laid { small: 0x11, large: 0x2233_4455_6677_8899, middle: 0xaabb };
 const LAID_BACKWARD: Laid = Laid { middle: 0xaabb, large: 0x2233_4455_6677_8899, small: 0x11 };
 const TIGHT: Tight = Tight { small: 0x11, large: 0x2233_4455_6677_8899, middle: 0xaabb };
 const WIDE: u8 = Wide { byte: 7 }.byte;
 const NOTHING: Nothing = Nothing {};
 const HOLLOW: u8 = Hollow { before: (), number: 9, none: [], behind: Nothing {} }.number;
-const EVERY_YES: bool = Every { yes: true, letter: 'x', least: -128, great: u128::MAX, signed: i128::MIN, size: 5, pointed: -5 }.yes;
-const EVERY_LETTER: char = Every { yes: true, letter: '\u{10ffff}', least: -128, great: u128::MAX, signed: i128::MIN, size: 5, pointed: -5 }.letter;
-const EVERY_LEAST: i8 = Every { yes: true, letter: 'x', least: -128, great: u128::MAX, signed: i128::MIN, size: 5, pointed: -5 }.least;
-const EVERY_GREAT: u128 = Every { yes: true, letter: 'x', least: -128, great: u128::MAX - 1, signed: i128::MIN, size: 5, pointed: -5 }.great;
-const EVERY_SIGNED: i128 = Every { yes: true, letter: 'x', least: -128, great: u128::MAX, signed: i128::MIN + 1, size: 5, pointed: -5 }.signed;
-const EVERY_POINTED: isize = Every { yes: false, letter: 'x', least: -128, great: 0, signed: 0, size: usize::MAX, pointed: isize::MIN }.pointed;
+const EVERY_YES: bool = Every { yes: true, letter: 'x', least: -128, great: 0xffff_ffff_ffff_ffff_ffff_ffff_ffff_ffff, signed: -0x8000_0000_0000_0000_0000_0000_0000_0000, size: 5, pointed: -5 }.yes;
+const EVERY_LETTER: char = Every { yes: true, letter: '\u{10ffff}', least: -128, great: 0xffff_ffff_ffff_ffff_ffff_ffff_ffff_ffff, signed: -0x8000_0000_0000_0000_0000_0000_0000_0000, size: 5, pointed: -5 }.letter;
+const EVERY_LEAST: i8 = Every { yes: true, letter: 'x', least: -128, great: 0xffff_ffff_ffff_ffff_ffff_ffff_ffff_ffff, signed: -0x8000_0000_0000_0000_0000_0000_0000_0000, size: 5, pointed: -5 }.least;
+const EVERY_GREAT: u128 = Every { yes: true, letter: 'x', least: -128, great: 0xffff_ffff_ffff_ffff_ffff_ffff_ffff_fffe, signed: -0x8000_0000_0000_0000_0000_0000_0000_0000, size: 5, pointed: -5 }.great;
+const EVERY_SIGNED: i128 = Every { yes: true, letter: 'x', least: -128, great: 0xffff_ffff_ffff_ffff_ffff_ffff_ffff_ffff, signed: -0x7fff_ffff_ffff_ffff_ffff_ffff_ffff_ffff, size: 5, pointed: -5 }.signed;
+const EVERY_POINTED: isize = Every { yes: false, letter: 'x', least: -128, great: 0, signed: 0, size: 0xffff_ffff_ffff_ffff, pointed: -0x8000_0000_0000_0000 }.pointed;
 
 const READ_A: u16 = { let t = Two { a: 3, b: 4 }; t.a };
 const READ_B: u32 = { let t = Two { a: 3, b: 4 }; t.b };
 const READ_BOTH: u32 = { let t = Two { a: 3, b: 4 }; t.a as u32 * 10 + t.b };
-const READ_TIGHT: u64 = { let t = Tight { small: 1, large: u64::MAX, middle: 3 }; t.large };
+const READ_TIGHT: u64 = { let t = Tight { small: 1, large: 0xffff_ffff_ffff_ffff, middle: 3 }; t.large };
 const READ_NESTED: u16 = { let o = Outer { one: Inner { left: (1, 2), right: [3, 4, 5] }, other: Inner { left: (6, 7), right: [8, 9, 10] }, count: 11 }; o.other.left.1 };
 const READ_NESTED_TUPLE: (u8, u16) = { let o = Outer { one: Inner { left: (1, 2), right: [3, 4, 5] }, other: Inner { left: (6, 7), right: [8, 9, 10] }, count: 11 }; o.one.left };
 const READ_NESTED_ARRAY: [u8; 3] = { let o = Outer { one: Inner { left: (1, 2), right: [3, 4, 5] }, other: Inner { left: (6, 7), right: [8, 9, 10] }, count: 11 }; o.other.right };
@@ -65,8 +65,8 @@ const WRITE_PART: u16 = { let mut o = Outer { one: Inner { left: (1, 2), right: 
 const WRITE_WHOLE: u16 = { let mut o = Outer { one: Inner { left: (1, 2), right: [3, 4, 5] }, other: Inner { left: (6, 7), right: [8, 9, 10] }, count: 11 }; o.one = o.other; o.one.left.1 };
 const WRITE_ADD: u32 = { let mut t = Two { a: 3, b: 4 }; t.b += 70; t.a *= 2; t.a as u32 * 1000 + t.b };
 const WRITE_SHIFT: u64 = { let mut t = Tight { small: 3, large: 1, middle: 5 }; t.large <<= 63; t.large | t.small as u64 };
-const WRITE_OVERFLOW: u16 = { let mut t = Two { a: u16::MAX, b: 4 }; t.a += 1; t.a };
-const WRITE_KEEPS_OTHERS: Laid = { let mut l = Laid { small: 1, large: 2, middle: 3 }; l.large = u64::MAX; l };
+const WRITE_OVERFLOW: u16 = { let mut t = Two { a: 65_535, b: 4 }; t.a += 1; t.a };
+const WRITE_KEEPS_OTHERS: Laid = { let mut l = Laid { small: 1, large: 2, middle: 3 }; l.large = 0xffff_ffff_ffff_ffff; l };
 const COPIES: u32 = { let a = Two { a: 1, b: 2 }; let mut b = a; b.b = 50; a.b * 100 + b.b };
 
 const ORDER: u32 = { let mut n = 0; let t = Two { b: { n += 1; n }, a: { n += 10; n as u16 } }; t.b * 100 + t.a as u32 };
