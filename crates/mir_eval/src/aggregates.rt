@@ -18,9 +18,7 @@ use mir::{AggregateKind, Interval, Operand, OperandKind};
 use mir_mem::{Memory, append, is_too_long, put_view, repeat, zeros};
 use numbers::number_in;
 use std::alloc::Global;
-use world::{
-    AdtId, Bytes, Const, GenericArgs, HirDatabase, Layout, NoMemory, TryClone, Ty, VariantId,
-};
+use world::{AdtId, Bytes, Const, GenericArgs, HirDatabase, Layout, TryClone, Ty, VariantId};
 
 /// Copies bytes that were computed to a cell.
 #[tactic(auto, unfolding(mir::specs::Run::copied))]
@@ -173,7 +171,7 @@ fn struct_layout<'a>(
     db: &'a HirDatabase,
     id: VariantId,
     args: &GenericArgs,
-) -> Result<Option<&'a Layout>, NoMemory>
+) -> Result<Option<&'a Layout>, world::NoMemory>
     ensures { IfOk result (λ layout. option_copied layout ≡ struct_layout db.now id args.now) }
 {
     match id {

@@ -1,5 +1,5 @@
 -- Fields: the place of a part, by the place of its base, and its bytes.
-use Rattle.std.proofs.Common.{◌≡◌, ℕ, ◌<◌, zero, suc, List, ◌++◌, length, Contains, Some, option_and_then, inr, sym, ap, ◌∙◌, subst}
+use Rattle.std.proofs.Common.{◌≡◌, ℕ, zero, suc, List, ◌++◌, Contains, Some, option_and_then, inr, sym, ap, ◌∙◌, subst}
 use Rattle.types.specs.declared.ty.Ty.{Ty}
 use Rattle.world.specs.Lookups.{layout_of}
 use Rattle.mir.specs.declared.operand.Operand.{Operand as MirOperand}

@@ -1,5 +1,5 @@
 -- Where a callee's cells are placed, its types have layouts, if those of its caller have: so it is fit where its caller is.
-use Rattle.std.proofs.Common.{◌≡◌, ℕ, zero, suc, true, false, List, [], ◌∷◌, Option, Some, None, Result, Ok, refl, sym, ap, ◌∙◌, subst}
+use Rattle.std.proofs.Common.{◌≡◌, ℕ, zero, suc, true, false, List, [], ◌∷◌, Option, Some, None, Ok, refl, sym, ap, ◌∙◌, subst}
 use Rattle.std.specs.Prelude.{slice_get}
 use Rattle.types.specs.declared.ty.Ty.{Ty}
 use Rattle.world.specs.Checked.{IsCheckedBody}

@@ -56,7 +56,7 @@ by_layer : (world : HirDatabase) (index : ℕ) (ty : Ty) (one : TyLayer) → out
 by_layer world index ty (layer.Tuple parts) is = rw (is) refl
 by_layer world index ty _ is = rw (is) refl
 
-none-either : {A : Type 0} (test : Bool) → (if test then None else None) ≡ None {A = A}
+none-either : {A : Type 0} (test : Bool) → ◌≡◌ {A = Option A} (if test then None else None) None
 none-either true = refl
 none-either false = refl
 

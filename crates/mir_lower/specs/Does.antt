@@ -1,22 +1,19 @@
 -- What the code of a graph does: from a point of it to another, or to the end of the run.
-use Rattle.std.specs.Prelude.{◌≡◌, ◌⊎◌, ℕ, ◌-◌, ◌^◌, List, ◌∷◌, [], map, Option, Some, unwrap_or}
-use Rattle.either.specs.declared.Either.TheVariants.{Left, Right}
-use Rattle.mir.specs.Elements.{PlaceElem as GraphElem}
+use Rattle.std.specs.Prelude.{◌≡◌, ◌⊎◌, ℕ, List, ◌∷◌, [], map, Option, Some, unwrap_or}
 use Rattle.mir.specs.Projections.{Projection}
 use Rattle.mir.specs.declared.operand.Place.{Place as GraphPlace}
-use Rattle.mir.specs.declared.projection.ProjectionElem.TheVariants.{Field}
 use Rattle.mir.specs.declared.operand.OperandKind.{OperandKind}
 use Rattle.mir.specs.Memory.{Memory}
 use Rattle.mir.specs.Run.{Frame, operand_bytes as mir_bytes, operand_type as mir_type}
 use Rattle.source_meaning.specs.Around.{Around, Target}
-use Rattle.source_meaning.specs.Core.{Assigned, Assignee}
+use Rattle.source_meaning.specs.Core.{Assigned, Assignee, PlaceElem}
 use Rattle.source_meaning.specs.Ends.{Cost, cost_of, End, Go, Jumps, Faults, Stuck, More, Jump, Break, Continue, Return}
 use Rattle.source_meaning.specs.Meaning.{level_at, operands_of, assigned_place, assignee_place, copy_at, field_place, statements_of, tail_into, bind}
 use Rattle.source_meaning.specs.Places.{operand_bytes, operand_type, place_bytes}
-use Rattle.source_meaning.specs.Core.{PlaceElem, Part, FieldOf}
 use Rattle.source_meaning.specs.Source.{Source, pattern, Cell, Result, Place, Store, Operand}
 use Rattle.world.specs.declared.body.Statement.{Statement}
 use Rattle.types.specs.declared.ids.ExprId.{ExprId}
+use Rattle.body_forms.specs.Form.{elem_of}
 use Rattle.mir_lower.specs.Graph.{Shape, OpenTarget, elements_in, local_of}
 use Rattle.mir_lower.specs.Growth.{Grows, IsSound, count_at}
 use Rattle.mir_lower.specs.Callees.{Serves}

@@ -360,11 +360,12 @@ pub lower_struct-lower_operands-requires : goal.lower_struct-lower_operands-requ
 lower_struct-lower_operands-requires t c =
     let source = source_of c.args.context.now in
     let literal = c.args.literal in
-    let has = struct-form source c.args.e.0 literal c.requires.form c.requires.given in (
+    let has = struct-form source c.args.e.0 literal c.requires.form c.requires.given in
+    let es-are = ap expr_numbers c.as_slice-2.ensures ∙ c.in_ok-parts.ensures ∙ ap field_numbers c.as_slice.ensures in (
       omega arith,
       (
         parts-ready source (shape c.args.graph.now) c.args.e.0 (λ outer. ap (λ n. opened_in c.args.e.0 n outer) has.form) c.requires.ready,
-        ap parts_of has.form ∙ strict_parts (MakeStruct literal.made.id literal.made.args.now has.places) (field_numbers literal.written.now) ∙ sym c.in_ok-parts.ensures,
+        ap parts_of has.form ∙ strict_parts (MakeStruct literal.made.id literal.made.args.now has.places) (field_numbers literal.written.now) ∙ sym es-are,
       ),
     )
 
@@ -376,7 +377,10 @@ lower_struct-returns-in_err-operands-clause-refused t c =
 
 pub lower_struct-struct_value-requires : goal.lower_struct-struct_value-requires
 lower_struct-struct_value-requires t c =
-    record { given = c.requires.given; many = c.in_ok-operands.ensures.many ∙ as-many-written c.in_ok-parts.parts c.args.literal.written.now c.in_ok-parts.ensures }
+    record {
+      given = c.requires.given;
+      many = c.in_ok-operands.ensures.many ∙ ap length c.as_slice-2.ensures ∙ as-many-written c.in_ok-parts.parts c.args.literal.written.now (c.in_ok-parts.ensures ∙ ap field_numbers c.as_slice.ensures);
+    }
 
 pub lower_struct-returns-in_err-made-clause-refused : goal.lower_struct-returns-in_err-made-clause-refused
 lower_struct-returns-in_err-made-clause-refused t c =
@@ -392,8 +396,9 @@ lower_struct-returns-clause-lowered t c =
     let s1 = shape c.lower_operands.new.graph in
     let es = field_numbers literal.written.now in
     let operands = c.in_ok-operands.operands in
+    let es-are = ap expr_numbers c.as_slice-2.ensures ∙ c.in_ok-parts.ensures ∙ ap field_numbers c.as_slice.ensures in
     let given : LowersOperands source s0 s1 es (map (λ (operand : Operand). operand.kind) operands) =
-    subst (λ (list : List ℕ). LowersOperands source s0 s1 list (map (λ (operand : Operand). operand.kind) operands)) c.in_ok-parts.ensures c.in_ok-operands.ensures.lowered in
+    subst (λ (list : List ℕ). LowersOperands source s0 s1 list (map (λ (operand : Operand). operand.kind) operands)) es-are c.in_ok-operands.ensures.lowered in
     on_ok_weaker c.assign.result
     (λ added cell local. lowers-strict source s0 s1 (shape c.assign.new.graph) c.args.e.0 (MakeStruct literal.made.id literal.made.args.now has.places) es operands c.in_ok-made.made c.args.to (ExprId c.args.e) c.requires.ready has.form given
     (c.in_ok-made.ensures source c.args.e.0 has.places has.are) added cell local)
@@ -404,8 +409,9 @@ lower_struct-returns-clause-built t c =
     let source = source_of c.args.context.now in
     let literal = c.args.literal in
     let has = struct-form source c.args.e.0 literal c.requires.form c.requires.given in
+    let es-are = ap expr_numbers c.as_slice-2.ensures ∙ c.in_ok-parts.ensures ∙ ap field_numbers c.as_slice.ensures in
     on_ok_weaker c.assign.result
-    (λ added. built-strict source c.args.e.0 (MakeStruct literal.made.id literal.made.args.now has.places) (field_numbers literal.written.now) has.form tt (subst (All (IsBuilt source)) c.in_ok-parts.ensures c.in_ok-operands.ensures.built)) c.assign.ensures.added
+    (λ added. built-strict source c.args.e.0 (MakeStruct literal.made.id literal.made.args.now has.places) (field_numbers literal.written.now) has.form tt (subst (All (IsBuilt source)) es-are c.in_ok-operands.ensures.built)) c.assign.ensures.added
 
 pub lower_struct-returns-clause-refused : goal.lower_struct-returns-clause-refused
 lower_struct-returns-clause-refused t c =
@@ -1527,7 +1533,7 @@ lower_operands-loop-arg-init t c =
     let es = expr_numbers c.args.args.now in (
       subst (λ (operands : List Operand). Collects source s s es es (map (λ (operand : Operand). operand.kind) operands)) (sym c.new-operands.ensures) (collects-none source s es c.requires.ready.sound c.requires.ready.«open»),
       All-nil (λ arg. IsBuilt source arg.0),
-      ap (λ (operands : List Operand). length operands + length c.args.args.now) c.new-operands.ensures,
+      (let plain : 0 + length c.args.args.now ≡ length c.args.args.now = omega arith in ap (λ (operands : List Operand). length operands + length c.args.args.now) c.new-operands.ensures ∙ plain),
     )
 
 pub lower_operands-lower_operand-requires : goal.lower_operands-lower_operand-requires
