@@ -41,7 +41,7 @@ operation_of one.Neg = Negate
 
 -- what may be found out of an expression whose form depends on nothing but itself
 abbrev pub no_findings : Findings
-no_findings = record { names_item = false; casts = λ operand. None; field = None; made = None; assignee = λ pat. ByPattern pat.0; assigned = λ e. ByPath e.0 }
+no_findings = record { names_item = false; casts = λ operand. None; field = λ base. None; made = None; assignee = λ pat. ByPattern pat.0; assigned = λ e. ByPath e.0 }
 
 -- the step into a value that a step to a field is
 abbrev pub core_elem : FieldStep → PlaceElem

@@ -2,7 +2,8 @@
 
 ghost use Rattle.std.specs.Prelude.{◌≡◌, ◌<◌, ℕ, List, Option, false, length, Some, None, IfSome, IfNone};
 ghost use Rattle.std.specs.Option.{option_and_then, option_copied, option_map};
-ghost use Rattle.source_meaning.specs.Core.{are_many, are_other_steps, cast_operation, expr_in, field_named, field_step, is_adjusted_otherwise, is_adjusted_twice, is_adjusted_pattern, is_by_reference, is_dereferenced_pattern, is_positive, is_literal, name_of, named_path, names_item, part_in, path_of, pattern_names_item, step_from};
+ghost use Rattle.source_meaning.specs.Core.{are_many, are_other_steps, cast_operation, expr_in, field_taken, is_adjusted_otherwise, is_adjusted_twice, is_adjusted_pattern, is_by_reference, is_dereferenced_pattern, is_positive, is_literal, name_of, named_path, names_item, part_in, path_of, pattern_names_item, step_to, value_type as type_of_value};
+ghost use Rattle.types.specs.declared.ids.VariantId.TheVariants as variant;
 ghost use Rattle.source_meaning.specs.Core as expr;
 ghost use Rattle.source_meaning.specs.Source.{assigned, assigned_by, assignee, compound_path, findings, pattern, pattern_expr, target_path, unadjusted};
 ghost use Rattle.world.specs.declared.expr.Expr.TheVariants as whole;
@@ -11,15 +12,15 @@ ghost use Rattle.body_forms.specs.Contexts.{source_of};
 ghost use Rattle.body_forms.specs.Form.{IsFormOf, IsPlaceForm, HasForm, core_assigned, core_assignee, core_elem, core_struct, elem_of, core_value, no_findings};
 
 use crate::context::Context;
-use crate::inferred::{diverges, is_coercion, is_conversion, step_target};
+use crate::inferred::{diverges, is_coercion, is_conversion, step_target, value_type};
 use crate::literal::LiteralValue;
-use crate::structs::{StructAt, StructLiteral, gives_all_fields, struct_made};
+use crate::structs::{StructAt, StructLiteral, gives_all_fields, struct_args, struct_made};
 use either::Either;
 use mir::{BinOp, PlaceElem, UnOp};
 use world::{
     Adjustment, BinaryOp, BindingId, BindingMode, Expr, ExprId, FieldId, LabelId, List, Literal,
-    LogicOp, Pat, PatId, RecordLitField, RecordSpread, Statement, Text, TupleFieldId, UnaryOp,
-    VariantId,
+    LogicOp, Pat, PatId, RecordLitField, RecordSpread, Statement, StructId, Text, TupleFieldId,
+    UnaryOp, VariantId,
 };
 
 /// What an assignment writes to, by the pattern that its target is.
@@ -140,13 +141,31 @@ fn path_form<'a>(names_item: bool, name: &'a Text) -> Form<'a>
     }
 }
 
-/// The step that a field expression takes, by what it is resolved to: to a part of a tuple, or to a field of a struct.
-fn field_step(named: Option<&Either<FieldId, TupleFieldId>>) -> Option<FieldStep>
-    ensures { option_map core_elem result ≡ option_and_then field_step (option_copied named.entry) }
+/// The step to a field of a struct, where the base is that struct and has no generic arguments.
+#[tactic(auto, unfolding(source_meaning::specs::Source::node_type, source_meaning::specs::Source::own_type))]
+fn struct_step(
+    context: &Context<'_>,
+    id: StructId,
+    field: FieldId,
+    base: ExprId,
+) -> Option<FieldStep>
+    ensures { option_map core_elem result ≡ step_to (type_of_value context.now.infer.now base) field (variant.StructId id) }
 {
-    match named {
+    let args = struct_args(id, value_type(context, base)?)?;
+    if args.0.len() == 0 {
+        Some(FieldStep::Field(field))
+    } else {
+        None
+    }
+}
+
+/// The step that a field expression takes from its base.
+fn field_taken(context: &Context<'_>, e: ExprId, base: ExprId) -> Option<FieldStep>
+    ensures { option_map core_elem result ≡ field_taken context.now.infer.now e base }
+{
+    match context.infer.field_res.get(&e) {
         Some(Either::Left(field)) => match field.parent {
-            VariantId::StructId(_) => Some(FieldStep::Field(*field)),
+            VariantId::StructId(id) => struct_step(context, id, *field, base),
             _ => None,
         },
         Some(Either::Right(field)) => Some(FieldStep::Part(field.index)),
@@ -167,11 +186,11 @@ pub fn place_elem(step: FieldStep) -> PlaceElem
     }
 }
 
-/// The form of a field of a base, by what it is resolved to.
-fn field_form<'a>(base: ExprId, named: Option<&Either<FieldId, TupleFieldId>>) -> Form<'a>
-    ensures { (name : List ℕ) → IsFormOf (record no_findings { field = option_copied named.entry }) (whole.Field base name) result }
+/// The form of a field of a base, by the step that it takes.
+fn field_form<'a>(base: ExprId, taken: Option<FieldStep>) -> Form<'a>
+    ensures { (name : List ℕ) → IsFormOf (record no_findings { field = λ from. option_map core_elem taken }) (whole.Field base name) result }
 {
-    match field_step(named) {
+    match taken {
         Some(step) => Form::Field(base, step),
         None => Form::Unbuilt,
     }
@@ -232,7 +251,7 @@ fn form_of<'a>(context: &Context<'a>, e: ExprId, expr: &'a Expr) -> Form<'a>
     match expr {
         Expr::Literal(literal) => literal_form(literal),
         Expr::Path(name) => path_form(names_item(context, e), name),
-        Expr::Field { expr, .. } => field_form(*expr, field_named(context, e)),
+        Expr::Field { expr, .. } => field_form(*expr, field_taken(context, e, *expr)),
         Expr::UnaryOp { expr, op } => unary_form(*expr, *op),
         Expr::Cast { expr } => cast_form(context, e, *expr),
         Expr::BinaryOp { lhs, rhs, op } => binary_form(context, *lhs, *rhs, *op),
@@ -292,13 +311,6 @@ fn names_item(context: &Context<'_>, e: ExprId) -> bool
     ensures { result ≡ names_item context.now.infer.now e }
 {
     context.infer.assoc_res.get(&e).is_some() || context.infer.variant_res.get(&e).is_some()
-}
-
-/// What a field is resolved to, where it is.
-fn field_named<'a>(context: &Context<'a>, e: ExprId) -> Option<&'a Either<FieldId, TupleFieldId>>
-    ensures { option_copied result ≡ field_named context.now.infer.now e }
-{
-    context.infer.field_res.get(&e)
 }
 
 /// An expression of the body.
@@ -500,30 +512,15 @@ fn is_adjusted_twice(context: &Context<'_>, e: ExprId) -> bool
     are_many(context.infer.expr_adjustments.get(&e))
 }
 
-/// What a field of a base is as the target of a compound assignment, by what it is resolved to.
-fn field_assigned(
-    e: ExprId,
-    base: ExprId,
-    named: Option<&Either<FieldId, TupleFieldId>>,
-) -> Assigned
-    ensures { core_assigned result ≡ assigned_by e.0 (step_from base.0 (option_and_then field_step (option_copied named.entry))) }
-{
-    match field_step(named) {
-        Some(step) => Assigned::Field(base, step),
-        None => Assigned::Path(e),
-    }
-}
-
-/// What an expression is as the target of a compound assignment, by what it is resolved to as a field.
-fn assigned_in(
-    e: ExprId,
-    named: Option<&Either<FieldId, TupleFieldId>>,
-    expr: Option<&Expr>,
-) -> Assigned
-    ensures { core_assigned result ≡ assigned_by e.0 (option_and_then (part_in (option_copied named.entry)) (option_copied expr.entry)) }
+/// What an expression is as the target of a compound assignment, by the step that it takes from its base where it is a field.
+fn assigned_in(context: &Context<'_>, e: ExprId, expr: Option<&Expr>) -> Assigned
+    ensures { core_assigned result ≡ assigned_by e.0 (option_and_then (part_in (field_taken context.now.infer.now e)) (option_copied expr.entry)) }
 {
     match expr {
-        Some(Expr::Field { expr, .. }) => field_assigned(e, *expr, named),
+        Some(Expr::Field { expr, .. }) => match field_taken(context, e, *expr) {
+            Some(step) => Assigned::Field(*expr, step),
+            None => Assigned::Path(e),
+        },
         _ => Assigned::Path(e),
     }
 }
@@ -536,11 +533,7 @@ fn assigned_of(context: &Context<'_>, e: ExprId) -> Assigned
     if is_adjusted_twice(context, e) {
         Assigned::Path(e)
     } else {
-        assigned_in(
-            e,
-            field_named(context, e),
-            context.body.exprs.get(e.0 as u64),
-        )
+        assigned_in(context, e, context.body.exprs.get(e.0 as u64))
     }
 }
 

@@ -38,7 +38,7 @@ pub struct StructLiteral<'a> {
 }
 
 /// The generic arguments of a type, where it is a struct.
-fn struct_args(id: StructId, ty: &Ty) -> Option<&GenericArgs>
+pub(crate) fn struct_args(id: StructId, ty: &Ty) -> Option<&GenericArgs>
     ensures { option_copied result ≡ struct_args id ty.now }
 {
     match ty {

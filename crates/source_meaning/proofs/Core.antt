@@ -14,15 +14,12 @@ use Rattle.world.specs.declared.pat.Pat.{Pat}
 use Rattle.world.specs.Lookups.{expr_of}
 use Rattle.world.specs.Checked.{IsCheckedBody}
 use Rattle.world.specs.Nodes.{optional, expr_numbers, field_numbers, spread_children, children_of, inner_exprs_of, patterns_of, statement_children}
-use Rattle.either.specs.declared.Either.{Either}
 use Rattle.types.specs.declared.ids.ExprId.{ExprId}
-use Rattle.types.specs.declared.ids.FieldId.{FieldId}
 use Rattle.types.specs.declared.ids.PatId.{PatId}
-use Rattle.types.specs.declared.ids.TupleFieldId.{TupleFieldId}
 use Rattle.types.specs.declared.operators.BinaryOp.{BinaryOp}
 use Rattle.types.specs.declared.operators.BinaryOp.TheVariants as binary
 use Rattle.numbers.specs.Operators.{of_arith, of_compare}
-use Rattle.source_meaning.specs.Core.{CoreExpr, Findings, Operation, MakeTuple, MakeArray, Repeat, MakeStruct, PlaceElem, Literal, Path, Field, Strict, Logic, If, Assign, Compound, Block, Labelled, Loop, Break, Continue, Return, Call, core_literal, unary_operation, unary_form, eager_form, binary_form, field_form, field_step, record_form, step_from, core_of, expr_in, field_named, is_adjusted_otherwise, is_adjusted_twice, is_dereferenced_pattern, part_in}
+use Rattle.source_meaning.specs.Core.{CoreExpr, Findings, Operation, MakeTuple, MakeArray, Repeat, MakeStruct, PlaceElem, Literal, Path, Field, Strict, Logic, If, Assign, Compound, Block, Labelled, Loop, Break, Continue, Return, Call, core_literal, unary_operation, unary_form, eager_form, binary_form, record_form, step_from, core_of, expr_in, field_taken, is_adjusted_otherwise, is_adjusted_twice, is_dereferenced_pattern, part_in}
 use Rattle.source_meaning.specs.Structs.{StructAt, all_places}
 use Rattle.source_meaning.specs.Source.{Source, assigned_by, assigned_field, assignee_by, findings, node, pattern_expr}
 use Rattle.source_meaning.specs.Steps.{parts_of, assigned_parts, assignee_parts, statement_parts}
@@ -45,9 +42,9 @@ unary_parts : (e : ℕ) (given : Option Operation) (core : CoreExpr) → unary_f
 unary_parts e given core is = let from = mapped (λ op. Strict op (e ∷ [])) given core is in ap (λ c. parts_of (Some c)) (sym from.2)
 
 -- a field evaluates its base
-field_part : (base : ℕ) (field : Option (Either FieldId TupleFieldId)) (core : CoreExpr) → field_form base field ≡ Some core → (child : ℕ) → Contains (parts_of (Some core)) child → Contains (base ∷ []) child
-field_part base field core is child within =
-    let from = mapped (Field base) (option_and_then field_step field) core is in
+field_part : (base : ℕ) (step : Option PlaceElem) (core : CoreExpr) → option_map (Field base) step ≡ Some core → (child : ℕ) → Contains (parts_of (Some core)) child → Contains (base ∷ []) child
+field_part base step core is child within =
+    let from = mapped (Field base) step core is in
     subst (λ c. Contains (parts_of (Some c)) child) (sym from.2) within
 
 -- a struct literal evaluates what its fields are given
@@ -101,7 +98,7 @@ part_stands found (whole.Literal given) core is child within =
     let from = mapped Literal (core_literal given) core is in
     absurd (nothing_is_contained child (subst (λ c. Contains (parts_of (Some c)) child) (sym from.2) within))
 part_stands found (whole.Path name) core is child within = absurd (name_has_no_parts found.names_item name core is child within)
-part_stands found (whole.Field base name) core is child within = as_child (field_part base.0 found.field core is child within)
+part_stands found (whole.Field base name) core is child within = as_child (field_part base.0 (found.field base) core is child within)
 part_stands found (whole.UnaryOp e op) core is child within = as_child (subst (λ parts. Contains parts child) (unary_parts e.0 (unary_operation op) core is) within)
 part_stands found (whole.Cast e) core is child within = as_child (subst (λ parts. Contains parts child) (unary_parts e.0 (found.casts e) core is) within)
 part_stands found (whole.BinaryOp lhs rhs (Some op)) core is child within = binary_part found lhs rhs op core is child within
@@ -164,15 +161,15 @@ step_base : (base : ℕ) (step : Option PlaceElem) (field : ℕ × PlaceElem) �
 step_base base (Some elem) field is = let same : field ≡ (base, elem) = cc in sym (ap (λ (f : ℕ × PlaceElem). f.0) same)
 step_base base None field is = absurd cc
 
-field_from : (twice : Bool) (named : Option (Either FieldId TupleFieldId)) (found : Option Expr) (field : ℕ × PlaceElem) → if twice then None else option_and_then (part_in named) found ≡ Some field → (given : Expr) × (found ≡ Some given) × (children_of given ≡ field.0 ∷ [])
-field_from true named found field is = absurd cc
-field_from false named None field is = absurd cc
-field_from false named (Some (whole.Field base name)) field is = (whole.Field base name, refl, ap (λ b. b ∷ []) (step_base base.0 (option_and_then field_step named) field is))
-field_from false named (Some _) field is = absurd cc
+field_from : (twice : Bool) (taken : ExprId → Option PlaceElem) (found : Option Expr) (field : ℕ × PlaceElem) → if twice then None else option_and_then (part_in taken) found ≡ Some field → (given : Expr) × (found ≡ Some given) × (children_of given ≡ field.0 ∷ [])
+field_from true taken found field is = absurd cc
+field_from false taken None field is = absurd cc
+field_from false taken (Some (whole.Field base name)) field is = (whole.Field base name, refl, ap (λ b. b ∷ []) (step_base base.0 (taken base) field is))
+field_from false taken (Some _) field is = absurd cc
 
 field_holds : (source : Source) (e : ℕ) (field : ℕ × PlaceElem) → assigned_field source e ≡ Some field → (given : Expr) × (expr_of source.body e ≡ Some given) × (children_of given ≡ field.0 ∷ [])
 unfolding assigned_field
-field_holds source e field is = field_from (is_adjusted_twice source.infer (record { 0 = e })) (field_named source.infer (record { 0 = e })) (expr_of source.body e) field is
+field_holds source e field is = field_from (is_adjusted_twice source.infer (record { 0 = e })) (field_taken source.infer (record { 0 = e })) (expr_of source.body e) field is
 
 -- what the target of a compound assignment evaluates it holds
 assigned_part_is_child : (source : Source) (e : ℕ) (field : Option (ℕ × PlaceElem)) (child : ℕ) → assigned_field source e ≡ field → Contains (assigned_parts (assigned_by e field)) child →

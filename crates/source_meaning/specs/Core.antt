@@ -1,5 +1,5 @@
 -- The expressions that have a meaning so far.
-use Rattle.std.specs.Prelude.{ℕ, Bool, true, false, not, ◌||◌, ◌&&◌, ◌==◌, List, [], ◌∷◌, Option, Some, None, suc, is_some, if◌then◌else◌, ℤ, pos, option_map, option_and_then}
+use Rattle.std.specs.Prelude.{ℕ, Bool, true, false, not, ◌||◌, ◌&&◌, ◌==◌, List, [], ◌∷◌, length, Option, Some, None, suc, is_some, if◌then◌else◌, ℤ, pos, option_map, option_and_then}
 use Rattle.std.specs.BTreeMap.{is_at}
 use Rattle.std.specs.List.{list_any}
 use Rattle.std.specs.Map.{lookup}
@@ -46,7 +46,7 @@ use Rattle.world.specs.declared.pat.Pat.TheVariants as pat
 use Rattle.world.specs.declared.pat.Pat.{Pat}
 use Rattle.world.specs.Lookups.{type_of}
 use Rattle.world.specs.Nodes.{expr_numbers, field_numbers}
-use Rattle.source_meaning.specs.Structs.{StructAt, all_places}
+use Rattle.source_meaning.specs.Structs.{StructAt, all_places, struct_args}
 
 -- a literal with a meaning: a truth value, a whole number, or a character, by its code point
 pub data CoreLiteral : Type 0 where
@@ -146,19 +146,21 @@ binary_form to lhs rhs (binary.Assignment op) = compound_form to rhs op
 abbrev pub unary_form : ℕ → Option Operation → Option CoreExpr
 unary_form e operation = option_map (λ op. Strict op (e ∷ [])) operation
 
--- the step to a field, by what has it: so far one of a struct, and none of a variant or a union
-abbrev pub step_to : FieldId → VariantId → Option PlaceElem
-step_to field (variant.StructId id) = Some (FieldOf field)
-step_to field _ = None
+-- whether there are generic arguments, and none among them
+abbrev pub are_none : Option GenericArgs → Bool
+are_none (Some args) = length args.0 == 0
+are_none None = false
 
--- the step that a field expression takes, by what inference resolved it to. The name that is written isn't looked at.
-abbrev pub field_step : Either FieldId TupleFieldId → Option PlaceElem
-field_step (Left field) = step_to field field.parent
-field_step (Right field) = Some (Part field.index)
+-- the step to a field, by what has it and by the type of the base: so far one of a struct without generic arguments, which the base is, and none
+-- of a variant or a union
+abbrev pub step_to : (base : Option Ty) → FieldId → VariantId → Option PlaceElem
+step_to base field (variant.StructId id) = if are_none (option_and_then (struct_args id) base) then Some (FieldOf field) else None
+step_to base field _ = None
 
--- a field of a base, by what inference resolved it to
-abbrev pub field_form : ℕ → Option (Either FieldId TupleFieldId) → Option CoreExpr
-field_form base named = option_map (Field base) (option_and_then field_step named)
+-- the step that a field expression takes, by the type of its base and by what inference resolved it to. The name that is written isn't looked at.
+abbrev pub field_step : (base : Option Ty) → Either FieldId TupleFieldId → Option PlaceElem
+field_step base (Left field) = step_to base field field.parent
+field_step base (Right field) = Some (Part field.index)
 
 -- A struct literal without a base, by the struct that it makes and the fields that are written: each field of the struct has to be written
 -- once. One with a base, and one of a variant or a union, has no meaning so far.
@@ -173,8 +175,8 @@ pub record Findings : Type 0 where
   pub names_item : Bool
   -- what it computes, where it is a cast of an operand that has a meaning
   pub casts : ExprId → Option Operation
-  -- what it is resolved to, where it names a field
-  pub field : Option (Either FieldId TupleFieldId)
+  -- the step that it takes from its base, where it names a field
+  pub field : ExprId → Option PlaceElem
   -- the struct that it makes a value of, where it is resolved to one
   pub made : Option StructAt
   -- what a pattern is as the target of an assignment
@@ -186,7 +188,7 @@ pub record Findings : Type 0 where
 abbrev pub core_of : Findings → Expr → Option CoreExpr
 core_of found (expr.Literal given) = option_map Literal (core_literal given)
 core_of found (expr.Path name) = if found.names_item then None else Some (Path name)
-core_of found (expr.Field base name) = field_form base.0 found.field
+core_of found (expr.Field base name) = option_map (Field base.0) (found.field base)
 core_of found (expr.UnaryOp e op) = unary_form e.0 (unary_operation op)
 core_of found (expr.Cast operand) = unary_form operand.0 (found.casts operand)
 core_of found (expr.BinaryOp lhs rhs op) = option_and_then (binary_form (found.assigned lhs) lhs.0 rhs.0) op
@@ -260,6 +262,10 @@ cast_operation infer cast operand =
 abbrev pub field_named : InferenceResult → ExprId → Option (Either FieldId TupleFieldId)
 field_named infer e = lookup (is_at (ExprIdOrd.ghosts.cmp e)) infer.field_res
 
+-- the step that a field expression takes from its base
+abbrev pub field_taken : InferenceResult → (e base : ExprId) → Option PlaceElem
+field_taken infer e base = option_and_then (field_step (value_type infer base)) (field_named infer e)
+
 -- whether a path is resolved to an associated item or a variant
 unfoldable pub names_item : InferenceResult → ExprId → Bool
 names_item infer e =
@@ -300,9 +306,9 @@ abbrev pub step_from : (base : ℕ) → Option PlaceElem → Option (ℕ × Plac
 step_from base step = option_map (λ elem. (base, elem)) step
 
 -- the base and the step of the field that an expression is, where it is one
-abbrev pub part_in : Option (Either FieldId TupleFieldId) → Expr → Option (ℕ × PlaceElem)
-part_in named (expr.Field base name) = step_from base.0 (option_and_then field_step named)
-part_in named _ = None
+abbrev pub part_in : (taken : ExprId → Option PlaceElem) → Expr → Option (ℕ × PlaceElem)
+part_in taken (expr.Field base name) = step_from base.0 (taken base)
+part_in taken _ = None
 
 -- the expression that a pattern holds as the target of an assignment
 abbrev pub expr_in : Pat → Option ExprId

@@ -17,7 +17,7 @@ use Rattle.types.specs.declared.ids.PatId.{PatId}
 use Rattle.types.specs.declared.ids.VariantId.{VariantId}
 use Rattle.world.specs.Lookups.{layout_of, type_of, expr_of, is_copy}
 use Rattle.source_meaning.specs.Contents.{Contents, holding}
-use Rattle.source_meaning.specs.Core.{Assigned, Assignee, ByField, ByPath, ByPattern, ByPlace, CoreExpr, Findings, PlaceElem, cast_operation, core_of, expr_in, field_named, is_adjusted_otherwise, is_adjusted_twice, named_path, part_in, type_after, is_adjusted_pattern, is_dereferenced_pattern, path_of, pattern_names_item, local_named, name_of, names_item, never_target}
+use Rattle.source_meaning.specs.Core.{Assigned, Assignee, ByField, ByPath, ByPattern, ByPlace, CoreExpr, Findings, PlaceElem, cast_operation, core_of, expr_in, field_taken, is_adjusted_otherwise, is_adjusted_twice, named_path, part_in, type_after, is_adjusted_pattern, is_dereferenced_pattern, path_of, pattern_names_item, local_named, name_of, names_item, never_target}
 use Rattle.source_meaning.specs.Structs.{struct_made}
 
 -- a typed body in its world, and the arguments of its generics, of which there are none in any body that has a meaning so far
@@ -48,7 +48,7 @@ assignee source p = assignee_by p.0 (pattern_expr source p.0)
 unfoldable pub assigned_field : Source → ℕ → Option (ℕ × PlaceElem)
 assigned_field source e =
     if is_adjusted_twice source.infer (record { 0 = e }) then None
-    else option_and_then (part_in (field_named source.infer (record { 0 = e }))) (expr_of source.body e)
+    else option_and_then (part_in (field_taken source.infer (record { 0 = e }))) (expr_of source.body e)
 
 -- what an expression is as the target of a compound assignment
 abbrev pub assigned_by : ℕ → Option (ℕ × PlaceElem) → Assigned
@@ -67,7 +67,7 @@ abbrev pub findings : Source → ℕ → Findings
 findings source e = record {
   names_item = names_item source.infer (record { 0 = e });
   casts = cast_operation source.infer (record { 0 = e });
-  field = field_named source.infer (record { 0 = e });
+  field = field_taken source.infer (record { 0 = e });
   made = struct_made source.world (variant_named source e) (type_of source.infer e);
   assignee = assignee source;
   assigned = assigned source;

@@ -1,6 +1,7 @@
 -- A field's form is by what it is resolved to, and a struct literal's by the struct that it makes. The other variants have no form with a meaning.
 use Rattle.std.proofs.Common.{sym, ap, ◌∙◌, subst}
-use Rattle.source_meaning.specs.Core.{field_form, record_form}
+use Rattle.std.specs.Prelude.{option_map}
+use Rattle.source_meaning.specs.Core.{Field, record_form}
 use Rattle.source_meaning.specs.Source.{findings}
 use Rattle.world.specs.declared.expr.Expr.{Expr}
 use Rattle.body_forms.specs.Contexts.{source_of}
@@ -12,7 +13,7 @@ pub returns-in-Field : goal.returns-in-Field
 returns-in-Field c =
     let given = c.field_form.ensures c.in-Field.name in
     subst (λ (x : Expr). IsFormOf (findings (source_of c.args.context.now) c.args.e.0) x c.field_form.result) (sym c.in-Field.is)
-    (record { core = ap (field_form c.in-Field.expr.0) (sym c.field_named.ensures) ∙ given.core; cause = given.cause })
+    (record { core = ap (option_map (Field c.in-Field.expr.0)) (sym c.field_taken.ensures) ∙ given.core; cause = given.cause })
 
 pub returns-in-RecordLit : goal.returns-in-RecordLit
 returns-in-RecordLit c =
