@@ -64,7 +64,7 @@ unfoldable pub depth : Ty → ℕ
 depth = fold-Ty _ _ _ _ _ _ _ _ _ const_layer arg_layer map_layer ty_layer complex_layer args_layer bound_layer unevaluated_layer value_layer
 
 -- The height of a type: 1 for a scalar, a tuple without parts and an array of no elements, and one more than the highest part for any other
--- tuple or array. Structs, enums and closures have the height 1 so far: no valid definition makes a value of theirs.
+-- tuple or array. Structs have the height 1 so far, whatever their fields are, and so have enums and closures, of which no valid definition makes a value.
 abbrev pub height : Ty → ℕ
 height ty = suc (depth ty)
 

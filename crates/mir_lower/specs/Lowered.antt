@@ -35,7 +35,7 @@ abbrev pub HasLayouts : Source → Shape → Type 0
 HasLayouts source s = (l : ℕ) (local : Local) → slice_get s.locals l ≡ Some local → IsLaidOut source (Some local.ty)
 
 -- each expression that is evaluated where one is has a plain form, each jump there has a target, and the types of the loops and
--- labelled blocks around it have layouts; the layouts of tuples have their parts inside
+-- labelled blocks around it have layouts; the layouts of tuples and structs have their parts inside
 pub record IsPlainWithin (source : Source) (e : ℕ) : Type 0 where
   pub aggregates : HasAggregates source.world
   pub nodes : IsPlainFrom source e

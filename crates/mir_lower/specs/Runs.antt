@@ -51,7 +51,7 @@ pub record EndsAfter (turns : ℕ) (ends : Ending → Type 0) (run : ℕ → End
   pub with_more : (more : ℕ) → (ending : Ending) × ends ending × (run (turns + more) ≡ record { ending = ending; left = more })
   pub with_fewer : Enters turns run
 
--- the types that a source needs have layouts, it is plain, as are all that it reaches by calls, and tuples and arrays have room for their parts
+-- the types that a source needs have layouts, it is plain, as are all that it reaches by calls, and tuples, arrays and structs have room for their parts
 pub record IsFit (source : Source) : Type 0 where
   pub plain : IsPlainThroughout source
   pub laid_out : AreLaidOut source

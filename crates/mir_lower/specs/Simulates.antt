@@ -41,7 +41,7 @@ EndsAs source program fuel run =
 -- the run goes by, where each body among these does at less fuel what its function's source means, the body runs as its meaning from that
 -- store says, or stops at a call. `runs`: so it does alone, from zeroed locals in the source's world, where that can begin. All locals together
 -- take no more bytes than the source counts for its cells (`room`). Where the source is plain, each local's type has a layout, and the layouts
--- of tuples have their parts inside, the types of all that is evaluated have layouts (`laid_out`).
+-- of tuples and structs have their parts inside, the types of all that is evaluated have layouts (`laid_out`).
 pub record Simulates (source : Source) (body : MirBody) : Type 0 where
   pub allotted : Cell → Option ℕ
   pub result : allotted Result ≡ Some 0

@@ -16,7 +16,7 @@ abbrev pub MoreFuelChangesNothing : Type 0
 MoreFuelChangesNothing = (source : Source) (store : Store) (fuel more : ℕ) → fuel ≤ more → IsOver (meaning_from source store fuel) →
     meaning_from source store more ≡ meaning_from source store fuel
 
--- A body of a checked world, in which tuples and arrays have room for their parts, that is plain, as are all that it reaches by calls, is never
+-- A body of a checked world, in which tuples, arrays and structs have room for their parts, that is plain, as are all that it reaches by calls, is never
 -- stuck, where it begins with as many bytes in each cell as the cell's type has.
 abbrev pub PlainIsNeverStuck : Type 0
 PlainIsNeverStuck =

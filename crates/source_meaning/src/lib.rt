@@ -9,7 +9,7 @@ pub fn more_fuel_changes_nothing()
     ensures { MoreFuelChangesNothing }
 {}
 
-/// A body of a checked world, in which tuples and arrays have room for their parts, always has a meaning, if it is plain, as those that it
+/// A body of a checked world, in which tuples, arrays and structs have room for their parts, always has a meaning, if it is plain, as those that it
 /// calls. Where a type that a body needs has no layout, its meaning is that it can't be entered.
 pub fn plain_is_never_stuck()
     ensures { PlainIsNeverStuck }
