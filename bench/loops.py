@@ -46,6 +46,13 @@ SOURCES = {
         "u64 = { let mut t = (0u64, (0u64, 0u8)); while t.0 < TURNS "
         "{ t.1.0 = t.1.0 + t.0; t.1.0 %= 1_000_003; t.1.0 ^= t.0; t.1.0 &= 0xffff_ffff; t.0 += 1; } t.1.0 };",
     ),
+    "structs": (
+        "the same over fields of structs",
+        "u64 = { let mut t = Outer { turn: 0, inner: Inner { sum: 0, byte: 0 } }; while t.turn < TURNS "
+        "{ t.inner.sum = t.inner.sum + t.turn; t.inner.sum %= 1_000_003; t.inner.sum ^= t.turn; t.inner.sum &= 0xffff_ffff; t.turn += 1; } t.inner.sum };\n"
+        "#[derive(Clone, Copy)] struct Inner { sum: u64, byte: u8 }\n"
+        "#[derive(Clone, Copy)] struct Outer { turn: u64, inner: Inner }",
+    ),
     "sum": (
         "three operators and a condition",
         "u64 = { let mut i = 0u64; let mut s = 0u64; while i < TURNS { s = (s ^ i) & 0xffff_ffff; i = i + 1; } s };",
