@@ -111,6 +111,14 @@ def shown_type(ty):
     raise Unknown(f"the text of {ty}")
 
 
+def struct_in(ty):
+    """The number of a struct's type, with its generic arguments, or None."""
+    name, part = variant(ty)
+    if name != "Adt" or variant(part[0])[0] != "StructId":
+        return None
+    return part[0]["StructId"], part[1]
+
+
 def shown_length(constant):
     """The text of an array's length: a number, where it has as many bytes as some integer has, or else its bytes."""
     name, value = variant(constant)
@@ -386,9 +394,29 @@ class Reading:
         self.named(self.rows["value_res"], e, part)
 
     def own_field(self, e, part):
-        if "Right" not in self.rows["field_res"].get(e, {}):
-            raise Refusal(NOT_BUILT)
+        """A part of a tuple, or a field of the struct that the base is by its type, without generic arguments."""
+        found = self.rows["field_res"].get(e, {})
+        if "Right" not in found:
+            parent = found.get("Left", {}).get("parent", {})
+            if "StructId" not in parent or struct_in(self.value_type(part["expr"])) != (parent["StructId"], []):
+                raise Refusal(NOT_BUILT)
         self.place(part["expr"])
+
+    def value_type(self, e):
+        """The type of an expression's value."""
+        target = [step["target"] for step in self.rows["expr_adjustments"].get(e, []) if step["kind"] == "NeverToAny"]
+        return target[0] if len(self.rows["expr_adjustments"].get(e, [])) == 1 and target else self.body.infer["expr_types"][e]
+
+    def own_recordlit(self, e, part):
+        """A struct literal without a base, which writes as many fields as the struct has, each of these among them."""
+        found, made = self.rows["variant_res"].get(e, {}), struct_in(self.body.infer["expr_types"][e])
+        if part["spread"] != "None" or made is None or found != {"StructId": made[0]}:
+            raise Refusal(NOT_BUILT)
+        names = [one["name"] for one in self.world["structs"][made[0]].get("fields", [])]
+        written = part.get("fields", [])
+        if len(names) != len(written) or not set(names) <= {one["name"] for one in written}:
+            raise Refusal(NOT_BUILT)
+        self.operands([one["expr"] for one in written])
 
     def own_unaryop(self, e, part):
         if part["op"] == "Deref":
@@ -753,9 +781,8 @@ class Run:
         base = self.place(frame, part["expr"])
         if base == NOWHERE:
             return NOWHERE
-        whole, number = self.place_type(frame, base), frame.body.rows["field_res"][e]["Right"]["index"]
-        name, types = variant(whole)
-        if name != "Tuple" or number >= len(types):
+        whole, (types, number) = self.place_type(frame, base), self.step(frame, e, self.place_type(frame, base))
+        if number >= len(types):
             return NOWHERE
         layouts = [self.layouts.get(key(ty)) for ty in (whole, types[number])]
         if None in layouts or number >= len(layouts[0].get("offsets", [])):
@@ -764,6 +791,15 @@ class Run:
         if start + size > layouts[0]["size"]:
             raise Unknown("a part that ends behind its tuple")
         return Part(base, start, size, types[number])
+
+    def step(self, frame, e, whole):
+        """The types of the parts that a value has, and the place among them of the part that a field expression takes."""
+        found, (name, part) = frame.body.rows["field_res"][e], variant(whole)
+        if "Right" in found:
+            return (part if name == "Tuple" else []), found["Right"]["index"]
+        field, is_struct = found["Left"], struct_in(whole) is not None and not part[1]
+        rows = self.world["structs"][field["parent"]["StructId"]].get("fields", []) if is_struct else []
+        return [row["ty"] for row in rows], field["local_id"]
 
     def place_type(self, frame, place):
         """The type of a place."""
@@ -791,8 +827,8 @@ class Run:
         if name == "Path":
             return frame.body.infer["binding_types"][frame.body.rows["value_res"][e]["LocalBinding"]]
         if name == "Field":
-            _, types = variant(self.operand_type(frame, part["expr"]))
-            return types[frame.body.rows["field_res"][e]["Right"]["index"]]
+            types, number = self.step(frame, e, self.operand_type(frame, part["expr"]))
+            return types[number]
         return frame.body.infer["expr_types"][e]
 
     def into(self, frame, e, cell):
@@ -852,8 +888,20 @@ class Run:
         self.put(frame, cell, given)
 
     def own_tuple(self, frame, e, part, cell):
-        """A tuple. Its parts are put in order to their offsets in zero bytes."""
-        parts = self.values(frame, part.get("exprs", []))
+        """A tuple, by its parts."""
+        self.laid(frame, e, self.values(frame, part.get("exprs", [])), cell)
+
+    def own_recordlit(self, frame, e, part, cell):
+        """A struct. What is written is evaluated in its order, and then the fields are put in the order of the struct's row."""
+        written = part.get("fields", [])
+        values = self.values(frame, [one["expr"] for one in written])
+        names = [one["name"] for one in written]
+        number, _ = struct_in(frame.body.infer["expr_types"][e])
+        fields = self.world["structs"][number].get("fields", [])
+        self.laid(frame, e, [values[names.index(one["name"])] for one in fields], cell)
+
+    def laid(self, frame, e, parts, cell):
+        """A value with parts, which are put in order to their offsets in zero bytes."""
         layout = self.layouts.get(key(frame.body.infer["expr_types"][e]))
         if layout is None:
             raise Fault('InternalError("mismatched layout")', frame.trail)
