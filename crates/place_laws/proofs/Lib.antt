@@ -1,3 +1,4 @@
+mod Literals
 mod Parts
 mod Placed
 mod Writes

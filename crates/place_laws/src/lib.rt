@@ -2,6 +2,7 @@
 //! the functions here have no code: each is a law about it.
 #![tactic(auto)]
 
+ghost use Rattle.place_laws.specs.Literals.{LiteralsGiveTheirFields};
 ghost use Rattle.place_laws.specs.Parts.{FieldsAreParts, PartsAreRead, StructsHaveTheirFields, TuplesHaveTheirParts};
 ghost use Rattle.place_laws.specs.Writes.{WritesAreRead, WritesKeepOthers, WritesKeepTheRest};
 
@@ -23,6 +24,11 @@ pub fn tuples_have_their_parts()
 /// Each field of a struct is the part that the struct was made of for it, if no two parts share a byte.
 pub fn structs_have_their_fields()
     ensures { StructsHaveTheirFields }
+{}
+
+/// What a struct literal puts into each field of its struct is the value of the written field of that name.
+pub fn literals_give_their_fields()
+    ensures { LiteralsGiveTheirFields }
 {}
 
 /// What is put at a place lies there afterwards.

@@ -1,0 +1,70 @@
+-- What the fields of a struct literal are given.
+use Rattle.std.proofs.Common.{◌≡◌, ℕ, zero, suc, ◌<◌, ◌==◌, Bool, true, false, List, [], ◌∷◌, length, get_or, slice_get, Option, Some, None, option_map, option_and_then, if◌then◌else◌, refl, sym, ap, subst, arith}
+use Rattle.std.specs.Cmp.{unsigned_Decides}
+use Rattle.std.specs.Cmp.Lexicographic.{pointwise, pointwise_decides}
+use Rattle.std.proofs.lemmas.List.Quantifiers.{position-Some}
+use Rattle.std.proofs.lemmas.Option.{slice_get-get_or, slice_get_within}
+use Rattle.world.specs.declared.expr.RecordLitField.{RecordLitField}
+use Rattle.world.specs.declared.items.FieldRow.{FieldRow}
+use Rattle.source_meaning.specs.Meaning.{Value}
+use Rattle.source_meaning.specs.Structs.{picked, place_named, places_named}
+use Rattle.source_meaning.proofs.Structs.{picked-more, picked-none}
+use Rattle.place_laws.specs.Literals.{AreGiven, IsGiven, LiteralsGiveTheirFields}
+
+-- the written field at the place of a name has that name
+record HasName (name : List ℕ) (written : List RecordLitField) (place : ℕ) : Type 0 where
+  one : RecordLitField
+  stands : slice_get written place ≡ Some one
+  named : one.name ≡ name
+
+has-name : (name : List ℕ) (written : List RecordLitField) (place : ℕ) → place_named name written ≡ Some place → HasName name written place
+has-name name [] place is = absurd cc
+has-name name (first ∷ rest) place is =
+    let found = position-Some (λ (field : RecordLitField). pointwise ◌==◌ field.name name) (first ∷ rest) place first is in
+    let one = get_or (first ∷ rest) place first in
+    record { one = one; stands = slice_get-get_or (first ∷ rest) place first found.0; named = (pointwise_decides unsigned_Decides one.name name).0 found.1 }
+
+-- there is an element below a list's length
+element-at : {A : Type 0} (xs : List A) (k : ℕ) → k < length xs → (x : A) × (slice_get xs k ≡ Some x)
+element-at [] k below = absurd (omega arith)
+element-at (x ∷ xs) zero below = (x, refl)
+element-at (x ∷ xs) (suc k) below = element-at xs k (omega arith)
+
+both : {A : Type 0} (first : Option ℕ) (rest : Option (List ℕ)) (places : List ℕ) → option_and_then (λ place. option_map (λ others. place ∷ others) rest) first ≡ Some places →
+    ((place : ℕ) (others : List ℕ) → first ≡ Some place → rest ≡ Some others → places ≡ place ∷ others → A) → A
+both (Some place) (Some others) places is goal = goal place others refl refl (let same : place ∷ others ≡ places = cc in sym same)
+both (Some place) None places is goal = absurd cc
+both None rest places is goal = absurd cc
+
+are-given : (rows : List FieldRow) (written : List RecordLitField) (places : List ℕ) (values : List Value) → places_named rows written ≡ Some places → length values ≡ length written → AreGiven rows written places values
+unfolding places_named
+are-given [] written places values is many =
+    let same : places ≡ [] = cc in
+    record { fields = []; picks = subst (λ ps. picked ps values ≡ Some []) (sym same) (picked-none values); many = refl; each = λ k row at. absurd cc }
+are-given (field ∷ rows) written places values is many =
+    both (place_named field.name written) (places_named rows written) places is (λ place others at rest same.
+    let named = has-name field.name written place at in
+    let value = element-at values place (subst (λ n. place < n) (sym many) (slice_get_within written place named.one named.stands)) in
+    let later = are-given rows written others values rest many in
+    record {
+      fields = value.0 ∷ later.fields;
+      picks = subst (λ ps. picked ps values ≡ Some (value.0 ∷ later.fields)) (sym same) (picked-more place others values value.0 later.fields value.1 later.picks);
+      many = ap suc later.many;
+      each = each-of place named value later;
+    })
+  where
+    each-of : (place : ℕ) → HasName field.name written place → (value : (v : Value) × (slice_get values place ≡ Some v)) → {others : List ℕ} (later : AreGiven rows written others values) →
+        (k : ℕ) (row : FieldRow) → slice_get (field ∷ rows) k ≡ Some row → IsGiven written values (value.0 ∷ later.fields) k row.name
+    each-of place named value later zero row at =
+        let same : field ≡ row = cc in
+        record { place = place; one = named.one; stands = named.stands; named = subst (λ (r : FieldRow). named.one.name ≡ r.name) same named.named; value = value.0; evaluated = value.1; there = refl }
+    each-of place named value later (suc k) row at =
+        let given = later.each k row at in
+        record { place = given.place; one = given.one; stands = given.stands; named = given.named; value = given.value; evaluated = given.evaluated; there = given.there }
+
+pub literals : LiteralsGiveTheirFields
+literals rows written places values is many = by_test (length rows == length written) is
+  where
+    by_test : (test : Bool) → if test then places_named rows written else None ≡ Some places → AreGiven rows written places values
+    by_test true found = are-given rows written places values found many
+    by_test false found = absurd cc
