@@ -1,4 +1,5 @@
 mod Literals
 mod Parts
+mod Pigeons
 mod Placed
 mod Writes

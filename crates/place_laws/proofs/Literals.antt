@@ -1,5 +1,5 @@
 -- What the fields of a struct literal are given.
-use Rattle.std.proofs.Common.{◌≡◌, ℕ, zero, suc, ◌<◌, ◌==◌, Bool, true, false, List, [], ◌∷◌, length, get_or, slice_get, Option, Some, None, option_map, option_and_then, if◌then◌else◌, refl, sym, ap, subst, arith}
+use Rattle.std.proofs.Common.{◌≡◌, ℕ, zero, suc, ◌<◌, ◌==◌, Bool, true, false, List, [], ◌∷◌, length, get_or, slice_get, Option, Some, None, option_map, option_and_then, if◌then◌else◌, refl, sym, ap, ◌∙◌, subst, eqb-true, arith}
 use Rattle.std.specs.Cmp.{unsigned_Decides}
 use Rattle.std.specs.Cmp.Lexicographic.{pointwise, pointwise_decides}
 use Rattle.std.proofs.lemmas.List.Quantifiers.{position-Some}
@@ -9,7 +9,8 @@ use Rattle.world.specs.declared.items.FieldRow.{FieldRow}
 use Rattle.source_meaning.specs.Meaning.{Value}
 use Rattle.source_meaning.specs.Structs.{picked, place_named, places_named}
 use Rattle.source_meaning.proofs.Structs.{picked-more, picked-none}
-use Rattle.place_laws.specs.Literals.{AreGiven, IsGiven, LiteralsGiveTheirFields}
+use Rattle.place_laws.specs.Literals.{AreGiven, HaveOwnNames, IsGiven, LiteralsGiveTheirFields, LiteralsUseEachField}
+use Rattle.place_laws.proofs.Pigeons.{AreApart, each-stands}
 
 -- the written field at the place of a name has that name
 record HasName (name : List ℕ) (written : List RecordLitField) (place : ℕ) : Type 0 where
@@ -68,3 +69,56 @@ literals rows written places values is many = by_test (length rows == length wri
     by_test : (test : Bool) → if test then places_named rows written else None ≡ Some places → AreGiven rows written places values
     by_test true found = are-given rows written places values found many
     by_test false found = absurd cc
+
+-- the place at an index is that of a written field which has the name of the row there
+record IsPlaced (rows : List FieldRow) (written : List RecordLitField) (k place : ℕ) : Type 0 where
+  row : FieldRow
+  at : slice_get rows k ≡ Some row
+  named : HasName row.name written place
+
+placed : (rows : List FieldRow) (written : List RecordLitField) (places : List ℕ) → places_named rows written ≡ Some places →
+    (length places ≡ length rows) × ((k place : ℕ) → slice_get places k ≡ Some place → IsPlaced rows written k place)
+unfolding places_named
+placed [] written places is =
+    let same : places ≡ [] = cc in
+    (ap length same, λ k place at. absurd (let none : slice_get [] k ≡ Some place = subst (λ ps. slice_get ps k ≡ Some place) same at in cc))
+placed (field ∷ rows) written places is =
+    both (place_named field.name written) (places_named rows written) places is (λ first others at rest same.
+    let later = placed rows written others rest in
+    (ap length same ∙ ap suc later.0, λ k place there. each-of first others at later.1 k place (subst (λ ps. slice_get ps k ≡ Some place) same there)))
+  where
+    each-of : (first : ℕ) (others : List ℕ) → place_named field.name written ≡ Some first → ((k place : ℕ) → slice_get others k ≡ Some place → IsPlaced rows written k place) →
+        (k place : ℕ) → slice_get (first ∷ others) k ≡ Some place → IsPlaced (field ∷ rows) written k place
+    each-of first others at later zero place there =
+        let same : first ≡ place = cc in
+        record { row = field; at = refl; named = has-name field.name written place (subst (λ p. place_named field.name written ≡ Some p) same at) }
+    each-of first others at later (suc k) place there =
+        let found = later k place there in
+        record { row = found.row; at = found.at; named = found.named }
+
+use-each : (rows : List FieldRow) (written : List RecordLitField) (places : List ℕ) → HaveOwnNames rows → length rows ≡ length written → places_named rows written ≡ Some places →
+    (place : ℕ) → place < length written → (k : ℕ) × (slice_get places k ≡ Some place)
+use-each rows written places own many is place less = each-stands places apart (λ k v at. subst (λ n. v < n) (sym long) (within k v at)) place (subst (λ n. place < n) (sym long) less)
+  where
+    all : (length places ≡ length rows) × ((k v : ℕ) → slice_get places k ≡ Some v → IsPlaced rows written k v)
+    all = placed rows written places is
+
+    long : length places ≡ length written
+    long = all.0 ∙ many
+
+    within : (k v : ℕ) → slice_get places k ≡ Some v → v < length written
+    within k v at = let found = all.1 k v at in slice_get_within written v found.named.one found.named.stands
+
+    apart : AreApart places
+    apart i j v one other =
+        let here = all.1 i v one in
+        let there = all.1 j v other in
+        let same : here.named.one ≡ there.named.one = (let read : Some here.named.one ≡ Some there.named.one = sym here.named.stands ∙ there.named.stands in cc) in
+        own i j here.row there.row here.at there.at (sym here.named.named ∙ ap (λ (field : RecordLitField). field.name) same ∙ there.named.named)
+
+pub each-used : LiteralsUseEachField
+each-used rows written places own is place less = by_test (length rows == length written) refl is
+  where
+    by_test : (test : Bool) → length rows == length written ≡ test → if test then places_named rows written else None ≡ Some places → (k : ℕ) × (slice_get places k ≡ Some place)
+    by_test true many found = use-each rows written places own (eqb-true (length rows) (length written) many) found place less
+    by_test false many found = absurd cc

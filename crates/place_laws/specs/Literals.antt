@@ -1,5 +1,5 @@
--- What the fields of a struct literal are given.
-use Rattle.std.specs.Prelude.{◌≡◌, ℕ, List, length, slice_get, Some}
+-- What the fields of a struct literal are given, and that nothing which is written in it is lost.
+use Rattle.std.specs.Prelude.{◌≡◌, ℕ, ◌<◌, List, length, slice_get, Some}
 use Rattle.world.specs.declared.expr.RecordLitField.{RecordLitField}
 use Rattle.world.specs.declared.items.FieldRow.{FieldRow}
 use Rattle.source_meaning.specs.Meaning.{Value}
@@ -27,3 +27,13 @@ abbrev pub LiteralsGiveTheirFields : Type 0
 LiteralsGiveTheirFields =
     (rows : List FieldRow) (written : List RecordLitField) (places : List ℕ) (values : List Value) →
     all_places rows written ≡ Some places → length values ≡ length written → AreGiven rows written places values
+
+-- no two of a struct's fields have one name
+abbrev pub HaveOwnNames : List FieldRow → Type 0
+HaveOwnNames rows = (i j : ℕ) (one other : FieldRow) → slice_get rows i ≡ Some one → slice_get rows j ≡ Some other → one.name ≡ other.name → i ≡ j
+
+-- Where a struct's fields have names of their own, a literal has a field for each value that is written in it.
+abbrev pub LiteralsUseEachField : Type 0
+LiteralsUseEachField =
+    (rows : List FieldRow) (written : List RecordLitField) (places : List ℕ) → HaveOwnNames rows → all_places rows written ≡ Some places →
+    (place : ℕ) → place < length written → (k : ℕ) × (slice_get places k ≡ Some place)

@@ -2,7 +2,7 @@
 //! the functions here have no code: each is a law about it.
 #![tactic(auto)]
 
-ghost use Rattle.place_laws.specs.Literals.{LiteralsGiveTheirFields};
+ghost use Rattle.place_laws.specs.Literals.{LiteralsGiveTheirFields, LiteralsUseEachField};
 ghost use Rattle.place_laws.specs.Parts.{FieldsAreParts, PartsAreRead, StructsHaveTheirFields, TuplesHaveTheirParts};
 ghost use Rattle.place_laws.specs.Writes.{WritesAreRead, WritesKeepOthers, WritesKeepTheRest};
 
@@ -29,6 +29,11 @@ pub fn structs_have_their_fields()
 /// What a struct literal puts into each field of its struct is the value of the written field of that name.
 pub fn literals_give_their_fields()
     ensures { LiteralsGiveTheirFields }
+{}
+
+/// Where the fields of a struct have names of their own, each value that is written in its literal goes into one of them.
+pub fn literals_use_each_field()
+    ensures { LiteralsUseEachField }
 {}
 
 /// What is put at a place lies there afterwards.
