@@ -1,5 +1,5 @@
 mod Literals
 mod Parts
-mod Pigeons
+mod Pigeonhole
 mod Placed
 mod Writes

@@ -10,7 +10,7 @@ use Rattle.source_meaning.specs.Meaning.{Value}
 use Rattle.source_meaning.specs.Structs.{picked, place_named, places_named}
 use Rattle.source_meaning.proofs.Structs.{picked-more, picked-none}
 use Rattle.place_laws.specs.Literals.{AreGiven, HaveOwnNames, IsGiven, LiteralsGiveTheirFields, LiteralsUseEachField}
-use Rattle.place_laws.proofs.Pigeons.{AreApart, each-stands}
+use Rattle.place_laws.proofs.Pigeonhole.{AreApart, each-stands}
 
 -- the written field at the place of a name has that name
 record HasName (name : List ℕ) (written : List RecordLitField) (place : ℕ) : Type 0 where

@@ -5,7 +5,7 @@ use Rattle.world.specs.declared.items.FieldRow.{FieldRow}
 use Rattle.source_meaning.specs.Meaning.{Value}
 use Rattle.source_meaning.specs.Structs.{all_places, picked}
 
--- the value at an index among those of the fields is the one that a written field of a name was evaluated to
+-- the value at an index among those of the fields is what a written field of a name was evaluated to
 pub record IsGiven (written : List RecordLitField) (values fields : List Value) (k : ℕ) (name : List ℕ) : Type 0 where
   pub place : ℕ
   pub one : RecordLitField
@@ -15,14 +15,14 @@ pub record IsGiven (written : List RecordLitField) (values fields : List Value) 
   pub evaluated : slice_get values place ≡ Some value
   pub there : slice_get fields k ≡ Some value
 
--- there is a value for each field of a struct, and each is that of the written field of its name
+-- there is a value for each field of a struct, and each is that of a written field of its name
 pub record AreGiven (rows : List FieldRow) (written : List RecordLitField) (places : List ℕ) (values : List Value) : Type 0 where
   pub fields : List Value
   pub picks : picked places values ≡ Some fields
   pub many : length fields ≡ length rows
   pub each : (k : ℕ) (row : FieldRow) → slice_get rows k ≡ Some row → IsGiven written values fields k row.name
 
--- What a struct literal puts into the fields of its struct, in the order of their rows, are the values of the written fields of their names.
+-- What a struct literal puts into the fields of its struct, in the order of their rows, are values of written fields of their names.
 abbrev pub LiteralsGiveTheirFields : Type 0
 LiteralsGiveTheirFields =
     (rows : List FieldRow) (written : List RecordLitField) (places : List ℕ) (values : List Value) →

@@ -26,7 +26,7 @@ pub fn structs_have_their_fields()
     ensures { StructsHaveTheirFields }
 {}
 
-/// What a struct literal puts into each field of its struct is the value of the written field of that name.
+/// What a struct literal puts into each field of its struct is the value of a written field of that name.
 pub fn literals_give_their_fields()
     ensures { LiteralsGiveTheirFields }
 {}
