@@ -1,5 +1,5 @@
 -- How the nodes of a body hang together: what a node holds, the ways down from it and up from it, and the labels around it.
-use Rattle.std.specs.Prelude.{◌≡◌, ℕ, zero, suc, ◌<◌, ◌≤◌, true, false, List, Some, slice_get}
+use Rattle.std.specs.Prelude.{◌≡◌, ℕ, zero, suc, ◌<◌, ◌≤◌, true, false, Some}
 use Rattle.types.specs.declared.ids.LabelId.{LabelId}
 use Rattle.world.specs.Nodes.{children_of, jump_label, patterns_of, subpatterns_of}
 use Rattle.world.specs.declared.body.Body.{Body}
