@@ -4,11 +4,9 @@ ghost use Rattle.std.specs.Prelude.{◌≡◌, ◌<◌, ◌∷◌, ℕ, false, l
 ghost use Rattle.mir.specs.declared.errors.MirLowerError.TheVariants as refusal;
 ghost use Rattle.numbers.specs.declared.operator.Operator.{Operator};
 ghost use Rattle.world.specs.Checked.{IsCheckedBody};
-ghost use Rattle.mir.specs.declared.operand.OperandKind.TheVariants.{Copy};
 ghost use Rattle.source_meaning.specs.Source.{Cell, node, unadjusted};
 ghost use Rattle.source_meaning.specs.Core.{Combine, is_place};
 ghost use Rattle.source_meaning.specs.Core as expr;
-ghost use Rattle.source_meaning.specs.Meaning.{deciding_byte};
 ghost use Rattle.source_meaning.specs.Built.{IsBuiltAssigned, IsBuiltAssignee};
 ghost use Rattle.source_meaning.specs.Steps.{assigned_parts, assignee_parts, parts_of};
 ghost use Rattle.world.specs.declared.body.Statement.TheVariants as statement_kind;
@@ -495,14 +493,6 @@ fn lower_assignee(
     }
 }
 
-/// The span of the target of an assignment.
-fn assignee_span(to: Assignee) -> MirSpan {
-    match to {
-        Assignee::Pattern(pat) => MirSpan::PatId(pat),
-        Assignee::Place(target) => MirSpan::ExprId(target),
-    }
-}
-
 /// An assignment: the value's place, that of the target, and then the value's bytes are copied there. The assignment itself is `()`,
 /// of which nothing is written.
 #[cycle(lower)]
@@ -526,7 +516,11 @@ fn lower_assignment(
         kind: OperandKind::Copy(from),
         span: None,
     };
-    write(graph, place, Rvalue::Use(operand), assignee_span(to))
+    let span = match to {
+        Assignee::Pattern(pat) => MirSpan::PatId(pat),
+        Assignee::Place(target) => MirSpan::ExprId(target),
+    };
+    write(graph, place, Rvalue::Use(operand), span)
 }
 
 /// The place that a compound assignment reads and writes: the local that a path names, or a field's place.

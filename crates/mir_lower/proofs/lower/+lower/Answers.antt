@@ -959,7 +959,7 @@ lower_assignment-returns-clause-lowered t c =
     let idles = idles-read source s1 s2 c.in_ok-from.from (ExprId c.args.value) from.keeps.sound from.keeps.«open» c.in_ok-fake_read.ensures.added in
     on_ok_weaker c.write.result
     (λ added cell. lowers-assign source s0 s1 s2 s3 new c.args.e.0 (core_assignee c.args.to) c.args.value.0 c.in_ok-from.from c.in_ok-place.place cell c.requires.ready c.requires.form from idles place
-    (λ at other is-to is-from. assigns-place source s3 new c.in_ok-place.place c.in_ok-from.from _ c.assignee_span.result place.keeps.sound place.keeps.«open» refl added at other is-to is-from))
+    (λ at other is-to is-from. assigns-place source s3 new c.in_ok-place.place c.in_ok-from.from _ _ place.keeps.sound place.keeps.«open» refl added at other is-to is-from))
     c.write.ensures.added
 
 pub lower_assignment-returns-clause-built : goal.lower_assignment-returns-clause-built
