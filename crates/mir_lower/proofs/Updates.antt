@@ -1,6 +1,6 @@
 -- Struct literals with a base, and values of unit structs. A literal finds the place of its base, then its operands, and makes the struct
 -- of these and of copies of the base's fields.
-use Rattle.std.proofs.Common.{◌≡◌, ℕ, zero, suc, ◌+◌, ◌<◌, ◌==◌, inr, List, [], ◌∷◌, ◌++◌, length, map, take, Contains, Option, Some, None, option_and_then, slice_get, if◌then◌else◌, refl, sym, ap, ◌∙◌, subst, append_assoc, false, true, cond, Bool, arith, ltb-true, ⊎_elim}
+use Rattle.std.proofs.Common.{◌≡◌, ℕ, zero, suc, ◌<◌, ◌==◌, inr, List, [], ◌∷◌, ◌++◌, length, map, Contains, Option, Some, None, option_and_then, slice_get, if◌then◌else◌, refl, sym, ap, ◌∙◌, subst, append_assoc, false, true, cond, Bool, arith, ltb-true, ⊎_elim}
 use Rattle.std.specs.Prelude.{All, IsSome, flat_map, nat_lt, option_map}
 use Rattle.std.proofs.lemmas.List.Elements.{All-nil, All-cons, All-head, All-tail, All-weaker, Contains-append_cases}
 use borrow.Author.Tests.{eqb-true}
@@ -24,17 +24,16 @@ use Rattle.mir.specs.declared.operand.OperandKind.TheVariants.{Copy}
 use Rattle.mir.specs.declared.operand.Place.{Place as GraphPlace}
 use Rattle.mir.specs.declared.operand.Rvalue.{Rvalue}
 use Rattle.mir.specs.declared.operand.Rvalue.TheVariants.{Aggregate}
-use Rattle.mir.specs.declared.projection.ProjectionId.{ProjectionId}
 use Rattle.mir.specs.declared.span.MirSpan.{MirSpan}
 use Rattle.source_meaning.specs.Around.{Around, marking}
 use Rattle.source_meaning.specs.Core as expr
 use Rattle.source_meaning.specs.Core.{CoreExpr, FieldOf, PlaceElem, is_truth}
 use Rattle.source_meaning.specs.Ends.{then_do}
 use Rattle.source_meaning.specs.Events.{marked_as_operand, marked_as_place, marked_itself}
-use Rattle.source_meaning.specs.Meaning.{Value, level_at, callees_at, operands_of, put_answer, struct_of, values_of, into_of}
+use Rattle.source_meaning.specs.Meaning.{level_at, callees_at, operands_of, put_answer, struct_of, values_of, into_of}
 use Rattle.source_meaning.specs.Source.{Source, node, unadjusted, Cell, Store, Place, Operand, At, projected}
 use Rattle.source_meaning.specs.Steps.{parts_of}
-use Rattle.source_meaning.specs.Structs.{FieldSource, Written, OfBase, all_sources, field_sources, place_named, source_by}
+use Rattle.source_meaning.specs.Structs.{FieldSource, Written, OfBase, field_sources, place_named, source_by}
 use Rattle.source_meaning.specs.Updates.{field_operand, field_operands}
 use Rattle.source_meaning.specs.Valid.{own, inside, sized_parts, IsLaidOutNode}
 use Rattle.source_meaning.proofs.Depth.{update_operand_is_part}
@@ -48,7 +47,7 @@ use Rattle.body_forms.specs.declared.structs.StructLiteral.{StructLiteral}
 use Rattle.mir_lower.specs.Built.{IsBuilt}
 use Rattle.mir_lower.specs.Callees.{Serves}
 use Rattle.mir_lower.specs.Does.{Stands, here, elements_of, IsAt, IsFrameOf, Holds, Landings, LeadsTo, Reaches, Nothing, Fits, FitAll}
-use Rattle.mir_lower.specs.Graph.{Shape, IsProjected, elements_in, never_of, temp_of, with_projections, with_statement, local_of}
+use Rattle.mir_lower.specs.Graph.{Shape, IsProjected, never_of, temp_of, with_projections, with_statement, local_of}
 use Rattle.mir_lower.specs.Growth.{Grows, Spares, IsSound, IsOpen, IsReady, count_at, statement_at, terminator_at}
 use Rattle.mir_lower.specs.Lowered.{LaysOut, LowersOwn, LowersOperands, LowersPlace}
 use Rattle.mir_lower.specs.Updates.{IsKnown, HasMore, IsAmong, Gives, GiveAll, AreFound}
@@ -61,7 +60,7 @@ use Rattle.mir_lower.proofs.Operations.{assignment}
 use Rattle.mir_lower.proofs.Projecting.{at-later, elements-later}
 use Rattle.mir_lower.proofs.Reaching.{comes-refl, reaches-then}
 use Rattle.mir_lower.proofs.Reading.{place-fits}
-use Rattle.mir_lower.proofs.Rvalues.{Agrees, ReadAll, kinds, read-all, struct-agrees}
+use Rattle.mir_lower.proofs.Rvalues.{Agrees, kinds, struct-agrees}
 use Rattle.mir_lower.proofs.Sound.{sound_by, with_statement-sound, with_statement-open, with_statement-scope}
 use Rattle.mir_lower.proofs.Sparing.{spares-same, spares-trans, with_statement-spares}
 use Rattle.mir_lower.proofs.Standing.{marking-fits}

@@ -94,8 +94,8 @@ pub data Assigned : Type 0 where
 -- body, with a value or without. A call evaluates its arguments from left to right, and then enters the body of a function: the one that
 -- its callee's type names, or, where it is a method call, the one that it is resolved to; the receiver is its first argument. A field is
 -- a part of its base, which is a tuple or a struct. A struct literal with a base has the base's place first, then operands from left to right, and
--- makes a struct of both, whose fields have sources in their order. A path to a unit
--- struct is a value without parts.
+-- makes a struct of both; for each field of the struct, in the order of its row, it has what gives the field (`FieldSource`). A path to a
+-- unit struct is a value without parts.
 pub data CoreExpr : Type 0 where
   Literal : CoreLiteral → CoreExpr
   Path : (name : List ℕ) → CoreExpr
@@ -166,7 +166,8 @@ abbrev pub field_step : (base : Option Ty) → Either FieldId TupleFieldId → O
 field_step base (Left field) = step_to base field field.parent
 field_step base (Right field) = Some (Part field.index)
 
--- a struct literal with a base, which gives the fields that aren't written; so far one of a struct without generic arguments alone
+-- A struct literal with a base, which gives the fields that aren't written. It has a meaning where each written field is one of the struct's and
+-- stands once, and so far where the struct has no generic arguments.
 abbrev pub update_form : (base : ℕ) → StructAt → List RecordLitField → Option CoreExpr
 update_form base made written =
     if length made.args.0 == 0 then option_map (λ sources. Update base made.id made.args sources (field_numbers written)) (all_sources made.id made.fields written) else None
@@ -187,7 +188,7 @@ path_form false false name = Some (Path name)
 
 -- What the form of an expression depends on besides the expression itself.
 pub record Findings : Type 0 where
-  -- whether it is a path that is resolved to a struct, of which it is a value
+  -- whether it is resolved to a struct, and is of the type of that struct
   pub names_unit : Bool
   -- whether it is a path that is resolved to an item of a trait or an impl, or to a variant
   pub names_item : Bool
@@ -290,13 +291,14 @@ names_item infer e =
     is_some (lookup (is_at (ExprIdOrd.ghosts.cmp e)) infer.assoc_res)
     || is_some (lookup (is_at (ExprIdOrd.ghosts.cmp e)) infer.variant_res)
 
--- the struct that a path is resolved to, where it is: by inference, or else by its name
+-- the struct that a path is resolved to: that of `variant_res`, or, where it has no entry there, that of `value_res`
 abbrev pub struct_named : Option VariantId → Option ValueNs → Option StructId
 struct_named (Some (variant.StructId id)) named = Some id
 struct_named None (Some (value.StructId id)) = Some id
 struct_named _ named = None
 
--- whether a path is resolved to a struct, which is its own type: then it is a value of a unit struct
+-- Whether a path is resolved to a struct, and has the type of that struct before it is adjusted. Then it is taken for a value of a unit struct; that the
+-- struct has no fields is asked of plain bodies alone.
 unfoldable pub names_unit : InferenceResult → ExprId → Bool
 names_unit infer e =
     not (is_some (lookup (is_at (ExprIdOrd.ghosts.cmp e)) infer.assoc_res))

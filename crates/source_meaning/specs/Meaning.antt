@@ -441,7 +441,7 @@ call_into source below callees around e callee args path store =
     then_do (operands_of source below around args store) (λ given later.
     entered_into callees (must_not_return source e) (source_called source e callee) (operands_bytes source later given) path later)
 
--- An expression itself evaluated into a path: the forms that have a meaning so far. A value of a unit struct has no bytes to write.
+-- An expression itself evaluated into a path: the forms that have a meaning so far. A path to a unit struct writes nothing.
 abbrev pub into_of : Source → Levels → Callees → Around → ℕ → Option CoreExpr → Path → Store → End (Unit {0})
 into_of source below callees around e (Some (expr.Literal l)) path store = put_literal source e store path (literal_bytes source e l)
 into_of source below callees around e (Some (expr.Path name)) path store = named_into (named_by source e) path store

@@ -1,4 +1,5 @@
--- Structs: which one a struct literal makes a value of, which written field gives each of its fields, and of which types these are.
+-- Structs: which one a struct literal makes a value of, which written field or which field of its base gives each of its fields, and of which
+-- types these are.
 use Rattle.std.specs.Prelude.{◌≡◌, ℕ, ◌==◌, Bool, true, false, suc, List, [], ◌∷◌, length, filter, position, Option, Some, None, slice_get, option_map, option_and_then, if◌then◌else◌}
 use Rattle.std.specs.Cmp.Lexicographic.{pointwise}
 use Rattle.check_instances.specs.Instances.{ty_instance}
@@ -82,7 +83,8 @@ unfoldable pub field_sources : StructId → (index : ℕ) → List FieldRow → 
 field_sources id index [] written = []
 field_sources id index (field ∷ fields) written = source_by id index (place_named field.name written) ∷ field_sources id (suc index) fields written
 
--- the same where each written field gives one of the struct's: there are as many that are written as are given so
+-- The same where as many of the struct's fields are given by written fields as fields are written: so none is written twice, and none is written
+-- that the struct lacks.
 abbrev pub all_sources : StructId → List FieldRow → List RecordLitField → Option (List FieldSource)
 all_sources id fields written =
     if length (filter is_written (field_sources id 0 fields written)) == length written then Some (field_sources id 0 fields written) else None

@@ -272,7 +272,8 @@ AreGiven world args base types [] [] = Unit {0}
 AreGiven world args base types (row ∷ rows) (source ∷ sources) = IsGiven world args base types row source × AreGiven world args base types rows sources
 AreGiven world args base types _ _ = ⊥
 
--- A struct literal with a base has the type of its struct, and so has the base. Each field is given a value of its type.
+-- A struct literal with a base has the type of its struct, and so has the base. Each field of the struct, in the order of its row, is given a value of
+-- its type by the source at its place in the list (`field_sources`).
 pub record IsPlainUpdate (source : Source) (base : ℕ) (id : StructId) (args : GenericArgs) (sources : List FieldSource) (operands : List ℕ) (ty : Ty) : Type 0 where
   pub is : ty ≡ AdtTy (adt.StructId id) args
   pub base_has : node_type source base ≡ Some ty

@@ -1,7 +1,7 @@
 -- What is written is among the operands, and a field of the base is projected.
 use Rattle.mir.specs.declared.operand.Operand.{Operand}
 use Rattle.mir.specs.declared.operand.OperandKind.TheVariants.{Copy}
-use Rattle.std.proofs.Common.{◌≡◌, [], ◌∷◌, None, Some, refl, sym, ap, ◌∙◌, subst}
+use Rattle.std.proofs.Common.{[], ◌∷◌, None, Some, refl, sym, ap, ◌∙◌, subst}
 use Rattle.std.proofs.lemmas.Result.{IfOk-weaker}
 use Rattle.body_forms.specs.Form.{core_source}
 use Rattle.body_forms.specs.declared.structs.FieldSource.{FieldSource}
