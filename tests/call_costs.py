@@ -24,7 +24,7 @@ DEFAULT_LIMITS = {"blocks": 10000000, "nesting": 100, "bytes": 1000000000}
 INTEGERS = {"8": 1, "16": 2, "32": 4, "64": 8, "128": 16, "size": 8}
 SIZES = {"Bool": 1, "Char": 4}
 RESULT = ("result",)
-# The place of a part that a value lacks, and the faults of reading and writing there.
+# The place of a part that a value lacks or that can't be found, and the faults of reading and writing there.
 NOWHERE = ("nowhere",)
 BAD_READ, BAD_WRITE = (f'UndefinedBehavior("out of bound memory {word}")' for word in ("read", "write"))
 # Calls nest in Python as they do in the world.
@@ -822,7 +822,8 @@ class Run:
         return NOWHERE if base == NOWHERE else self.part_at(frame, base, frame.body.rows["field_res"][e])
 
     def part_at(self, frame, base, found):
-        """A part of a tuple or a field of a struct: its base's place, and which of its bytes. One that its base lacks is nowhere."""
+        """A part of a tuple or a field of a struct: its base's place, and which of its bytes. One that its base lacks, or that has no layout or
+        no offset, is nowhere."""
         if base == NOWHERE:
             return NOWHERE
         whole, (types, number) = self.place_type(frame, base), self.step(found, self.place_type(frame, base))
@@ -830,7 +831,7 @@ class Run:
             return NOWHERE
         layouts = [self.layouts.get(key(ty)) for ty in (whole, types[number])]
         if None in layouts or number >= len(layouts[0].get("offsets", [])):
-            raise Unknown("a part of a place without a layout")
+            return NOWHERE
         start, size = layouts[0]["offsets"][number], layouts[1]["size"]
         if start + size > layouts[0]["size"]:
             raise Unknown("a part that ends behind its tuple")
