@@ -8,7 +8,7 @@ use Rattle.world.specs.declared.items.FunctionRow.{FunctionRow}
 use Rattle.world.specs.declared.items.Special.{Special}
 use Rattle.types.specs.declared.ty.Ty.{Ty}
 use Rattle.source_meaning.specs.Built.{are_none, is_direct, IsBuiltAssigned, IsBuiltAssignee, IsBuiltStatement, IsBuiltStrict, IsBuiltForm}
-use Rattle.source_meaning.specs.Core.{Assigned, Assignee, ByField, ByPath, ByPattern, ByPlace, CoreExpr, Operation, Negate, Invert, Keep, Convert, Combine, MakeTuple, MakeArray, Repeat, MakeStruct, Literal, Path, Field, Strict, Logic, If, Assign, Compound, Block, Labelled, Loop, Break, Continue, Return, Call}
+use Rattle.source_meaning.specs.Core.{Assigned, Assignee, ByField, ByPath, ByPattern, ByPlace, CoreExpr, Operation, Negate, Invert, Keep, Convert, Combine, MakeTuple, MakeArray, Repeat, MakeStruct, Literal, Path, UnitStruct, Field, Strict, Update, Logic, If, Assign, Compound, Block, Labelled, Loop, Break, Continue, Return, Call}
 use Rattle.source_meaning.specs.Source.{Source, node, own_type}
 use Rattle.source_meaning.specs.Valid.{IsTyped, IsPlainAssigned, IsPlainAssignee, IsPlainStatement, HasPlainForm, IsPlainNode}
 
@@ -53,8 +53,10 @@ plain_form_is_built : (source : Source) (e : ℕ) (form : Option CoreExpr) (ty :
 plain_form_is_built source e (Some (Literal given)) ty has plain = tt
 plain_form_is_built source e (Some (Path name)) ty has plain =
     record { binding = plain.binding; named = plain.named; there = record { ty = ty; typed = plain.binding_has } }
+plain_form_is_built source e (Some UnitStruct) ty has plain = tt
 plain_form_is_built source e (Some (Field base field)) ty has plain = tt
 plain_form_is_built source e (Some (Strict operation operands)) ty has plain = plain_strict_is_built source e operation plain.types ty has plain.typed
+plain_form_is_built source e (Some (Update base id args sources operands)) ty has plain = tt
 plain_form_is_built source e (Some (Logic op left right)) ty has plain = tt
 plain_form_is_built source e (Some (If condition then_branch else_branch)) ty has plain = tt
 plain_form_is_built source e (Some (Assign to value)) ty has plain = plain_assignee_is_built source to plain.ty plain.assignee

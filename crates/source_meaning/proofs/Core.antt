@@ -1,6 +1,6 @@
 -- Each expression that an expression evaluates stands before it.
 use Rattle.std.specs.Prelude.{flat_map, Contains}
-use Rattle.std.proofs.Common.{⊎_elim, ◌≡◌, ℕ, ◌<◌, Bool, true, false, List, [], ◌∷◌, ◌++◌, Option, Some, None, option_map, option_and_then, slice_get, if◌then◌else◌, refl, sym, ap, ◌∙◌, subst, arith}
+use Rattle.std.proofs.Common.{⊎_elim, ◌≡◌, ◌==◌, ℕ, ◌<◌, Bool, true, false, List, [], ◌∷◌, ◌++◌, length, Option, Some, None, option_map, option_and_then, slice_get, if◌then◌else◌, refl, sym, ap, ◌∙◌, subst, arith}
 use Rattle.std.proofs.lemmas.List.Elements.{All-contains, Contains-append_left, Contains-append_right, Contains-append_cases}
 use Rattle.world.specs.declared.body.Statement.{Statement}
 use Rattle.world.specs.declared.body.Statement.TheVariants as statement
@@ -19,11 +19,11 @@ use Rattle.types.specs.declared.ids.PatId.{PatId}
 use Rattle.types.specs.declared.operators.BinaryOp.{BinaryOp}
 use Rattle.types.specs.declared.operators.BinaryOp.TheVariants as binary
 use Rattle.numbers.specs.Operators.{of_arith, of_compare}
-use Rattle.source_meaning.specs.Core.{CoreExpr, Findings, Operation, MakeTuple, MakeArray, Repeat, MakeStruct, PlaceElem, Literal, Path, Field, Strict, Logic, If, Assign, Compound, Block, Labelled, Loop, Break, Continue, Return, Call, core_literal, unary_operation, unary_form, eager_form, binary_form, record_form, step_from, core_of, expr_in, field_taken, is_adjusted_otherwise, is_adjusted_twice, is_dereferenced_pattern, part_in}
-use Rattle.source_meaning.specs.Structs.{StructAt, all_places}
+use Rattle.source_meaning.specs.Core.{CoreExpr, Findings, Operation, MakeTuple, MakeArray, Repeat, MakeStruct, PlaceElem, Literal, Path, UnitStruct, Field, Strict, Update, Logic, If, Assign, Compound, Block, Labelled, Loop, Break, Continue, Return, Call, core_literal, unary_operation, unary_form, eager_form, binary_form, path_form, record_form, step_from, core_of, expr_in, field_taken, is_adjusted_otherwise, is_adjusted_twice, is_dereferenced_pattern, part_in}
+use Rattle.source_meaning.specs.Structs.{StructAt, all_places, all_sources}
 use Rattle.source_meaning.specs.Source.{Source, assigned_by, assigned_field, assignee_by, findings, node, pattern_expr}
 use Rattle.source_meaning.specs.Steps.{parts_of, assigned_parts, assignee_parts, statement_parts}
-use Rattle.source_meaning.proofs.Parts.{first_is_contained, nothing_is_contained, rest_is_contained, among_more, strict_parts, if_parts, compound_parts, block_parts, tail_part, call_parts}
+use Rattle.source_meaning.proofs.Parts.{first_is_contained, nothing_is_contained, rest_is_contained, among_more, strict_parts, update_parts, if_parts, compound_parts, block_parts, tail_part, call_parts}
 
 mapped : {A B : Type 0} (f : A → B) (given : Option A) (y : B) → option_map f given ≡ Some y → (x : A) × (given ≡ Some x) × (f x ≡ y)
 mapped f (Some x) y is = (x, refl, (let same : f x ≡ y = cc in same))
@@ -47,13 +47,24 @@ field_part base step core is child within =
     let from = mapped (Field base) step core is in
     subst (λ c. Contains (parts_of (Some c)) child) (sym from.2) within
 
+-- one with a base evaluates that too
+update_part : (made : StructAt) (written : List RecordLitField) (base : ℕ) (test : Bool) (core : CoreExpr) → (if test then option_map (λ sources. Update base made.id made.args sources (field_numbers written)) (all_sources made.id made.fields written) else None) ≡ Some core →
+    (child : ℕ) → Contains (parts_of (Some core)) child → Contains (field_numbers written ++ base ∷ []) child
+update_part made written base true core is child within =
+    let from = mapped (λ sources. Update base made.id made.args sources (field_numbers written)) (all_sources made.id made.fields written) core is in
+    ⊎_elim (λ here. Contains-append_right (field_numbers written) (base ∷ []) child here)
+    (λ there. Contains-append_left (field_numbers written) (base ∷ []) child there)
+    (Contains-append_cases (base ∷ []) (field_numbers written) child
+    (subst (λ parts. Contains parts child) (ap (λ c. parts_of (Some c)) (sym from.2) ∙ update_parts base made.id made.args from.0 (field_numbers written)) within))
+update_part made written base false core is child within = absurd cc
+
 -- a struct literal evaluates what its fields are given
 record_part : (made : Option StructAt) (written : List RecordLitField) (base : RecordSpread) (core : CoreExpr) → record_form made written base ≡ Some core → (child : ℕ) → Contains (parts_of (Some core)) child → Contains (field_numbers written ++ spread_children base) child
 record_part (Some made) written spread.None core is child within =
     let from = mapped (λ places. Strict (MakeStruct made.id made.args places) (field_numbers written)) (all_places made.fields written) core is in
     Contains-append_left (field_numbers written) [] child
     (subst (λ parts. Contains parts child) (ap (λ c. parts_of (Some c)) (sym from.2) ∙ strict_parts (MakeStruct made.id made.args from.0) (field_numbers written)) within)
-record_part (Some made) written (spread.Expr e) core is child within = absurd cc
+record_part (Some made) written (spread.Expr base) core is child within = update_part made written base.0 (length made.args.0 == 0) core is child within
 record_part (Some made) written spread.FieldDefaults core is child within = absurd cc
 record_part None written base core is child within = absurd cc
 
@@ -87,9 +98,11 @@ assignment_part : (found : Findings) (target : PatId) (value : ExprId) (child : 
 assignment_part found target value child within =
     ⊎_elim (λ here. as_child here) (λ there. in_target 0 target refl there) (Contains-append_cases (value.0 ∷ []) (assignee_parts (found.assignee target)) child within)
 
-name_has_no_parts : (item : Bool) (name : List ℕ) (core : CoreExpr) → if item then None else Some (Path name) ≡ Some core → (child : ℕ) → Contains (parts_of (Some core)) child → ⊥
-name_has_no_parts true name core is child within = absurd cc
-name_has_no_parts false name core is child within =
+name_has_no_parts : (unit item : Bool) (name : List ℕ) (core : CoreExpr) → path_form unit item name ≡ Some core → (child : ℕ) → Contains (parts_of (Some core)) child → ⊥
+name_has_no_parts true item name core is child within =
+    let same : UnitStruct ≡ core = cc in nothing_is_contained child (subst (λ c. Contains (parts_of (Some c)) child) (sym same) within)
+name_has_no_parts false true name core is child within = absurd cc
+name_has_no_parts false false name core is child within =
     let same : Path name ≡ core = cc in nothing_is_contained child (subst (λ c. Contains (parts_of (Some c)) child) (sym same) within)
 
 -- what an expression evaluates stands in it
@@ -97,7 +110,7 @@ part_stands : (found : Findings) (e : Expr) (core : CoreExpr) → core_of found 
 part_stands found (whole.Literal given) core is child within =
     let from = mapped Literal (core_literal given) core is in
     absurd (nothing_is_contained child (subst (λ c. Contains (parts_of (Some c)) child) (sym from.2) within))
-part_stands found (whole.Path name) core is child within = absurd (name_has_no_parts found.names_item name core is child within)
+part_stands found (whole.Path name) core is child within = absurd (name_has_no_parts found.names_unit found.names_item name core is child within)
 part_stands found (whole.Field base name) core is child within = as_child (field_part base.0 (found.field base) core is child within)
 part_stands found (whole.UnaryOp e op) core is child within = as_child (subst (λ parts. Contains parts child) (unary_parts e.0 (unary_operation op) core is) within)
 part_stands found (whole.Cast e) core is child within = as_child (subst (λ parts. Contains parts child) (unary_parts e.0 (found.casts e) core is) within)

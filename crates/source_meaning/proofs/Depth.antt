@@ -2,18 +2,21 @@
 use Rattle.std.specs.Prelude.{flat_map, Contains}
 use Rattle.std.proofs.lemmas.List.Elements.{Contains-append_left, Contains-append_right}
 use Rattle.std.proofs.Common.{◌≡◌, ℕ, ◌≤◌, List, [], ◌∷◌, Option, Some, sym, subst, arith}
+use Rattle.types.specs.declared.ids.StructId.{StructId}
+use Rattle.types.specs.declared.ty.GenericArgs.{GenericArgs}
 use Rattle.world.specs.declared.body.Statement.{Statement}
 use Rattle.types.specs.declared.ids.ExprId.{ExprId}
 use Rattle.types.specs.declared.operators.LogicOp.{LogicOp}
 use Rattle.world.specs.Checked.{IsCheckedBody}
 use Rattle.world.specs.Nodes.{optional}
 use Rattle.numbers.specs.declared.operator.Operator.{Operator}
-use Rattle.source_meaning.specs.Core.{Assigned, Assignee, Operation, PlaceElem, Field, Strict, Logic, If, Assign, Compound, Block, Call}
+use Rattle.source_meaning.specs.Structs.{FieldSource}
+use Rattle.source_meaning.specs.Core.{Assigned, Assignee, Operation, PlaceElem, Field, Strict, Update, Logic, If, Assign, Compound, Block, Call}
 use Rattle.source_meaning.specs.Source.{Source, node}
 use Rattle.source_meaning.specs.Steps.{parts_of, assigned_parts, assignee_parts, statement_parts}
 use Rattle.source_meaning.specs.Valid.{Evaluates, itself, part, NeedsLayout, own, inside}
 use Rattle.source_meaning.proofs.Core.{part_is_below}
-use Rattle.source_meaning.proofs.Parts.{among, first_is_contained, rest_is_contained, strict_parts, if_parts, compound_parts, block_parts, call_parts, sized_part_is_part}
+use Rattle.source_meaning.proofs.Parts.{among, first_is_contained, rest_is_contained, strict_parts, update_parts, if_parts, compound_parts, block_parts, call_parts, sized_part_is_part}
 
 -- what is evaluated where an expression is comes no later than it
 pub evaluated_is_no_later : (source : Source) → IsCheckedBody source.body source.infer → {e f : ℕ} → Evaluates source e f → f ≤ e
@@ -39,6 +42,11 @@ field_base_is_part source e base field is = subst (λ form. Contains (parts_of f
 pub operand_is_part : (source : Source) (e : ℕ) (operation : Operation) (operands : List ℕ) (child : ℕ) → node source e ≡ Some (Strict operation operands) → Contains operands child → Contains (parts_of (node source e)) child
 operand_is_part source e operation operands child is within =
     subst (λ form. Contains (parts_of form) child) (sym is) (subst (λ parts. Contains parts child) (sym (strict_parts operation operands)) within)
+
+-- a struct literal with a base evaluates its operands
+pub update_operand_is_part : (source : Source) (e base : ℕ) (id : StructId) (args : GenericArgs) (sources : List FieldSource) (operands : List ℕ) (child : ℕ) → node source e ≡ Some (Update base id args sources operands) → Contains operands child → Contains (parts_of (node source e)) child
+update_operand_is_part source e base id args sources operands child is within =
+    subst (λ form. Contains (parts_of form) child) (sym is) (subst (λ parts. Contains parts child) (sym (update_parts base id args sources operands)) (rest_is_contained base operands child within))
 
 -- a call evaluates its arguments
 pub argument_is_part : (source : Source) (e : ℕ) (callee : Option ℕ) (args : List ℕ) (child : ℕ) → node source e ≡ Some (Call callee args) → Contains args child → Contains (parts_of (node source e)) child

@@ -1,12 +1,15 @@
 -- More fuel changes no end.
 use Rattle.std.proofs.Common.{◌≡◌, ℕ, zero, suc, ◌≤◌, Bool, true, false, cond, List, [], ◌∷◌, ◌==◌, if◌then◌else◌, Option, Some, None, refl, ap, ◌∙◌, arith}
 use Rattle.std.specs.Prelude.{flat_map}
+use Rattle.types.specs.declared.ids.StructId.{StructId}
+use Rattle.types.specs.declared.ty.GenericArgs.{GenericArgs}
 use Rattle.world.specs.declared.body.Statement.{Statement}
 use Rattle.world.specs.declared.body.Statement.TheVariants as statement
 use Rattle.types.specs.declared.ids.ExprId.{ExprId}
 use Rattle.types.specs.declared.ids.LabelId.{LabelId}
 use Rattle.types.specs.declared.operators.LogicOp.{LogicOp}
 use Rattle.numbers.specs.declared.operator.Operator.{Operator}
+use Rattle.source_meaning.specs.Structs.{FieldSource}
 use Rattle.source_meaning.specs.Around.{Around, Target, at_root, marking, inside, target_of}
 use Rattle.source_meaning.specs.Calls.{source_called, must_not_return, parameter_cells, started}
 use Rattle.source_meaning.specs.Core as expr
@@ -14,7 +17,7 @@ use Rattle.source_meaning.specs.Core.{Assigned, Assignee, ByField, ByPath, ByPat
 use Rattle.source_meaning.specs.Ends.{Cost, turns_alone, End, Go, Jumps, Break, Continue, Return, Faults, Stuck, More, IsOver, after, then_do}
 use Rattle.source_meaning.specs.Events.{marked, marked_as_operand, marked_as_place, marked_by_assigned, marked_by_statement}
 use Rattle.source_meaning.specs.Laid.{is_laid_out}
-use Rattle.source_meaning.specs.Meaning.{Levels, Callees, no_fuel, field_place, field_into, place_of, operand_of, operands_of, strict_into, is_byte, deciding_byte, decided_into, branched, logic_into, tail_into, branch_into, if_into, assignee_place, assign_into, assigned_place, compound_into, statement_of, statements_of, block_into, caught, again_into, labelled_into, turn_of, loop_into, break_to, return_into, call_returned, call_diverged, call_ended, entered_from, entered_into, into_of, level_above, level_at, returned, where_laid, body_meaning, callees_at, meaning_from}
+use Rattle.source_meaning.specs.Meaning.{Levels, Callees, no_fuel, field_place, field_into, place_of, operand_of, operands_of, strict_into, update_into, is_byte, deciding_byte, decided_into, branched, logic_into, tail_into, branch_into, if_into, assignee_place, assign_into, assigned_place, compound_into, statement_of, statements_of, block_into, caught, again_into, labelled_into, turn_of, loop_into, break_to, return_into, call_returned, call_diverged, call_ended, entered_from, entered_into, into_of, level_above, level_at, returned, where_laid, body_meaning, callees_at, meaning_from}
 use Rattle.source_meaning.specs.Places.{operand_bytes, operands_bytes}
 use Rattle.source_meaning.specs.Source.{Source, Store, Path, Result, Node, Operand, zeroed, node, unadjusted, never_marks, own_path, target, root}
 
@@ -152,6 +155,12 @@ module _ (source : Source) (below above : Levels) (agrees : Agrees below above) 
   strict_agrees around e operation operands path store over =
       then_do_agrees (operands_of source below around operands store) (operands_of source above around operands store) _ _ (operands_agree around operands store) (λ given later o. refl) over
 
+  update_agrees : (around : Around) (base : ℕ) (id : StructId) (args : GenericArgs) (sources : List FieldSource) (operands : List ℕ) (path : Path) (store : Store) → IsOver (update_into source below around base id args sources operands path store) → update_into source above around base id args sources operands path store ≡ update_into source below around base id args sources operands path store
+  update_agrees around base id args sources operands path store over =
+      let behind = marking (marked_as_place source base) around in
+      then_do_agrees ((below around).place base store) ((above around).place base store) _ _ (agrees.place around base store) (λ from later o.
+      then_do_agrees (operands_of source below behind operands later) (operands_of source above behind operands later) _ _ (operands_agree behind operands later) (λ given last o'. refl) o) over
+
   statement_agrees : (around : Around) (statement : Statement) (store : Store) → IsOver (statement_of source (below around) statement store) → statement_of source (above around) statement store ≡ statement_of source (below around) statement store
   statement_agrees around (statement.Let pat (Some e) None) store over = then_do_agrees ((below around).place e.0 store) ((above around).place e.0 store) _ _ (agrees.place around e.0 store) (λ path later o. refl) over
   statement_agrees around (statement.Expr e has_semi) store over = then_do_agrees ((below around).place e.0 store) ((above around).place e.0 store) _ _ (agrees.place around e.0 store) (λ path later o. refl) over
@@ -249,6 +258,7 @@ module _ (source : Source) (below above : Levels) (agrees : Agrees below above) 
     into_agrees : (around : Around) (e : ℕ) (form : Option CoreExpr) (path : Path) (store : Store) → IsOver (into_of source below callees around e form path store) → into_of source above others around e form path store ≡ into_of source below callees around e form path store
     into_agrees around e (Some (expr.Field base field)) path store over = field_agrees around base field path store over
     into_agrees around e (Some (expr.Strict operation operands)) path store over = strict_agrees around e operation operands path store over
+    into_agrees around e (Some (expr.Update base id args sources operands)) path store over = update_agrees around base id args sources operands path store over
     into_agrees around e (Some (expr.Logic op left right)) path store over = logic_agrees around op left right path store over
     into_agrees around e (Some (expr.If condition then_branch else_branch)) path store over = if_agrees around condition then_branch else_branch path store over
     into_agrees around e (Some (expr.Assign to value)) path store over = assign_agrees around to value store over

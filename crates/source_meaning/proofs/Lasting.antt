@@ -2,6 +2,8 @@
 use Rattle.std.proofs.Common.{◌≡◌, ℕ, zero, suc, ◌<◌, ◌≤◌, ◌+◌, Bool, true, false, cond, List, [], ◌∷◌, ◌++◌, length, slice_get, ◌==◌, if◌then◌else◌, Option, Some, None, refl, sym, subst, arith}
 use Rattle.std.specs.Prelude.{flat_map, Contains}
 use Rattle.std.proofs.lemmas.List.Elements.{Contains-append_left, Contains-append_right}
+use Rattle.types.specs.declared.ids.StructId.{StructId}
+use Rattle.types.specs.declared.ty.GenericArgs.{GenericArgs}
 use Rattle.world.specs.declared.body.Statement.{Statement}
 use Rattle.world.specs.declared.body.Statement.TheVariants as statement
 use Rattle.types.specs.declared.ids.BindingId.{BindingId}
@@ -16,6 +18,7 @@ use Rattle.world.specs.Checked.{IsChecked, IsCheckedBody}
 use Rattle.world.specs.Nodes.{optional}
 use Rattle.numbers.specs.declared.operator.Operator.{Operator}
 use Rattle.numbers.specs.Operators.{Answer, Computes, Panics, Undefined}
+use Rattle.source_meaning.specs.Structs.{FieldSource}
 use Rattle.source_meaning.specs.Around.{Around, Target, at_root, marking, inside, target_of}
 use Rattle.source_meaning.specs.Calls.{source_at, source_called, must_not_return, parameter_cells, started}
 use Rattle.source_meaning.specs.Core as expr
@@ -24,7 +27,7 @@ use Rattle.source_meaning.specs.Ends.{Cost, no_cost, plus, turns_alone, End, Go,
 use Rattle.source_meaning.specs.Entering.{entering}
 use Rattle.source_meaning.specs.Events.{marked, marked_as_operand, marked_as_place, marked_by_assigned, marked_by_statement}
 use Rattle.source_meaning.specs.Laid.{is_laid_out}
-use Rattle.source_meaning.specs.Meaning.{Levels, Callees, constant_cost, put, copy_to, put_literal, put_answer, literal_operand, literal_bytes, named_place, named_into, bind, put_all, put_at, copy_at, answer_at, bound_place, assignee_place, assign_into, assigned_place, compound_into, field_place, place_of, operand_of, operands_of, is_byte, deciding_byte, reading_cost, decided_into, branched, logic_into, tail_into, branch_into, if_into, statement_of, statements_of, block_into, caught, again_into, turn_of, break_to, continue_to, return_into, call_returned, call_diverged, call_ended, unfit_meaning, entered_from, entered_into, into_of, level_at, returned, where_laid, body_meaning, callees_at, meaning_from}
+use Rattle.source_meaning.specs.Meaning.{Levels, Callees, constant_cost, put, copy_to, put_literal, put_answer, literal_operand, literal_bytes, named_place, named_into, bind, put_all, put_at, copy_at, answer_at, bound_place, assignee_place, assign_into, assigned_place, compound_into, update_into, field_place, place_of, operand_of, operands_of, is_byte, deciding_byte, reading_cost, decided_into, branched, logic_into, tail_into, branch_into, if_into, statement_of, statements_of, block_into, caught, again_into, turn_of, break_to, continue_to, return_into, call_returned, call_diverged, call_ended, unfit_meaning, entered_from, entered_into, into_of, level_at, returned, where_laid, body_meaning, callees_at, meaning_from}
 use Rattle.source_meaning.specs.Places.{cell_with, place_bytes, operand_bytes, operands_bytes}
 use Rattle.source_meaning.specs.Source.{Source, Store, Path, Place, Cell, Result, Node, Binding, Operand, Literally, zeroed, node, unadjusted, never_marks, own_path, own_type, named_by, pattern, target, compound_target, root}
 use Rattle.source_meaning.specs.Steps.{parts_of, assigned_parts, assignee_parts, statement_parts}
@@ -32,7 +35,7 @@ use Rattle.source_meaning.proofs.Calls.{called_row, above_roots, root_is_below}
 use Rattle.source_meaning.proofs.Core.{part_is_below}
 use Rattle.source_meaning.proofs.Depth.{field_base_is_part}
 use Rattle.source_meaning.proofs.Never.{unadjusted-plain}
-use Rattle.source_meaning.proofs.Parts.{first_is_contained, rest_is_contained, strict_parts, if_parts, compound_parts, block_parts, tail_part, call_parts}
+use Rattle.source_meaning.proofs.Parts.{first_is_contained, rest_is_contained, strict_parts, update_parts, if_parts, compound_parts, block_parts, tail_part, call_parts}
 
 -- an end, or a lack of fuel after at least `limit` blocks
 abbrev Lasts : {A : Type 0} → ℕ → End A → Type 0
@@ -250,6 +253,13 @@ module _ (limit : ℕ) where
         then_do_lasts ((below around).operand e store) _ (first_ends.operand around store) (λ first later.
         then_do_lasts (operands_of source below behind rest later) _ (operands_lasts behind rest later (λ child within. ends child (rest_is_contained e rest child within))) (λ others last. tt))
 
+    update_lasts : (around : Around) (base : ℕ) (id : StructId) (args : GenericArgs) (sources : List FieldSource) (operands : List ℕ) (path : Path) (store : Store) → ((child : ℕ) → Contains (base ∷ operands) child → LastsIn below child) → Lasts limit (update_into source below around base id args sources operands path store)
+    update_lasts around base id args sources operands path store ends =
+        let base_ends = ends base (first_is_contained base operands) in
+        let behind = marking (marked_as_place source base) around in
+        then_do_lasts ((below around).place base store) _ (base_ends.place around store) (λ from later.
+        then_do_lasts (operands_of source below behind operands later) _ (operands_lasts behind operands later (λ child within. ends child (rest_is_contained base operands child within))) (λ given last. put_answer_lasts last path _))
+
     statement_lasts : (around : Around) (statement : Statement) (store : Store) → ((child : ℕ) → Contains (statement_parts statement) child → LastsIn below child) → Lasts limit (statement_of source (below around) statement store)
     statement_lasts around (statement.Let pat (Some e) None) store ends =
         let initializer_ends = ends e.0 (first_is_contained e.0 []) in
@@ -349,12 +359,15 @@ module _ (limit : ℕ) where
     into_lasts : (callees : Callees) (around : Around) (e : ℕ) (form : Option CoreExpr) (path : Path) (store : Store) → node source e ≡ form → Repeats below e → ((callee : Option ℕ) (called : Source) → source_called source e callee ≡ Some called → (start : Store) → Lasts limit (callees called start)) → ((child : ℕ) → Contains (parts_of form) child → LastsIn below child) → Lasts limit (into_of source below callees around e form path store)
     into_lasts callees around e (Some (expr.Literal literal)) path store is repeats enters ends = put_literal_lasts source e store path (literal_bytes source e literal)
     into_lasts callees around e (Some (expr.Path name)) path store is repeats enters ends = named_into_lasts (named_by source e) path store
+    into_lasts callees around e (Some expr.UnitStruct) path store is repeats enters ends = tt
     into_lasts callees around e (Some (expr.Field base field)) path store is repeats enters ends =
         let base_ends = ends base (first_is_contained base []) in
         then_do_lasts (field_place (below around) base field store) _ (field_place_lasts below around base field store (base_ends.place around store)) (λ place later. copy_lasts later path (place_bytes source later place))
     into_lasts callees around e (Some (expr.Strict operation operands)) path store is repeats enters ends =
         then_do_lasts (operands_of source below around operands store) _ (operands_lasts around operands store (λ child within.
         ends child (subst (λ parts. Contains parts child) (sym (strict_parts operation operands)) within))) (λ given later. put_answer_lasts later path _)
+    into_lasts callees around e (Some (expr.Update base id args sources operands)) path store is repeats enters ends =
+        update_lasts around base id args sources operands path store (λ child within. ends child (subst (λ parts. Contains parts child) (sym (update_parts base id args sources operands)) within))
     into_lasts callees around e (Some (expr.Logic op left right)) path store is repeats enters ends = logic_lasts around op left right path store ends
     into_lasts callees around e (Some (expr.If condition then_branch else_branch)) path store is repeats enters ends =
         if_lasts around condition then_branch else_branch path store (λ child within. ends child (subst (λ parts. Contains parts child) (sym (if_parts condition then_branch else_branch)) within))

@@ -20,4 +20,5 @@ pub mod Runs
 pub mod Sizes
 pub mod Stores
 pub mod Structs
+pub mod Updates
 pub mod Values

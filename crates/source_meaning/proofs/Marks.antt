@@ -8,11 +8,14 @@ use Rattle.types.specs.declared.ids.ExprId.{ExprId}
 use Rattle.types.specs.declared.ids.LabelId.{LabelId}
 use Rattle.types.specs.declared.ids.PatId.{PatId}
 use Rattle.types.specs.declared.operators.LogicOp.{LogicOp}
+use Rattle.types.specs.declared.ids.StructId.{StructId}
+use Rattle.types.specs.declared.ty.GenericArgs.{GenericArgs}
 use Rattle.world.specs.declared.body.Statement.{Statement}
 use Rattle.world.specs.declared.body.Statement.TheVariants as statement
 use Rattle.world.specs.Checked.{IsCheckedBody}
 use Rattle.numbers.specs.declared.operator.Operator.{Operator}
-use Rattle.source_meaning.specs.Core.{Assigned, Assignee, ByField, ByPath, ByPattern, ByPlace, CoreExpr, CoreLiteral, Operation, PlaceElem, Literal, Path, Field, Strict, Logic, If, Assign, Compound, Block, Labelled, Loop, Break, Continue, Return, Call, is_literal, is_path, is_place}
+use Rattle.source_meaning.specs.Structs.{FieldSource}
+use Rattle.source_meaning.specs.Core.{Assigned, Assignee, ByField, ByPath, ByPattern, ByPlace, CoreExpr, CoreLiteral, Operation, PlaceElem, Literal, Path, UnitStruct, Field, Strict, Update, Logic, If, Assign, Compound, Block, Labelled, Loop, Break, Continue, Return, Call, is_literal, is_path, is_place}
 use Rattle.source_meaning.specs.Events.{Event, Opens, Marks, Closes, own_mark, place_events, operand_events, step_events, form_events, events_in, events, events_through, Scopes, after_event, scopes_after, innermost, marks_of, marked, marked_itself, marked_as_place, marked_as_operand, marked_by_assigned, marked_by_assignee, marked_by_statement, marked_by_tail, marked_in_block}
 use Rattle.source_meaning.specs.Laws.{ScopesNest}
 use Rattle.source_meaning.specs.Source.{Source, Cell, Node, Binding, Never, node, unadjusted, diverges, never_marks, pattern, bound_by}
@@ -160,6 +163,9 @@ module _ (source : Source) (below : ℕ → List Event) (closed : (e : ℕ) → 
       subst IsClosed (sym (compound_events_are op to value))
       (append_is_closed (flat_map (step_events source below) (assigned_steps to)) (flat_map (step_events source below) (map Operand (value ∷ []))) (assigned_is_closed to) (operands_are_closed (value ∷ [])))
 
+  update_is_closed : (base : ℕ) (operands : List ℕ) → IsClosed (flat_map (step_events source below) (Place base ∷ map Operand operands))
+  update_is_closed base operands = append_is_closed (place_events source below base) (flat_map (step_events source below) (map Operand operands)) (place_is_closed base) (operands_are_closed operands)
+
   inner_is_closed : (statements : List Statement) (tail : Option ExprId) → IsClosed (flat_map (step_events source below) (block_steps statements tail))
   inner_is_closed statements tail =
       subst IsClosed (sym (flat_map-append (step_events source below) (flat_map statement_steps statements) (tail_steps tail)))
@@ -172,8 +178,10 @@ module _ (source : Source) (below : ℕ → List Event) (closed : (e : ℕ) → 
   form_is_closed : (form : Option CoreExpr) → IsClosed (form_events source below form)
   form_is_closed (Some (Literal given)) = none_is_closed
   form_is_closed (Some (Path name)) = none_is_closed
+  form_is_closed (Some UnitStruct) = none_is_closed
   form_is_closed (Some (Field base field)) = base_is_closed base
   form_is_closed (Some (Strict operation operands)) = operands_are_closed operands
+  form_is_closed (Some (Update base id args sources operands)) = update_is_closed base operands
   form_is_closed (Some (Logic op left right)) = logic_is_closed left right
   form_is_closed (Some (If condition then_branch else_branch)) = if_is_closed condition then_branch else_branch
   form_is_closed (Some (Assign to value)) = assign_is_closed to value
@@ -350,6 +358,19 @@ module _ (source : Source) (checked : IsCheckedBody source.body source.infer) (e
 
   pub strict_marks : (operation : Operation) (operands : List ℕ) → node source e ≡ Some (Strict operation operands) → marked_itself source e ≡ flat_map (marked_as_operand source) operands
   strict_marks operation operands is = form_marks (Some (Strict operation operands)) is ∙ operands_mark source operands
+
+  -- a value of a unit struct marks nothing
+  pub unit_marks : node source e ≡ Some UnitStruct → marked_itself source e ≡ []
+  unit_marks is = form_marks (Some UnitStruct) is ∙ no_marks
+
+  -- a struct literal with a base marks what that does as a place, and then what its operands do
+  pub update_marks : (base : ℕ) (id : StructId) (args : GenericArgs) (sources : List FieldSource) (operands : List ℕ) → node source e ≡ Some (Update base id args sources operands) → marked_itself source e ≡ marked_as_place source base ++ flat_map (marked_as_operand source) operands
+  unfolding marked_as_place
+  update_marks base id args sources operands is =
+      form_marks (Some (Update base id args sources operands)) is
+      ∙ marks-append (place_events source (events source) base) (events_through source (map Operand operands)) (place_is_closed source (events source) (events_are_closed source) base)
+      (operands_are_closed source (events source) (events_are_closed source) operands)
+      ∙ ap (λ cells. marks_of (place_events source (events source) base) ++ cells) (operands_mark source operands)
 
   pub call_marks : (callee : Option ℕ) (args : List ℕ) → node source e ≡ Some (Call callee args) → marked_itself source e ≡ flat_map (marked_as_operand source) args
   call_marks callee args is = form_marks (Some (Call callee args)) is ∙ operands_mark source args

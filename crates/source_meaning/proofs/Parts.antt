@@ -5,11 +5,14 @@ use Rattle.std.proofs.lemmas.List.Concat.{flat_map-append}
 use Rattle.std.proofs.lemmas.List.Elements.{Contains-append_left, Contains-append_right, Contains-append_cases}
 use Rattle.world.specs.declared.body.Statement.{Statement}
 use Rattle.types.specs.declared.ids.ExprId.{ExprId}
+use Rattle.types.specs.declared.ids.StructId.{StructId}
+use Rattle.types.specs.declared.ty.GenericArgs.{GenericArgs}
 use Rattle.types.specs.declared.operators.LogicOp.{LogicOp}
 use Rattle.world.specs.declared.body.Statement.TheVariants as statement
 use Rattle.world.specs.Nodes.{optional}
 use Rattle.numbers.specs.declared.operator.Operator.{Operator}
-use Rattle.source_meaning.specs.Core.{Assigned, Assignee, ByField, ByPath, ByPattern, ByPlace, CoreExpr, Operation, Strict, Logic, If, Assign, Compound, Block, Call, is_truth}
+use Rattle.source_meaning.specs.Structs.{FieldSource}
+use Rattle.source_meaning.specs.Core.{Assigned, Assignee, ByField, ByPath, ByPattern, ByPlace, CoreExpr, Operation, Strict, Update, Logic, If, Assign, Compound, Block, Call, is_truth}
 use Rattle.source_meaning.specs.Source.{Source, unadjusted}
 use Rattle.source_meaning.specs.Steps.{Step, Operand, Place, Into, Bind, Open, Close, statement_steps, tail_steps, block_steps, assigned_steps, assignee_steps, steps_of, step_part, parts_of, assigned_parts, assignee_parts, statement_parts}
 use Rattle.source_meaning.specs.Valid.{sized_part, sized_parts}
@@ -52,6 +55,10 @@ operand_parts (e ∷ rest) = ap (λ others. e ∷ others) (operand_parts rest)
 
 pub strict_parts : (operation : Operation) (operands : List ℕ) → parts_of (Some (Strict operation operands)) ≡ operands
 strict_parts operation operands = operand_parts operands
+
+-- a struct literal with a base evaluates that, and then its operands
+pub update_parts : (base : ℕ) (id : StructId) (args : GenericArgs) (sources : List FieldSource) (operands : List ℕ) → parts_of (Some (Update base id args sources operands)) ≡ base ∷ operands
+update_parts base id args sources operands = ap (λ rest. base ∷ rest) (operand_parts operands)
 
 -- a call evaluates its arguments
 pub call_parts : (callee : Option ℕ) (args : List ℕ) → parts_of (Some (Call callee args)) ≡ args

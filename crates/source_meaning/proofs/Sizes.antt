@@ -1,9 +1,13 @@
 -- A plain body of a checked world is never stuck, and never ends in a jump: each value has the size of its type.
 use Rattle.std.specs.Prelude.{All, flat_map, Contains}
-use Rattle.std.proofs.Common.{⊎_elim, ◌⊎◌, inl, inr, ◌≡◌, ◌≢◌, ℕ, zero, suc, Bool, true, false, cond, if◌then◌else◌, ◌==◌, List, [], ◌∷◌, ◌++◌, length, map, Option, Some, None, unwrap_or, option_map, ℤ, pos, refl, sym, ap, ◌∙◌, subst, arith, eq-eqb}
+use Rattle.std.proofs.Common.{⊎_elim, ◌⊎◌, inl, inr, ◌≡◌, ◌≢◌, ℕ, zero, suc, Bool, true, false, cond, if◌then◌else◌, ◌==◌, List, [], ◌∷◌, ◌++◌, length, map, Option, Some, None, unwrap_or, option_and_then, option_map, ℤ, pos, refl, sym, ap, ◌∙◌, subst, arith, eq-eqb}
 use Rattle.std.proofs.lemmas.Bool.{false≢true}
 use Rattle.std.proofs.lemmas.List.{length-replicate}
 use Rattle.std.proofs.lemmas.List.Elements.{All-head, All-tail, Contains-append_left, Contains-append_right, Contains-append_cases}
+use Rattle.types.specs.declared.ids.AdtId.TheVariants as adt
+use Rattle.types.specs.declared.ids.StructId.{StructId}
+use Rattle.types.specs.declared.ty.Ty.TheVariants.{Adt}
+use Rattle.types.specs.declared.ty.GenericArgs.{GenericArgs}
 use Rattle.world.specs.declared.body.Statement.{Statement}
 use Rattle.world.specs.declared.body.Statement.TheVariants as statement
 use Rattle.types.specs.declared.ids.BindingId.{BindingId}
@@ -12,7 +16,10 @@ use Rattle.types.specs.declared.ids.LabelId.{LabelId}
 use Rattle.types.specs.declared.operators.LogicOp.{LogicOp}
 use Rattle.types.specs.declared.ty.Ty.{Ty, Bool as BoolTy, Int as IntType, Uint as UintType}
 use Rattle.world.specs.Checked.{IsChecked, IsCheckedBody}
+use Rattle.world.specs.Lookups.{layout_of}
 use Rattle.world.specs.Nodes.{optional}
+use Rattle.source_meaning.specs.Structs.{FieldSource}
+use Rattle.source_meaning.specs.Updates.{field_operands}
 use Rattle.numbers.specs.Bytes.{low_bytes}
 use Rattle.numbers.specs.declared.operator.Operator.{Operator}
 use Rattle.numbers.specs.Operators.{Answer, Computes, Panics, Undefined}
@@ -26,15 +33,15 @@ use Rattle.source_meaning.specs.Ends.{Cost, no_cost, turns_alone, plus, End, Go,
 use Rattle.source_meaning.specs.Entering.{entering}
 use Rattle.source_meaning.specs.Events.{marked, marked_as_operand, marked_as_place, marked_by_assigned, marked_by_statement}
 use Rattle.source_meaning.specs.Laid.{is_laid_out}
-use Rattle.source_meaning.specs.Meaning.{Level, Levels, Callees, Value, operand_kind, values_of, answered, answered_for, truth_byte, literal_bytes, constant_cost, put, copy_to, put_literal, put_answer, literal_operand, named_place, named_into, field_place, bind, operands_of, strict_into, deciding_byte, reading_cost, decided_into, branched, logic_into, tail_into, branch_into, if_into, put_all, put_at, copy_at, answer_at, bound_place, assignee_place, assign_into, assigned_place, compound_into, statement_of, statements_of, block_into, caught, again_into, labelled_into, turn_of, loop_into, break_to, break_into, continue_to, continue_into, return_into, call_ended, unfit_meaning, entered_from, entered_into, call_into, no_fuel, place_of, operand_of, into_of, level_above, level_at, returned, where_laid, body_meaning, callees_at, meaning_from}
+use Rattle.source_meaning.specs.Meaning.{Level, Levels, Callees, Value, operand_kind, values_of, answered, answered_for, truth_byte, literal_bytes, constant_cost, put, copy_to, put_literal, put_answer, literal_operand, named_place, named_into, field_place, bind, operands_of, strict_into, deciding_byte, reading_cost, decided_into, branched, logic_into, tail_into, branch_into, if_into, put_all, put_at, copy_at, answer_at, bound_place, assignee_place, assign_into, assigned_place, compound_into, struct_of, update_into, statement_of, statements_of, block_into, caught, again_into, labelled_into, turn_of, loop_into, break_to, break_into, continue_to, continue_into, return_into, call_ended, unfit_meaning, entered_from, entered_into, call_into, no_fuel, place_of, operand_of, into_of, level_above, level_at, returned, where_laid, body_meaning, callees_at, meaning_from}
 use Rattle.source_meaning.specs.Places.{cell_with, place_bytes, operand_bytes, operands_bytes}
 use Rattle.source_meaning.specs.Source.{Source, Store, IsSized, Path, Place, Cell, Result, Node, Binding, Operand, Literally, At, zeroed, node, unadjusted, never_marks, own_path, own_type, node_type, own_layout, pattern, target, compound_target, root, cell_type, binding_type, cell_size}
 use Rattle.source_meaning.specs.Steps.{parts_of, assigned_parts, assignee_parts, statement_parts, tail_steps}
 use Rattle.source_meaning.specs.Steps as step
-use Rattle.source_meaning.specs.Valid.{Evaluates, itself, part, IsNumber, IsBool, IsPlainLiteral, IsPlainLet, IsPlainStatement, IsPlainTail, IsCombined, IsPlainAssigned, IsPlainAssignee, IsPlainField, HasPlainForm, IsPlainNode, EvaluatesIn, itself_in, part_in, opened_in, HasPlainTarget, HasOpenTarget, FitsAround, JumpsFit, IsPlain, IsLaidOut, IsLaidOutNode, sized_parts, NeedsLayout, own, inside, Calls, through, at_once, IsPlainThroughout, IsPlainCall}
+use Rattle.source_meaning.specs.Valid.{Evaluates, itself, part, IsNumber, IsBool, IsPlainLiteral, IsPlainLet, IsPlainStatement, IsPlainTail, IsCombined, IsPlainAssigned, IsPlainAssignee, IsPlainField, HasPlainForm, IsPlainNode, EvaluatesIn, itself_in, part_in, opened_in, HasPlainTarget, HasOpenTarget, FitsAround, JumpsFit, IsPlain, IsLaidOut, IsLaidOutNode, sized_part, sized_parts, NeedsLayout, own, inside, Calls, through, at_once, IsPlainThroughout, IsPlainCall}
 use Rattle.source_meaning.proofs.Aggregates.{AreBytes}
 use Rattle.source_meaning.proofs.Calls.{called_world, called_is_checked, called_by_name, AreFor, started_is_sized}
-use Rattle.source_meaning.proofs.Depth.{evaluates_then, operand_is_part, argument_is_part, logic_operand_is_part, if_part_is_part, combined_is_part}
+use Rattle.source_meaning.proofs.Depth.{evaluates_then, operand_is_part, update_operand_is_part, argument_is_part, logic_operand_is_part, if_part_is_part, combined_is_part}
 use Rattle.source_meaning.proofs.Laid.{layouts_are_tested}
 use Rattle.source_meaning.proofs.Layouts.{bool_is_number, bool_length_is_one}
 use Rattle.source_meaning.proofs.Never.{undiverted-type, own_path-fits, unadjusted-plain}
@@ -42,7 +49,8 @@ use Rattle.source_meaning.proofs.Operators.{Fits, IsLengthOf}
 use Rattle.source_meaning.proofs.Parts.{first_is_contained, rest_is_contained, operand_is_sized, first_is_sized, right_is_sized, branch_is_sized, assigned_value_is_sized, assignee_is_sized, assigned_is_sized, combined_value_is_sized, sized_part_is_part, sized_block_parts, sized_tail}
 use Rattle.source_meaning.proofs.Places.{IsPlaceOf, IsLiteralOf, IsOperandOf, AreOperandsOf, byte_decides, whole_is_place, part_is_place, place_has_bytes, place_takes_bytes, place_has_value, values_of-more, same_size, operand_is_value, truth_has_byte, operands_are_values, operands_have_bytes, arguments_fit}
 use Rattle.source_meaning.proofs.Stores.{with_bytes_is_sized}
-use Rattle.source_meaning.proofs.Values.{size_at, combined_fits, number_is_long, typed_fits}
+use Rattle.source_meaning.proofs.Updates.{fields-are-read}
+use Rattle.source_meaning.proofs.Values.{size_at, combined_fits, number_is_long, struct_fits, typed_fits}
 
 -- how many bytes the values of an expression itself have
 abbrev pub size_of : Source → ℕ → ℕ
@@ -453,6 +461,8 @@ module _ (source : Source) (checked : IsChecked source.world) where
     operand_is_sound outer around stands e (Some (expr.Path name)) store is fine sized = as_place_is_sound outer around stands e store (ap is_truth is) fine sized
     operand_is_sound outer around stands e (Some (expr.Field base field)) store is fine sized = as_place_is_sound outer around stands e store (ap is_truth is) fine sized
     operand_is_sound outer around stands e (Some (expr.Strict operation operands)) store is fine sized = as_place_is_sound outer around stands e store (ap is_truth is) fine sized
+    operand_is_sound outer around stands e (Some expr.UnitStruct) store is fine sized = as_place_is_sound outer around stands e store (ap is_truth is) fine sized
+    operand_is_sound outer around stands e (Some (expr.Update base id args sources operands)) store is fine sized = as_place_is_sound outer around stands e store (ap is_truth is) fine sized
     operand_is_sound outer around stands e (Some (expr.Logic op left right)) store is fine sized = as_place_is_sound outer around stands e store (ap is_truth is) fine sized
     operand_is_sound outer around stands e (Some (expr.If condition then_branch else_branch)) store is fine sized = as_place_is_sound outer around stands e store (ap is_truth is) fine sized
     operand_is_sound outer around stands e (Some (expr.Assign to value)) store is fine sized = as_place_is_sound outer around stands e store (ap is_truth is) fine sized
@@ -485,6 +495,25 @@ module _ (source : Source) (checked : IsChecked source.world) where
         (subst (λ values. Fits (size_at source (Some plain.ty)) (answered_for source.world (own_type source e) operation values)) (sym read.1)
         (subst (λ ty. Fits (size_at source (Some plain.ty)) (answered source.world ty operation read.0)) (sym plain.has_type)
         (typed_fits source checked aggregates operation form.types read.0 plain.ty (laid_at outer e plain.ty fine plain.has_type) form.typed read.2)))))
+
+    -- the fields of a struct that has a base are values of their types
+    update_is_sound : (outer : List Opened) (around : Around) (stands : Stands outer around) (e base : ℕ) (id : StructId) (args : GenericArgs) (sources : List FieldSource) (operands : List ℕ) (path : Path) (store : Store) → node source e ≡ Some (expr.Update base id args sources operands) → IsFine source outer e → IsSized source store → OwnFits e path →
+        IsSound source around.targets Nothing (update_into source below around base id args sources operands path store)
+    update_is_sound outer around stands e base id args sources operands path store is fine sized fits =
+        let plain = fine.plain e itself in
+        let form = form_of e _ is plain in
+        let whole = Some (expr.Update base id args sources operands) in
+        let behind = marking (marked_as_place source base) around in
+        let base_is_fine = part_is_fine outer e base whole is (first_is_contained base (flat_map (sized_part source) (map step.Operand operands))) fine in
+        then_do_is_sound source around.targets (PlaceFits base) Nothing ((below around).place base store) _ ((sound outer around stands).place base store base_is_fine sized) (λ from later sized' at.
+        then_do_is_sound source around.targets (OperandsFit operands) Nothing (operands_of source below behind operands later) _ (operands_are_sound outer behind (marks_stand _ stands) operands later (λ child within.
+        operand_is_fine outer e child whole is (update_operand_is_part source e base id args sources operands child is within) (λ truth. rest_is_contained base _ child (operand_is_sized source operands child within truth)) fine) sized') (λ given last sized'' fit.
+        let base_at = subst (IsPlaceOf source from) form.base_has at in
+        let read = fields-are-read source checked aggregates last sized'' from plain.ty base_at operands form.types given form.operands_have fit args form.fields sources form.each in
+        put_answer_is_sound source around.targets last path _ sized''
+        (subst (λ size. Fits size (struct_of (layout_of source.world (Adt (adt.StructId id) args)) (option_and_then (values_of source last) (field_operands from given sources)))) (sym (ap (size_at source) (fits ∙ plain.has_type)))
+        (subst (λ values. Fits (size_at source (Some plain.ty)) (struct_of (layout_of source.world (Adt (adt.StructId id) args)) values)) (sym read.read)
+        (struct_fits source checked aggregates id args form.fields read.types read.values plain.ty (laid_at outer e plain.ty fine plain.has_type) form.is form.found read.typed read.are)))))
 
     statement_is_sound : (outer : List Opened) (around : Around) (stands : Stands outer around) (given : Statement) (store : Store) → IsPlainStatement source given → ((child : ℕ) → Contains (statement_parts given) child → IsFine source outer child) → IsSized source store → IsSound source around.targets Nothing (statement_of source (below around) given store)
     statement_is_sound outer around stands (statement.Let pat (Some e) None) store plain parts sized =
@@ -727,10 +756,12 @@ module _ (source : Source) (checked : IsChecked source.world) where
         let form = form_of e _ is plain in
         subst (λ named. IsSound source around.targets Nothing (named_into named path store)) (sym form.named)
         (put_is_sound source around.targets store path (store (Binding form.binding.0)) sized (sized.holds_all (Binding form.binding.0) ∙ ap (size_at source) (form.binding_has ∙ sym plain.has_type ∙ sym fits)))
+    into_is_sound callees callees_are outer around stands e (Some expr.UnitStruct) path store is fine sized fits = (sized, tt)
     into_is_sound callees callees_are outer around stands e (Some (expr.Field base field)) path store is fine sized fits =
         then_do_is_sound source around.targets (λ place. IsPlaceOf source place (own_type source e)) Nothing (field_place (below around) base field store) _ (field_is_sound outer around stands e base field store is fine sized)
         (λ place later sized' given. copied_is_sound around.targets place (own_type source e) path later sized' given fits)
     into_is_sound callees callees_are outer around stands e (Some (expr.Strict operation operands)) path store is fine sized fits = strict_is_sound outer around stands e operation operands path store is fine sized fits
+    into_is_sound callees callees_are outer around stands e (Some (expr.Update base id args sources operands)) path store is fine sized fits = update_is_sound outer around stands e base id args sources operands path store is fine sized fits
     into_is_sound callees callees_are outer around stands e (Some (expr.Logic op left right)) path store is fine sized fits = logic_is_sound outer around stands e op left right path store is fine sized fits
     into_is_sound callees callees_are outer around stands e (Some (expr.If condition then_branch else_branch)) path store is fine sized fits = if_is_sound outer around stands e condition then_branch else_branch path store is fine sized fits
     into_is_sound callees callees_are outer around stands e (Some (expr.Assign to value)) path store is fine sized fits = assign_is_sound outer around stands e to value store is fine sized

@@ -3,10 +3,14 @@ use Rattle.std.proofs.Common.{⊎_elim, ◌⊎◌, ◌≡◌, ℕ, zero, suc, �
 use Rattle.std.proofs.lemmas.List.Elements.{All-head, All-tail}
 use Rattle.types.specs.declared.ty.Ty.{Ty, Bool as BoolTy, Int as IntType, Uint as UintType, Char as CharType}
 use Rattle.types.specs.declared.ids.AdtId.TheVariants as adt
+use Rattle.types.specs.declared.ids.StructId.{StructId}
+use Rattle.types.specs.declared.ids.VariantId.TheVariants as variant
+use Rattle.types.specs.declared.ty.GenericArgs.{GenericArgs}
 use Rattle.types.specs.declared.ty.Ty.TheVariants.{Adt, Array, Tuple}
 use Rattle.world.specs.declared.layout.Layout.{Layout}
 use Rattle.world.specs.Checked.{IsChecked, fixed_size}
-use Rattle.world.specs.Lookups.{layout_of}
+use Rattle.world.specs.Lookups.{fields_of, layout_of}
+use Rattle.world.specs.declared.items.FieldRow.{FieldRow}
 use Rattle.numbers.specs.declared.operator.Operator.{Operator}
 use Rattle.numbers.specs.declared.operator.Operator.TheVariants.{Add, Sub, Mul, Div, Rem, BitXor, BitAnd, BitOr, Shl, Shr, Eq, Ne, Lt, Le, Gt, Ge}
 use Rattle.numbers.specs.Operators.{computed, negated, inverted, is_shift, is_comparison, is_on_booleans, kind_of}
@@ -14,7 +18,7 @@ use Rattle.source_meaning.specs.Aggregates.{array_length, made, laid_out, repeat
 use Rattle.source_meaning.specs.Core.{Operation, Negate, Invert, Keep, Convert, Combine, MakeTuple, MakeArray, Repeat, MakeStruct}
 use Rattle.source_meaning.specs.Meaning.{Value, converted_to, answered, struct_of}
 use Rattle.source_meaning.specs.Source.{Source}
-use Rattle.source_meaning.specs.Structs.{picked}
+use Rattle.source_meaning.specs.Structs.{AreFieldTypes, picked}
 use Rattle.source_meaning.specs.Valid.{IsNumber, IsBool, AreIntegers, AreScalars, AreShifted, AreCompared, IsCombined, IsTyped, IsLaidOut}
 use Rattle.source_meaning.proofs.Aggregates.{AreInside, constructed-there, length-repeated, length_of_array}
 use Rattle.source_meaning.proofs.Layouts.{number_has_length, number_has_size, integer_is_number, bool_is_number, scalar_is_number, bool_length_is_one}
@@ -170,6 +174,16 @@ module _ (source : Source) where
         let rest = picked-values places types values from.others are from.rest in
         (first.0 ∷ rest.0, picked-more place places values first.0 rest.0 first.1 rest.1, subst (λ types. AreValues source types (first.0 ∷ rest.0)) (sym from.are) (first.2, rest.2))
 
+    -- a struct of values of its fields' types has its size
+    pub struct_fits : HasAggregates source.world → (id : StructId) (args : GenericArgs) (fields : List FieldRow) (types : List Ty) (values : List Value) (ty : Ty) → IsLaidOut source (Some ty) → ty ≡ Adt (adt.StructId id) args →
+        fields_of source.world (variant.StructId id) ≡ Some fields → AreFieldTypes source.world args fields types → AreValues source types values → Fits (size_at source (Some ty)) (struct_of (layout_of source.world (Adt (adt.StructId id) args)) (Some values))
+    struct_fits aggregates id args fields types values ty laid is there typed are =
+        let found : layout_of source.world (Adt (adt.StructId id) args) ≡ Some laid.layout = subst (λ t. layout_of source.world t ≡ Some laid.layout) is laid.found in
+        let has = fields-are-parts source.world args fields types laid.layout typed (aggregates.structs id args fields laid.layout there found) in
+        subst (λ size. Fits size (struct_of (layout_of source.world (Adt (adt.StructId id) args)) (Some values))) (sym (laid_size ty laid))
+        (subst (λ layout. Fits laid.layout.size (struct_of layout (Some values))) (sym found)
+        (tuple_fits types values laid.layout has are))
+
     -- the elements of an array have the size of its element each
     length-elements : (element : Ty) (inner : Layout) (types : List Ty) (values : List Value) → layout_of source.world element ≡ Some inner → All (λ one. one ≡ element) types → AreValues source types values →
         length (flat_map (λ value. value.bytes) values) ≡ length types * inner.size
@@ -215,13 +229,9 @@ module _ (source : Source) where
         (subst (λ layout. Fits laid.layout.size (laid_out layout (map (λ value. value.bytes) values))) (sym laid.found)
         (tuple_fits types values laid.layout (aggregates.tuples types laid.layout found) are))
     typed_fits aggregates (MakeStruct id args places) types values ty laid typed are =
-        let found : layout_of source.world (Adt (adt.StructId id) args) ≡ Some laid.layout = subst (λ t. layout_of source.world t ≡ Some laid.layout) typed.is laid.found in
         let chosen = picked-values places types values typed.given are typed.picks in
-        let has = fields-are-parts source.world args typed.fields typed.given laid.layout typed.each (aggregates.structs id args typed.fields laid.layout typed.found found) in
-        subst (λ size. Fits size (struct_of (layout_of source.world (Adt (adt.StructId id) args)) (picked places values))) (sym (laid_size ty laid))
-        (subst (λ layout. Fits laid.layout.size (struct_of layout (picked places values))) (sym found)
-        (subst (λ fields. Fits laid.layout.size (struct_of (Some laid.layout) fields)) (sym chosen.1)
-        (tuple_fits typed.given chosen.0 laid.layout has chosen.2)))
+        subst (λ fields. Fits (size_at source (Some ty)) (struct_of (layout_of source.world (Adt (adt.StructId id) args)) fields)) (sym chosen.1)
+        (struct_fits aggregates id args typed.fields typed.given chosen.0 ty laid typed.is typed.found typed.each chosen.2)
     typed_fits aggregates MakeArray types values ty laid typed are =
         let found : layout_of source.world (Array typed.element typed.len) ≡ Some laid.layout = subst (λ t. layout_of source.world t ≡ Some laid.layout) typed.is laid.found in
         let has = aggregates.arrays typed.element typed.len laid.layout found in

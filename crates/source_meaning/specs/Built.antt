@@ -95,8 +95,10 @@ IsBuiltStrict source e _ = Unit {0}
 abbrev pub IsBuiltForm : Source → ℕ → Option CoreExpr → Type 0
 IsBuiltForm source e (Some (expr.Literal l)) = Unit {0}
 IsBuiltForm source e (Some (expr.Path name)) = NamesBinding source e
+IsBuiltForm source e (Some expr.UnitStruct) = Unit {0}
 IsBuiltForm source e (Some (expr.Field base field)) = Unit {0}
 IsBuiltForm source e (Some (expr.Strict operation operands)) = IsBuiltStrict source e operation
+IsBuiltForm source e (Some (expr.Update base id args sources operands)) = Unit {0}
 IsBuiltForm source e (Some (expr.Logic op left right)) = Unit {0}
 IsBuiltForm source e (Some (expr.If condition then_branch else_branch)) = Unit {0}
 IsBuiltForm source e (Some (expr.Assign to value)) = IsBuiltAssignee source to

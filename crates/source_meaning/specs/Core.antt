@@ -46,7 +46,7 @@ use Rattle.world.specs.declared.pat.Pat.TheVariants as pat
 use Rattle.world.specs.declared.pat.Pat.{Pat}
 use Rattle.world.specs.Lookups.{type_of}
 use Rattle.world.specs.Nodes.{expr_numbers, field_numbers}
-use Rattle.source_meaning.specs.Structs.{StructAt, all_places, struct_args}
+use Rattle.source_meaning.specs.Structs.{StructAt, FieldSource, all_places, all_sources, struct_args}
 
 -- a literal with a meaning: a truth value, a whole number, or a character, by its code point
 pub data CoreLiteral : Type 0 where
@@ -93,12 +93,16 @@ pub data Assigned : Type 0 where
 -- ends a loop or a labelled block around it, with a value or without, and a `continue` starts it again. A `return` ends the
 -- body, with a value or without. A call evaluates its arguments from left to right, and then enters the body of a function: the one that
 -- its callee's type names, or, where it is a method call, the one that it is resolved to; the receiver is its first argument. A field is
--- a part of its base, which is a tuple or a struct.
+-- a part of its base, which is a tuple or a struct. A struct literal with a base has the base's place first, then operands from left to right, and
+-- makes a struct of both, whose fields have sources in their order. A path to a unit
+-- struct is a value without parts.
 pub data CoreExpr : Type 0 where
   Literal : CoreLiteral → CoreExpr
   Path : (name : List ℕ) → CoreExpr
+  UnitStruct : CoreExpr
   Field : (base : ℕ) → (elem : PlaceElem) → CoreExpr
   Strict : Operation → (operands : List ℕ) → CoreExpr
+  Update : (base : ℕ) → (id : StructId) → (args : GenericArgs) → (sources : List FieldSource) → (operands : List ℕ) → CoreExpr
   Logic : LogicOp → (left right : ℕ) → CoreExpr
   If : (condition then_branch : ℕ) → (else_branch : Option ExprId) → CoreExpr
   Assign : Assignee → (value : ℕ) → CoreExpr
@@ -162,15 +166,29 @@ abbrev pub field_step : (base : Option Ty) → Either FieldId TupleFieldId → O
 field_step base (Left field) = step_to base field field.parent
 field_step base (Right field) = Some (Part field.index)
 
--- A struct literal without a base, by the struct that it makes and the fields that are written: each field of the struct has to be written
--- once. One with a base, and one of a variant or a union, has no meaning so far.
+-- a struct literal with a base, which gives the fields that aren't written; so far one of a struct without generic arguments alone
+abbrev pub update_form : (base : ℕ) → StructAt → List RecordLitField → Option CoreExpr
+update_form base made written =
+    if length made.args.0 == 0 then option_map (λ sources. Update base made.id made.args sources (field_numbers written)) (all_sources made.id made.fields written) else None
+
+-- A struct literal, by the struct that it makes and the fields that are written: without a base, each field of the struct has to be written
+-- once. One of a variant or a union has no meaning so far.
 abbrev pub record_form : Option StructAt → List RecordLitField → RecordSpread → Option CoreExpr
 record_form (Some made) written spread.None =
     option_map (λ places. Strict (MakeStruct made.id made.args places) (field_numbers written)) (all_places made.fields written)
+record_form (Some made) written (spread.Expr base) = update_form base.0 made written
 record_form _ written _ = None
+
+-- a path: a value of a unit struct, or else a name, if it isn't resolved to an item
+abbrev pub path_form : (names_unit names_item : Bool) → (name : List ℕ) → Option CoreExpr
+path_form true names_item name = Some UnitStruct
+path_form false true name = None
+path_form false false name = Some (Path name)
 
 -- What the form of an expression depends on besides the expression itself.
 pub record Findings : Type 0 where
+  -- whether it is a path that is resolved to a struct, of which it is a value
+  pub names_unit : Bool
   -- whether it is a path that is resolved to an item of a trait or an impl, or to a variant
   pub names_item : Bool
   -- what it computes, where it is a cast of an operand that has a meaning
@@ -187,7 +205,7 @@ pub record Findings : Type 0 where
 -- The form of an expression, where it is one with a meaning.
 abbrev pub core_of : Findings → Expr → Option CoreExpr
 core_of found (expr.Literal given) = option_map Literal (core_literal given)
-core_of found (expr.Path name) = if found.names_item then None else Some (Path name)
+core_of found (expr.Path name) = path_form found.names_unit found.names_item name
 core_of found (expr.Field base name) = option_map (Field base.0) (found.field base)
 core_of found (expr.UnaryOp e op) = unary_form e.0 (unary_operation op)
 core_of found (expr.Cast operand) = unary_form operand.0 (found.casts operand)
@@ -271,6 +289,19 @@ unfoldable pub names_item : InferenceResult → ExprId → Bool
 names_item infer e =
     is_some (lookup (is_at (ExprIdOrd.ghosts.cmp e)) infer.assoc_res)
     || is_some (lookup (is_at (ExprIdOrd.ghosts.cmp e)) infer.variant_res)
+
+-- the struct that a path is resolved to, where it is: by inference, or else by its name
+abbrev pub struct_named : Option VariantId → Option ValueNs → Option StructId
+struct_named (Some (variant.StructId id)) named = Some id
+struct_named None (Some (value.StructId id)) = Some id
+struct_named _ named = None
+
+-- whether a path is resolved to a struct, which is its own type: then it is a value of a unit struct
+unfoldable pub names_unit : InferenceResult → ExprId → Bool
+names_unit infer e =
+    not (is_some (lookup (is_at (ExprIdOrd.ghosts.cmp e)) infer.assoc_res))
+    && is_some (option_and_then (λ id. option_and_then (struct_args id) (type_of infer e.0))
+    (struct_named (lookup (is_at (ExprIdOrd.ghosts.cmp e)) infer.variant_res) (lookup (is_at (ExprIdOrd.ghosts.cmp e)) infer.value_res)))
 
 -- the binding of a pattern that is a name and no more
 abbrev pub name_of : Pat → Option BindingId

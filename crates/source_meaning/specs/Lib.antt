@@ -14,4 +14,5 @@ pub mod Places
 pub mod Source
 pub mod Steps
 pub mod Structs
+pub mod Updates
 pub mod Valid

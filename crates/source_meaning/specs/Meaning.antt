@@ -5,6 +5,8 @@ use Rattle.types.specs.declared.ids.BindingId.{BindingId}
 use Rattle.types.specs.declared.ids.ExprId.{ExprId}
 use Rattle.types.specs.declared.ids.LabelId.{LabelId}
 use Rattle.types.specs.declared.ids.AdtId.TheVariants as adt
+use Rattle.types.specs.declared.ids.StructId.{StructId}
+use Rattle.types.specs.declared.ty.GenericArgs.{GenericArgs}
 use Rattle.types.specs.declared.ty.Ty.{Ty}
 use Rattle.types.specs.declared.ty.Ty.TheVariants.{Adt}
 use Rattle.types.specs.declared.operators.LogicOp.{LogicOp}
@@ -32,7 +34,8 @@ use Rattle.source_meaning.specs.Laid.{is_laid_out}
 use Rattle.source_meaning.specs.Around.{Around, Target, at_root, marking, inside, target_of}
 use Rattle.source_meaning.specs.Events.{marked, marked_as_place, marked_as_operand, marked_by_assigned, marked_by_statement, marked_by_tail, marked_in_block}
 use Rattle.source_meaning.specs.Places.{cell_with, place_bytes, operand_type, operand_bytes, operands_bytes}
-use Rattle.source_meaning.specs.Structs.{picked}
+use Rattle.source_meaning.specs.Structs.{FieldSource, picked}
+use Rattle.source_meaning.specs.Updates.{field_operands}
 use Rattle.source_meaning.specs.Source.{Source, node, unadjusted, own_type, own_layout, named_by, pattern, target, compound_target, root, Cell, Result, Node, Binding, Path, Place, whole, projected, never_marks, own_path, Store, zeroed, with_cell_bytes, Operand, Literally, At, drops}
 
 -- the byte of a truth value: 1 for true
@@ -182,6 +185,14 @@ operands_of source below around (e ∷ rest) store =
 abbrev pub strict_into : Source → Levels → Around → ℕ → Operation → List ℕ → Path → Store → End (Unit {0})
 strict_into source below around e operation operands path store =
     then_do (operands_of source below around operands store) (λ given later. put_answer later path (answered_for source.world (own_type source e) operation (values_of source later given)))
+
+-- The place of the base, then the operands from left to right, and then the struct is made of the values of its fields: what is written for
+-- each, or what lies at the field of the base then.
+abbrev pub update_into : Source → Levels → Around → (base : ℕ) → StructId → GenericArgs → List FieldSource → (operands : List ℕ) → Path → Store → End (Unit {0})
+update_into source below around base id args sources operands path store =
+    then_do ((below around).place base store) (λ from later.
+    then_do (operands_of source below (marking (marked_as_place source base) around) operands later) (λ given last.
+    put_answer last path (struct_of (layout_of source.world (Adt (adt.StructId id) args)) (option_and_then (values_of source last) (field_operands from given sources)))))
 
 -- Whether bytes are one byte, and this is the given number. Other bytes than one have no answer.
 abbrev pub is_byte : ℕ → Option Contents → Option Bool
@@ -430,12 +441,14 @@ call_into source below callees around e callee args path store =
     then_do (operands_of source below around args store) (λ given later.
     entered_into callees (must_not_return source e) (source_called source e callee) (operands_bytes source later given) path later)
 
--- an expression itself evaluated into a path: the forms that have a meaning so far
+-- An expression itself evaluated into a path: the forms that have a meaning so far. A value of a unit struct has no bytes to write.
 abbrev pub into_of : Source → Levels → Callees → Around → ℕ → Option CoreExpr → Path → Store → End (Unit {0})
 into_of source below callees around e (Some (expr.Literal l)) path store = put_literal source e store path (literal_bytes source e l)
 into_of source below callees around e (Some (expr.Path name)) path store = named_into (named_by source e) path store
+into_of source below callees around e (Some expr.UnitStruct) path store = Go tt store no_cost
 into_of source below callees around e (Some (expr.Field base elem)) path store = field_into source (below around) base elem path store
 into_of source below callees around e (Some (expr.Strict operation operands)) path store = strict_into source below around e operation operands path store
+into_of source below callees around e (Some (expr.Update base id args sources operands)) path store = update_into source below around base id args sources operands path store
 into_of source below callees around e (Some (expr.Logic op left right)) path store = logic_into source below around op left right path store
 into_of source below callees around e (Some (expr.If condition then_branch else_branch)) path store = if_into source below around condition then_branch else_branch path store
 into_of source below callees around e (Some (expr.Assign to value)) path store = assign_into source below around to value store

@@ -17,7 +17,7 @@ use Rattle.types.specs.declared.ids.PatId.{PatId}
 use Rattle.types.specs.declared.ids.VariantId.{VariantId}
 use Rattle.world.specs.Lookups.{layout_of, type_of, expr_of, is_copy}
 use Rattle.source_meaning.specs.Contents.{Contents, holding}
-use Rattle.source_meaning.specs.Core.{Assigned, Assignee, ByField, ByPath, ByPattern, ByPlace, CoreExpr, Findings, PlaceElem, cast_operation, core_of, expr_in, field_taken, is_adjusted_otherwise, is_adjusted_twice, named_path, part_in, type_after, is_adjusted_pattern, is_dereferenced_pattern, path_of, pattern_names_item, local_named, name_of, names_item, never_target}
+use Rattle.source_meaning.specs.Core.{Assigned, Assignee, ByField, ByPath, ByPattern, ByPlace, CoreExpr, Findings, PlaceElem, cast_operation, core_of, expr_in, field_taken, is_adjusted_otherwise, is_adjusted_twice, named_path, part_in, type_after, is_adjusted_pattern, is_dereferenced_pattern, path_of, pattern_names_item, local_named, name_of, names_item, names_unit, never_target}
 use Rattle.source_meaning.specs.Structs.{struct_made}
 
 -- a typed body in its world, and the arguments of its generics, of which there are none in any body that has a meaning so far
@@ -65,6 +65,7 @@ variant_named source e = lookup (is_at (ExprIdOrd.ghosts.cmp (record { 0 = e }))
 -- what the form of an expression of the source depends on
 abbrev pub findings : Source → ℕ → Findings
 findings source e = record {
+  names_unit = names_unit source.infer (record { 0 = e });
   names_item = names_item source.infer (record { 0 = e });
   casts = cast_operation source.infer (record { 0 = e });
   field = field_taken source.infer (record { 0 = e });

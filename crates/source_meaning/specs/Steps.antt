@@ -46,8 +46,10 @@ assigned_steps (ByField base elem) = Place base ∷ []
 abbrev pub steps_of : CoreExpr → List Step
 steps_of (expr.Literal given) = []
 steps_of (expr.Path name) = []
+steps_of expr.UnitStruct = []
 steps_of (expr.Field base field) = Place base ∷ []
 steps_of (expr.Strict operation operands) = map Operand operands
+steps_of (expr.Update base id args sources operands) = Place base ∷ map Operand operands
 steps_of (expr.Logic op left right) = Operand left ∷ Into right ∷ []
 steps_of (expr.If condition then_branch else_branch) = Operand condition ∷ Into then_branch ∷ tail_steps else_branch
 steps_of (expr.Assign to value) = Place value ∷ assignee_steps to

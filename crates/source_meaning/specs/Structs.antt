@@ -1,8 +1,9 @@
 -- Structs: which one a struct literal makes a value of, which written field gives each of its fields, and of which types these are.
-use Rattle.std.specs.Prelude.{◌≡◌, ℕ, ◌==◌, List, [], ◌∷◌, length, position, Option, Some, None, slice_get, option_map, option_and_then, if◌then◌else◌}
+use Rattle.std.specs.Prelude.{◌≡◌, ℕ, ◌==◌, Bool, true, false, suc, List, [], ◌∷◌, length, filter, position, Option, Some, None, slice_get, option_map, option_and_then, if◌then◌else◌}
 use Rattle.std.specs.Cmp.Lexicographic.{pointwise}
 use Rattle.check_instances.specs.Instances.{ty_instance}
 use Rattle.types.specs.declared.ids.AdtId.TheVariants as adt
+use Rattle.types.specs.declared.ids.FieldId.{FieldId}
 use Rattle.types.specs.declared.ids.StructId.{StructId}
 use Rattle.types.specs.declared.ids.VariantId.{VariantId}
 use Rattle.types.specs.declared.ids.VariantId.TheVariants as variant
@@ -61,6 +62,30 @@ places_named (field ∷ fields) written =
 -- the same where the literal has as many fields as the struct, so that each is written once, and no other
 abbrev pub all_places : List FieldRow → List RecordLitField → Option (List ℕ)
 all_places fields written = if length fields == length written then places_named fields written else None
+
+-- what gives a field of a struct literal with a base: the written field at a place, or a field of the base
+pub data FieldSource : Type 0 where
+  Written : (place : ℕ) → FieldSource
+  OfBase : (field : FieldId) → FieldSource
+
+abbrev pub is_written : FieldSource → Bool
+is_written (Written place) = true
+is_written (OfBase field) = false
+
+-- what gives the field of a struct at an index, by the place of the first written field of its name, if there is one
+abbrev pub source_by : StructId → (index : ℕ) → (place : Option ℕ) → FieldSource
+source_by id index (Some place) = Written place
+source_by id index None = OfBase (record { parent = variant.StructId id; local_id = index })
+
+-- what gives the fields of a struct, in their order, from the one at an index on
+unfoldable pub field_sources : StructId → (index : ℕ) → List FieldRow → List RecordLitField → List FieldSource
+field_sources id index [] written = []
+field_sources id index (field ∷ fields) written = source_by id index (place_named field.name written) ∷ field_sources id (suc index) fields written
+
+-- the same where each written field gives one of the struct's: there are as many that are written as are given so
+abbrev pub all_sources : StructId → List FieldRow → List RecordLitField → Option (List FieldSource)
+all_sources id fields written =
+    if length (filter is_written (field_sources id 0 fields written)) == length written then Some (field_sources id 0 fields written) else None
 
 -- the elements of a list at places, in the order of the places, where there is one at each
 unfoldable pub picked : {A : Type 0} → (places : List ℕ) → List A → Option (List A)

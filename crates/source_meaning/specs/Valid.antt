@@ -13,7 +13,9 @@ use Rattle.types.specs.declared.ids.VariantId.TheVariants as variant
 use Rattle.world.specs.declared.infer.ValueNs.TheVariants.{LocalBinding}
 use Rattle.world.specs.declared.database.HirDatabase.{HirDatabase}
 use Rattle.world.specs.declared.items.FieldRow.{FieldRow}
+use Rattle.world.specs.declared.items.FieldsShape.TheVariants.{Unit as UnitShape}
 use Rattle.world.specs.declared.items.FunctionRow.{FunctionRow}
+use Rattle.world.specs.declared.items.StructRow.{StructRow}
 use Rattle.world.specs.declared.layout.Layout.{Layout}
 use Rattle.types.specs.declared.ty.Const.{Const}
 use Rattle.types.specs.declared.ty.GenericArgs.{GenericArgs}
@@ -29,7 +31,7 @@ use Rattle.source_meaning.specs.Calls.{function_called, source_of, source_called
 use Rattle.source_meaning.specs.Core as expr
 use Rattle.source_meaning.specs.Core.{Assigned, Assignee, ByField, ByPath, ByPattern, ByPlace, CoreExpr, CoreLiteral, Truth, Number, Character, Operation, Negate, Invert, Keep, Convert, Combine, MakeTuple, MakeArray, Repeat, MakeStruct, PlaceElem, Part, FieldOf, is_place, is_truth, IsNoCall}
 use Rattle.source_meaning.specs.Source.{Source, node, unadjusted, diverges, own_type, node_type, binding_type, pattern, pattern_type, target, compound_target, named_by, root}
-use Rattle.source_meaning.specs.Structs.{AreFieldTypes, field_type, picked}
+use Rattle.source_meaning.specs.Structs.{AreFieldTypes, FieldSource, Written, OfBase, field_type, picked}
 use Rattle.source_meaning.specs.Steps.{Step, steps_of, step_part, parts_of}
 use Rattle.source_meaning.specs.Steps as step
 
@@ -130,6 +132,15 @@ pub record IsStructOf (world : HirDatabase) (id : StructId) (args : GenericArgs)
   pub given : List Ty
   pub picks : picked places types ≡ Some given
   pub each : AreFieldTypes world args fields given
+
+-- a value of a unit struct
+pub record IsUnitOf (world : HirDatabase) (ty : Ty) : Type 0 where
+  pub id : StructId
+  pub args : GenericArgs
+  pub is : ty ≡ AdtTy (adt.StructId id) args
+  pub row : StructRow
+  pub found : slice_get world.structs id.0 ≡ Some row
+  pub shape : row.shape ≡ UnitShape
 
 -- The types of an operation's operands and of its result fit one another: `-` is on an integer, `!` on an integer or
 -- `bool`, and gives a value of the same type. A cast that is a coercion keeps its type, and any other one is between integers, `bool` and
@@ -250,6 +261,27 @@ abbrev pub HasElem : HirDatabase → PlaceElem → (base ty : Ty) → Type 0
 HasElem world (Part index) base ty = HasPart index base ty
 HasElem world (FieldOf field) base ty = HasField world field base ty
 
+-- what gives a field has a type that the field has at generic arguments: a written operand's, or that of a field of the base
+abbrev pub IsGiven : HirDatabase → GenericArgs → (base : Ty) → (types : List Ty) → FieldRow → FieldSource → Type 0
+IsGiven world args base types row (Written place) = (ty : Ty) × (slice_get types place ≡ Some ty) × (field_type world args row ≡ Some ty)
+IsGiven world args base types row (OfBase field) = (ty : Ty) × HasField world field base ty × (field_type world args row ≡ Some ty)
+
+-- and so has what gives each field
+abbrev pub AreGiven : HirDatabase → GenericArgs → (base : Ty) → (types : List Ty) → List FieldRow → List FieldSource → Type 0
+AreGiven world args base types [] [] = Unit {0}
+AreGiven world args base types (row ∷ rows) (source ∷ sources) = IsGiven world args base types row source × AreGiven world args base types rows sources
+AreGiven world args base types _ _ = ⊥
+
+-- A struct literal with a base has the type of its struct, and so has the base. Each field is given a value of its type.
+pub record IsPlainUpdate (source : Source) (base : ℕ) (id : StructId) (args : GenericArgs) (sources : List FieldSource) (operands : List ℕ) (ty : Ty) : Type 0 where
+  pub is : ty ≡ AdtTy (adt.StructId id) args
+  pub base_has : node_type source base ≡ Some ty
+  pub fields : List FieldRow
+  pub found : fields_of source.world (variant.StructId id) ≡ Some fields
+  pub types : List Ty
+  pub operands_have : HaveTypes source operands types
+  pub each : AreGiven source.world args ty types fields sources
+
 -- the type of a field's base has what inference resolved the field to, of the field's type
 pub record IsPlainField (source : Source) (base : ℕ) (elem : PlaceElem) (ty : Ty) : Type 0 where
   pub base_ty : Ty
@@ -312,8 +344,10 @@ pub record IsPlainCall (source : Source) (e : ℕ) (callee : Option ℕ) (args :
 abbrev pub HasPlainForm : Source → ℕ → Option CoreExpr → Ty → Type 0
 HasPlainForm source e (Some (expr.Literal l)) ty = IsPlainLiteral l ty
 HasPlainForm source e (Some (expr.Path name)) ty = IsPlainPath source e ty
+HasPlainForm source e (Some expr.UnitStruct) ty = IsUnitOf source.world ty
 HasPlainForm source e (Some (expr.Field base elem)) ty = IsPlainField source base elem ty
 HasPlainForm source e (Some (expr.Strict operation operands)) ty = IsPlainStrict source operation operands ty
+HasPlainForm source e (Some (expr.Update base id args sources operands)) ty = IsPlainUpdate source base id args sources operands ty
 HasPlainForm source e (Some (expr.Logic op left right)) ty = IsPlainLogic source left right ty
 HasPlainForm source e (Some (expr.If condition then_branch else_branch)) ty = IsPlainIf source condition then_branch else_branch ty
 HasPlainForm source e (Some (expr.Assign to value)) ty = IsPlainAssign source to value
