@@ -353,7 +353,11 @@ class Reading:
 
     def is_place(self, e):
         """Whether an expression is a place: a name of the body, or a field."""
-        return self.is_a(e, "Field") or (self.is_a(e, "Path") and not names_struct(self.rows["value_res"], e))
+        return self.is_a(e, "Field") or (self.is_a(e, "Path") and not self.names_unit(e))
+
+    def names_unit(self, e):
+        """Whether a path is a value of a struct without fields."""
+        return names_unit(self.rows, self.body.infer, e)
 
     def place(self, e):
         if self.is_place(e):
@@ -397,16 +401,11 @@ class Reading:
 
     def own_path(self, e, part):
         """A name of the body, or of a struct without fields."""
+        if self.names_unit(e):
+            return
         if e in self.rows["assoc_res"] or e in self.rows["variant_res"]:
             raise Refusal(NOT_BUILT)
-        if not names_struct(self.rows["value_res"], e):
-            self.named(self.rows["value_res"], e, part)
-            return
-        number, made = self.rows["value_res"][e]["StructId"], struct_in(self.body.infer["expr_types"][e])
-        if made is None or made[0] != number:
-            raise Refusal(NOT_BUILT)
-        if self.world["structs"][number]["shape"] != "Unit":
-            raise Unknown("a path to a struct that has fields, or braces, of that struct's type")
+        self.named(self.rows["value_res"], e, part)
 
     def own_field(self, e, part):
         """A part of a tuple, or a field of the struct that the base is by its type, without generic arguments."""
@@ -424,7 +423,7 @@ class Reading:
 
     def own_recordlit(self, e, part):
         """A struct literal. Without a base it writes as many fields as the struct has, each of these among them. With one it writes some
-        of them, each once, and the base is of its own type, a struct without generic arguments."""
+        of them, each once, and its own type is a struct without generic arguments."""
         found, made = self.rows["variant_res"].get(e, {}), struct_in(self.body.infer["expr_types"][e])
         if made is None or found != {"StructId": made[0]}:
             raise Refusal(NOT_BUILT)
@@ -432,8 +431,7 @@ class Reading:
         written = [one["name"] for one in part.get("fields", [])]
         base = base_of(part)
         if base is not None:
-            is_subset = len(set(written)) == len(written) and set(written) <= set(names)
-            if not is_subset or made[1] or self.value_type(base) != self.body.infer["expr_types"][e]:
+            if made[1] or sum(name in written for name in names) != len(written):
                 raise Refusal(NOT_BUILT)
             self.place(base)
         elif part["spread"] != "None" or len(names) != len(written) or not set(names) <= set(written):
@@ -500,7 +498,7 @@ class Reading:
             raise Refusal(NOT_BUILT)
         if name == "Field":
             self.own_field(e, part)
-        elif names_struct(self.rows["value_res"], e):
+        elif self.names_unit(e):
             raise Refusal(NOT_BUILT)
         else:
             self.own_path(e, part)
@@ -594,10 +592,11 @@ class Reading:
         self.operands(args)
 
 
-def names_struct(value_res, e):
-    """Whether a path is resolved to a struct."""
-    found = value_res.get(e)
-    return found is not None and variant(found)[0] == "StructId"
+def names_unit(rows, infer, e):
+    """Whether a path is a value of a struct without fields: it is resolved to a struct, as a variant or else as a value, which is its own
+    type. Whether that has fields isn't asked."""
+    found, made = rows["variant_res"].get(e, rows["value_res"].get(e)), struct_in(infer["expr_types"][e])
+    return e not in rows["assoc_res"] and made is not None and found == {"StructId": made[0]}
 
 
 def base_of(part):
@@ -795,6 +794,9 @@ class Run:
     def form(self, frame, e):
         return variant(frame.body.body["exprs"][e])
 
+    def names_unit(self, frame, e):
+        return names_unit(frame.body.rows, frame.body.infer, e)
+
     def is_adjusted(self, frame, e):
         return bool(frame.body.rows["expr_adjustments"].get(e))
 
@@ -809,7 +811,7 @@ class Run:
     def place(self, frame, e):
         """The place that an expression is evaluated to: a cell, or a part of a tuple, as `Part`."""
         name, part = self.form(frame, e)
-        if name == "Path" and not self.is_adjusted(frame, e) and not names_struct(frame.body.rows["value_res"], e):
+        if name == "Path" and not self.is_adjusted(frame, e) and not self.names_unit(frame, e):
             return ("binding", frame.body.rows["value_res"][e]["LocalBinding"])
         if name == "Field" and not self.is_adjusted(frame, e):
             return self.part_of(frame, e, part)
@@ -842,8 +844,8 @@ class Run:
         name, part = variant(whole)
         if "Right" in found:
             return (part if name == "Tuple" else []), found["Right"]["index"]
-        field, is_struct = found["Left"], struct_in(whole) is not None and not part[1]
-        rows = self.world["structs"][field["parent"]["StructId"]].get("fields", []) if is_struct else []
+        field, has_fields = found["Left"], name == "Adt" and not part[1]
+        rows = self.world["structs"][field["parent"]["StructId"]].get("fields", []) if has_fields else []
         return [row["ty"] for row in rows], field["local_id"]
 
     def place_type(self, frame, place):
@@ -869,7 +871,7 @@ class Run:
         name, part = self.form(frame, e)
         if self.is_adjusted(frame, e):
             return frame.body.rows["expr_adjustments"][e][0]["target"]
-        if name == "Path" and not names_struct(frame.body.rows["value_res"], e):
+        if name == "Path" and not self.names_unit(frame, e):
             return frame.body.infer["binding_types"][frame.body.rows["value_res"][e]["LocalBinding"]]
         if name == "Field":
             types, number = self.step(frame.body.rows["field_res"][e], self.operand_type(frame, part["expr"]))
@@ -907,7 +909,7 @@ class Run:
         self.put(frame, cell, self.literal(frame, e))
 
     def own_path(self, frame, e, part, cell):
-        if names_struct(frame.body.rows["value_res"], e):
+        if self.names_unit(frame, e):
             return
         self.put(frame, cell, frame.cells[("binding", frame.body.rows["value_res"][e]["LocalBinding"])])
 
