@@ -5,7 +5,7 @@ that type checking put there: borrows, derefs and casts of pointers. Such a step
 becomes an adjustment; a borrow or deref whose operand is a scope was written by hand, and is a node.
 """
 
-from debug_text import STANDARD_INPUT, Span, flat, path_of, unquoted
+from debug_text import Span, flat, path_of, unquoted
 from lowered import FormMissing, Lowered, number_literal, scalar_literal
 from patterns import Patterns
 from type_text import BOOL, NEVER, TypeTextError, UNIT, read_type
@@ -402,7 +402,7 @@ class Expressions(Patterns):
     def _ends_in_brace(self, span):
         """Whether what stands at a place, which may be in brackets, ends in a brace: `U {}` and `U`, and `S { 0: a }` and `S(a)`, are
         the same in THIR."""
-        text = self.source.at(span).strip() if span.file == STANDARD_INPUT else ""
+        text = self.source.at(span).strip()
         while _is_in_brackets(text):
             text = text[1:-1].strip()
         return text.endswith("}")

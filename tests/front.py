@@ -114,6 +114,7 @@ CASES = [
     Case("a struct without fields, of a base", "struct U;\nconst A: U = U { ..U };\n", goals=("A",), exprs=({"Path": "U"}, record("U", base=0)), found=(("value_res", [[0, {"StructId": 0}]]), ("variant_res", [[1, {"StructId": 0}]]))),
     Case("a struct without fields, by a macro", "struct U;\nmacro_rules! u { () => { U {} } }\nmacro_rules! v { () => { U } }\nconst A: (U, U) = (u!(), v!());\n", goals=("A",), exprs=(record("U"), {"Path": "U"}, {"Tuple": {"exprs": [0, 1]}})),
     Case("a struct without fields, as Self", "struct U;\nimpl U { const A: U = Self; }\n", goals=("{impl#0}::A",), exprs=({"Path": "Self"},), found=(("value_res", [[0, "ImplSelf"]]),)),
+    Case("a struct without fields, in another file", "mod other;\nuse other::*;\n", goals=("other::A",), others=(("other.rs", "pub struct U;\n\npub const A: (U, U) = (U {}, U);\n"),), exprs=(record("U"), {"Path": "U"}, {"Tuple": {"exprs": [0, 1]}})),
     Case("a struct with braces and without fields", "struct E {}\nconst A: E = E {};\n", goals=("A",), exprs=(record("E"),)),
     Case("two structs of one name in one body", "struct U;\nconst A: u8 = { struct U { n: u8 } { struct U; let _u = U; } U { n: 5 }.n };\nconst B: U = U;\n", says=("the fields of the type A::U can't be said; left out: A",), goals=("B",)),
     Case("letters beyond ASCII", "const GR\u00d6SSE: u8 = 1; // \u20ac\nconst A: char = '\u20ac';\n", goals=("GR\u00d6SSE", "A")),
