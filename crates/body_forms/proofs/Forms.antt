@@ -9,7 +9,7 @@ use Rattle.world.specs.declared.infer.InferenceResult.{InferenceResult}
 use Rattle.world.specs.Lookups.{expr_of, type_of}
 use Rattle.body_forms.specs.declared.form.Form.{Form}
 use Rattle.body_forms.specs.declared.form.Form.TheVariants as form
-use Rattle.body_forms.specs.Form.{IsFormOf, IsCauseAt, HasForm, core_form, literal_places}
+use Rattle.body_forms.specs.Form.{IsFormOf, IsCauseAt, HasForm, core_form, literal_places, literal_sources}
 
 -- an expression of none of the forms that have a meaning
 pub otherwise : (found : Findings) (e : Expr) → ((l : _) → e ≡ whole.Literal l → ⊥) → ((name : _) → e ≡ whole.Path name → ⊥) → ((base : _) (name : _) → e ≡ whole.Field base name → ⊥) → ((operand : _) (op : _) → e ≡ whole.UnaryOp operand op → ⊥) → ((operand : _) → e ≡ whole.Cast operand → ⊥) → ((lhs : _) (rhs : _) (op : _) → e ≡ whole.BinaryOp lhs rhs op → ⊥) → ((condition : _) (then_branch : _) (else_branch : _) → e ≡ whole.If condition then_branch else_branch → ⊥) → ((target : _) (value : _) → e ≡ whole.Assignment target value → ⊥) → ((statements : _) (tail : _) (label : _) → e ≡ whole.Block statements tail label → ⊥) → ((body : _) (label : _) → e ≡ whole.Loop body label → ⊥) → ((value : _) (label : _) → e ≡ whole.Break value label → ⊥) → ((label : _) → e ≡ whole.Continue label → ⊥) → ((value : _) → e ≡ whole.Return value → ⊥) → ((callee : _) (args : _) → e ≡ whole.Call callee args → ⊥) → ((receiver : _) (args : _) (name : _) → e ≡ whole.MethodCall receiver args name → ⊥) → ((parts : _) → e ≡ whole.Tuple parts → ⊥) → ((elements : _) → e ≡ whole.Array elements → ⊥) → ((initializer : _) → e ≡ whole.Repeat initializer → ⊥) → ((path : _) (written : _) (base : _) → e ≡ whole.RecordLit path written base → ⊥) → (e ≡ whole.Missing → ⊥) → IsFormOf found e form.Unbuilt
@@ -58,6 +58,7 @@ form-plain source e given f is there of =
     by-form form.Incomplete of = record { expr = given; stands = there; plain = is; lacks = of.cause }
     by-form form.Unbuilt of = inr (record { expr = given; stands = there; no_form = of.core; complete = of.cause })
     by-form (form.Struct literal) of = of.cause
+    by-form (form.Update literal base) of = of.cause
     by-form _ of = tt
 
 -- an adjusted expression is none of the forms for those that use its value
@@ -65,17 +66,18 @@ pub unadjusted-none : (source : Source) (e : ℕ) → diverges source e ≡ true
 unadjusted-none source e is = ap (λ (test : Bool). cond test None (node source e)) is
 
 -- a form that is no literal's, and one that is no place's
-no-literal-strict : (form_with : List ℕ → CoreExpr) → ((places : List ℕ) → is_literal (Some (form_with places)) ≡ false) → (places : Option (List ℕ)) → is_literal (option_map form_with places) ≡ false
+no-literal-strict : {A : Type 0} (form_with : A → CoreExpr) → ((places : A) → is_literal (Some (form_with places)) ≡ false) → (places : Option A) → is_literal (option_map form_with places) ≡ false
 no-literal-strict form_with each (Some places) = each places
 no-literal-strict form_with each None = refl
 
-no-place-strict : (form_with : List ℕ → CoreExpr) → ((places : List ℕ) → is_place (Some (form_with places)) ≡ false) → (places : Option (List ℕ)) → is_place (option_map form_with places) ≡ false
+no-place-strict : {A : Type 0} (form_with : A → CoreExpr) → ((places : A) → is_place (Some (form_with places)) ≡ false) → (places : Option A) → is_place (option_map form_with places) ≡ false
 no-place-strict form_with each (Some places) = each places
 no-place-strict form_with each None = refl
 
 no-literal-form : (f : Form) → ((l : _) → f ≡ form.Literal l → ⊥) → is_literal (core_form f) ≡ false
 no-literal-form (form.Literal l) differ = absurd (differ l refl)
 no-literal-form (form.Struct literal) differ = no-literal-strict _ (λ places. refl) (literal_places literal)
+no-literal-form (form.Update literal base) differ = no-literal-strict _ (λ sources. refl) (literal_sources literal)
 no-literal-form _ differ = refl
 
 pub no-literal : (source : Source) (e : ℕ) (f : Form) → HasForm source e f → ((l : _) → f ≡ form.Literal l → ⊥) → is_literal (node source e) ≡ false
@@ -85,6 +87,7 @@ no-place-form : (f : Form) → ((name : _) → f ≡ form.Path name → ⊥) →
 no-place-form (form.Path name) path part = absurd (path name refl)
 no-place-form (form.Field base field) path part = absurd (part base field refl)
 no-place-form (form.Struct literal) path part = no-place-strict _ (λ places. refl) (literal_places literal)
+no-place-form (form.Update literal base) path part = no-place-strict _ (λ sources. refl) (literal_sources literal)
 no-place-form _ path part = refl
 
 pub no-place : (source : Source) (e : ℕ) (f : Form) → HasForm source e f → ((name : _) → f ≡ form.Path name → ⊥) → ((base : _) (field : _) → f ≡ form.Field base field → ⊥) → is_place (node source e) ≡ false

@@ -5,3 +5,4 @@ pub mod Listed
 pub mod Forms
 pub mod Results
 pub mod Arranged
+pub mod Sources

@@ -3,7 +3,7 @@ use Rattle.std.specs.Prelude.{◌≡◌, ℕ, ◌-◌, ◌^◌, false, List, [],
 use Rattle.source_meaning.specs.Core.{Assigned as CoreAssigned, Assignee as CoreAssignee, ByField, ByPath, ByPattern, ByPlace, CoreExpr, CoreLiteral, Findings, Truth, Number, Character, Operation, Negate, Invert, Keep, Convert, Combine, MakeTuple, MakeArray, Repeat, MakeStruct, PlaceElem, Part, FieldOf, core_of, is_place}
 use Rattle.source_meaning.specs.Core as expr
 use Rattle.source_meaning.specs.Source.{Source, node, unadjusted}
-use Rattle.source_meaning.specs.Structs.{StructAt as CoreStruct, all_places}
+use Rattle.source_meaning.specs.Structs.{FieldSource as CoreSource, StructAt as CoreStruct, Written, OfBase, all_places, all_sources}
 use Rattle.world.specs.Nodes.{expr_numbers, field_numbers}
 use Rattle.world.specs.declared.expr.Expr.{Expr}
 use Rattle.either.specs.declared.Either.TheVariants.{Left, Right}
@@ -23,6 +23,8 @@ use Rattle.body_forms.specs.declared.form.PlaceForm.{PlaceForm}
 use Rattle.body_forms.specs.declared.form.PlaceForm.TheVariants as place
 use Rattle.body_forms.specs.declared.literal.LiteralValue.{LiteralValue}
 use Rattle.body_forms.specs.declared.literal.LiteralValue.TheVariants as literal
+use Rattle.body_forms.specs.declared.structs.FieldSource.{FieldSource}
+use Rattle.body_forms.specs.declared.structs.FieldSource.TheVariants as source
 use Rattle.body_forms.specs.declared.structs.StructAt.{StructAt}
 use Rattle.body_forms.specs.declared.structs.StructLiteral.{StructLiteral}
 use Rattle.body_forms.specs.Refusals.{IsIncomplete, LacksPart, IsUnbuiltForm}
@@ -41,7 +43,7 @@ operation_of one.Neg = Negate
 
 -- what may be found out of an expression whose form depends on nothing but itself
 abbrev pub no_findings : Findings
-no_findings = record { names_item = false; casts = λ operand. None; field = λ base. None; made = None; assignee = λ pat. ByPattern pat.0; assigned = λ e. ByPath e.0 }
+no_findings = record { names_unit = false; names_item = false; casts = λ operand. None; field = λ base. None; made = None; assignee = λ pat. ByPattern pat.0; assigned = λ e. ByPath e.0 }
 
 -- the step into a value that a step to a field is
 abbrev pub core_elem : FieldStep → PlaceElem
@@ -62,6 +64,15 @@ core_struct made = record { id = made.id; args = made.args.now; fields = made.fi
 abbrev pub literal_places : StructLiteral → Option (List ℕ)
 literal_places literal = all_places literal.made.fields.now literal.written.now
 
+-- what gives a field of a struct literal with a base
+abbrev pub core_source : FieldSource → CoreSource
+core_source (source.Written place) = Written place
+core_source (source.OfBase field) = OfBase field
+
+-- what gives the fields of a literal's struct, where the literal has a base
+abbrev pub literal_sources : StructLiteral → Option (List CoreSource)
+literal_sources literal = all_sources literal.made.id literal.made.fields.now literal.written.now
+
 -- the target of an assignment, and of a compound one
 abbrev pub core_assignee : Assignee → CoreAssignee
 core_assignee (assignee.Pattern pat) = ByPattern pat.0
@@ -75,6 +86,7 @@ core_assigned (assigned.Field base taken) = ByField base.0 (core_elem taken)
 abbrev pub core_form : Form → Option CoreExpr
 core_form (form.Literal value) = Some (expr.Literal (core_value value))
 core_form (form.Path name) = Some (expr.Path name.now)
+core_form form.UnitStruct = Some expr.UnitStruct
 core_form (form.Field base taken) = Some (expr.Field base.0 (core_elem taken))
 core_form (form.Unary op e) = Some (expr.Strict (operation_of op) (e.0 ∷ []))
 core_form (form.Coercion e) = Some (expr.Strict Keep (e.0 ∷ []))
@@ -83,6 +95,7 @@ core_form (form.Tuple parts) = Some (expr.Strict MakeTuple (expr_numbers parts.n
 core_form (form.Array elements) = Some (expr.Strict MakeArray (expr_numbers elements.now))
 core_form (form.Repeat e) = Some (expr.Strict Repeat (e.0 ∷ []))
 core_form (form.Struct literal) = option_map (λ places. expr.Strict (MakeStruct literal.made.id literal.made.args.now places) (field_numbers literal.written.now)) (literal_places literal)
+core_form (form.Update literal base) = option_map (λ sources. expr.Update base.0 literal.made.id literal.made.args.now sources (field_numbers literal.written.now)) (literal_sources literal)
 core_form (form.Binary op lhs rhs) = Some (expr.Strict (Combine op) (lhs.0 ∷ rhs.0 ∷ []))
 core_form (form.Logic op lhs rhs) = Some (expr.Logic op lhs.0 rhs.0)
 core_form (form.If condition then_branch else_branch) = Some (expr.If condition.0 then_branch.0 else_branch)
@@ -99,11 +112,12 @@ core_form (form.MethodCall receiver args) = Some (expr.Call None (receiver.0 ∷
 core_form form.Incomplete = None
 core_form form.Unbuilt = None
 
--- why an expression has no form with a meaning; a struct literal that has one gives all fields of its struct
+-- why an expression has no form with a meaning; a struct literal that has one gives all fields of its struct, or has a base that gives the others
 abbrev pub IsCause : Expr → Form → Type 0
 IsCause e form.Incomplete = IsIncomplete e
 IsCause e form.Unbuilt = IsIncomplete e → ⊥
 IsCause e (form.Struct literal) = IsSome (literal_places literal)
+IsCause e (form.Update literal base) = IsSome (literal_sources literal)
 IsCause e _ = Unit {0}
 
 -- the form of an expression whose value isn't adjusted, by what is found out of it
@@ -116,6 +130,7 @@ abbrev pub IsCauseAt : Source → ℕ → Form → Type 0
 IsCauseAt source e form.Incomplete = LacksPart source e
 IsCauseAt source e form.Unbuilt = IsUnbuiltForm source e
 IsCauseAt source e (form.Struct literal) = IsSome (literal_places literal)
+IsCauseAt source e (form.Update literal base) = IsSome (literal_sources literal)
 IsCauseAt source e _ = Unit {0}
 
 -- the form of an expression of a source

@@ -55,7 +55,8 @@ pub record IsUnbuiltExpr (source : Source) (e : ℕ) : Type 0 where
 -- alone, whatever its form is, and one to which `core_of` gives no form, other than an incomplete one: `*`, a literal that is neither
 -- a truth value nor a whole number nor a character, a cast from or to another type than an integer, `bool` or `char`, a path to an
 -- associated item or a variant, a field of a struct with generic arguments, of a variant or of a union, or one that isn't resolved, a struct literal
--- with a base or one that doesn't give each field of a struct, a closure, a `match` and so on.
+-- that doesn't give each field of a struct, or that has a base and is of a struct with generic arguments or writes what is no field of it, a
+-- closure, a `match` and so on.
 abbrev pub IsUnbuiltForm : Source → ℕ → Type 0
 IsUnbuiltForm source e = (is_adjusted_otherwise source.infer (record { 0 = e }) ≡ true) ⊎ IsUnbuiltExpr source e
 
@@ -103,8 +104,10 @@ IsUnbuiltCall source e callee =
 abbrev pub IsUnbuilt : Source → ℕ → Option CoreExpr → Type 0
 IsUnbuilt source e (Some (expr.Literal l)) = ⊥
 IsUnbuilt source e (Some (expr.Path name)) = NamesNoBinding source e
+IsUnbuilt source e (Some expr.UnitStruct) = ⊥
 IsUnbuilt source e (Some (expr.Field base field)) = ⊥
 IsUnbuilt source e (Some (expr.Strict operation operands)) = ⊥
+IsUnbuilt source e (Some (expr.Update base id args sources operands)) = ⊥
 IsUnbuilt source e (Some (expr.Logic op left right)) = ⊥
 IsUnbuilt source e (Some (expr.If condition then_branch else_branch)) = ⊥
 IsUnbuilt source e (Some (expr.Assign to value)) = IsUnbuiltAssignee source to

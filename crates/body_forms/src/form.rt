@@ -2,19 +2,24 @@
 
 ghost use Rattle.std.specs.Prelude.{◌≡◌, ◌<◌, ℕ, List, Option, false, length, Some, None, IfSome, IfNone};
 ghost use Rattle.std.specs.Option.{option_and_then, option_copied, option_map};
-ghost use Rattle.source_meaning.specs.Core.{are_many, are_other_steps, cast_operation, expr_in, field_taken, is_adjusted_otherwise, is_adjusted_twice, is_adjusted_pattern, is_by_reference, is_dereferenced_pattern, is_positive, is_literal, name_of, named_path, names_item, part_in, path_of, pattern_names_item, step_to, value_type as type_of_value};
+ghost use Rattle.source_meaning.specs.Core.{are_many, are_other_steps, cast_operation, expr_in, field_taken, is_adjusted_otherwise, is_adjusted_twice, is_adjusted_pattern, is_by_reference, is_dereferenced_pattern, is_positive, is_literal, name_of, named_path, names_item, part_in, path_of, pattern_names_item, step_to, update_form, value_type as type_of_value};
 ghost use Rattle.types.specs.declared.ids.VariantId.TheVariants as variant;
 ghost use Rattle.source_meaning.specs.Core as expr;
 ghost use Rattle.source_meaning.specs.Source.{assigned, assigned_by, assignee, compound_path, findings, pattern, pattern_expr, target_path, unadjusted};
 ghost use Rattle.world.specs.declared.expr.Expr.TheVariants as whole;
 ghost use Rattle.world.specs.Lookups.{expr_of};
 ghost use Rattle.body_forms.specs.Contexts.{source_of};
-ghost use Rattle.body_forms.specs.Form.{IsFormOf, IsPlaceForm, HasForm, core_assigned, core_assignee, core_elem, core_struct, elem_of, core_value, no_findings};
+ghost use Rattle.body_forms.specs.Form.{IsCause, IsFormOf, IsPlaceForm, HasForm, core_assigned, core_assignee, core_elem, core_form, core_struct, elem_of, core_value, no_findings};
+ghost use Rattle.body_forms.specs.Refusals.{IsIncomplete};
+ghost use Rattle.world.specs.declared.expr.Expr.{Expr};
 
 use crate::context::Context;
 use crate::inferred::{diverges, is_coercion, is_conversion, step_target, value_type};
 use crate::literal::LiteralValue;
-use crate::structs::{StructAt, StructLiteral, gives_all_fields, struct_args, struct_made};
+use crate::structs::{
+    StructAt, StructLiteral, gives_all_fields, gives_known_fields, names_unit, struct_args,
+    struct_made,
+};
 use either::Either;
 use mir::{BinOp, PlaceElem, UnOp};
 use world::{
@@ -55,6 +60,8 @@ pub enum Assigned {
 pub enum Form<'a> {
     Literal(LiteralValue),
     Path(&'a Text),
+    /// A path to a unit struct.
+    UnitStruct,
     /// A part of a tuple or a field of a struct: its base, and the step from there.
     Field(ExprId, FieldStep),
     Unary(UnOp, ExprId),
@@ -68,6 +75,8 @@ pub enum Form<'a> {
     Repeat(ExprId),
     /// A struct literal without a base, which gives each field of its struct.
     Struct(StructLiteral<'a>),
+    /// A struct literal with this base, which writes fields of its struct.
+    Update(StructLiteral<'a>, ExprId),
     Binary(BinOp, ExprId, ExprId),
     Logic(LogicOp, ExprId, ExprId),
     If(ExprId, ExprId, Option<ExprId>),
@@ -130,11 +139,13 @@ fn binary_form<'a>(
     }
 }
 
-/// The form of a path, which is resolved to an item or not.
-fn path_form<'a>(names_item: bool, name: &'a Text) -> Form<'a>
-    ensures { IsFormOf (record no_findings { names_item = names_item }) (whole.Path name.now) result }
+/// The form of a path, which is resolved to a unit struct, to another item, or to neither.
+fn path_form<'a>(names_unit: bool, names_item: bool, name: &'a Text) -> Form<'a>
+    ensures { IsFormOf (record no_findings { names_unit = names_unit; names_item = names_item }) (whole.Path name.now) result }
 {
-    if names_item {
+    if names_unit {
+        Form::UnitStruct
+    } else if names_item {
         Form::Unbuilt
     } else {
         Form::Path(name)
@@ -223,6 +234,21 @@ fn cast_form<'a>(context: &Context<'_>, cast: ExprId, operand: ExprId) -> Form<'
     }
 }
 
+/// The form of a struct literal with a base: so far one of a struct without generic arguments alone.
+fn update_form<'a>(base: ExprId, literal: StructLiteral<'a>) -> Form<'a>
+    ensures core { core_form result ≡ update_form base.0 (core_struct literal.entry.made) literal.entry.written.now }
+    ensures cause { (e : Expr) → (IsIncomplete e → ⊥) → IsCause e result }
+{
+    if literal.made.args.0.len() != 0 {
+        return Form::Unbuilt;
+    }
+    if gives_known_fields(literal) {
+        Form::Update(literal, base)
+    } else {
+        Form::Unbuilt
+    }
+}
+
 /// The form of a struct literal, by the struct that it makes a value of.
 fn record_form<'a>(
     made: Option<StructAt<'a>>,
@@ -240,6 +266,10 @@ fn record_form<'a>(
                 Form::Unbuilt
             }
         }
+        (Some(made), RecordSpread::Expr(base)) => update_form(
+            *base,
+            StructLiteral { made, written },
+        ),
         _ => Form::Unbuilt,
     }
 }
@@ -250,7 +280,7 @@ fn form_of<'a>(context: &Context<'a>, e: ExprId, expr: &'a Expr) -> Form<'a>
 {
     match expr {
         Expr::Literal(literal) => literal_form(literal),
-        Expr::Path(name) => path_form(names_item(context, e), name),
+        Expr::Path(name) => path_form(names_unit(context, e), names_item(context, e), name),
         Expr::Field { expr, .. } => field_form(*expr, field_taken(context, e, *expr)),
         Expr::UnaryOp { expr, op } => unary_form(*expr, *op),
         Expr::Cast { expr } => cast_form(context, e, *expr),

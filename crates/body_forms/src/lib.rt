@@ -21,6 +21,8 @@ pub use inferred::{
     array_of, binding_ty, diverges, is_copy, never_type, node_ty, own_ty, value_type,
 };
 pub use literal::{LiteralValue, lower_literal};
-pub use operation::{Several, Single, kind_of, made_of};
-pub use structs::{StructAt, StructLiteral, struct_value, written_exprs};
+pub use operation::{Several, Single, copied, deciding, kind_of, made_of};
+pub use structs::{
+    FieldSource, StructAt, StructLiteral, field_sources, struct_value, written_exprs,
+};
 pub use unbuilt::{form_not_built, type_error};

@@ -2,7 +2,9 @@
 
 ghost use Rattle.std.specs.Prelude.{◌≡◌, ◌<◌, ◌∷◌, ℕ, List, [], length, IfOk, IfErr, OnOk, Some};
 ghost use Rattle.source_meaning.specs.Built.{IsBuiltStrict};
+ghost use Rattle.mir.specs.declared.operand.OperandKind.TheVariants.{Copy};
 ghost use Rattle.source_meaning.specs.Core as expr;
+ghost use Rattle.source_meaning.specs.Meaning.{deciding_byte};
 ghost use Rattle.source_meaning.specs.Source.{node};
 ghost use Rattle.world.specs.Checked.{IsCheckedBody};
 ghost use Rattle.world.specs.Nodes.{expr_numbers};
@@ -13,8 +15,10 @@ ghost use Rattle.body_forms.specs.Operations.{IsKindOf, IsRvalueOf, several_oper
 use crate::context::Context;
 use crate::inferred::{array_of, own_ty};
 use crate::unbuilt::type_error;
-use mir::{AggregateKind, CastKind, MirLowerError, Operand, Rvalue, UnOp};
-use world::{ExprId, TryClone};
+use mir::{
+    AggregateKind, CastKind, MirLowerError, MirSpan, Operand, OperandKind, Place, Rvalue, UnOp,
+};
+use world::{ExprId, LogicOp, TryClone};
 
 /// What is made of one operand.
 #[derive(Clone, Copy)]
@@ -33,6 +37,26 @@ pub enum Single {
 pub enum Several {
     Tuple,
     Array,
+}
+
+/// A place as an operand.
+pub fn copied(place: Place, e: ExprId) -> Operand
+    ensures { result.kind ≡ Copy place }
+{
+    Operand {
+        kind: OperandKind::Copy(place),
+        span: Some(MirSpan::ExprId(e)),
+    }
+}
+
+/// The byte of a left operand at which the right one isn't evaluated.
+pub fn deciding(op: LogicOp) -> u128
+    ensures { result ≡ deciding_byte op }
+{
+    match op {
+        LogicOp::And => 0,
+        LogicOp::Or => 1,
+    }
 }
 
 /// An operand converted to the type of the cast that an expression is.

@@ -1,15 +1,16 @@
 //! Struct literals: which struct they make a value of, and which written field gives each of its fields.
 
-ghost use Rattle.std.specs.Prelude.{◌≡◌, ◌&&◌, ◌==◌, ℕ, List, length, is_some, IfOk, IsSome, Some};
-ghost use Rattle.std.specs.Option.{option_copied, option_map};
-ghost use Rattle.source_meaning.specs.Source.{Source, variant_named};
+ghost use Rattle.std.specs.Prelude.{◌≡◌, ◌&&◌, ◌==◌, ℕ, List, count_by, length, map, is_some, IfOk, IsSome, Some};
+ghost use Rattle.std.specs.Option.{option_and_then, option_copied, option_map};
+ghost use Rattle.source_meaning.specs.Source.{Source, named_by, variant_named};
 ghost use Rattle.source_meaning.specs.Core as expr;
-ghost use Rattle.source_meaning.specs.Structs.{all_places, place_named, places_named, struct_args, struct_made};
+ghost use Rattle.source_meaning.specs.Core.{names_unit, struct_named};
+ghost use Rattle.source_meaning.specs.Structs.{all_places, all_sources, field_sources, place_named, places_named, source_by, struct_args, struct_made};
 ghost use Rattle.types.specs.declared.ids.VariantId.TheVariants as variant;
 ghost use Rattle.world.specs.Lookups.{type_of};
 ghost use Rattle.world.specs.Nodes.{expr_numbers, field_numbers};
 ghost use Rattle.body_forms.specs.Contexts.{source_of};
-ghost use Rattle.body_forms.specs.Form.{core_struct};
+ghost use Rattle.body_forms.specs.Form.{core_source, core_struct};
 ghost use Rattle.body_forms.specs.Operations.{IsRvalueOf};
 ghost use Rattle.body_forms.specs.Structs.{arranged};
 
@@ -18,8 +19,8 @@ use crate::inferred::own_type;
 use mir::{AggregateKind, Operand, Rvalue};
 use std::alloc::Global;
 use world::{
-    AdtId, ExprId, FieldRow, GenericArgs, List, NoMemory, RecordLitField, StructId, Text, TryClone,
-    Ty, VariantId,
+    AdtId, ExprId, FieldId, FieldRow, GenericArgs, List, NoMemory, RecordLitField, StructId, Text,
+    TryClone, Ty, ValueNs, VariantId,
 };
 
 /// A struct at generic arguments, with the rows of its fields.
@@ -35,6 +36,13 @@ pub struct StructAt<'a> {
 pub struct StructLiteral<'a> {
     pub made: StructAt<'a>,
     pub written: &'a List<RecordLitField>,
+}
+
+/// What gives a field of a struct literal with a base: the written field at a place, or a field of the base.
+#[derive(Clone, Copy)]
+pub enum FieldSource {
+    Written(u64),
+    OfBase(FieldId),
 }
 
 /// The generic arguments of a type, where it is a struct.
@@ -67,6 +75,45 @@ pub(crate) fn struct_made<'a>(context: &Context<'a>, e: ExprId) -> Option<Struct
     }
 }
 
+/// The struct that a path is resolved to, where it is: by inference, or else by its name.
+fn struct_named(context: &Context<'_>, e: ExprId) -> Option<StructId>
+    ensures { result ≡ struct_named (variant_named (source_of context.now) e.0) (named_by (source_of context.now) e.0) }
+{
+    match context.infer.variant_res.get(&e) {
+        Some(VariantId::StructId(id)) => Some(*id),
+        Some(_) => None,
+        None => match context.infer.value_res.get(&e) {
+            Some(ValueNs::StructId(id)) => Some(*id),
+            _ => None,
+        },
+    }
+}
+
+/// Whether an expression's own type is a struct.
+#[tactic(auto, unfolding(source_meaning::specs::Source::own_type))]
+fn is_of_struct(context: &Context<'_>, e: ExprId, id: StructId) -> bool
+    ensures { result ≡ is_some (option_and_then (struct_args id) (type_of context.now.infer.now e.0)) }
+{
+    match own_type(context, e) {
+        Some(ty) => struct_args(id, ty).is_some(),
+        None => false,
+    }
+}
+
+/// Whether a path is resolved to a struct, which is its own type: then it is a value of a unit struct.
+#[tactic(auto, unfolding(source_meaning::specs::Core::names_unit))]
+pub(crate) fn names_unit(context: &Context<'_>, e: ExprId) -> bool
+    ensures { result ≡ names_unit context.now.infer.now e }
+{
+    if context.infer.assoc_res.get(&e).is_some() {
+        return false;
+    }
+    match struct_named(context, e) {
+        Some(id) => is_of_struct(context, e, id),
+        None => false,
+    }
+}
+
 /// The place, among the written fields of a literal, of the first one with a name.
 fn place_named(name: &Text, written: &[RecordLitField]) -> Option<usize>
     ensures { result ≡ place_named name.now written.now }
@@ -93,6 +140,57 @@ pub(crate) fn gives_all_fields(literal: StructLiteral<'_>) -> bool
 {
     literal.made.fields.len() == literal.written.len()
         && are_written(literal.made.fields.as_slice(), literal.written.as_slice())
+}
+
+/// How many fields of a struct are written.
+fn count_written(fields: &[FieldRow], written: &[RecordLitField]) -> usize
+    ensures { result ≡ count_by (λ field. is_some (place_named field.name written.now)) fields.now }
+{
+    fields
+        .iter()
+        .filter(|field| place_named(&field.name, written).is_some())
+        .count()
+}
+
+/// Whether each written field of a literal with a base gives one of the struct's.
+pub(crate) fn gives_known_fields(literal: StructLiteral<'_>) -> bool
+    ensures { result ≡ is_some (all_sources literal.entry.made.id literal.entry.made.fields.now literal.entry.written.now) }
+{
+    let count = count_written(literal.made.fields.as_slice(), literal.written.as_slice());
+    count as u64 == literal.written.len()
+}
+
+/// What gives the field of a struct at an index.
+fn source_by(id: StructId, index: u32, place: Option<usize>) -> FieldSource
+    ensures { core_source result ≡ source_by id index place }
+{
+    match place {
+        Some(place) => FieldSource::Written(place as u64),
+        None => FieldSource::OfBase(FieldId {
+            parent: VariantId::StructId(id),
+            local_id: index,
+        }),
+    }
+}
+
+/// What gives the fields of the struct of a literal with a base, in their order. A field past the 2^32nd has no id: `NoMemory`.
+pub fn field_sources(
+    alloc: Global,
+    literal: StructLiteral<'_>,
+) -> Result<List<FieldSource>, NoMemory>
+    ensures { IfOk result (λ sources. map core_source sources ≡ field_sources literal.entry.made.id 0 literal.entry.made.fields.now literal.entry.written.now) }
+{
+    let mut sources = List::new(alloc);
+    let fields = literal.made.fields.as_slice();
+    let written = literal.written.as_slice();
+    for i in 0..fields.len() {
+        if i > u32::MAX as usize {
+            return Err(NoMemory);
+        }
+        let place = place_named(&fields[i].name, written);
+        sources.push(source_by(literal.made.id, i as u32, place))?;
+    }
+    Ok(sources)
 }
 
 /// The expressions that a literal gives to its fields, in the order in which they are written.

@@ -35,6 +35,8 @@ opened-laid source e (Some (expr.Labelled label statements tail)) outer laid all
 opened-laid source e (Some (expr.Loop label body)) outer laid all = All-cons (λ target. IsLaidOut source (own_type source target.node)) _ outer laid all
 opened-laid source e (Some (expr.Literal l)) outer laid all = all
 opened-laid source e (Some (expr.Path name)) outer laid all = all
+opened-laid source e (Some expr.UnitStruct) outer laid all = all
+opened-laid source e (Some (expr.Update base id args sources operands)) outer laid all = all
 opened-laid source e (Some (expr.Field base field)) outer laid all = all
 opened-laid source e (Some (expr.Strict operation operands)) outer laid all = all
 opened-laid source e (Some (expr.Logic op left right)) outer laid all = all

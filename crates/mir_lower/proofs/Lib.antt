@@ -53,5 +53,6 @@ pub mod Stopping
 pub mod Strict
 pub mod Structs
 pub mod Taking
+pub mod Updates
 pub mod Whole
 pub mod Writing

@@ -18,7 +18,7 @@ use Rattle.mir_lower.proofs.Sparing.{spares-same}
 use Rattle.mir_lower.proofs.Steps.{local_of-grows}
 
 -- an id that stands for elements stands for them in each store that has what this one has
-elements-later : (old new : List Projection) → ((id : ProjectionId) (elements : Projection) → projection_of old id ≡ Some elements → projection_of new id ≡ Some elements) → (id : ProjectionId) (elements : Projection) → elements_in old id ≡ Some elements → elements_in new id ≡ Some elements
+pub elements-later : (old new : List Projection) → ((id : ProjectionId) (elements : Projection) → projection_of old id ≡ Some elements → projection_of new id ≡ Some elements) → (id : ProjectionId) (elements : Projection) → elements_in old id ≡ Some elements → elements_in new id ≡ Some elements
 elements-later old new kept id elements is = by_test (id.0 == 0) is
   where
     by_test : (test : Bool) → if test then Some [] else projection_of old id ≡ Some elements → if test then Some [] else projection_of new id ≡ Some elements

@@ -345,6 +345,20 @@ struct-computes source e id args places operands fields picks frame all memory s
     subst (λ given. Agrees given (rvalue_bytes frame memory (Aggregate (kind.Adt (variant.StructId id) args) fields))) (sym answers)
     (subst (Agrees (laid_out (layout_of source.world ty) parts)) (sym runs) (laid-agrees (layout_of source.world ty) parts))
 
+-- a struct of operands that fit those of the source is the struct of their values, where these are there
+pub struct-agrees : (source : Source) (whole : Shape) (frame : Frame) (id : StructId) (args : GenericArgs) (fields : List MirOperand) (chosen : List Operand) (store : Store) (memory : Memory) → Holds whole frame store memory → frame.program.world ≡ source.world →
+    FitAll source (kinds fields) whole frame chosen → Agrees (struct_of (layout_of source.world (type.Adt (adt.StructId id) args)) (values_of source store chosen)) (rvalue_bytes frame memory (Aggregate (kind.Adt (variant.StructId id) args) fields))
+struct-agrees source whole frame id args fields chosen store memory holds same fit = by-values (values_of source store chosen) refl
+  where
+    by-values : (values : Option (List Value)) → values_of source store chosen ≡ values → Agrees (struct_of (layout_of source.world (type.Adt (adt.StructId id) args)) values) (rvalue_bytes frame memory (Aggregate (kind.Adt (variant.StructId id) args) fields))
+    by-values (Some values) are =
+        let reads = read-all source whole frame store memory holds fields chosen fit values are in
+        let parts = map (λ (part : Value). part.bytes) values in
+        let ty = type.Adt (adt.StructId id) args in
+        let runs = struct-bytes source frame memory id args fields parts same (parts-bytes frame memory fields values reads) in
+        subst (Agrees (laid_out (layout_of source.world ty) parts)) (sym runs) (laid-agrees (layout_of source.world ty) parts)
+    by-values None are = tt
+
 -- an aggregate of a kind is what the operation makes
 pub is-aggregate : (source : Source) (e : ℕ) (several : Several) (given : _) (operands : List MirOperand) → IsKindOf source e several given → IsRvalueOf source e (several_operation several) operands (Aggregate given operands)
 is-aggregate source e several.Tuple given operands of = record { given = given; of = of; is = refl }

@@ -13,4 +13,5 @@ pub mod Built
 pub mod Callees
 pub mod Calling
 pub mod Stops
+pub mod Updates
 pub mod Parameters

@@ -11,5 +11,6 @@ mod leave;
 mod locals;
 mod lower;
 mod params;
+mod update;
 
 pub use body::lower_to_mir;

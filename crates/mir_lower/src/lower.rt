@@ -14,8 +14,8 @@ ghost use Rattle.source_meaning.specs.Steps.{assigned_parts, assignee_parts, par
 ghost use Rattle.world.specs.declared.body.Statement.TheVariants as statement_kind;
 ghost use Rattle.body_forms.specs.Callees.{callee_number};
 ghost use Rattle.body_forms.specs.Contexts.{source_of};
-ghost use Rattle.body_forms.specs.Form.{core_assigned, core_assignee, core_elem, core_form, core_value, literal_places};
-ghost use Rattle.body_forms.specs.declared.form.Form.TheVariants.{Struct};
+ghost use Rattle.body_forms.specs.Form.{core_assigned, core_assignee, core_elem, core_form, core_value, literal_places, literal_sources};
+ghost use Rattle.body_forms.specs.declared.form.Form.TheVariants.{Struct, Update};
 ghost use Rattle.mir_lower.specs.Graph.{shape, local_of};
 ghost use Rattle.mir_lower.specs.Growth.{IsPlaced, IsReady, ArePartsReady, IsReadyPart};
 ghost use Rattle.body_forms.specs.Operations.{several_operation, single_operation};
@@ -33,33 +33,17 @@ use crate::leave::leave_scope;
 use crate::locals::{
     assign, bind, combined_local, fake_read, named_local, new_never, new_temp, target_local, write,
 };
+use crate::update::field_operands;
 use body_forms::{
     Assigned, Assignee, Context, FieldStep, Form, LiteralValue, PlaceForm, Several, Single,
-    StructLiteral, diverges, form_at, form_not_built, kind_of, literal_at, lower_callee,
-    lower_literal, made_of, method_args, place_elem, place_form_at, struct_value, written_exprs,
+    StructLiteral, copied, deciding, diverges, field_sources, form_at, form_not_built, kind_of,
+    literal_at, lower_callee, lower_literal, made_of, method_args, place_elem, place_form_at,
+    struct_value, written_exprs,
 };
-use mir::{BinOp, LocalId, MirLowerError, MirSpan, Operand, OperandKind, Place, Rvalue};
-use world::{ExprId, LabelId, List, LogicOp, PatId, Statement, Text, TryClone};
-
-/// A place as an operand.
-fn copied(place: Place, e: ExprId) -> Operand
-    ensures { result.kind ≡ Copy place }
-{
-    Operand {
-        kind: OperandKind::Copy(place),
-        span: Some(MirSpan::ExprId(e)),
-    }
-}
-
-/// The byte of a left operand at which the right one isn't evaluated.
-fn deciding(op: LogicOp) -> u128
-    ensures { result ≡ deciding_byte op }
-{
-    match op {
-        LogicOp::And => 0,
-        LogicOp::Or => 1,
-    }
-}
+use mir::{
+    AggregateKind, BinOp, LocalId, MirLowerError, MirSpan, Operand, OperandKind, Place, Rvalue,
+};
+use world::{ExprId, LabelId, List, LogicOp, PatId, Statement, Text, TryClone, VariantId};
 
 /// A literal is assigned.
 fn literal_into(
@@ -237,6 +221,7 @@ fn lower_own(
     match form_at(context, e) {
         Form::Literal(literal) => literal_into(context, graph, e, literal, to),
         Form::Path(name) => name_into(context, graph, e, name, to),
+        Form::UnitStruct => Ok(()),
         Form::Field(base, step) => field_into(context, graph, e, base, step, to),
         Form::Unary(op, operand) => {
             lower_single(context, graph, e, Single::Unary(op), operand, to)
@@ -253,6 +238,7 @@ fn lower_own(
             lower_aggregate(context, graph, e, Several::Array, elements.as_slice(), to)
         }
         Form::Struct(literal) => lower_struct(context, graph, e, literal, to),
+        Form::Update(literal, base) => lower_update(context, graph, e, literal, base, to),
         Form::Binary(op, lhs, rhs) => lower_binary(context, graph, e, op, lhs, rhs, to),
         Form::Logic(op, lhs, rhs) => lower_logic(context, graph, e, op, lhs, rhs, to),
         Form::If(condition, then_branch, else_branch) => {
@@ -349,6 +335,39 @@ fn lower_struct(
     let operands = lower_operands(context, graph, e, parts.as_slice())?;
     let made = struct_value(context.alloc, literal, &operands)?;
     assign(graph, to, made, MirSpan::ExprId(e))
+}
+
+/// A struct with a base: the base's place, the operands that are written, and then the struct of these and of fields of the base.
+#[cycle(lower)]
+fn lower_update(
+    context: &Context<'_>,
+    graph: &mut Graph,
+    e: ExprId,
+    literal: StructLiteral<'_>,
+    base: ExprId,
+    to: LocalId,
+) -> Result<(), MirLowerError>
+    requires ready { IsReady (source_of context.now) (shape graph.old) e.0 }
+    requires form { node (source_of context.now) e.0 ≡ core_form (Update literal base) }
+    requires given { IsSome (literal_sources literal) }
+    ensures lowered { OnOk result ((cell : Cell) → local_of (shape graph.old) cell ≡ Some to.0
+        → LowersOwn (source_of context.now) (shape graph.old) (shape graph.new) e.0 cell) }
+    ensures built { OnOk result (IsBuilt (source_of context.now) e.0) }
+    ensures refused { IfErr result (RefusesAt (source_of context.now) e.0) }
+{
+    let from = lower_place(context, graph, base)?;
+    let parts = written_exprs(context.alloc, literal.written.as_slice())?;
+    let operands = lower_operands(context, graph, e, parts.as_slice())?;
+    let sources = field_sources(context.alloc, literal)?;
+    let fields = field_operands(context.alloc, graph, from, sources.as_slice(), &operands)?;
+    let args = literal.made.args.try_clone(context.alloc)?;
+    let kind = AggregateKind::Adt(VariantId::StructId(literal.made.id), args);
+    assign(
+        graph,
+        to,
+        Rvalue::Aggregate(kind, fields),
+        MirSpan::ExprId(e),
+    )
 }
 
 /// An operator on two operands: the operands from left to right, and then the operation.
@@ -743,7 +762,8 @@ fn lower_call(
     Ok(())
 }
 
-/// The operands of a call's arguments, or of the parts of a tuple, an array or a struct, from left to right.
+/// The operands of a call's arguments, or of the parts of a tuple, an array or a struct, from left to right. They are parts of the given
+/// expression.
 #[cycle(lower)]
 fn lower_operands(
     context: &Context<'_>,
@@ -752,7 +772,7 @@ fn lower_operands(
     args: &[ExprId],
 ) -> Result<List<Operand>, MirLowerError>
     requires ready { ArePartsReady (source_of context.now) (shape graph.old) e.0 }
-    requires parts { parts_of (node (source_of context.now) e.0) ≡ expr_numbers args.now }
+    requires parts { All (Contains (parts_of (node (source_of context.now) e.0))) (expr_numbers args.now) }
     ensures lowered { IfOk result (λ operands. LowersOperands (source_of context.now) (shape graph.old) (shape graph.new) (expr_numbers args.now) (map (λ operand. operand.kind) operands)) }
     ensures many { IfOk result (λ operands. length operands ≡ length args.now) }
     ensures built { OnOk result (All (IsBuilt (source_of context.now)) (expr_numbers args.now)) }

@@ -9,7 +9,7 @@ use Rattle.source_meaning.specs.Source.{Result, Node, Never, node, unadjusted}
 use Rattle.source_meaning.proofs.Never.{unadjusted-plain}
 use Rattle.body_forms.specs.Callees.{callee_number}
 use Rattle.body_forms.specs.Contexts.{source_of}
-use Rattle.mir_lower.specs.Graph.{IsProjected, shape, target_of_blocks}
+use Rattle.mir_lower.specs.Graph.{IsProjected, shape, target_of_blocks, with_statement}
 use Rattle.mir_lower.specs.Growth.{Grows, IsPlaced, IsInside}
 use Rattle.source_meaning.specs.Valid.{opened_in}
 use Rattle.mir_lower.specs.Lowered.{HasStatements, LowersAssigned, LowersAssignee, LowersPlace, LowersOperand, LowersOperands, LowersStatements, LowersTail}
@@ -19,14 +19,14 @@ use Rattle.mir.specs.declared.operand.Place.{Place}
 use Rattle.mir.specs.declared.operand.Rvalue.TheVariants.{Aggregate, CheckedBinaryOp}
 use Rattle.source_meaning.specs.Core as expr
 use Rattle.source_meaning.specs.Core.{ByPath, ByPattern, Combine, MakeStruct}
-use Rattle.body_forms.specs.Form.{IsPlaceForm, core_assigned, core_assignee, core_elem, core_value}
+use Rattle.body_forms.specs.Form.{IsPlaceForm, core_assigned, core_assignee, core_elem, core_source, core_value}
 use Rattle.body_forms.specs.Refusals.{IsUnbuilt}
 use Rattle.body_forms.specs.declared.form.Assigned.{Assigned}
 use Rattle.body_forms.specs.declared.form.Assignee.{Assignee}
 use Rattle.world.specs.declared.body.Statement.{Statement}
 use Rattle.mir_lower.specs.Refusals.{RefusesAt}
 use Rattle.std.specs.Prelude.{All, Contains, IfSome, ℕ}
-use Rattle.std.proofs.lemmas.List.Elements.{All-nil, All-more, Contains-get_or}
+use Rattle.std.proofs.lemmas.List.Elements.{All-contains, All-nil, All-more, Contains-get_or}
 use Rattle.world.specs.Nodes.{optional}
 use Rattle.mir_lower.specs.Built.{IsBuilt, IsBuiltThrough}
 use Rattle.mir_lower.proofs.Building.{built-field, built-return, has-target, built-labelled, built-loop, built-break, built-literal, built-path, built-strict, built-call, built-logic, built-if, built-assign, built-compound, built-block, one-built, two-built}
@@ -39,7 +39,7 @@ use Rattle.mir_lower.proofs.Compounds.{combined-part, combined-base-part, lowers
 use Rattle.mir_lower.proofs.Blocks.{idles-read, lowers-none, lowers-more, lowers-let, lowers-expr-statement, lowers-tail, lowers-no-tail, block-inner, lowers-block}
 use Rattle.mir_lower.proofs.Drops.{opened-within, scope-left}
 use Rattle.mir_lower.proofs.Fields.{base-part, finds-field, lowers-field, lowers-field-into}
-use Rattle.mir_lower.proofs.Projecting.{place-known}
+use Rattle.mir_lower.proofs.Projecting.{at-later, place-known}
 use Rattle.mir_lower.proofs.Operands.{lowers-literal-operand, lowers-place-operand, lowers-temp, lowers-name}
 use Rattle.mir_lower.proofs.Rvalues.{is-aggregate}
 use Rattle.mir_lower.proofs.Structs.{all-operands, as-many-written, one-more-operand, struct-form}
@@ -47,6 +47,14 @@ use Rattle.mir_lower.proofs.Strict.{lowers-strict, lowers-one, lowers-two, first
 use Rattle.body_forms.specs.Operations.{several_operation, single_operation}
 use Rattle.mir_lower.proofs.Refused.{refuses-here, refuses-no-memory, refuses-part, refuses-unbuilt, refuses-unbuilt-form, refuses-statement, without-initializer, with-else, item-is-unbuilt, refuses-pattern, refuses-target, refused-exit, part-below, part-of-statement, refuses-break}
 use Rattle.mir_lower.proofs.Growing.{grows-trans}
+use Rattle.mir_lower.proofs.Updates.{all-among, all-are-parts, built-unit, built-update, known-at, lowers-unit, lowers-update, sources-among, sources-are, update-form, updated-base-part, updated-parts}
+use Rattle.mir_lower.specs.Updates.{AreFound, IsAmong}
+use Rattle.mir_lower.proofs.Operations.{assignment}
+use Rattle.mir.specs.declared.operand.AggregateKind.TheVariants as kind
+use Rattle.types.specs.declared.ids.VariantId.TheVariants as variant
+use Rattle.types.specs.declared.ty.GenericArgs.{GenericArgs}
+use Rattle.body_forms.specs.declared.structs.FieldSource.{FieldSource}
+use Rattle.source_meaning.specs.Structs.{FieldSource as CoreSource}
 use Rattle.mir_lower.proofs.Steps.{local_of-grows, placed-later}
 use Rattle.mir_lower.proofs.Branches.{reserved-spared, other-reserved, join-reserved}
 use Rattle.mir.specs.declared.ids.LocalId.{LocalId}
@@ -243,6 +251,17 @@ lower_own-returns-in-Incomplete-clause-refused t c = refuses-here (source_of c.a
 pub lower_own-returns-in-Unbuilt-clause-refused : goal.lower_own-returns-in-Unbuilt-clause-refused
 lower_own-returns-in-Unbuilt-clause-refused t c = refuses-unbuilt-form (source_of c.args.context.now) c.args.e.0 c.form_not_built.result c.in-Unbuilt.ensures c.form_not_built.ensures
 
+-- a value of a unit struct is nothing to write
+pub lower_own-returns-in-UnitStruct : goal.lower_own-returns-in-UnitStruct
+lower_own-returns-in-UnitStruct t c =
+    let source = source_of c.args.context.now in
+    let form : node source c.args.e.0 ≡ Some expr.UnitStruct = c.in-UnitStruct.ensures.core in
+    record {
+      lowered = λ cell found. lowers-unit source (shape c.args.graph.now) c.args.e.0 cell c.requires.ready form;
+      built = built-unit source c.args.e.0 form;
+      refused = tt;
+    }
+
 -- an assignment and a jump write nothing to the place that they are lowered into
 pub lower_own-returns-in-Assign-clause-lowered : goal.lower_own-returns-in-Assign-clause-lowered
 lower_own-returns-in-Assign-clause-lowered t c = on_ok_weaker c.lower_assignment.result (λ lowered cell found. lowered cell) c.lower_assignment.ensures.lowered
@@ -318,7 +337,7 @@ lower_aggregate-lower_operands-requires t c =
       omega arith,
       (
         parts-ready source (shape c.args.graph.now) c.args.e.0 (λ outer. ap (λ n. opened_in c.args.e.0 n outer) c.requires.form) c.requires.ready,
-        ap parts_of c.requires.form ∙ strict_parts (several_operation c.args.several) (expr_numbers c.args.parts.now),
+        all-are-parts _ _ (ap parts_of c.requires.form ∙ strict_parts (several_operation c.args.several) (expr_numbers c.args.parts.now)),
       ),
     )
 
@@ -365,7 +384,7 @@ lower_struct-lower_operands-requires t c =
       omega arith,
       (
         parts-ready source (shape c.args.graph.now) c.args.e.0 (λ outer. ap (λ n. opened_in c.args.e.0 n outer) has.form) c.requires.ready,
-        ap parts_of has.form ∙ strict_parts (MakeStruct literal.made.id literal.made.args.now has.places) (field_numbers literal.written.now) ∙ sym es-are,
+        all-are-parts _ _ (ap parts_of has.form ∙ strict_parts (MakeStruct literal.made.id literal.made.args.now has.places) (field_numbers literal.written.now) ∙ sym es-are),
       ),
     )
 
@@ -415,6 +434,118 @@ lower_struct-returns-clause-built t c =
 
 pub lower_struct-returns-clause-refused : goal.lower_struct-returns-clause-refused
 lower_struct-returns-clause-refused t c =
+    IfErr-weaker c.assign.result _ _ (λ error none. refuses-no-memory (source_of c.args.context.now) c.args.e.0 error none) c.assign.ensures.refused
+
+-- a struct with a base
+
+pub lower_update-lower_place-requires : goal.lower_update-lower_place-requires
+lower_update-lower_place-requires t c =
+    let source = source_of c.args.context.now in
+    let literal = c.args.literal in
+    let s0 = shape c.args.graph.now in
+    let has = update-form source c.args.e.0 literal c.args.base c.requires.form c.requires.given in
+    let is = updated-base-part source c.args.e.0 c.args.base.0 literal.made.id literal.made.args.now has.sources (field_numbers literal.written.now) has.form in
+    let below = part-below source c.args.e.0 c.args.base.0 c.requires.ready.checked is in
+    (omega (arith, below), part-ready source s0 c.args.e.0 c.args.base.0 (parts-ready source s0 c.args.e.0 (λ outer. ap (λ n. opened_in c.args.e.0 n outer) has.form) c.requires.ready) is)
+
+pub lower_update-returns-in_err-from-clause-refused : goal.lower_update-returns-in_err-from-clause-refused
+lower_update-returns-in_err-from-clause-refused t c =
+    let source = source_of c.args.context.now in
+    let literal = c.args.literal in
+    let has = update-form source c.args.e.0 literal c.args.base c.requires.form c.requires.given in
+    let is = updated-base-part source c.args.e.0 c.args.base.0 literal.made.id literal.made.args.now has.sources (field_numbers literal.written.now) has.form in
+    refused-exit (RefusesAt source c.args.e.0) _ c.from_residual.result c.from_residual.ensures.1
+    (λ error same. subst (RefusesAt source c.args.e.0) (sym same) (refuses-part source c.args.e.0 c.args.base.0 _ is c.in_err-from.ensures.refused))
+
+pub lower_update-returns-in_err-parts-clause-refused : goal.lower_update-returns-in_err-parts-clause-refused
+lower_update-returns-in_err-parts-clause-refused t c =
+    refused-exit (RefusesAt (source_of c.args.context.now) c.args.e.0) _ c.from_residual-in_err-parts.result c.from_residual-in_err-parts.ensures.1
+    (λ error none. refuses-no-memory (source_of c.args.context.now) c.args.e.0 error none)
+
+pub lower_update-lower_operands-requires : goal.lower_update-lower_operands-requires
+lower_update-lower_operands-requires t c =
+    let source = source_of c.args.context.now in
+    let literal = c.args.literal in
+    let s0 = shape c.args.graph.now in
+    let s1 = shape c.lower_place.new.graph in
+    let has = update-form source c.args.e.0 literal c.args.base c.requires.form c.requires.given in
+    let es-are = ap expr_numbers c.as_slice-2.ensures ∙ c.in_ok-parts.ensures ∙ ap field_numbers c.as_slice.ensures in
+    let keeps = c.in_ok-from.ensures.lowered.keeps in (
+      omega arith,
+      (
+        parts-ready-in source s0 s1 c.args.e.0 (parts-ready source s0 c.args.e.0 (λ outer. ap (λ n. opened_in c.args.e.0 n outer) has.form) c.requires.ready) keeps.spares.targets keeps.grows keeps.sound keeps.«open»,
+        subst (All (Contains (parts_of (node source c.args.e.0)))) (sym es-are) (updated-parts source c.args.e.0 c.args.base.0 literal.made.id literal.made.args.now has.sources (field_numbers literal.written.now) has.form),
+      ),
+    )
+
+pub lower_update-returns-in_err-operands-clause-refused : goal.lower_update-returns-in_err-operands-clause-refused
+lower_update-returns-in_err-operands-clause-refused t c =
+    let source = source_of c.args.context.now in
+    refused-exit (RefusesAt source c.args.e.0) _ c.from_residual-in_err-operands.result c.from_residual-in_err-operands.ensures.1
+    (λ error same. subst (RefusesAt source c.args.e.0) (sym same) c.in_err-operands.ensures.refused)
+
+pub lower_update-returns-in_err-sources-clause-refused : goal.lower_update-returns-in_err-sources-clause-refused
+lower_update-returns-in_err-sources-clause-refused t c =
+    refused-exit (RefusesAt (source_of c.args.context.now) c.args.e.0) _ c.from_residual-in_err-sources.result c.from_residual-in_err-sources.ensures.1
+    (λ error none. refuses-no-memory (source_of c.args.context.now) c.args.e.0 error none)
+
+pub lower_update-field_operands-requires : goal.lower_update-field_operands-requires
+lower_update-field_operands-requires t c =
+    let literal = c.args.literal in
+    let s1 = shape c.lower_place.new.graph in
+    let s2 = shape c.lower_operands.new.graph in
+    let place = c.in_ok-from.from in
+    let does = c.in_ok-from.ensures.lowered.does in
+    let many = c.in_ok-operands.ensures.many ∙ ap length c.as_slice-2.ensures ∙ as-many-written c.in_ok-parts.parts literal.written.now (c.in_ok-parts.ensures ∙ ap field_numbers c.as_slice.ensures) in
+    record {
+      known = known-at s2 place does.at (at-later s1 s2 c.in_ok-operands.ensures.lowered.keeps.grows place does.at does.is);
+      given = subst (λ (list : List FieldSource). All (λ source. IsAmong c.in_ok-operands.operands (core_source source)) list) (sym c.as_slice-3.ensures)
+          (all-among c.in_ok-operands.operands c.in_ok-sources.sources (subst (All (IsAmong c.in_ok-operands.operands)) (sym c.in_ok-sources.ensures) (sources-among literal.made.id 0 literal.made.fields.now literal.written.now c.in_ok-operands.operands many)));
+    }
+
+pub lower_update-returns-in_err-fields-clause-refused : goal.lower_update-returns-in_err-fields-clause-refused
+lower_update-returns-in_err-fields-clause-refused t c =
+    refused-exit (RefusesAt (source_of c.args.context.now) c.args.e.0) _ c.from_residual-in_err-fields.result c.from_residual-in_err-fields.ensures.1
+    (λ error none. refuses-no-memory (source_of c.args.context.now) c.args.e.0 error none)
+
+pub lower_update-returns-in_err-args-clause-refused : goal.lower_update-returns-in_err-args-clause-refused
+lower_update-returns-in_err-args-clause-refused t c =
+    refused-exit (RefusesAt (source_of c.args.context.now) c.args.e.0) _ c.from_residual-in_err-args.result c.from_residual-in_err-args.ensures.1
+    (λ error none. refuses-no-memory (source_of c.args.context.now) c.args.e.0 error none)
+
+pub lower_update-returns-clause-lowered : goal.lower_update-returns-clause-lowered
+lower_update-returns-clause-lowered t c =
+    let source = source_of c.args.context.now in
+    let literal = c.args.literal in
+    let has = update-form source c.args.e.0 literal c.args.base c.requires.form c.requires.given in
+    let s0 = shape c.args.graph.now in
+    let s1 = shape c.lower_place.new.graph in
+    let s2 = shape c.lower_operands.new.graph in
+    let s3 = shape c.field_operands.new.graph in
+    let es = field_numbers literal.written.now in
+    let operands = c.in_ok-operands.operands in
+    let fields = c.in_ok-fields.fields in
+    let es-are = ap expr_numbers c.as_slice-2.ensures ∙ c.in_ok-parts.ensures ∙ ap field_numbers c.as_slice.ensures in
+    let given : LowersOperands source s1 s2 es (map (λ (operand : Operand). operand.kind) operands) =
+    subst (λ (list : List ℕ). LowersOperands source s1 s2 list (map (λ (operand : Operand). operand.kind) operands)) es-are c.in_ok-operands.ensures.lowered in
+    let sources-is : map core_source c.as_slice-3.result.now ≡ has.sources = ap (map core_source) c.as_slice-3.ensures ∙ c.in_ok-sources.ensures ∙ sources-are literal has.sources has.are in
+    let found : AreFound s2 s3 c.in_ok-from.from operands has.sources fields = subst (λ (list : List CoreSource). AreFound s2 s3 c.in_ok-from.from operands list fields) sources-is c.in_ok-fields.ensures in
+    on_ok_weaker c.assign.result
+    (λ added cell local. lowers-update source s0 s1 s2 s3 (shape c.assign.new.graph) c.args.e.0 c.args.base.0 literal.made.id literal.made.args.now has.sources es c.in_ok-from.from operands fields c.args.to (ExprId c.args.e) c.requires.ready has.form c.in_ok-from.ensures.lowered given found
+    (subst (λ (args : GenericArgs). shape c.assign.new.graph ≡ with_statement (assignment c.args.to (Aggregate (kind.Adt (variant.StructId literal.made.id) args) fields) (ExprId c.args.e)) s3) c.in_ok-args.ensures added) cell local)
+    c.assign.ensures.added
+
+pub lower_update-returns-clause-built : goal.lower_update-returns-clause-built
+lower_update-returns-clause-built t c =
+    let source = source_of c.args.context.now in
+    let literal = c.args.literal in
+    let has = update-form source c.args.e.0 literal c.args.base c.requires.form c.requires.given in
+    let es-are = ap expr_numbers c.as_slice-2.ensures ∙ c.in_ok-parts.ensures ∙ ap field_numbers c.as_slice.ensures in
+    on_ok_weaker c.assign.result
+    (λ added. built-update source c.args.e.0 c.args.base.0 literal.made.id literal.made.args.now has.sources (field_numbers literal.written.now) has.form c.in_ok-from.ensures.built (subst (All (IsBuilt source)) es-are c.in_ok-operands.ensures.built)) c.assign.ensures.added
+
+pub lower_update-returns-clause-refused : goal.lower_update-returns-clause-refused
+lower_update-returns-clause-refused t c =
     IfErr-weaker c.assign.result _ _ (λ error none. refuses-no-memory (source_of c.args.context.now) c.args.e.0 error none) c.assign.ensures.refused
 
 -- an operator on two operands
@@ -1490,7 +1621,7 @@ lower_call-lower_operands-requires t c =
       omega arith,
       (
         parts-ready source (shape c.args.graph.now) c.args.e.0 (λ outer. ap (λ n. opened_in c.args.e.0 n outer) c.requires.form) c.requires.ready,
-        ap parts_of c.requires.form ∙ call_parts (callee_number c.args.callee) (expr_numbers c.args.args.now),
+        all-are-parts _ _ (ap parts_of c.requires.form ∙ call_parts (callee_number c.args.callee) (expr_numbers c.args.args.now)),
       ),
     )
 
@@ -1542,7 +1673,7 @@ lower_operands-lower_operand-requires t c =
     let s = shape c.loop-arg.graph in
     let so-far = c.loop-arg.invariant.0 in
     let child : ℕ = (get_or c.args.args.now c.loop-arg.arg-index (record { 0 = 0 })).0 in
-    let is : Contains (parts_of (node source c.args.e.0)) child = subst (λ (list : List ℕ). Contains list child) (sym c.requires.parts) (argument-in c.args.args.now c.loop-arg.arg-index (record { 0 = 0 }) c.loop-arg-test.true) in
+    let is : Contains (parts_of (node source c.args.e.0)) child = All-contains (Contains (parts_of (node source c.args.e.0))) (expr_numbers c.args.args.now) child c.requires.parts (argument-in c.args.args.now c.loop-arg.arg-index (record { 0 = 0 }) c.loop-arg-test.true) in
     let below = part-below source c.args.e.0 child c.requires.ready.checked is in (
       omega (arith, below),
       part-ready source s c.args.e.0 child (parts-ready-in source (shape c.args.graph.now) s c.args.e.0 c.requires.ready so-far.spares.targets so-far.grows so-far.sound so-far.«open») is,
@@ -1552,7 +1683,7 @@ pub lower_operands-returns-in_err-operand-clause-refused : goal.lower_operands-r
 lower_operands-returns-in_err-operand-clause-refused t c =
     let source = source_of c.args.context.now in
     let child : ℕ = (get_or c.args.args.now c.loop-arg.arg-index (record { 0 = 0 })).0 in
-    let is : Contains (parts_of (node source c.args.e.0)) child = subst (λ (list : List ℕ). Contains list child) (sym c.requires.parts) (argument-in c.args.args.now c.loop-arg.arg-index (record { 0 = 0 }) c.loop-arg-test.true) in
+    let is : Contains (parts_of (node source c.args.e.0)) child = All-contains (Contains (parts_of (node source c.args.e.0))) (expr_numbers c.args.args.now) child c.requires.parts (argument-in c.args.args.now c.loop-arg.arg-index (record { 0 = 0 }) c.loop-arg-test.true) in
     refused-exit (RefusesAt source c.args.e.0) _ c.from_residual.result c.from_residual.ensures.1
     (λ error same. subst (RefusesAt source c.args.e.0) (sym same) (refuses-part source c.args.e.0 child _ is c.in_err-operand.ensures.refused))
 

@@ -43,6 +43,9 @@ decreases-lower_aggregate l = 11 * l.e.0 + 4
 abbrev pub decreases-lower_struct : goal.decreases-lower_struct
 decreases-lower_struct l = 11 * l.e.0 + 4
 
+abbrev pub decreases-lower_update : goal.decreases-lower_update
+decreases-lower_update l = 11 * l.e.0 + 4
+
 abbrev pub decreases-lower_compound : goal.decreases-lower_compound
 decreases-lower_compound l = 11 * l.e.0 + 5
 

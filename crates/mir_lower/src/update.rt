@@ -1,0 +1,46 @@
+//! The operands that give the fields of a struct literal with a base.
+
+ghost use Rattle.std.specs.Prelude.{All, map, IfOk};
+ghost use Rattle.body_forms.specs.Form.{core_source};
+ghost use Rattle.mir_lower.specs.Graph.{shape};
+ghost use Rattle.mir_lower.specs.Updates.{AreFound, IsAmong, IsKnown};
+
+use crate::graph::Graph;
+use body_forms::{FieldSource, FieldStep, place_elem};
+use mir::{Operand, OperandKind, Place};
+use std::alloc::Global;
+use world::{List, NoMemory, TryClone};
+
+/// The operands that give the fields of a struct, in their order: each that is written, and a copy of any other field of the base.
+pub(crate) fn field_operands(
+    alloc: Global,
+    graph: &mut Graph,
+    base: Place,
+    sources: &[FieldSource],
+    operands: &List<Operand>,
+) -> Result<List<Operand>, NoMemory>
+    requires known { IsKnown (shape graph.old) base }
+    requires given { All (λ source. IsAmong operands.now (core_source source)) sources.now }
+    ensures { IfOk result (λ fields. AreFound (shape graph.old) (shape graph.new) base operands.now (map core_source sources.now) fields) }
+{
+    let mut fields = List::new(alloc);
+    for source in sources {
+        let field = match *source {
+            FieldSource::Written(place) => {
+                let Some(operand) = operands.get(place) else {
+                    unreachable!()
+                };
+                operand.try_clone(alloc)?
+            }
+            FieldSource::OfBase(field) => {
+                let place = graph.project(base, place_elem(FieldStep::Field(field)))?;
+                Operand {
+                    kind: OperandKind::Copy(place),
+                    span: None,
+                }
+            }
+        };
+        fields.push(field)?;
+    }
+    Ok(fields)
+}
