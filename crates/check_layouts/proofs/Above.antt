@@ -12,7 +12,7 @@ use Rattle.types.specs.declared.ty.Ty.{Ty}
 use Rattle.world.specs.declared.database.HirDatabase.{HirDatabase}
 use Rattle.world.specs.declared.layout.Layout.{Layout}
 use Rattle.types.proofs.Places.{found_at, no_position}
-use Rattle.check_layouts.specs.Fields.{IsPlaceOf, field_layout}
+use Rattle.check_layouts.specs.inner.Fields.{IsPlaceOf, field_layout}
 use Rattle.check_layouts.specs.Sizes.{layout_above}
 
 module _ {R : Type 0} (test : R → Bool) where

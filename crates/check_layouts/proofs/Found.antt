@@ -9,7 +9,7 @@ use Rattle.types.specs.SameType.{type_cmp_decides}
 use Rattle.types.specs.declared.ty.GenericArgs.{GenericArgs}
 use Rattle.types.specs.declared.ty.Ty.{Ty}
 use Rattle.world.specs.declared.database.HirDatabase.{HirDatabase}
-use Rattle.check_layouts.specs.Fields.{AreSizesRight, field_size}
+use Rattle.check_layouts.specs.inner.Fields.{AreSizesRight, field_size}
 
 module _ (world : HirDatabase) (i : ℕ) (args : GenericArgs) where
   abbrev size_of : Ty → Option ℕ

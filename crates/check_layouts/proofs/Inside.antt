@@ -5,7 +5,7 @@ use Rattle.std.specs.Option.{option_map, is_some}
 use Rattle.types.specs.declared.ty.Ty.{Ty}
 use Rattle.world.specs.declared.database.HirDatabase.{HirDatabase}
 use Rattle.world.specs.declared.layout.Layout.{Layout}
-use Rattle.check_layouts.specs.Fields.{are_inside, field_layout, field_size, is_inside, is_part_inside}
+use Rattle.check_layouts.specs.inner.Fields.{are_inside, field_layout, field_size, is_inside, is_part_inside}
 
 -- a layout has a size
 has_size : (layout : Option Layout) → is_some layout ≡ is_some (option_map (λ (l : Layout). l.size) layout)

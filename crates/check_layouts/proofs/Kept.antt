@@ -18,8 +18,8 @@ use Rattle.world.specs.declared.items.StructRow.{StructRow}
 use Rattle.world.specs.declared.items.VariantRow.{VariantRow}
 use Rattle.world.specs.declared.layout.Layout.{Layout}
 use Rattle.check_layouts.proofs.Fixed.{same_instance}
-use Rattle.check_layouts.specs.Fields.{IsPlaceOf}
-use Rattle.check_layouts.specs.Places.{capture_places, field_places, fixed_place, fixed_places, no_args, place_in, place_of_index, places_of_captures, places_of_fields}
+use Rattle.check_layouts.specs.inner.Fields.{IsPlaceOf}
+use Rattle.check_layouts.specs.inner.Places.{capture_places, field_places, fixed_place, fixed_places, no_args, place_in, place_of_index, places_of_captures, places_of_fields}
 
 -- the place of a type without parameters is that of its instance
 pub fixed_right : (world : HirDatabase) (args : GenericArgs) (ty : Ty) (place : Option ℕ) → Some place ≡ fixed_place world ty → IsPlaceOf world (ty_instance world.normals args ty) place

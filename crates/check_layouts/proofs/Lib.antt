@@ -5,3 +5,7 @@ pub mod Found
 pub mod Inside
 pub mod Kept
 pub mod Placing
+pub mod Listed
+pub mod Firsts
+pub mod Passed
+pub mod Decided

@@ -4,7 +4,7 @@ use Rattle.std.specs.List.{list_all}
 use Rattle.types.specs.declared.ty.Ty.{Ty}
 use Rattle.world.specs.declared.database.HirDatabase.{HirDatabase}
 use Rattle.world.specs.declared.layout.Layout.{Layout}
-use Rattle.check_layouts.specs.Fields.{has_offset_each, is_placed_inside, is_placed_right, placed_fields}
+use Rattle.check_layouts.specs.inner.Fields.{has_offset_each, is_placed_inside, is_placed_right, placed_fields}
 
 both_swap : (a b c d : Bool) → (a && b && (c && d)) ≡ (a && c && (b && d))
 both_swap true true c d = refl

@@ -1,5 +1,3 @@
 pub mod Sizes
-pub mod Fields
-pub mod Layouts
-pub mod Tags
-pub mod Places
+pub mod Laid
+pub mod inner

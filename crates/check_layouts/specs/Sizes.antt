@@ -1,6 +1,5 @@
 -- Sizes and alignments that are the same on all targets.
-use Rattle.std.specs.Prelude.{ℕ, ◌%◌, ◌*◌, ◌==◌, Bool, true, false, not, List, [], ◌∷◌, take, Option, Some, None}
-use Rattle.std.specs.List.{list_any}
+use Rattle.std.specs.Prelude.{ℕ, Bool, true, false, not, take, Option, Some, None}
 use Rattle.std.specs.Option.{option_map}
 use Rattle.types.specs.Orders.{ty_cmp}
 use Rattle.types.specs.Places.{row_at}
@@ -15,7 +14,6 @@ use Rattle.types.specs.declared.ty.TraitRef.{TraitRef}
 use Rattle.types.specs.declared.ty.Ty.{Ty, Ty-F, out-Ty}
 use Rattle.types.specs.declared.ty.UnevaluatedConst.{UnevaluatedConst}
 use Rattle.types.specs.declared.ty.ValueConst.{ValueConst}
-use Rattle.numbers.specs.Constants.{number_in}
 use Rattle.world.specs.Checked.{int_bytes, uint_bytes}
 use Rattle.world.specs.Lookups.{layout_of}
 use Rattle.world.specs.declared.database.HirDatabase.{HirDatabase}
@@ -24,16 +22,6 @@ use Rattle.world.specs.declared.layout.Layout.{Layout}
 -- the variant of a type
 abbrev pub TyLayer : Type 0
 TyLayer = Ty-F Const GenericArg MemoryMap Ty ComplexMemoryMap GenericArgs TraitRef UnevaluatedConst ValueConst
-
--- the powers of two up to 8192
-abbrev pub alignments : List ℕ
-alignments = 1 ∷ 2 ∷ 4 ∷ 8 ∷ 16 ∷ 32 ∷ 64 ∷ 128 ∷ 256 ∷ 512 ∷ 1024 ∷ 2048 ∷ 4096 ∷ 8192 ∷ []
-
-abbrev pub is_alignment : ℕ → Bool
-is_alignment align = list_any (λ power. power == align) alignments
-
-abbrev pub is_multiple_of : ℕ → ℕ → Bool
-is_multiple_of size align = size % align == 0
 
 -- an optional layout is there, and is that of an unsized type
 abbrev pub is_unsized : Option Layout → Bool
@@ -71,26 +59,6 @@ known_size world ty = known (out-Ty ty)
     known (one.FnPtr params ret) = Some 8
     known _ = None
 
--- the size is the known one, if there is a known one
-abbrev pub is_fixed_size : Option ℕ → ℕ → Bool
-is_fixed_size None size = true
-is_fixed_size (Some fixed) size = size == fixed
-
 -- the layout of a type in one of the first i rows
 abbrev pub layout_above : HirDatabase → ℕ → Ty → Option Layout
 layout_above world i ty = option_map (λ row. row.1) (row_at {R = Ty × Layout} (λ row. row.0) (ty_cmp ty) (take i world.layouts))
-
--- the size of `len` elements of an optional layout: false if there is no layout, else true if the length is unknown
-abbrev pub is_product : Option ℕ → Option Layout → ℕ → Bool
-is_product (Some len) (Some element) size = size == len * element.size
-is_product None (Some element) size = true
-is_product len None size = false
-
--- The size of an array is its length times its element's size, by the element's layout in an earlier row. An unevaluated
--- length fixes no size.
-abbrev pub is_array_size : HirDatabase → ℕ → Ty → ℕ → Bool
-is_array_size world i ty size = array (out-Ty ty)
-  where
-    array : TyLayer → Bool
-    array (one.Array element len) = is_product (number_in len) (layout_above world i element) size
-    array _ = true

@@ -1,7 +1,7 @@
 //! The sizes of arrays.
 ghost use Rattle.std.specs.Prelude.{◌≡◌, ◌*◌, ◌==◌};
 ghost use Rattle.std.specs.Option.{option_copied};
-ghost use Rattle.check_layouts.specs.Sizes.{is_array_size, is_product};
+ghost use Rattle.check_layouts.specs.inner.Sizes.{is_array_size, is_product};
 
 use crate::sizes::layout_above;
 use numbers::number_in;

@@ -2,8 +2,9 @@
 ghost use Rattle.std.specs.Prelude.{◌≡◌, IfOk, OnOk, map, Option, Some, slice_get};
 ghost use Rattle.check_instances.specs.Instances.{ty_instance};
 ghost use Rattle.types.specs.declared.ty.Ty.{Ty};
-ghost use Rattle.check_layouts.specs.Fields.{AreSizesRight, IsPlaceOf, are_inside, captures_at, field_size, is_part_inside, is_placed_right, types_at, variants_of};
-ghost use Rattle.check_layouts.specs.Places.{capture_places, field_places, fixed_place, fixed_places};
+ghost use Rattle.check_layouts.specs.Laid.{variants_of};
+ghost use Rattle.check_layouts.specs.inner.Fields.{AreSizesRight, IsPlaceOf, are_inside, captures_at, field_size, is_part_inside, is_placed_right, types_at};
+ghost use Rattle.check_layouts.specs.inner.Places.{capture_places, field_places, fixed_place, fixed_places};
 
 use crate::places::{FixedPlace, FixedPlaces, place_of_index, places_of_captures};
 use crate::sizes::{layout_above, layout_at};

@@ -1,12 +1,13 @@
 //! Layouts that follow the rules of all targets.
-ghost use Rattle.std.specs.Prelude.{◌≡◌, [], IfOk, OnOk};
+ghost use Rattle.std.specs.Prelude.{◌≡◌, ℕ, ◌<◌, [], None, IfOk, IfSome, OnOk};
+ghost use Rattle.check_layouts.specs.Laid.{IsRowLaidOut};
 ghost use Rattle.std.specs.List.{list_all};
 ghost use Rattle.std.specs.Option.{option_and_then, option_copied};
 ghost use Rattle.world.specs.Failing.{first_failing};
 ghost use Rattle.world.specs.Lookups.{fields_of};
-ghost use Rattle.check_layouts.specs.Fields.{AreSizesRight, fields_of_variant, is_placed_inside, is_placed_right, placed_captures, placed_fields, placed_of, placed_of_each, placed_of_enum, unplaced_fields, unplaced_of_each};
-ghost use Rattle.check_layouts.specs.Layouts.{are_parts_right, is_layout_right, is_size_right, is_tag_inside, is_tag_size};
-ghost use Rattle.check_layouts.specs.Places.{fixed_places};
+ghost use Rattle.check_layouts.specs.inner.Fields.{AreSizesRight, fields_of_variant, is_placed_inside, is_placed_right, placed_captures, placed_fields, placed_of, placed_of_each, placed_of_enum, unplaced_fields, unplaced_of_each};
+ghost use Rattle.check_layouts.specs.inner.Layouts.{are_parts_right, is_layout_right, is_size_right, is_tag_inside, is_tag_size};
+ghost use Rattle.check_layouts.specs.inner.Places.{fixed_places};
 
 use crate::arrays::is_array_size;
 use crate::fields::{
@@ -352,8 +353,8 @@ fn is_layout_right(
     are_parts_right(alloc, db, places, i, &row.0, &row.1)
 }
 
-/// The index of the first layout that breaks a rule of all targets. It fails only for want of memory.
-pub fn first_wrong_layout(alloc: Global, db: &HirDatabase) -> Result<Option<usize>, NoMemory>
+/// The index of the first layout that fails the test of its row.
+fn first_failing_layout(alloc: Global, db: &HirDatabase) -> Result<Option<usize>, NoMemory>
     ensures { IfOk result (λ found. found ≡ first_failing (is_layout_right db.now) 0 db.now.layouts) }
 {
     let places = fixed_places(alloc, db)?;
@@ -365,4 +366,14 @@ pub fn first_wrong_layout(alloc: Global, db: &HirDatabase) -> Result<Option<usiz
         }
     }
     Ok(None)
+}
+
+/// The index of the first row of `layouts` that breaks a rule of all targets, or none where each row keeps
+/// them. It fails only for want of memory.
+pub fn first_wrong_layout(alloc: Global, db: &HirDatabase) -> Result<Option<usize>, NoMemory>
+    ensures none { IfOk result (λ found. found ≡ None → (i : ℕ) → IsRowLaidOut db.now i) }
+    ensures wrong { IfOk result (λ found. IfSome found (λ i. IsRowLaidOut db.now i → ⊥)) }
+    ensures first { IfOk result (λ found. IfSome found (λ i. (j : ℕ) → j < i → IsRowLaidOut db.now j)) }
+{
+    first_failing_layout(alloc, db)
 }

@@ -2,7 +2,7 @@
 //! It is looked up once for each field as it is written, and not once for each layout of its struct, union,
 //! enum or closure, of which there may be many, each at arguments of its own.
 ghost use Rattle.std.specs.Prelude.{◌≡◌, [], IfOk, map, slice_get, unwrap_or};
-ghost use Rattle.check_layouts.specs.Places.{capture_places, field_places, fixed_place, fixed_places, place_of_index, places_of_captures, places_of_fields};
+ghost use Rattle.check_layouts.specs.inner.Places.{capture_places, field_places, fixed_place, fixed_places, place_of_index, places_of_captures, places_of_fields};
 
 use check_instances::instance_place;
 use mentions::holds_param;
@@ -28,7 +28,7 @@ pub(crate) struct FixedPlaces {
 
 /// The place of a type, if it holds no generic parameter. Arguments then change nothing, so it is looked up
 /// at none.
-#[tactic(auto, unfolding(crate::specs::Places::fixed_place))]
+#[tactic(auto, unfolding(crate::specs::inner::Places::fixed_place))]
 fn fixed_place(alloc: Global, db: &HirDatabase, ty: &Ty) -> Result<FixedPlace, NoMemory>
     ensures { IfOk result (λ place. place ≡ fixed_place db.now ty.now) }
 {
@@ -121,7 +121,7 @@ fn closure_places(
 }
 
 /// The places of the types of all fields and captures.
-#[tactic(auto, unfolding(crate::specs::Places::fixed_places))]
+#[tactic(auto, unfolding(crate::specs::inner::Places::fixed_places))]
 pub(crate) fn fixed_places(alloc: Global, db: &HirDatabase) -> Result<FixedPlaces, NoMemory>
     ensures { IfOk result (λ places. places ≡ fixed_places db.now) }
 {

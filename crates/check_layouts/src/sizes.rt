@@ -1,8 +1,9 @@
 //! Sizes and alignments that are the same on all targets, and the layouts in earlier rows of the table.
 ghost use Rattle.std.specs.Prelude.{◌≡◌, ◌<◌, Option};
 ghost use Rattle.std.specs.Option.{option_copied};
-ghost use Rattle.check_layouts.specs.Fields.{IsPlaceOf, field_layout};
-ghost use Rattle.check_layouts.specs.Sizes.{is_alignment, is_fixed_size, is_multiple_of, is_unsized, is_wide, known_size, layout_above, pointer_size};
+ghost use Rattle.check_layouts.specs.inner.Fields.{IsPlaceOf, field_layout};
+ghost use Rattle.check_layouts.specs.Sizes.{is_unsized, is_wide, known_size, layout_above, pointer_size};
+ghost use Rattle.check_layouts.specs.inner.Sizes.{is_alignment, is_fixed_size, is_multiple_of};
 ghost use Rattle.types.specs.declared.ty.Ty.{Ty};
 ghost use Rattle.world.specs.Checked.{int_bytes, uint_bytes};
 

@@ -1,6 +1,7 @@
 //! Tags that fit their enums.
-ghost use Rattle.std.specs.Prelude.{◌≡◌, ◌+◌, ◌<◌, length, nat_le};
-ghost use Rattle.check_layouts.specs.Tags.{is_enum_tag_right, is_multiple_right, is_niche_right, is_tag_right, is_untagged, tag_values};
+ghost use Rattle.std.specs.Prelude.{◌≡◌, ◌+◌, ◌<◌, length, nat_le, Decides};
+ghost use Rattle.check_layouts.specs.Laid.{HasRightTag};
+ghost use Rattle.check_layouts.specs.inner.Tags.{is_enum_tag_right, is_multiple_right, is_niche_right, is_tag_right, is_untagged, tag_values};
 
 use crate::fields::enum_variants;
 use world::{AdtId, HirDatabase, Layout, MultiLayout, TagEncoding, Ty, Variants};
@@ -80,7 +81,7 @@ fn is_untagged(variants: &Variants) -> bool
 }
 
 /// Whether the tag of a layout fits its enum; the layout of any other type has no tag.
-pub fn is_tag_right(db: &HirDatabase, row: &(Ty, Layout)) -> bool
+fn fits_type(db: &HirDatabase, row: &(Ty, Layout)) -> bool
     ensures { result ≡ is_tag_right db.now row.now }
 {
     match &row.0 {
@@ -89,4 +90,11 @@ pub fn is_tag_right(db: &HirDatabase, row: &(Ty, Layout)) -> bool
         }
         _ => is_untagged(&row.1.variants),
     }
+}
+
+/// Whether the tag of a row of `layouts` fits its enum; the layout of any other type has no tag.
+pub fn is_tag_right(db: &HirDatabase, row: &(Ty, Layout)) -> bool
+    ensures { Decides result (HasRightTag db.now row.now.0 row.now.1) }
+{
+    fits_type(db, row)
 }

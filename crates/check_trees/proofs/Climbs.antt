@@ -7,7 +7,7 @@ use Rattle.std.specs.Map.{lookup}
 use Rattle.world.specs.declared.body.Body.{Body}
 use Rattle.world.specs.declared.expr.Expr.{Expr as Expression}
 use Rattle.world.specs.declared.pat.Pat.{Pat as Pattern}
-use Rattle.check_trees.specs.Holders.{is_node}
+use Rattle.check_trees.specs.inner.Holders.{is_node}
 use Rattle.check_trees.specs.Tree.{held_by_expr, held_by_pat, held_pairs, holder_of, pairs_of_exprs, pairs_of_pats, same_node, with_holder}
 use Rattle.check_trees.specs.declared.node.BodyNode.{BodyNode}
 use Rattle.check_trees.specs.declared.node.BodyNode.TheVariants.{Expr, Pat}

@@ -3,7 +3,7 @@ use Rattle.std.proofs.Common.{◌≡◌, ℕ, suc, zero, ◌+◌, ◌-◌, ◌<�
 use Rattle.std.proofs.lemmas.Bool.Decides.{nat_tests}
 use Rattle.std.specs.List.{list_any}
 use Rattle.world.specs.declared.body.Body.{Body}
-use Rattle.check_trees.specs.Heights.{known_of, has_place, noted_of, AreHeights, AreLevels, HasHeight, HaveOpenPaths, IsHeight, LeavesNoneOpen}
+use Rattle.check_trees.specs.inner.Heights.{known_of, has_place, noted_of, AreHeights, AreLevels, HasHeight, HaveOpenPaths, IsHeight, LeavesNoneOpen}
 use Rattle.check_trees.specs.Tree.{has_path, held_by, same_node}
 use Rattle.check_trees.specs.declared.heights.Heights.{Heights}
 use Rattle.check_trees.specs.declared.heights.Known.{Known}

@@ -3,7 +3,7 @@ use Rattle.std.proofs.Common.{◌≡◌, ℕ, ◌+◌, ◌<◌, Bool, true, fals
 use Rattle.std.proofs.lemmas.List.{take_more}
 use Rattle.std.specs.Map.{lookup}
 use Rattle.std.specs.Option.{option_or}
-use Rattle.check_trees.specs.Holders.{noted, AreFirstHolders}
+use Rattle.check_trees.specs.inner.Holders.{noted, AreFirstHolders}
 use Rattle.check_trees.specs.Tree.{same_node}
 use Rattle.check_trees.specs.declared.node.BodyNode.{BodyNode}
 

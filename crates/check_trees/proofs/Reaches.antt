@@ -5,7 +5,7 @@ use Rattle.world.specs.declared.body.Body.{Body}
 use Rattle.world.specs.declared.expr.Expr.{Expr as Expression}
 use Rattle.world.specs.declared.pat.Pat.{Pat as Pattern}
 use Rattle.world.specs.Nodes.{children_of, patterns_of}
-use Rattle.check_trees.specs.Reach.{any_path, is_before, HasReach, HaveReach}
+use Rattle.check_trees.specs.inner.Reach.{any_path, is_before, HasReach, HaveReach}
 use Rattle.check_trees.specs.Tree.{has_path, held_by, held_by_expr, held_by_pat, inner_exprs_at, is_shallow, stands_inside, subpatterns_at, subpatterns_in}
 use Rattle.check_trees.specs.declared.node.BodyNode.{BodyNode}
 use Rattle.check_trees.specs.declared.node.BodyNode.TheVariants.{Expr, Pat}

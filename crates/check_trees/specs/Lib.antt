@@ -1,8 +1,4 @@
 pub mod Tree
 pub mod Jumps
 pub mod Ellipsis
-pub mod Facts
-pub mod Heights
-pub mod Holders
-pub mod Reach
-pub mod Tops
+pub mod inner

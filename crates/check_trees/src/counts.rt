@@ -1,6 +1,6 @@
 //! How often each node of a body occurs as a child of another node.
 ghost use Rattle.std.specs.Prelude.{◌≡◌, ℕ, ◌<◌, List, [], length, IfOk};
-ghost use Rattle.check_trees.specs.Holders.{kept_count, AreCounts, AreTimes};
+ghost use Rattle.check_trees.specs.inner.Holders.{kept_count, AreCounts, AreTimes};
 ghost use Rattle.check_trees.specs.Tree.{held_pairs};
 
 use crate::BodyNode;

@@ -1,7 +1,7 @@
 //! Facts about a body's nodes that are computed before the walk over its tree.
 ghost use Rattle.std.specs.Prelude.{◌≡◌, true, IfOk};
-ghost use Rattle.check_trees.specs.Facts.{AreFacts};
-ghost use Rattle.check_trees.specs.Holders.{is_node};
+ghost use Rattle.check_trees.specs.inner.Facts.{AreFacts};
+ghost use Rattle.check_trees.specs.inner.Holders.{is_node};
 ghost use Rattle.check_trees.specs.Tree.{has_one_holder};
 
 use crate::BodyNode;

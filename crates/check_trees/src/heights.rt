@@ -1,6 +1,6 @@
 //! The height of each node of a body: the length of the longest path down from it.
 ghost use Rattle.std.specs.Prelude.{◌≡◌, ◌==◌, ◌&&◌, if◌then◌else◌, ℕ, length, nat_lt, slice_index_or, IfOk, OnOk};
-ghost use Rattle.check_trees.specs.Heights.{known_of, noted_of, AreHeights, AreLevels, AreSettled, IsHeight, LeavesNoneOpen};
+ghost use Rattle.check_trees.specs.inner.Heights.{known_of, noted_of, AreHeights, AreLevels, AreSettled, IsHeight, LeavesNoneOpen};
 
 use crate::BodyNode;
 use crate::held::held_by;

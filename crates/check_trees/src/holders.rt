@@ -1,6 +1,6 @@
 //! The first parent (holder) of each node of a body.
 ghost use Rattle.std.specs.Prelude.{◌≡◌, ℕ, ◌<◌, List, [], length, slice_index_or, IfOk};
-ghost use Rattle.check_trees.specs.Holders.{kept_holder, noted, AreFirstHolders, AreHolders};
+ghost use Rattle.check_trees.specs.inner.Holders.{kept_holder, noted, AreFirstHolders, AreHolders};
 ghost use Rattle.check_trees.specs.Tree.{held_pairs};
 
 use crate::BodyNode;

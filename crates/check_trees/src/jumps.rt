@@ -1,9 +1,9 @@
 //! Whether each jump names the label of an enclosing loop or block.
 ghost use Rattle.std.specs.Prelude.{◌≡◌, ◌<◌, length, true, IfOk};
 ghost use Rattle.world.specs.Nodes.{jump_label, scope_label};
-ghost use Rattle.check_trees.specs.Holders.{is_node, AreHolders};
+ghost use Rattle.check_trees.specs.inner.Holders.{is_node, AreHolders};
 ghost use Rattle.check_trees.specs.Jumps.{is_enclosed, is_jump_inside, is_label, is_labelled, wrong_jump};
-ghost use Rattle.check_trees.specs.Tops.{AreTops};
+ghost use Rattle.check_trees.specs.inner.Tops.{AreTops};
 ghost use Rattle.world.specs.Failing.{first_failing};
 
 use crate::BodyNode;

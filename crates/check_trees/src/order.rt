@@ -2,9 +2,9 @@
 ghost use Rattle.std.specs.Prelude.{◌≡◌, ◌<◌, ◌&&◌, length, nat_lt, slice_get, true, IfOk, OnOk};
 ghost use Rattle.std.specs.List.{list_all};
 ghost use Rattle.world.specs.Nodes.{children_of, patterns_of, subpatterns_of};
-ghost use Rattle.check_trees.specs.Facts.{AreFacts};
-ghost use Rattle.check_trees.specs.Heights.{AreSettled};
-ghost use Rattle.check_trees.specs.Reach.{AreReaches};
+ghost use Rattle.check_trees.specs.inner.Facts.{AreFacts};
+ghost use Rattle.check_trees.specs.inner.Heights.{AreSettled};
+ghost use Rattle.check_trees.specs.inner.Reach.{AreReaches};
 ghost use Rattle.world.specs.Failing.{first_failing};
 ghost use Rattle.check_trees.specs.Tree.{is_expr_in_order, is_pat_in_order, is_shallow, stands_inside, wrong_node};
 

@@ -1,7 +1,7 @@
 //! The greatest id of the expressions inside each pattern of a body.
 ghost use Rattle.std.specs.Prelude.{◌≡◌, ◌==◌, ◌&&◌, if◌then◌else◌, ℕ, false, length, nat_lt, slice_index_or, IfOk, OnOk};
 ghost use Rattle.std.specs.List.{list_all};
-ghost use Rattle.check_trees.specs.Reach.{any_path, is_before, kept_reach, AreReaches, HasReach, HaveReach};
+ghost use Rattle.check_trees.specs.inner.Reach.{any_path, is_before, kept_reach, AreReaches, HasReach, HaveReach};
 ghost use Rattle.check_trees.specs.Tree.{has_path, inner_exprs_at, subpatterns_at};
 
 use crate::BodyNode;

@@ -1,7 +1,7 @@
 //! Which nodes of a body are its root or its parameters.
 ghost use Rattle.std.specs.Prelude.{◌≡◌, ℕ, ◌<◌, List, [], length, true, IfOk};
-ghost use Rattle.check_trees.specs.Holders.{is_node};
-ghost use Rattle.check_trees.specs.Tops.{AreMarked, AreTops};
+ghost use Rattle.check_trees.specs.inner.Holders.{is_node};
+ghost use Rattle.check_trees.specs.inner.Tops.{AreMarked, AreTops};
 ghost use Rattle.check_trees.specs.Tree.{is_top};
 
 use crate::BodyNode;

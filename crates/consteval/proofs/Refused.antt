@@ -152,6 +152,8 @@ named-target source outer label (Some (expr.Continue given)) jumps fits lacks =
     cc
 named-target source outer label (Some (expr.Literal l)) jumps fits lacks = jumps
 named-target source outer label (Some (expr.Path name)) jumps fits lacks = jumps
+named-target source outer label (Some expr.UnitStruct) jumps fits lacks = jumps
+named-target source outer label (Some (expr.Update base id args sources operands)) jumps fits lacks = jumps
 named-target source outer label (Some (expr.Field base field)) jumps fits lacks = jumps
 named-target source outer label (Some (expr.Strict operation operands)) jumps fits lacks = jumps
 named-target source outer label (Some (expr.Logic op left right)) jumps fits lacks = jumps

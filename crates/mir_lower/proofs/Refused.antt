@@ -52,6 +52,8 @@ unbuilt-statement source e st (Some (expr.Block own tail)) statements same withi
 unbuilt-statement source e st (Some (expr.Labelled label own tail)) statements same within unbuilt = (st, subst (λ (s : List Statement). Contains s st) (sym same) within, unbuilt)
 unbuilt-statement source e st (Some (expr.Literal l)) statements same within unbuilt = absurd same
 unbuilt-statement source e st (Some (expr.Path name)) statements same within unbuilt = absurd same
+unbuilt-statement source e st (Some expr.UnitStruct) statements same within unbuilt = absurd same
+unbuilt-statement source e st (Some (expr.Update base id args sources operands)) statements same within unbuilt = absurd same
 unbuilt-statement source e st (Some (expr.Field base elem)) statements same within unbuilt = absurd same
 unbuilt-statement source e st (Some (expr.Strict operation operands)) statements same within unbuilt = absurd same
 unbuilt-statement source e st (Some (expr.Logic op left right)) statements same within unbuilt = absurd same
@@ -70,6 +72,8 @@ lacking-statement source e st (Some (expr.Block own tail)) statements same withi
 lacking-statement source e st (Some (expr.Labelled label own tail)) statements same within lacks = (st, subst (λ (s : List Statement). Contains s st) (sym same) within, lacks)
 lacking-statement source e st (Some (expr.Literal l)) statements same within lacks = absurd same
 lacking-statement source e st (Some (expr.Path name)) statements same within lacks = absurd same
+lacking-statement source e st (Some expr.UnitStruct) statements same within lacks = absurd same
+lacking-statement source e st (Some (expr.Update base id args sources operands)) statements same within lacks = absurd same
 lacking-statement source e st (Some (expr.Field base elem)) statements same within lacks = absurd same
 lacking-statement source e st (Some (expr.Strict operation operands)) statements same within lacks = absurd same
 lacking-statement source e st (Some (expr.Logic op left right)) statements same within lacks = absurd same
@@ -158,6 +162,8 @@ part-of-block source st child (Some (expr.Labelled label own tail)) statements s
     (Contains-append_left (flat_map statement_parts own) (optional tail) child (among statement_parts own st child (subst (λ (s : List Statement). Contains s st) (sym same) within) is))
 part-of-block source st child (Some (expr.Literal l)) statements same within is = absurd same
 part-of-block source st child (Some (expr.Path name)) statements same within is = absurd same
+part-of-block source st child (Some expr.UnitStruct) statements same within is = absurd same
+part-of-block source st child (Some (expr.Update base id args sources operands)) statements same within is = absurd same
 part-of-block source st child (Some (expr.Field base elem)) statements same within is = absurd same
 part-of-block source st child (Some (expr.Strict operation operands)) statements same within is = absurd same
 part-of-block source st child (Some (expr.Logic op left right)) statements same within is = absurd same

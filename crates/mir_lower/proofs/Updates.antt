@@ -1,7 +1,7 @@
 -- Struct literals with a base, and values of unit structs. A literal finds the place of its base, then its operands, and makes the struct
 -- of these and of copies of the base's fields.
-use Rattle.std.proofs.Common.{◌≡◌, ℕ, zero, suc, ◌+◌, ◌<◌, ◌==◌, inr, List, [], ◌∷◌, ◌++◌, length, map, take, Contains, Option, Some, None, option_and_then, slice_get, if◌then◌else◌, refl, sym, ap, ◌∙◌, subst, append_assoc, false, true, Bool, arith, ⊎_elim}
-use Rattle.std.specs.Prelude.{All, IsSome, flat_map, option_map}
+use Rattle.std.proofs.Common.{◌≡◌, ℕ, zero, suc, ◌+◌, ◌<◌, ◌==◌, inr, List, [], ◌∷◌, ◌++◌, length, map, take, Contains, Option, Some, None, option_and_then, slice_get, if◌then◌else◌, refl, sym, ap, ◌∙◌, subst, append_assoc, false, true, cond, Bool, arith, ltb-true, ⊎_elim}
+use Rattle.std.specs.Prelude.{All, IsSome, flat_map, nat_lt, option_map}
 use Rattle.std.proofs.lemmas.List.Elements.{All-nil, All-cons, All-head, All-tail, All-weaker, Contains-append_cases}
 use borrow.Author.Tests.{eqb-true}
 use Rattle.types.specs.declared.ids.AdtId.TheVariants as adt
@@ -43,7 +43,6 @@ use Rattle.source_meaning.proofs.Parts.{first_is_contained, rest_is_contained, s
 use Rattle.source_meaning.proofs.Updates.{field_operands-more, no_field_operands}
 use Rattle.body_forms.specs.Form.{core_form, core_source, elem_of, literal_sources}
 use Rattle.body_forms.specs.declared.structs.FieldSource.{FieldSource as GivenSource}
-use Rattle.body_forms.proofs.Arranged.{place-within}
 use Rattle.body_forms.specs.declared.form.Form.TheVariants as form
 use Rattle.body_forms.specs.declared.structs.StructLiteral.{StructLiteral}
 use Rattle.mir_lower.specs.Built.{IsBuilt}
@@ -190,10 +189,10 @@ value-of source whole frame (one ∷ operands) (value ∷ values) fit zero x at 
     let same : one ≡ x = cc in record { value = value; is = refl; fits = subst (λ (y : MirOperand). Fits source y.kind whole frame value) same fit.0 }
 value-of source whole frame (one ∷ operands) (value ∷ values) fit (suc k) x at = value-of source whole frame operands values fit.1 k x at
 
-record FitFields (source : Source) (fields : List MirOperand) (whole : Shape) (frame : Frame) (found : Option (List Operand)) : Type 0 where
-  chosen : List Operand
-  are : found ≡ Some chosen
-  fit : FitAll source (kinds fields) whole frame chosen
+pub record FitFields (source : Source) (fields : List MirOperand) (whole : Shape) (frame : Frame) (found : Option (List Operand)) : Type 0 where
+  pub chosen : List Operand
+  pub are : found ≡ Some chosen
+  pub fit : FitAll source (kinds fields) whole frame chosen
 
 module _ (source : Source) (s whole : Shape) (frame : Frame) (grows : Grows s whole) (sound : IsSound source whole) (frame-is : IsFrameOf whole frame) (world : frame.program.world ≡ source.world) (base : GraphPlace) (at : Place) (is : IsAt s base at) (operands : List MirOperand) (values : List Operand) (fit : FitAll source (kinds operands) whole frame values) where
   field-fits : (from : FieldSource) (operand : MirOperand) → Gives s base (elements_of at.projection) operands from operand → FitsOne source operand.kind whole frame (field_operand at values from)
@@ -340,6 +339,17 @@ built-update source e base id args sources es is base-built built =
     built-node source e (Some (expr.Update base id args sources es)) is tt
     (subst (All (IsBuilt source)) (sym (update_parts base id args sources es)) (All-cons (IsBuilt source) base es base-built built))
 
+-- the place of a name among the written fields is one of theirs
+below-by : (k n place : ℕ) → cond (nat_lt k n) (Some k) None ≡ Some place → place < n
+below-by k n place is = by_test (nat_lt k n) refl is
+  where
+    by_test : (test : Bool) → nat_lt k n ≡ test → cond test (Some k) None ≡ Some place → place < n
+    by_test true less same = let at : k ≡ place = cc in subst (λ m. m < n) at (ltb-true k n less)
+    by_test false less same = absurd cc
+
+place-within : (name : List ℕ) (written : List RecordLitField) (place : ℕ) → place_named name written ≡ Some place → place < length written
+place-within name written place is = below-by _ (length written) place is
+
 -- each written field that gives one is among the operands
 pub sources-among : (id : StructId) (index : ℕ) (rows : List FieldRow) (written : List RecordLitField) (operands : List MirOperand) → length operands ≡ length written → All (IsAmong operands) (field_sources id index rows written)
 unfolding field_sources
@@ -356,3 +366,9 @@ all-among operands [] all = All-nil (λ source. IsAmong operands (core_source so
 all-among operands (source ∷ sources) all =
     All-cons (λ one. IsAmong operands (core_source one)) source sources (All-head (IsAmong operands) (core_source source) (map core_source sources) all)
     (all-among operands sources (All-tail (IsAmong operands) (core_source source) (map core_source sources) all))
+
+-- what is among the operands is there
+pub lacks-none : {A : Type 0} (xs : List A) (k : ℕ) → slice_get xs k ≡ None → k < length xs → ⊥
+lacks-none [] k none within = absurd (omega arith)
+lacks-none (x ∷ xs) zero none within = absurd cc
+lacks-none (x ∷ xs) (suc k) none within = lacks-none xs k none (omega arith)

@@ -1,6 +1,6 @@
 //! The operands that give the fields of a struct literal with a base.
 
-ghost use Rattle.std.specs.Prelude.{All, map, IfOk};
+ghost use Rattle.std.specs.Prelude.{All, [], ◌∷◌, map, IfOk};
 ghost use Rattle.body_forms.specs.Form.{core_source};
 ghost use Rattle.mir_lower.specs.Graph.{shape};
 ghost use Rattle.mir_lower.specs.Updates.{AreFound, IsAmong, IsKnown};
@@ -11,7 +11,36 @@ use mir::{Operand, OperandKind, Place};
 use std::alloc::Global;
 use world::{List, NoMemory, TryClone};
 
-/// The operands that give the fields of a struct, in their order: each that is written, and a copy of any other field of the base.
+/// The operand that gives a field: the one that is written for it, or a copy of the field of the base.
+fn field_operand(
+    alloc: Global,
+    graph: &mut Graph,
+    base: Place,
+    source: FieldSource,
+    operands: &List<Operand>,
+) -> Result<Operand, NoMemory>
+    requires known { IsKnown (shape graph.old) base }
+    requires given { IsAmong operands.now (core_source source) }
+    ensures { IfOk result (λ operand. AreFound (shape graph.old) (shape graph.new) base operands.now (core_source source ∷ []) (operand ∷ [])) }
+{
+    match source {
+        FieldSource::Written(place) => {
+            let Some(operand) = operands.get(place) else {
+                unreachable!()
+            };
+            operand.try_clone(alloc)
+        }
+        FieldSource::OfBase(field) => {
+            let place = graph.project(base, place_elem(FieldStep::Field(field)))?;
+            Ok(Operand {
+                kind: OperandKind::Copy(place),
+                span: None,
+            })
+        }
+    }
+}
+
+/// The operands that give the fields of a struct, in their order.
 pub(crate) fn field_operands(
     alloc: Global,
     graph: &mut Graph,
@@ -25,21 +54,7 @@ pub(crate) fn field_operands(
 {
     let mut fields = List::new(alloc);
     for source in sources {
-        let field = match *source {
-            FieldSource::Written(place) => {
-                let Some(operand) = operands.get(place) else {
-                    unreachable!()
-                };
-                operand.try_clone(alloc)?
-            }
-            FieldSource::OfBase(field) => {
-                let place = graph.project(base, place_elem(FieldStep::Field(field)))?;
-                Operand {
-                    kind: OperandKind::Copy(place),
-                    span: None,
-                }
-            }
-        };
+        let field = field_operand(alloc, graph, base, *source, operands)?;
         fields.push(field)?;
     }
     Ok(fields)

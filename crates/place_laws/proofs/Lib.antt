@@ -2,4 +2,5 @@ mod Literals
 mod Parts
 mod Pigeonhole
 mod Placed
+mod Updates
 mod Writes

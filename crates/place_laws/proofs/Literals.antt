@@ -13,12 +13,12 @@ use Rattle.place_laws.specs.Literals.{AreGiven, HaveOwnNames, IsGiven, LiteralsG
 use Rattle.place_laws.proofs.Pigeonhole.{AreApart, each-stands}
 
 -- the written field at the place of a name has that name
-record HasName (name : List ℕ) (written : List RecordLitField) (place : ℕ) : Type 0 where
-  one : RecordLitField
-  stands : slice_get written place ≡ Some one
-  named : one.name ≡ name
+pub record HasName (name : List ℕ) (written : List RecordLitField) (place : ℕ) : Type 0 where
+  pub one : RecordLitField
+  pub stands : slice_get written place ≡ Some one
+  pub named : one.name ≡ name
 
-has-name : (name : List ℕ) (written : List RecordLitField) (place : ℕ) → place_named name written ≡ Some place → HasName name written place
+pub has-name : (name : List ℕ) (written : List RecordLitField) (place : ℕ) → place_named name written ≡ Some place → HasName name written place
 has-name name [] place is = absurd cc
 has-name name (first ∷ rest) place is =
     let found = position-Some (λ (field : RecordLitField). pointwise ◌==◌ field.name name) (first ∷ rest) place first is in
@@ -26,7 +26,7 @@ has-name name (first ∷ rest) place is =
     record { one = one; stands = slice_get-get_or (first ∷ rest) place first found.0; named = (pointwise_decides unsigned_Decides one.name name).0 found.1 }
 
 -- there is an element below a list's length
-element-at : {A : Type 0} (xs : List A) (k : ℕ) → k < length xs → (x : A) × (slice_get xs k ≡ Some x)
+pub element-at : {A : Type 0} (xs : List A) (k : ℕ) → k < length xs → (x : A) × (slice_get xs k ≡ Some x)
 element-at [] k below = absurd (omega arith)
 element-at (x ∷ xs) zero below = (x, refl)
 element-at (x ∷ xs) (suc k) below = element-at xs k (omega arith)

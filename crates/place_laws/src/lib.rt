@@ -2,7 +2,7 @@
 //! the functions here have no code: each is a law about it.
 #![tactic(auto)]
 
-ghost use Rattle.place_laws.specs.Literals.{LiteralsGiveTheirFields, LiteralsUseEachField};
+ghost use Rattle.place_laws.specs.Literals.{LiteralsGiveTheirFields, LiteralsUseEachField, UpdatesGiveTheirFields};
 ghost use Rattle.place_laws.specs.Parts.{FieldsAreParts, PartsAreRead, StructsHaveTheirFields, TuplesHaveTheirParts};
 ghost use Rattle.place_laws.specs.Writes.{WritesAreRead, WritesKeepOthers, WritesKeepTheRest};
 
@@ -34,6 +34,11 @@ pub fn literals_give_their_fields()
 /// Where the fields of a struct have names of their own, each value that is written in its literal goes into one of them.
 pub fn literals_use_each_field()
     ensures { LiteralsUseEachField }
+{}
+
+/// What a struct literal with a base puts into each field of its struct is the written field of that name, or else that field of the base.
+pub fn updates_give_their_fields()
+    ensures { UpdatesGiveTheirFields }
 {}
 
 /// What is put at a place lies there afterwards.

@@ -22,7 +22,7 @@ use Rattle.check_ids.specs.Parts.{are_roots_known}
 use Rattle.check_trees.specs.Tree.{inner_exprs_in, is_expr_in_order, stands_inside}
 use Rattle.check_items.specs.Names.{is_body_known, is_const_named}
 use Rattle.check_layouts.specs.Sizes.{known_size, layout_above}
-use Rattle.world_check.specs.Laid.{IsLaidOut}
+use Rattle.check_layouts.specs.Laid.{IsLaidOut}
 use Rattle.world_check.specs.Meets.{if_at, if_there, is_typed_body_known}
 use Rattle.world_check.specs.Rows.{Holds, failing_place, first_failure, first_failure_among, row_failure}
 use Rattle.world_check.specs.declared.fault.CheckRow.{CheckRow}

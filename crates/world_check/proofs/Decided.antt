@@ -7,10 +7,10 @@ use Rattle.world.specs.declared.layout.Layout.{Layout}
 use Rattle.check_trees.specs.Jumps.{is_jump_inside}
 use Rattle.check_trees.specs.Tree.{is_expr_in_order, is_pat_in_order}
 use Rattle.check_items.specs.Agree.{IsListedRight, is_in_place}
-use Rattle.check_layouts.specs.Layouts.{is_layout_right}
+use Rattle.check_layouts.specs.inner.Layouts.{is_layout_right}
 use Rattle.check_layouts.specs.Sizes.{layout_above}
-use Rattle.check_layouts.specs.Tags.{is_tag_right}
-use Rattle.world_check.specs.Laid.{HasRightTag, IsLaidOut}
+use Rattle.check_layouts.specs.inner.Tags.{is_tag_right}
+use Rattle.check_layouts.specs.Laid.{HasRightTag, IsLaidOut}
 use Rattle.world_check.specs.Meets.{Agrees, HasEnclosingLabel, HasFittingTag, HasRightLayout, IsInOrder, Meets, if_at, if_there}
 use Rattle.world_check.specs.Tests.{agrees, has_enclosing_label, has_fitting_tag, is_in_order, is_laid_out, meets}
 use Rattle.world_check.specs.Trees.{IsExprInOrder, IsJumpInside, IsPatInOrder}
@@ -22,7 +22,7 @@ use Rattle.world_check.specs.declared.place.Place.TheVariants.{Row, Node}
 use Rattle.world_check.specs.declared.place.TableName.TheVariants.{Functions, Variants, Closures, Layouts}
 use Rattle.check_items.proofs.OwnPlaces.{variant_decides}
 use Rattle.world_check.proofs.InOrder.{expr_decides, jump_decides, pat_decides}
-use Rattle.world_check.proofs.LayoutTests.{layout_decides, tag_decides}
+use Rattle.check_layouts.proofs.Decided.{layout_decides, tag_decides}
 
 there_decides : {X : Type 0} (test : X → Bool) (fact : X → Type 0) (found : Option X) → ((x : X) → found ≡ Some x → Decides (test x) (fact x)) → Decides (if_there test found) (IfSome found fact)
 there_decides test fact None h = ((λ e. tt), (λ u. refl))

@@ -13,7 +13,9 @@ use Rattle.check_trees.specs.Jumps.{by_holder, has_label, is_enclosed, is_jump_i
 use Rattle.check_trees.specs.Tree.{has_one_holder, has_path, held_by, held_by_pat, held_by_expr, holder_of, inner_exprs_at, inner_exprs_in, is_expr_in_order, is_pat_in_order, is_shallow, is_top, pairs_of_exprs, pairs_of_pats, same_node, stands_inside, subpatterns_at, subpatterns_in, with_holder}
 use Rattle.check_trees.specs.declared.node.BodyNode.{BodyNode}
 use Rattle.check_trees.specs.declared.node.BodyNode.TheVariants.{Expr, Pat}
-use Rattle.world_check.specs.Trees.{Has, IsAbove, IsEnclosed, IsExprInOrder, IsJumpInside, IsPatInOrder, IsPath, IsShallow, StandsInside}
+use Rattle.check_layouts.specs.Laid.{Has}
+use Rattle.check_layouts.proofs.Listed.{all_has, has_all}
+use Rattle.world_check.specs.Trees.{IsAbove, IsEnclosed, IsExprInOrder, IsJumpInside, IsPatInOrder, IsPath, IsShallow, StandsInside}
 use Rattle.world_check.proofs.Passing.{both}
 
 is_below : (m n : ℕ) → ltb m n ≡ true → m < n
@@ -49,15 +51,6 @@ pub has_any : {X : Type 0} (p : X → Bool) (xs : List X) (x : X) (k : ℕ) → 
 has_any p [] x k at e = cc
 has_any p (y ∷ xs) x zero at e = let same : y ≡ x = cc in either_first (p y) (list_any p xs) (ap p same ∙ e)
 has_any p (y ∷ xs) x (suc k) at e = either_second (p y) (list_any p xs) (has_any p xs x k at e)
-
-pub all_has : {X : Type 0} (p : X → Bool) (xs : List X) (x : X) (k : ℕ) → list_all p xs ≡ true → slice_get xs k ≡ Some x → p x ≡ true
-all_has p [] x k e at = cc
-all_has p (y ∷ xs) x zero e at = let same : y ≡ x = cc in ap p (sym same) ∙ (both (p y) (list_all p xs) e).0
-all_has p (y ∷ xs) x (suc k) e at = all_has p xs x k (both (p y) (list_all p xs) e).1 at
-
-pub has_all : {X : Type 0} (p : X → Bool) (xs : List X) → ((x : X) → Has xs x → p x ≡ true) → list_all p xs ≡ true
-has_all p [] h = refl
-has_all p (x ∷ xs) h = both_true (p x) (list_all p xs) (h x (zero, refl)) (has_all p xs (λ y at. h y (suc at.0, at.1)))
 
 has_left : {X : Type 0} (xs ys : List X) (x : X) (k : ℕ) → slice_get xs k ≡ Some x → Has (xs ++ ys) x
 has_left [] ys x k at = cc

@@ -10,7 +10,8 @@ use Rattle.world.specs.Lookups.{layout_of}
 use Rattle.world.specs.declared.database.HirDatabase.{HirDatabase}
 use Rattle.world.specs.declared.layout.Layout.{Layout}
 use Rattle.check_layouts.specs.Sizes.{layout_above}
-use Rattle.world_check.specs.Laid.{AreInside, AreLaidOut, HasLayout, HasRightTag, IsLaidOut, LiesInside, capture_type, field_type}
+use Rattle.world_check.specs.Laid.{AreLaidOut}
+use Rattle.check_layouts.specs.Laid.{AreInside, HasLayout, HasRightTag, IsLaidOut, LiesInside, capture_type, field_type}
 use Rattle.world_check.specs.Rows.{Holds}
 use Rattle.world_check.specs.declared.fault.CheckRow.TheVariants.{C5, C6}
 use Rattle.world_check.specs.declared.place.Place.TheVariants.{Row}

@@ -9,8 +9,6 @@ pub mod Sorts
 pub mod Walks
 pub mod CheckedFacts
 pub mod Laid
-pub mod LayoutRows
-pub mod LayoutTests
 pub mod InOrder
 pub mod Decided
 pub mod TypeIds

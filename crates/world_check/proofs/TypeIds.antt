@@ -22,7 +22,7 @@ use Rattle.world_check.specs.TypeIds.{AreIdsKnown, HasKnownIds}
 use Rattle.world_check.specs.declared.fault.CheckRow.TheVariants.{C1}
 use Rattle.world_check.specs.declared.place.Place.TheVariants.{Row}
 use Rattle.world_check.specs.declared.place.TableName.TheVariants.{Bodies, Layouts, Structs, Unions, Variants}
-use Rattle.world_check.proofs.InOrder.{all_has}
+use Rattle.check_layouts.proofs.Listed.{all_has}
 use Rattle.world_check.proofs.Laid.{layout_row, mapped}
 use Rattle.world_check.proofs.Passing.{both}
 

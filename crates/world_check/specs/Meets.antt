@@ -20,8 +20,7 @@ use Rattle.check_ids.specs.Inferred.{is_inferred_right}
 use Rattle.check_ids.specs.Nodes.{is_binding_in_range, is_expr_in_range, is_pat_in_range}
 use Rattle.check_ids.specs.Parts.{are_roots_known}
 use Rattle.check_trees.specs.Ellipsis.{is_ellipsis_inside}
-use Rattle.check_layouts.specs.Sizes.{layout_above}
-use Rattle.world_check.specs.Laid.{HasRightTag, IsLaidOut}
+use Rattle.check_layouts.specs.Laid.{HasRightTag, IsRowLaidOut}
 use Rattle.world_check.specs.Trees.{IsExprInOrder, IsJumpInside, IsPatInOrder}
 use Rattle.world_check.specs.declared.fault.CheckRow.{CheckRow}
 use Rattle.world_check.specs.declared.fault.CheckRow.TheVariants.{C1, C2, C3, C4, C5, C6, C7}
@@ -161,7 +160,7 @@ is_resolved world _ = true
 
 -- Layouts follow the rules of all targets. The types of parts have theirs in the rows above.
 abbrev pub HasRightLayout : HirDatabase → Place → Type 0
-HasRightLayout world (Row Layouts i) = IfSome (slice_get world.layouts i) (λ (row : Ty × Layout). IsLaidOut world (layout_above world i) row.0 row.1)
+HasRightLayout world (Row Layouts i) = IsRowLaidOut world i
 HasRightLayout world _ = Unit {0}
 
 -- Tags fit their enums.

@@ -1,9 +1,9 @@
--- The tests that the code makes at a place, one for each row of the check. The proofs show that each decides what its row asks there (`Meets`).
+-- Whether a place meets a row of the check: the test that the code makes, or, of layouts and tags, the answer to what is asked. Each decides what its row asks
+-- there (`Meets`), as the proofs show.
 use Rattle.std.specs.Prelude.{Bool, true, slice_get}
 use Rattle.world.specs.declared.database.HirDatabase.{HirDatabase}
 use Rattle.check_items.specs.Agree.{has_all_params, is_closure_row, is_in_place}
-use Rattle.check_layouts.specs.Layouts.{is_layout_right}
-use Rattle.check_layouts.specs.Tags.{is_tag_right}
+use Rattle.check_layouts.proofs.Decided.{layout_answer, tag_answer}
 use Rattle.check_trees.specs.Ellipsis.{is_ellipsis_inside}
 use Rattle.check_trees.specs.Jumps.{is_jump_inside}
 use Rattle.check_trees.specs.Tree.{is_expr_in_order, is_pat_in_order}
@@ -26,14 +26,14 @@ abbrev pub has_enclosing_label : HirDatabase → Place → Bool
 has_enclosing_label world (Node b Exprs e) = in_body world b (λ body. if_at (is_jump_inside body) body.exprs e)
 has_enclosing_label world _ = true
 
--- the alignment, the size, and the places of parts are right
+-- the row is laid out
 abbrev pub is_laid_out : HirDatabase → Place → Bool
-is_laid_out world (Row Layouts i) = if_at (is_layout_right world) world.layouts i
+is_laid_out world (Row Layouts i) = if_at (λ j row. (layout_answer world j row).0) world.layouts i
 is_laid_out world _ = true
 
--- the tag has a value for each variant
+-- the row has a right tag
 abbrev pub has_fitting_tag : HirDatabase → Place → Bool
-has_fitting_tag world (Row Layouts i) = if_there (is_tag_right world) (slice_get world.layouts i)
+has_fitting_tag world (Row Layouts i) = if_there (λ row. (tag_answer world row).0) (slice_get world.layouts i)
 has_fitting_tag world _ = true
 
 -- rows agree with what they belong to; of a variant all lists of enums are gone through

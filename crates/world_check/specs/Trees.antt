@@ -1,18 +1,15 @@
 -- How the nodes of a body hang together: what a node holds, the ways down from it and up from it, and the labels around it.
-use Rattle.std.specs.Prelude.{◌≡◌, ℕ, zero, suc, ◌<◌, ◌≤◌, true, false, List, Some, slice_get}
+use Rattle.std.specs.Prelude.{◌≡◌, ℕ, zero, suc, ◌<◌, ◌≤◌, true, false, Some}
 use Rattle.types.specs.declared.ids.LabelId.{LabelId}
 use Rattle.world.specs.Nodes.{children_of, jump_label, patterns_of, subpatterns_of}
 use Rattle.world.specs.declared.body.Body.{Body}
 use Rattle.world.specs.declared.expr.Expr.{Expr as Expression}
 use Rattle.world.specs.declared.pat.Pat.{Pat as Pattern}
+use Rattle.check_layouts.specs.Laid.{Has}
 use Rattle.check_trees.specs.Jumps.{is_labelled}
 use Rattle.check_trees.specs.Tree.{has_one_holder, held_by, holder_of, inner_exprs_at, is_top, subpatterns_at}
 use Rattle.check_trees.specs.declared.node.BodyNode.{BodyNode}
 use Rattle.check_trees.specs.declared.node.BodyNode.TheVariants.{Expr, Pat}
-
--- an element stands in a list
-abbrev pub Has : {X : Type 0} → List X → X → Type 0
-Has xs x = (k : ℕ) × (slice_get xs k ≡ Some x)
 
 -- a path of so many steps leads down from one node to another: each step goes to a node that the last one holds
 unfoldable pub IsPath : Body → ℕ → BodyNode → BodyNode → Type 0

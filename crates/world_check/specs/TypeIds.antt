@@ -10,7 +10,7 @@ use Rattle.world.specs.declared.database.HirDatabase.{HirDatabase}
 use Rattle.world.specs.declared.items.FieldRow.{FieldRow}
 use Rattle.world.specs.declared.layout.Layout.{Layout}
 use Rattle.check_names.specs.Known.{is_named}
-use Rattle.world_check.specs.Trees.{Has}
+use Rattle.check_layouts.specs.Laid.{Has}
 
 -- every id that a type mentions, at any depth, is in range of its table, and every list that it mentions is short enough for indices of 32 bits
 abbrev pub HasKnownIds : HirDatabase → Ty → Type 0

@@ -4,7 +4,7 @@ ghost use Rattle.std.specs.Prelude.{◌≡◌, IfOk, not};
 ghost use Rattle.std.specs.List.{position};
 ghost use Rattle.check_items.specs.Agree.{has_all_params, is_closure_row};
 ghost use Rattle.check_items.specs.Closed.{is_const_impl_closed, is_impl_closed, is_normal_closed};
-ghost use Rattle.check_layouts.specs.Tags.{is_tag_right};
+ghost use Rattle.check_layouts.proofs.Decided.{tag_answer};
 ghost use Rattle.world_check.specs.Rows.{failing_place};
 
 use crate::tables::{numbered_place, row_place};
@@ -55,7 +55,6 @@ pub(crate) fn wrong_resolution(db: &HirDatabase) -> Option<Place>
 }
 
 /// The place of the first layout that breaks a rule of all targets.
-#[tactic(auto, using(crate::proofs::FoundPlaces::layout_found))]
 pub(crate) fn wrong_layout(alloc: Global, db: &HirDatabase) -> Result<Option<Place>, NoMemory>
     ensures { IfOk result (λ found. found ≡ failing_place CheckRow.C5 db.now) }
 {
@@ -63,11 +62,18 @@ pub(crate) fn wrong_layout(alloc: Global, db: &HirDatabase) -> Result<Option<Pla
     Ok(row_place(TableName::Layouts, found))
 }
 
+/// Whether the tag of a row of `layouts` fits its enum.
+fn has_right_tag(db: &HirDatabase, row: &(Ty, Layout)) -> bool
+    ensures { result ≡ (tag_answer db.now row.now).0 }
+{
+    is_tag_right(db, row)
+}
+
 /// The index of the first layout whose tag doesn't fit its enum.
 fn wrong_tag_among(db: &HirDatabase, rows: &[(Ty, Layout)]) -> Option<usize>
-    ensures { result ≡ position (λ row. not (is_tag_right db.now row)) rows.now }
+    ensures { result ≡ position (λ row. not (tag_answer db.now row).0) rows.now }
 {
-    rows.iter().position(|row| !is_tag_right(db, row))
+    rows.iter().position(|row| !has_right_tag(db, row))
 }
 
 /// The place of the first layout whose tag doesn't fit its enum.

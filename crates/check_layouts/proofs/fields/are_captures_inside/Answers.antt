@@ -1,9 +1,9 @@
 use Rattle.std.proofs.Common.{◌≡◌, true, false, slice_get, map, refl, sym, ◌∙◌, ap}
 use Rattle.check_instances.specs.Instances.{ty_instance}
 use Rattle.world.specs.declared.closures.Capture.{Capture}
-use Rattle.check_layouts.specs.Fields.{are_inside, field_size, is_part_inside}
+use Rattle.check_layouts.specs.inner.Fields.{are_inside, field_size, is_part_inside}
 use Rattle.check_layouts.proofs.Found.{none_found}
-use Rattle.check_layouts.specs.Places.{capture_places, fixed_place}
+use Rattle.check_layouts.specs.inner.Places.{capture_places, fixed_place}
 use Rattle.check_layouts.proofs.Inside.{inside_next, inside_fails}
 use Rattle.check_layouts.proofs.Kept.{place_there}
 use Rattle.check_layouts.proofs.fields.are_captures_inside.Goals as goal

@@ -1,7 +1,7 @@
 use Rattle.std.proofs.Common.{◌≡◌, drop, map}
 use Rattle.check_instances.specs.Instances.{ty_instance}
 use Rattle.world.specs.declared.closures.Capture.{Capture}
-use Rattle.check_layouts.specs.Fields.{AreSizesRight, are_inside}
+use Rattle.check_layouts.specs.inner.Fields.{AreSizesRight, are_inside}
 use Rattle.check_layouts.proofs.fields.are_captures_inside.Given as goal
 
 abbrev pub invariant-loop-k : goal.invariant-loop-k

@@ -1,5 +1,5 @@
 use Rattle.std.proofs.Common.{◌≡◌, drop}
-use Rattle.check_layouts.specs.Fields.{AreSizesRight, are_inside, types_at}
+use Rattle.check_layouts.specs.inner.Fields.{AreSizesRight, are_inside, types_at}
 use Rattle.check_layouts.proofs.fields.are_fields_inside.Given as goal
 
 abbrev pub invariant-loop-k : goal.invariant-loop-k

@@ -1,5 +1,5 @@
 use Rattle.std.proofs.Common.{◌≡◌, Some, true, false, slice_get, map, sym, ◌∙◌, ap}
-use Rattle.check_layouts.specs.Fields.{are_inside, field_size, is_part_inside}
+use Rattle.check_layouts.specs.inner.Fields.{are_inside, field_size, is_part_inside}
 use Rattle.check_layouts.proofs.Inside.{inside_next, inside_fails}
 use Rattle.check_layouts.proofs.fields.are_types_inside.Goals as goal
 

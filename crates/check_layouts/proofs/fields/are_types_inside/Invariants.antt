@@ -1,5 +1,5 @@
 use Rattle.std.proofs.Common.{◌≡◌, Some, drop, map}
-use Rattle.check_layouts.specs.Fields.{are_inside}
+use Rattle.check_layouts.specs.inner.Fields.{are_inside}
 use Rattle.check_layouts.proofs.fields.are_types_inside.Given as goal
 
 abbrev pub invariant-loop-k : goal.invariant-loop-k

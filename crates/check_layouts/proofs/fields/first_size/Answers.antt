@@ -3,7 +3,7 @@ use Rattle.std.specs.BTreeMap.{insert_entry}
 use Rattle.check_instances.specs.Instances.{ty_instance}
 use Rattle.types.specs.Orders.{ty_cmp}
 use Rattle.types.specs.declared.ty.Ty.{Ty}
-use Rattle.check_layouts.specs.Fields.{field_size}
+use Rattle.check_layouts.specs.inner.Fields.{field_size}
 use Rattle.check_layouts.proofs.Found.{put_right}
 use Rattle.check_layouts.proofs.fields.first_size.Goals as goal
 

@@ -1,5 +1,5 @@
 use Rattle.std.proofs.Common.{◌∙◌, ap}
-use Rattle.check_layouts.specs.Places.{places_of_captures}
+use Rattle.check_layouts.specs.inner.Places.{places_of_captures}
 use Rattle.check_layouts.proofs.Kept.{own_captures}
 use Rattle.check_layouts.proofs.fields.is_closure_inside.Goals as goal
 

@@ -1,5 +1,5 @@
 use Rattle.std.proofs.Common.{◌∙◌, ap}
-use Rattle.check_layouts.specs.Places.{places_of_fields}
+use Rattle.check_layouts.specs.inner.Places.{places_of_fields}
 use Rattle.check_layouts.proofs.Kept.{own_fields}
 use Rattle.check_layouts.proofs.layouts.are_item_fields_placed.Goals as goal
 

@@ -1,6 +1,6 @@
 use Rattle.std.proofs.Common.{◌∙◌, ap}
 use Rattle.types.specs.declared.ids.VariantId.TheVariants as variant
-use Rattle.check_layouts.specs.Places.{places_of_fields}
+use Rattle.check_layouts.specs.inner.Places.{places_of_fields}
 use Rattle.check_layouts.proofs.Kept.{own_fields}
 use Rattle.check_layouts.proofs.layouts.are_variant_fields_known.Goals as goal
 

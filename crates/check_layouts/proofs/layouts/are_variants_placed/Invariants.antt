@@ -1,6 +1,6 @@
 use Rattle.std.proofs.Common.{◌≡◌, drop}
 use Rattle.std.specs.List.{list_all}
-use Rattle.check_layouts.specs.Fields.{AreSizesRight, is_placed_right, placed_of_each}
+use Rattle.check_layouts.specs.inner.Fields.{AreSizesRight, is_placed_right, placed_of_each}
 use Rattle.check_layouts.proofs.layouts.are_variants_placed.Given as goal
 
 abbrev pub invariant-loop-k : goal.invariant-loop-k

@@ -1,6 +1,6 @@
 use Rattle.std.proofs.Common.{◌≡◌, map, take}
 use Rattle.world.specs.declared.items.StructRow.{StructRow}
-use Rattle.check_layouts.specs.Places.{field_places}
+use Rattle.check_layouts.specs.inner.Places.{field_places}
 use Rattle.check_layouts.proofs.places.struct_places.Given as goal
 
 abbrev pub invariant-loop-row : goal.invariant-loop-row

@@ -1,5 +1,5 @@
 use Rattle.std.proofs.Common.{subst}
-use Rattle.check_layouts.specs.Fields.{IsPlaceOf}
+use Rattle.check_layouts.specs.inner.Fields.{IsPlaceOf}
 use Rattle.check_layouts.proofs.Above.{found_here, found_missing, found_past, found_nowhere}
 use Rattle.check_layouts.proofs.sizes.layout_at.Goals as goal
 

@@ -1,6 +1,6 @@
 use Rattle.std.proofs.Common.{◌≡◌, ℕ, ◌+◌, ◌*◌, ◌≤◌, ◌||◌, ltb, drop}
 use Rattle.std.specs.List.{list_any}
-use Rattle.check_trees.specs.Heights.{known_of, AreHeights}
+use Rattle.check_trees.specs.inner.Heights.{known_of, AreHeights}
 use Rattle.check_trees.specs.Tree.{has_path}
 use Rattle.check_trees.specs.declared.heights.Known.TheVariants.{Open}
 use Rattle.check_trees.specs.declared.node.BodyNode.{BodyNode}

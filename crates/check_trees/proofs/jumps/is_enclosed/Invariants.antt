@@ -1,5 +1,5 @@
 use Rattle.std.proofs.Common.{◌≡◌, ◌-◌, true}
-use Rattle.check_trees.specs.Holders.{is_node}
+use Rattle.check_trees.specs.inner.Holders.{is_node}
 use Rattle.check_trees.specs.Jumps.{is_enclosed}
 use Rattle.check_trees.specs.declared.node.BodyNode.TheVariants.{Expr}
 use Rattle.check_trees.proofs.jumps.is_enclosed.Given as goal

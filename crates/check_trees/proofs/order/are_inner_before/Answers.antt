@@ -1,7 +1,7 @@
 use Rattle.std.proofs.Common.{◌≡◌, ◌∙◌, ◌++◌, ap, sym, false}
 use Rattle.std.specs.List.{list_all}
 use Rattle.world.specs.Nodes.{patterns_of}
-use Rattle.check_trees.specs.Reach.{any_path}
+use Rattle.check_trees.specs.inner.Reach.{any_path}
 use Rattle.check_trees.specs.Tree.{stands_inside}
 use Rattle.check_trees.proofs.Reaches.{patterns_shallow}
 use Rattle.check_trees.proofs.order.are_inner_before.Goals as goal

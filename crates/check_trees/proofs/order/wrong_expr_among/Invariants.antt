@@ -1,6 +1,6 @@
 use Rattle.std.proofs.Common.{◌≡◌, drop}
-use Rattle.check_trees.specs.Heights.{AreSettled}
-use Rattle.check_trees.specs.Reach.{AreReaches}
+use Rattle.check_trees.specs.inner.Heights.{AreSettled}
+use Rattle.check_trees.specs.inner.Reach.{AreReaches}
 use Rattle.world.specs.Failing.{first_failing}
 use Rattle.check_trees.specs.Tree.{is_expr_in_order}
 use Rattle.check_trees.proofs.order.wrong_expr_among.Given as goal

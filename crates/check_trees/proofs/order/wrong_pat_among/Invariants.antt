@@ -1,5 +1,5 @@
 use Rattle.std.proofs.Common.{◌≡◌, drop}
-use Rattle.check_trees.specs.Heights.{AreSettled}
+use Rattle.check_trees.specs.inner.Heights.{AreSettled}
 use Rattle.world.specs.Failing.{first_failing}
 use Rattle.check_trees.specs.Tree.{is_pat_in_order}
 use Rattle.check_trees.proofs.order.wrong_pat_among.Given as goal

@@ -1,6 +1,6 @@
 use Rattle.std.proofs.Common.{◌≡◌, ℕ, ◌+◌, ◌*◌, ◌&&◌, false, drop}
 use Rattle.std.specs.List.{list_all}
-use Rattle.check_trees.specs.Reach.{any_path, is_before, AreReaches}
+use Rattle.check_trees.specs.inner.Reach.{any_path, is_before, AreReaches}
 use Rattle.check_trees.specs.Tree.{stands_inside}
 use Rattle.check_trees.proofs.reach.+reaches.Given as goal
 

@@ -1,6 +1,6 @@
 use Rattle.std.proofs.Common.{◌≡◌, ℕ, ◌&&◌, ltb, drop}
 use Rattle.std.specs.List.{list_all}
-use Rattle.check_trees.specs.Reach.{is_before}
+use Rattle.check_trees.specs.inner.Reach.{is_before}
 use Rattle.check_trees.proofs.reach.reach_of_exprs.Given as goal
 
 abbrev pub invariant-loop-i : goal.invariant-loop-i

@@ -47,7 +47,7 @@ use Rattle.mir_lower.proofs.Strict.{lowers-strict, lowers-one, lowers-two, first
 use Rattle.body_forms.specs.Operations.{several_operation, single_operation}
 use Rattle.mir_lower.proofs.Refused.{refuses-here, refuses-no-memory, refuses-part, refuses-unbuilt, refuses-unbuilt-form, refuses-statement, without-initializer, with-else, item-is-unbuilt, refuses-pattern, refuses-target, refused-exit, part-below, part-of-statement, refuses-break}
 use Rattle.mir_lower.proofs.Growing.{grows-trans}
-use Rattle.mir_lower.proofs.Updates.{all-among, all-are-parts, built-unit, built-update, known-at, lowers-unit, lowers-update, sources-among, sources-are, update-form, updated-base-part, updated-parts}
+use Rattle.mir_lower.proofs.Updates.{all-among, all-are-parts, built-unit, built-update, known-at, lowers-unit, lowers-update, more-open, sources-among, sources-are, update-form, updated-base-part, updated-parts}
 use Rattle.mir_lower.specs.Updates.{AreFound, IsAmong}
 use Rattle.mir_lower.proofs.Operations.{assignment}
 use Rattle.mir.specs.declared.operand.AggregateKind.TheVariants as kind
@@ -512,6 +512,10 @@ pub lower_update-returns-in_err-args-clause-refused : goal.lower_update-returns-
 lower_update-returns-in_err-args-clause-refused t c =
     refused-exit (RefusesAt (source_of c.args.context.now) c.args.e.0) _ c.from_residual-in_err-args.result c.from_residual-in_err-args.ensures.1
     (λ error none. refuses-no-memory (source_of c.args.context.now) c.args.e.0 error none)
+
+pub lower_update-assign-requires : goal.lower_update-assign-requires
+lower_update-assign-requires t c =
+    more-open (shape c.lower_operands.new.graph) (shape c.field_operands.new.graph) c.in_ok-fields.ensures.more c.in_ok-operands.ensures.lowered.keeps.«open»
 
 pub lower_update-returns-clause-lowered : goal.lower_update-returns-clause-lowered
 lower_update-returns-clause-lowered t c =

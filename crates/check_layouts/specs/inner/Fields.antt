@@ -13,12 +13,12 @@ use Rattle.types.specs.declared.ty.Ty.{Ty, out-Ty}
 use Rattle.world.specs.declared.closures.Capture.{Capture}
 use Rattle.world.specs.declared.closures.ClosureRow.{ClosureRow}
 use Rattle.world.specs.declared.database.HirDatabase.{HirDatabase}
-use Rattle.world.specs.declared.items.EnumRow.{EnumRow}
 use Rattle.world.specs.declared.items.FieldRow.{FieldRow}
 use Rattle.world.specs.declared.layout.Layout.{Layout}
 use Rattle.world.specs.declared.layout.Variants.{Variants}
 use Rattle.world.specs.declared.layout.Variants.TheVariants as variants
 use Rattle.world.specs.Lookups.{fields_of}
+use Rattle.check_layouts.specs.Laid.{variants_of}
 use Rattle.check_layouts.specs.Sizes.{TyLayer, layout_above}
 
 -- Fields with their offsets: where each begins, and the type of each, if it has an instance.
@@ -37,14 +37,6 @@ placed_of world args offsets (Some fields) = record { offsets = offsets; types =
 
 abbrev pub fields_of_variant : HirDatabase → EnumVariantId → Option (List FieldRow)
 fields_of_variant world v = fields_of world (variant.EnumVariantId v)
-
--- the variants of an enum
-abbrev pub variants_of : HirDatabase → ℕ → List EnumVariantId
-variants_of world e = rows (slice_get world.enums e)
-  where
-    rows : Option EnumRow → List EnumVariantId
-    rows None = []
-    rows (Some row) = row.variants
 
 -- the fields of each variant, with the offsets in the list of the variant
 abbrev pub placed_of_each : HirDatabase → GenericArgs → List (List ℕ) → List EnumVariantId → List Placed

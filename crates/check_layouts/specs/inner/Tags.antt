@@ -10,7 +10,7 @@ use Rattle.world.specs.declared.layout.TagEncoding.{TagEncoding}
 use Rattle.world.specs.declared.layout.TagEncoding.TheVariants as encoding
 use Rattle.world.specs.declared.layout.Variants.{Variants}
 use Rattle.world.specs.declared.layout.Variants.TheVariants as variants
-use Rattle.check_layouts.specs.Fields.{variants_of}
+use Rattle.check_layouts.specs.Laid.{variants_of}
 use Rattle.check_layouts.specs.Sizes.{TyLayer}
 
 -- how many values a tag of this many bytes has

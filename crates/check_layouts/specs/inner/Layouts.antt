@@ -7,8 +7,9 @@ use Rattle.world.specs.declared.layout.Layout.{Layout}
 use Rattle.world.specs.declared.layout.Variants.{Variants}
 use Rattle.world.specs.declared.layout.Variants.TheVariants as variants
 use Rattle.check_names.specs.Known.{is_ty_closed}
-use Rattle.check_layouts.specs.Fields.{has_offset_each, is_placed_inside, placed_captures, placed_fields, unplaced_fields}
-use Rattle.check_layouts.specs.Sizes.{is_alignment, is_array_size, is_fixed_size, is_multiple_of, known_size}
+use Rattle.check_layouts.specs.inner.Fields.{has_offset_each, is_placed_inside, placed_captures, placed_fields, unplaced_fields}
+use Rattle.check_layouts.specs.Sizes.{known_size}
+use Rattle.check_layouts.specs.inner.Sizes.{is_alignment, is_array_size, is_fixed_size, is_multiple_of}
 
 abbrev pub is_tag_size : ℕ → Bool
 is_tag_size size = size == 1 || size == 2 || size == 4 || size == 8 || size == 16

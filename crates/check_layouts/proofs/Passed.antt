@@ -7,6 +7,7 @@ use Rattle.std.proofs.lemmas.List.Folds.{list_all-append}
 use Rattle.std.proofs.lemmas.Nat.{pow_pos}
 use Rattle.std.specs.List.{list_all, list_any}
 use Rattle.std.specs.Option.{option_and_then}
+use Rattle.types.specs.SameScalars.{both}
 use Rattle.types.specs.declared.ids.AdtId.{AdtId}
 use Rattle.types.specs.declared.ids.AdtId.TheVariants.{StructId, UnionId, EnumId}
 use Rattle.types.specs.declared.ids.EnumId.{EnumId as EnumName}
@@ -35,16 +36,15 @@ use Rattle.world.specs.declared.layout.TagEncoding.{TagEncoding}
 use Rattle.world.specs.declared.layout.TagEncoding.TheVariants.{Direct, Niche}
 use Rattle.world.specs.declared.layout.Variants.{Variants}
 use Rattle.world.specs.declared.layout.Variants.TheVariants.{Empty, Single, Multiple}
-use Rattle.check_layouts.specs.Fields.{Placed, are_inside, captures_at, field_layout, fields_of_variant, has_offset_each, is_inside, is_placed_inside, placed_captures, placed_fields, placed_of, placed_of_each, placed_of_enum, types_at, unplaced_fields, unplaced_of_each, variants_of}
-use Rattle.check_layouts.specs.Layouts.{are_parts_right, is_layout_right, is_size_right, is_tag_inside, is_tag_size}
-use Rattle.check_layouts.specs.Sizes.{TyLayer, alignments, is_alignment, is_array_size, is_fixed_size, is_multiple_of, is_product, known_size, layout_above}
-use Rattle.check_layouts.specs.Tags.{is_enum_tag_right, is_niche_right, is_tag_right, is_untagged, tag_values}
+use Rattle.check_layouts.specs.Laid.{AreCaptured, AreElements, AreInside, Has, HasLayout, HasRightTag, IsClosed, IsLaidOut, IsNiche, IsTag, IsTagInside, LiesInside, capture_type, field_type, offsets_among, variant_fields, variant_offsets, variants_of}
+use Rattle.check_layouts.specs.inner.Fields.{Placed, are_inside, captures_at, field_layout, fields_of_variant, has_offset_each, is_inside, is_placed_inside, placed_captures, placed_fields, placed_of, placed_of_each, placed_of_enum, types_at, unplaced_fields, unplaced_of_each}
+use Rattle.check_layouts.specs.inner.Layouts.{are_parts_right, is_layout_right, is_size_right, is_tag_inside, is_tag_size}
+use Rattle.check_layouts.specs.Sizes.{TyLayer, known_size, layout_above}
+use Rattle.check_layouts.specs.inner.Sizes.{alignments, is_alignment, is_array_size, is_fixed_size, is_multiple_of, is_product}
+use Rattle.check_layouts.specs.inner.Tags.{is_enum_tag_right, is_niche_right, is_tag_right, is_untagged, tag_values}
 use Rattle.check_names.specs.Known.{is_closed, is_ty_closed}
 use Rattle.numbers.specs.Constants.{number_in}
-use Rattle.world_check.specs.Laid.{AreCaptured, AreElements, AreInside, HasLayout, HasRightTag, IsClosed, IsLaidOut, IsNiche, IsTag, IsTagInside, LiesInside, capture_type, field_type, offsets_among, variant_fields, variant_offsets}
-use Rattle.world_check.specs.Trees.{Has}
-use Rattle.world_check.proofs.InOrder.{all_has}
-use Rattle.world_check.proofs.Passing.{both}
+use Rattle.check_layouts.proofs.Listed.{all_has}
 
 at_most : (m n : ℕ) → leb m n ≡ true → m ≤ n
 at_most m n e = grind (arith, nat_tests)

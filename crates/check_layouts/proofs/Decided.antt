@@ -1,5 +1,5 @@
 -- A row of `layouts` passes the tests where it is as they ask, and so the tests decide it.
-use Rattle.std.proofs.Common.{◌≡◌, ℕ, zero, suc, ◌+◌, ◌-◌, ◌*◌, ◌%◌, ◌^◌, ◌&&◌, ◌<◌, ◌≤◌, Bool, true, cond, eqb, ltb, leb, Option, Some, None, List, [], ◌∷◌, length, map, slice_get, is_some, IfSome, Decides, refl, sym, ◌∙◌, ap, arith}
+use Rattle.std.proofs.Common.{◌≡◌, ℕ, zero, suc, ◌+◌, ◌-◌, ◌*◌, ◌%◌, ◌^◌, ◌&&◌, ◌<◌, ◌≤◌, Bool, true, false, cond, eqb, ltb, leb, Option, Some, None, List, [], ◌∷◌, length, map, slice_get, is_some, IfSome, IfOk, Result, Ok, Err, Decides, refl, sym, ◌∙◌, ap, subst, arith}
 use Rattle.std.proofs.Math.Nat.{mul-mod_left}
 use Rattle.std.proofs.lemmas.Bool.Decides.{nat_tests}
 use Rattle.std.proofs.lemmas.List.{length-map}
@@ -21,6 +21,7 @@ use Rattle.mentions.specs.Mentions.{ty_mentions}
 use Rattle.mentions.specs.declared.mention.Mention.{Mention}
 use Rattle.mentions.specs.declared.mention.Mention.TheVariants as mention
 use Rattle.world.specs.Checked.{IsAlignment}
+use Rattle.world.specs.Failing.{first_failing}
 use Rattle.world.specs.Lookups.{fields_of}
 use Rattle.world.specs.declared.closures.ClosureRow.{ClosureRow}
 use Rattle.world.specs.declared.database.HirDatabase.{HirDatabase}
@@ -31,16 +32,17 @@ use Rattle.world.specs.declared.layout.TagEncoding.{TagEncoding}
 use Rattle.world.specs.declared.layout.TagEncoding.TheVariants.{Direct, Niche}
 use Rattle.world.specs.declared.layout.Variants.{Variants}
 use Rattle.world.specs.declared.layout.Variants.TheVariants.{Empty, Single, Multiple}
-use Rattle.check_layouts.specs.Fields.{Placed, are_inside, captures_at, field_layout, fields_of_variant, has_offset_each, is_inside, is_placed_inside, placed_captures, placed_fields, placed_of, placed_of_each, placed_of_enum, unplaced_fields, unplaced_of_each, variants_of}
-use Rattle.check_layouts.specs.Layouts.{are_parts_right, is_layout_right, is_size_right, is_tag_inside, is_tag_size}
-use Rattle.check_layouts.specs.Sizes.{TyLayer, is_alignment, is_array_size, is_fixed_size, is_multiple_of, is_product, known_size, layout_above}
-use Rattle.check_layouts.specs.Tags.{is_enum_tag_right, is_multiple_right, is_niche_right, is_tag_right, is_untagged, tag_values}
+use Rattle.check_layouts.specs.Laid.{AreCaptured, AreElements, AreInside, Has, HasLayout, HasRightTag, IsClosed, IsLaidOut, IsNiche, IsRowLaidOut, IsTag, IsTagInside, LiesInside, capture_type, field_type, offsets_among, variant_fields, variant_offsets, variants_of}
+use Rattle.check_layouts.specs.inner.Fields.{Placed, are_inside, captures_at, field_layout, fields_of_variant, has_offset_each, is_inside, is_placed_inside, placed_captures, placed_fields, placed_of, placed_of_each, placed_of_enum, unplaced_fields, unplaced_of_each}
+use Rattle.check_layouts.specs.inner.Layouts.{are_parts_right, is_layout_right, is_size_right, is_tag_inside, is_tag_size}
+use Rattle.check_layouts.specs.Sizes.{TyLayer, known_size, layout_above}
+use Rattle.check_layouts.specs.inner.Sizes.{is_alignment, is_array_size, is_fixed_size, is_multiple_of, is_product}
+use Rattle.check_layouts.specs.inner.Tags.{is_enum_tag_right, is_multiple_right, is_niche_right, is_tag_right, is_untagged, tag_values}
 use Rattle.check_names.specs.Known.{is_closed, is_ty_closed}
 use Rattle.numbers.specs.Constants.{number_in}
-use Rattle.world_check.specs.Laid.{AreCaptured, AreElements, AreInside, HasLayout, HasRightTag, IsClosed, IsLaidOut, IsNiche, IsTag, IsTagInside, LiesInside, capture_type, field_type, offsets_among, variant_fields, variant_offsets}
-use Rattle.world_check.specs.Trees.{Has}
-use Rattle.world_check.proofs.InOrder.{has_all}
-use Rattle.world_check.proofs.LayoutRows.{adt_is, array_is, closure_is, enum_tagged, placed_at, row_laid_out, row_tagged, tuple_is}
+use Rattle.check_layouts.proofs.Firsts.{IsFirst, one_first, search_first}
+use Rattle.check_layouts.proofs.Listed.{has_all}
+use Rattle.check_layouts.proofs.Passed.{adt_is, array_is, closure_is, enum_tagged, placed_at, row_laid_out, row_tagged, tuple_is}
 
 at_most_is : (m n : ℕ) → m ≤ n → leb m n ≡ true
 at_most_is m n h = grind (arith, nat_tests)
@@ -359,3 +361,42 @@ module _ (world : HirDatabase) (ty : Ty) (layout : Layout) (right : HasRightTag 
 -- the test of tags decides whether a row has a right tag
 pub tag_decides : (world : HirDatabase) (row : Ty × Layout) → Decides (is_tag_right world row) (HasRightTag world row.0 row.1)
 tag_decides world row = (row_tagged world row, tag_passes world row.0 row.1)
+
+-- Two tests that decide one property have one answer.
+pub same_answer : {P : Type 0} (a b : Bool) → Decides a P → Decides b P → a ≡ b
+same_answer true b p q = sym (q.1 (p.0 refl))
+same_answer false true p q = p.1 (q.0 refl)
+same_answer false false p q = refl
+
+-- whether a row of `layouts` is laid out, with the rows before row `i` for the parts of its type
+abbrev pub layout_answer : (world : HirDatabase) (i : ℕ) (row : Ty × Layout) → (b : Bool) × Decides b (IsLaidOut world (layout_above world i) row.0 row.1)
+layout_answer world i row = (is_layout_right world i row, layout_decides world i row)
+
+-- whether a row of `layouts` has a right tag
+abbrev pub tag_answer : (world : HirDatabase) (row : Ty × Layout) → (b : Bool) × Decides b (HasRightTag world row.0 row.1)
+tag_answer world row = (is_tag_right world row, tag_decides world row)
+
+-- the first row that fails the test of layouts is the first that is not laid out
+pub first_laid : (world : HirDatabase) → IsFirst (IsRowLaidOut world) (first_failing (is_layout_right world) 0 world.layouts)
+first_laid world = search_first (is_layout_right world) (λ i row. IsLaidOut world (layout_above world i) row.0 row.1) (λ i row. layout_decides world i row) world.layouts
+
+-- an answer with the properties of the first wrong row is that of the search
+pub found_first : (world : HirDatabase) (found : Option ℕ) → IsFirst (IsRowLaidOut world) found → found ≡ first_failing (is_layout_right world) 0 world.layouts
+found_first world found is = one_first (IsRowLaidOut world) found (first_failing (is_layout_right world) 0 world.layouts) is (first_laid world)
+
+first_as : (world : HirDatabase) (found : Option ℕ) → found ≡ first_failing (is_layout_right world) 0 world.layouts → IsFirst (IsRowLaidOut world) found
+first_as world found e = subst (IsFirst (IsRowLaidOut world)) (sym e) (first_laid world)
+
+-- so it is with an answer that may fail for want of memory
+module _ {E : Type 0} (world : HirDatabase) where
+  pub none_first : (r : Result (Option ℕ) E) → IfOk r (λ found. found ≡ first_failing (is_layout_right world) 0 world.layouts) → IfOk r (λ found. found ≡ None → (i : ℕ) → IsRowLaidOut world i)
+  none_first (Ok found) e = (first_as world found e).none
+  none_first (Err error) e = tt
+
+  pub wrong_first : (r : Result (Option ℕ) E) → IfOk r (λ found. found ≡ first_failing (is_layout_right world) 0 world.layouts) → IfOk r (λ found. IfSome found (λ i. IsRowLaidOut world i → ⊥))
+  wrong_first (Ok found) e = (first_as world found e).wrong
+  wrong_first (Err error) e = tt
+
+  pub before_first : (r : Result (Option ℕ) E) → IfOk r (λ found. found ≡ first_failing (is_layout_right world) 0 world.layouts) → IfOk r (λ found. IfSome found (λ i. (j : ℕ) → j < i → IsRowLaidOut world j))
+  before_first (Ok found) e = (first_as world found e).first
+  before_first (Err error) e = tt
