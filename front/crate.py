@@ -1,6 +1,7 @@
 """The items of one file, and of the library as far as it is known: what names in bodies lead to."""
 
 import re
+from collections import Counter
 
 from debug_text import flat, parse, path_of
 from expressions import Expressions
@@ -12,6 +13,8 @@ from type_text import TypeTextError, read_signature, read_type, write_type
 CONSTRUCTOR = "::{constructor#0}"
 # The constant that stands for another one, whose evaluation fails: `stand_ins.py`.
 STAND_IN = re.compile(r"::\{impl#0\}::__FRONT_CONST(?=::|$)")
+# A name with a number, which tells it apart from others in the path of a definition: `{impl#0}` is none.
+NUMBERED = re.compile(r"\b(?<!\{)(\w+)#\d+\b(?!\})")
 
 
 class Crate:
@@ -19,7 +22,7 @@ class Crate:
 
     def __init__(self, items, adts, typed, source):
         self.items, self.source = items, source
-        self.adts = {**library_types(), **adts}
+        self.adts = {**library_types(), **_by_written_path(adts)}
         self.bodies = library_bodies()
         self.foreign_constants, self.calls = {}, {}
         self.texts = _split(typed)
@@ -157,6 +160,14 @@ class Crate:
         parent = self.items.get(item.parent)
         above = parent.generics if parent is not None and parent.sort in ("impl", "trait") else []
         return [*above, *item.generics]
+
+
+def _by_written_path(adts):
+    """The types of a file by their paths as types are printed: without the numbers that tell apart those of one name in blocks of
+    one body. Such types are left out."""
+    plain = {path: NUMBERED.sub(r"\1", path) for path in adts}
+    many = Counter(plain.values())
+    return {path: adt for path, adt in adts.items() if many[plain[path]] == 1}
 
 
 def _split(typed):

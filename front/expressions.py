@@ -236,6 +236,11 @@ class Expressions(Patterns):
         return made
 
     def _expr_zstliteral(self, kind, ty, span, scope):
+        """A function's name, or `Self` where it is a struct without fields."""
+        if ty[0] == "path":
+            made = self.out.expr({"Path": "Self"}, ty)
+            self.out.value_res[made] = ("self",)
+            return made
         return self._function_path(ty, span)
 
     def _function_path(self, ty, span):
@@ -380,11 +385,12 @@ class Expressions(Patterns):
         variant = adt.variants[index]
         base = built["base"]
         name = adt.path_of_variant(index)
-        if variant.shape == "Unit":
+        is_literal = variant.shape == "Record" or flat(base) != "None" or self._ends_in_brace(span)
+        if variant.shape == "Unit" and not is_literal:
             made = self.out.expr({"Path": name}, ty)
             self.out.value_res[made] = ("variant", adt.path, index)
             return made
-        if variant.shape == "Tuple" and flat(base) == "None":
+        if variant.shape == "Tuple" and not is_literal:
             return self._call_of_constructor(built, adt, index, ty)
         fields = [
             {"name": variant.fields[int(one["name"])], "expr": self.expr(one["expr"])} for one in built["fields"]
@@ -392,6 +398,14 @@ class Expressions(Patterns):
         made = self.out.expr({"RecordLit": {"path": name, "fields": fields, "spread": self._spread(base, span)}}, ty)
         self.out.variant_res[made] = ("variant", adt.path, index)
         return made
+
+    def _ends_in_brace(self, span):
+        """Whether what stands at a place, which may be in brackets, ends in a brace: `U {}` and `U`, and `S { 0: a }` and `S(a)`, are
+        the same in THIR."""
+        text = self.source.at(span).strip()
+        while _is_in_brackets(text):
+            text = text[1:-1].strip()
+        return text.endswith("}")
 
     def _spread(self, base, span):
         if flat(base) == "None":
@@ -605,6 +619,18 @@ class Expressions(Patterns):
         held = self.expr(f"e{len(inner['exprs']) - 1}")
         self.thir, self.targets = outer, targets
         return self.out.expr({"Const": held}, ty)
+
+
+def _is_in_brackets(text):
+    """Whether a text is in one pair of brackets."""
+    if not text.startswith("(") or not text.endswith(")"):
+        return False
+    depth = 0
+    for place, sign in enumerate(text):
+        depth += (sign == "(") - (sign == ")")
+        if depth == 0:
+            return place == len(text) - 1
+    return False
 
 
 def _mutability(borrow_kind):

@@ -62,7 +62,7 @@ class Lowered:
 
     def names(self):
         """What the body's paths and fields name: ("const", path, args), ("static", path), ("fn", crate, path, args),
-        ("variant", path, index), ("param", name)."""
+        ("variant", path, index), ("self",), ("param", name)."""
         for table in (self.value_res, self.pat_value_res, self.assoc_res, self.pat_assoc_res):
             yield from table.values()
         for table in (self.variant_res, self.pat_variant_res, self.method_res):

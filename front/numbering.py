@@ -298,6 +298,8 @@ class Numbering:
             return {"LocalBinding": name[1]}
         if name[0] == "variant":
             return self.variant(name[1], name[2])
+        if name[0] == "self":
+            return "ImplSelf"
         if name[0] == "param":
             return {"GenericParam": self._param(name[1], owner)[0]["ConstParamId"]}
         return self._candidate(name)

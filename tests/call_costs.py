@@ -24,7 +24,7 @@ DEFAULT_LIMITS = {"blocks": 10000000, "nesting": 100, "bytes": 1000000000}
 INTEGERS = {"8": 1, "16": 2, "32": 4, "64": 8, "128": 16, "size": 8}
 SIZES = {"Bool": 1, "Char": 4}
 RESULT = ("result",)
-# The place of a part that a value lacks, and the faults of reading and writing there.
+# The place of a part that a value lacks or that can't be found, and the faults of reading and writing there.
 NOWHERE = ("nowhere",)
 BAD_READ, BAD_WRITE = (f'UndefinedBehavior("out of bound memory {word}")' for word in ("read", "write"))
 # Calls nest in Python as they do in the world.
@@ -94,16 +94,19 @@ def variant(tree):
     return (tree, None) if isinstance(tree, str) else next(iter(tree.items()))
 
 
-def shown_type(ty):
-    """The text of a simple type."""
+def shown_type(ty, structs=()):
+    """The text of a simple type, in a world that has these structs."""
     name, part = variant(ty)
     if name in ("Int", "Uint"):
         return part.lower()
     if name == "Tuple":
-        types = [shown_type(one) for one in part]
+        types = [shown_type(one, structs) for one in part]
         return f"({types[0]},)" if len(types) == 1 else f"({', '.join(types)})"
     if name == "Array":
-        return f"[{shown_type(part[0])}; {shown_length(part[1])}]"
+        return f"[{shown_type(part[0], structs)}; {shown_length(part[1])}]"
+    if struct_in(ty) is not None:
+        args = [shown_type(one["Ty"], structs) if "Ty" in one else shown_length(one["Konst"]) for one in part[1]]
+        return structs[part[0]["StructId"]]["name"] + (f"<{', '.join(args)}>" if args else "")
     if name in ("Bool", "Char", "Str"):
         return name.lower()
     if name == "Never":
@@ -348,8 +351,16 @@ class Reading:
         """Whether an expression that isn't adjusted is of a form."""
         return variant(self.exprs[e])[0] == name and self.never_target(e) is None
 
+    def is_place(self, e):
+        """Whether an expression is a place: a name of the body, or a field."""
+        return self.is_a(e, "Field") or (self.is_a(e, "Path") and not self.names_unit(e))
+
+    def names_unit(self, e):
+        """Whether a path is a value of a struct without fields."""
+        return names_unit(self.rows, self.body.infer, e)
+
     def place(self, e):
-        if self.is_a(e, "Path") or self.is_a(e, "Field"):
+        if self.is_place(e):
             return self.own(e)
         self.temp(("node", e))
         return self.into(e)
@@ -389,6 +400,9 @@ class Reading:
             raise Refusal('TypeError("number literal of more than 16 bytes")')
 
     def own_path(self, e, part):
+        """A name of the body, or of a struct without fields."""
+        if self.names_unit(e):
+            return
         if e in self.rows["assoc_res"] or e in self.rows["variant_res"]:
             raise Refusal(NOT_BUILT)
         self.named(self.rows["value_res"], e, part)
@@ -408,15 +422,21 @@ class Reading:
         return target[0] if len(self.rows["expr_adjustments"].get(e, [])) == 1 and target else self.body.infer["expr_types"][e]
 
     def own_recordlit(self, e, part):
-        """A struct literal without a base, which writes as many fields as the struct has, each of these among them."""
+        """A struct literal. Without a base it writes as many fields as the struct has, each of these among them. With one it writes some
+        of them, each once, and its own type is a struct without generic arguments."""
         found, made = self.rows["variant_res"].get(e, {}), struct_in(self.body.infer["expr_types"][e])
-        if part["spread"] != "None" or made is None or found != {"StructId": made[0]}:
+        if made is None or found != {"StructId": made[0]}:
             raise Refusal(NOT_BUILT)
         names = [one["name"] for one in self.world["structs"][made[0]].get("fields", [])]
-        written = part.get("fields", [])
-        if len(names) != len(written) or not set(names) <= {one["name"] for one in written}:
+        written = [one["name"] for one in part.get("fields", [])]
+        base = base_of(part)
+        if base is not None:
+            if made[1] or sum(name in written for name in names) != len(written):
+                raise Refusal(NOT_BUILT)
+            self.place(base)
+        elif part["spread"] != "None" or len(names) != len(written) or not set(names) <= set(written):
             raise Refusal(NOT_BUILT)
-        self.operands([one["expr"] for one in written])
+        self.operands([one["expr"] for one in part.get("fields", [])])
 
     def own_unaryop(self, e, part):
         if part["op"] == "Deref":
@@ -478,6 +498,8 @@ class Reading:
             raise Refusal(NOT_BUILT)
         if name == "Field":
             self.own_field(e, part)
+        elif self.names_unit(e):
+            raise Refusal(NOT_BUILT)
         else:
             self.own_path(e, part)
 
@@ -495,7 +517,7 @@ class Reading:
         name, part = variant(self.pats[pat])
         if self.rows["pat_adjustments"].get(pat, 0):
             raise Refusal(NOT_BUILT)
-        if name == "Expr" and (self.is_a(part, "Path") or self.is_a(part, "Field")):
+        if name == "Expr" and self.is_place(part):
             self.own(part)
         elif name != "Path" or any(pat in self.rows[rows] for rows in ("pat_assoc_res", "pat_variant_res")):
             raise Refusal(NOT_BUILT)
@@ -568,6 +590,19 @@ class Reading:
         if function is None or not is_direct(self.world["functions"][function]):
             raise Refusal(NOT_BUILT)
         self.operands(args)
+
+
+def names_unit(rows, infer, e):
+    """Whether a path is a value of a struct without fields: it is resolved to a struct, as a variant or else as a value, which is its own
+    type. Whether that has fields isn't asked."""
+    found, made = rows["variant_res"].get(e, rows["value_res"].get(e)), struct_in(infer["expr_types"][e])
+    return e not in rows["assoc_res"] and made is not None and found == {"StructId": made[0]}
+
+
+def base_of(part):
+    """The base of a struct literal, or None."""
+    name, base = variant(part["spread"])
+    return base if name == "Expr" else None
 
 
 def is_direct(row):
@@ -670,13 +705,17 @@ class Run:
 
     # Cells.
 
+    def shown_type(self, ty):
+        """The text of a type."""
+        return shown_type(ty, self.world.get("structs", []))
+
     def layout(self, ty):
         """The layout of a local's type."""
         found = self.layouts.get(key(ty))
         if found is None:
-            raise NoPlace(f"LayoutError({no_layout(ty)}, {shown_type(ty)})")
+            raise NoPlace(f"LayoutError({no_layout(ty)}, {self.shown_type(ty)})")
         if not found.get("sized"):
-            raise NoPlace(f'TypeIsUnsized({shown_type(ty)}, "no unsized local in extending stack")')
+            raise NoPlace(f'TypeIsUnsized({self.shown_type(ty)}, "no unsized local in extending stack")')
         return found
 
     def type_of(self, body, cell):
@@ -737,7 +776,7 @@ class Run:
         ty = self.type_of(body, RESULT)
         if self.limits["nesting"] - 1 < height(ty):
             return "error eval StackOverflow"
-        return f"value {shown_type(ty)} {value.hex() or '-'}"
+        return f"value {self.shown_type(ty)} {value.hex() or '-'}"
 
     def run(self, frame):
         """Runs a body from its first block on. The answer has the bytes of its result."""
@@ -755,6 +794,9 @@ class Run:
     def form(self, frame, e):
         return variant(frame.body.body["exprs"][e])
 
+    def names_unit(self, frame, e):
+        return names_unit(frame.body.rows, frame.body.infer, e)
+
     def is_adjusted(self, frame, e):
         return bool(frame.body.rows["expr_adjustments"].get(e))
 
@@ -769,7 +811,7 @@ class Run:
     def place(self, frame, e):
         """The place that an expression is evaluated to: a cell, or a part of a tuple, as `Part`."""
         name, part = self.form(frame, e)
-        if name == "Path" and not self.is_adjusted(frame, e):
+        if name == "Path" and not self.is_adjusted(frame, e) and not self.names_unit(frame, e):
             return ("binding", frame.body.rows["value_res"][e]["LocalBinding"])
         if name == "Field" and not self.is_adjusted(frame, e):
             return self.part_of(frame, e, part)
@@ -777,28 +819,33 @@ class Run:
         return ("node", e)
 
     def part_of(self, frame, e, part):
-        """A part of a tuple: its base's place, and which of its bytes. A part that its base lacks is nowhere."""
+        """The place of a field expression."""
         base = self.place(frame, part["expr"])
+        return NOWHERE if base == NOWHERE else self.part_at(frame, base, frame.body.rows["field_res"][e])
+
+    def part_at(self, frame, base, found):
+        """A part of a tuple or a field of a struct: its base's place, and which of its bytes. One that its base lacks, or that has no layout or
+        no offset, is nowhere."""
         if base == NOWHERE:
             return NOWHERE
-        whole, (types, number) = self.place_type(frame, base), self.step(frame, e, self.place_type(frame, base))
+        whole, (types, number) = self.place_type(frame, base), self.step(found, self.place_type(frame, base))
         if number >= len(types):
             return NOWHERE
         layouts = [self.layouts.get(key(ty)) for ty in (whole, types[number])]
         if None in layouts or number >= len(layouts[0].get("offsets", [])):
-            raise Unknown("a part of a place without a layout")
+            return NOWHERE
         start, size = layouts[0]["offsets"][number], layouts[1]["size"]
         if start + size > layouts[0]["size"]:
             raise Unknown("a part that ends behind its tuple")
         return Part(base, start, size, types[number])
 
-    def step(self, frame, e, whole):
-        """The types of the parts that a value has, and the place among them of the part that a field expression takes."""
-        found, (name, part) = frame.body.rows["field_res"][e], variant(whole)
+    def step(self, found, whole):
+        """The types of the parts that a value has, and the place among them of the part that a field is resolved to."""
+        name, part = variant(whole)
         if "Right" in found:
             return (part if name == "Tuple" else []), found["Right"]["index"]
-        field, is_struct = found["Left"], struct_in(whole) is not None and not part[1]
-        rows = self.world["structs"][field["parent"]["StructId"]].get("fields", []) if is_struct else []
+        field, has_fields = found["Left"], name == "Adt" and not part[1]
+        rows = self.world["structs"][field["parent"]["StructId"]].get("fields", []) if has_fields else []
         return [row["ty"] for row in rows], field["local_id"]
 
     def place_type(self, frame, place):
@@ -824,10 +871,10 @@ class Run:
         name, part = self.form(frame, e)
         if self.is_adjusted(frame, e):
             return frame.body.rows["expr_adjustments"][e][0]["target"]
-        if name == "Path":
+        if name == "Path" and not self.names_unit(frame, e):
             return frame.body.infer["binding_types"][frame.body.rows["value_res"][e]["LocalBinding"]]
         if name == "Field":
-            types, number = self.step(frame, e, self.operand_type(frame, part["expr"]))
+            types, number = self.step(frame.body.rows["field_res"][e], self.operand_type(frame, part["expr"]))
             return types[number]
         return frame.body.infer["expr_types"][e]
 
@@ -862,6 +909,8 @@ class Run:
         self.put(frame, cell, self.literal(frame, e))
 
     def own_path(self, frame, e, part, cell):
+        if self.names_unit(frame, e):
+            return
         self.put(frame, cell, frame.cells[("binding", frame.body.rows["value_res"][e]["LocalBinding"])])
 
     def own_field(self, frame, e, part, cell):
@@ -892,13 +941,19 @@ class Run:
         self.laid(frame, e, self.values(frame, part.get("exprs", [])), cell)
 
     def own_recordlit(self, frame, e, part, cell):
-        """A struct. What is written is evaluated in its order, and then the fields are put in the order of the struct's row."""
-        written = part.get("fields", [])
-        values = self.values(frame, [one["expr"] for one in written])
-        names = [one["name"] for one in written]
+        """A struct. The place of its base is found, what is written is evaluated in its order, and then the fields are put in the order
+        of the struct's row, each as it is written, or else as the base has it by then."""
         number, _ = struct_in(frame.body.infer["expr_types"][e])
         fields = self.world["structs"][number].get("fields", [])
-        self.laid(frame, e, [values[names.index(one["name"])] for one in fields], cell)
+        base = None if base_of(part) is None else self.place(frame, base_of(part))
+        given = [self.operand(frame, one["expr"]) for one in part.get("fields", [])]
+        names = [one["name"] for one in part.get("fields", [])]
+        kept = [{"Left": {"parent": {"StructId": number}, "local_id": place}} for place in range(len(fields))]
+        operands = [
+            given[names.index(one["name"])] if one["name"] in names else self.part_at(frame, base, kept[place])
+            for place, one in enumerate(fields)
+        ]
+        self.laid(frame, e, [self.value(frame, operand) for operand in operands], cell)
 
     def laid(self, frame, e, parts, cell):
         """A value with parts, which are put in order to their offsets in zero bytes."""

@@ -4,7 +4,7 @@ import json
 
 from part_layouts import rows_with_parts
 from running import ROOT
-from rust_text import read, read_function, read_type
+from rust_text import read, read_function, read_struct, read_type
 from typed_bodies import ALL, LAYOUTS, SCALARS, body_row, world_of_bodies
 from worlds import (
     BOOL,
@@ -132,13 +132,14 @@ def limited(made, row):
 
 
 def source_world(row):
-    """A world of one constant, whose body is written in Rust, as the functions are that it may call, and whose run may have
-    limits."""
+    """A world of one constant, whose body is written in Rust, as the functions are that it may call and the structs that it may
+    name, and whose run may have limits."""
     copy_types = COPIES[row.get("copies", True)]
     functions = [read_function(text) for text in row.get("functions", [])]
+    structs = [read_struct(text) for text in row.get("structs", [])]
     ty = read_type(row["type"])
-    body_of_goal = body_row(read(row["source"]), ty, copy_types, functions)
-    made = world_of_bodies([(body_of_goal, ty)], functions, copy_types)
+    body_of_goal = body_row(read(row["source"]), ty, copy_types, functions, structs)
+    made = world_of_bodies([(body_of_goal, ty)], functions, copy_types, structs)
     if "goal" in row:
         names = [one.name for one in functions]
         made["goals"] = [goal({"FunctionId": names.index(row["goal"])})]

@@ -5,8 +5,8 @@ usage: compare_rust.py
 
 The tables of operators and the texts of types are compared with what the programs in `rust_programs` print. Each case
 in `cases` whose values come from `Rust` is compiled as the body of a function, and its value or its panic is compared. A method
-is one of a trait there, with its name, that its type implements. The layouts of tuples and arrays in the worlds of cases in Rust are
-compared with those that it chooses.
+is one of a trait there, with its name, that its type implements. The layouts of tuples, arrays and structs in the worlds of cases in Rust
+are compared with those that it chooses.
 Rust checks for overflow here. The exit code is 1 where something differs.
 """
 
@@ -19,12 +19,13 @@ import tempfile
 from collections import Counter
 from pathlib import Path
 
-from call_costs import shown_type
+from call_costs import shown_type, struct_in
 from case_files import CASES, RUST, all_rows
 from case_inputs import INPUTS, json_of
 from faults import show
 from part_layouts import has_parts
 from running import ROOT
+from rust_text import read_struct
 
 PROGRAMS = Path(__file__).resolve().parent / "rust_programs"
 TYPES = PROGRAMS / "types.rs"
@@ -57,6 +58,11 @@ tuples!((A 0) (A 0 B 1) (A 0 B 1 C 2) (A 0 B 1 C 2 D 3) (A 0 B 1 C 2 D 3 E 4) (A
 fn shown(bytes: Vec<u8>) -> String {
     if bytes.is_empty() { "-".to_string() } else { bytes.iter().map(|byte| format!("{byte:02x}")).collect() }
 }
+// the bytes of a struct, by those of its fields
+macro_rules! fields { ($whole:ident $ty:ident $(($field:tt $part:expr))*) => {
+    $(let (part, start) = ($part.bytes(), std::mem::offset_of!($ty, $field));
+    $whole[start..start + part.len()].copy_from_slice(&part);)*
+}; }
 fn show<T: Bytes>(number: usize, run: fn() -> T) {
     println!("{number} {}", std::panic::catch_unwind(run).map_or("panic".to_string(), |value| shown(value.bytes())));
 }
@@ -98,6 +104,19 @@ def item_of(text):
     return f"trait has_{name} {{ {declared}; }} impl has_{name} for {ty} {{ {text} }}"
 
 
+def declared(text):
+    """A struct of a row, which is `Copy`, with what makes its bytes."""
+    one = read_struct(text)
+    parts = " ".join(f"({field} self.{field})" for field, _ in one.fields)
+    made = f"let mut whole = vec![0; size_of::<Self>()]; fields!(whole {one.name} {parts}); whole"
+    return f"#[derive(Clone, Copy)] {text} impl Bytes for {one.name} {{ fn bytes(self) -> Vec<u8> {{ {made} }} }}"
+
+
+def with_structs(row_structs, call):
+    """A statement behind structs."""
+    return f"{{ {' '.join(map(declared, row_structs))} {call} }}" if row_structs else call
+
+
 def closure_body(row):
     """The source of a row, behind the functions that it may call."""
     functions = [item_of(text) for text in row.get("functions", [])]
@@ -106,7 +125,10 @@ def closure_body(row):
 
 def program_of(rows):
     """A Rust program that shows the values of the sources of these rows."""
-    calls = [f"show::<{row['type']}>({number}, || {closure_body(row)});" for number, row in enumerate(rows)]
+    calls = [
+        with_structs(row.get("structs", []), f"show::<{row['type']}>({number}, || {closure_body(row)});")
+        for number, row in enumerate(rows)
+    ]
     return "\n".join([FRONT, *calls, "}", ""])
 
 
@@ -127,22 +149,35 @@ def faults_of_sources(folder, rows):
 
 
 def layouts_of(rows):
-    """The layouts of types with parts in the worlds of the sources of these rows, by the texts of the types."""
-    worlds = (json.loads(INPUTS["source"](row))["world"] for row in rows if "source" in row)
-    return {shown_type(ty): (ty, found) for world in worlds for ty, found in world["layouts"] if has_parts(ty)}
+    """The layouts of types with parts in the worlds of the sources of these rows, by the texts of the types and of the structs of the
+    row, with how their parts are called."""
+    made = {}
+    for row in rows:
+        world = json.loads(INPUTS["source"](row))["world"] if "source" in row else {"layouts": []}
+        structs = world.get("structs", [])
+        for ty, found in world["layouts"]:
+            if has_parts(ty):
+                made[shown_type(ty, structs), tuple(row.get("structs", []))] = parts_of(ty, structs), found
+    return made
+
+
+def parts_of(ty, structs):
+    """How the parts of a tuple and the fields of a struct are called."""
+    number = struct_in(ty)
+    return range(len(ty.get("Tuple", []))) if number is None else [one["name"] for one in structs[number[0]].get("fields", [])]
 
 
 def faults_of_layouts(folder, rows):
     """Layouts that differ from those of Rust. It has no layout to show of a tuple with a part of type `!`."""
-    made = {text: known for text, known in layouts_of(rows).items() if "!" not in text}
+    made = {named: known for named, known in layouts_of(rows).items() if "!" not in named[0]}
     calls = []
-    for number, (text, (ty, _)) in enumerate(made.items()):
-        offsets = ", ".join(f"std::mem::offset_of!({text}, {part})" for part in range(len(ty.get("Tuple", []))))
+    for number, ((text, structs), (parts, _)) in enumerate(made.items()):
+        offsets = ", ".join(f"std::mem::offset_of!({text}, {part})" for part in parts)
         shown = f"[size_of::<{text}>(), align_of::<{text}>(), {offsets}]"
-        calls.append(f'println!("{number} {{:?}}", {shown});')
+        calls.append(f'{{ {" ".join(structs)} println!("{number} {{:?}}", {shown}); }}')
     source = Path(folder) / "layouts.rs"
     source.write_text("\n".join(["fn main() {", *calls, "}", ""]), encoding="utf-8")
-    for line, (number, (text, (_, found))) in zip(output_of(source, folder), enumerate(made.items()), strict=True):
+    for line, (number, ((text, _), (_, found))) in zip(output_of(source, folder), enumerate(made.items()), strict=True):
         wanted_line = f"{number} {[found['size'], found['align'], *found.get('offsets', [])]}"
         if line != wanted_line:
             yield f"{text}: Rust has the layout {line}, and not {wanted_line}"

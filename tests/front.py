@@ -1,5 +1,6 @@
 #!/usr/bin/env python3
-"""Runs `front/world` on small Rust files, and compares its exit code, what it says, and the goals that it makes.
+"""Runs `front/world` on small Rust files, and compares its exit code, what it says, and the goals that it makes, and for some the body of
+a goal.
 
 usage: front.py
 
@@ -32,8 +33,8 @@ SECONDS = 120
 
 @dataclass(frozen=True)
 class Case:
-    """A Rust file, the words of the command, and what is expected: the exit code, texts that the standard error has, and
-    the names of the goals."""
+    """A Rust file, the words of the command, and what is expected: the exit code, texts that the standard error has, the names of the
+    goals, and, where some stand here, the expressions of the last goal's body and what names in them are resolved to."""
 
     name: str
     source: str
@@ -42,7 +43,23 @@ class Case:
     says: tuple = ()
     goals: tuple = ()
     others: tuple = ()
+    exprs: tuple = ()
+    found: tuple = ()
 
+
+def literal(number):
+    """A literal without a suffix."""
+    return {"Literal": {"Int": [str(number), None]}}
+
+
+def record(name, *fields, base=None):
+    """A struct with these fields, which stand with their expressions."""
+    written = [{"name": field, "expr": expr} for field, expr in fields]
+    return {"RecordLit": {"path": name, "fields": written, "spread": "None" if base is None else {"Expr": base}}}
+
+
+POINT = "struct P { x: i32, y: i32 }\n"
+NUMBERED = "struct N(u8, u16);\n"
 
 CASES = [
     Case("constants and statics", "const A: u8 = 1;\nstatic B: u8 = 2;\nfn f() {}\n", goals=("A", "B")),
@@ -87,6 +104,19 @@ CASES = [
     Case("a place behind a probe", "struct S { a: Option<u8> } const A: u8 = { let f = |x: u8| x; 2 };\nconst B: u8 = 1;\n", says=("case.rs:1:48: a closure",), goals=("B",)),
     Case("nothing that can be said", "const B: u8 = { let f = |x: u8| x; 2 };\n", code=1, says=("none of the 1 goals",)),
     Case("a method of the library", "const A: u32 = 5u32.pow(3).rotate_left(4);\n", goals=("A",)),
+    Case("a base", f"{POINT}const A: P = P {{ y: 1, ..P {{ x: 2, y: 3 }} }};\n", goals=("A",), exprs=(literal(1), literal(2), literal(3), record("P", ("x", 1), ("y", 2)), record("P", ("y", 0), base=3)), found=(("variant_res", [[3, {"StructId": 0}], [4, {"StructId": 0}]]),)),
+    Case("a base alone", f"{POINT}const A: P = {{ let p = P {{ x: 2, y: 3 }}; P {{ ..p }} }};\n", goals=("A",), exprs=(literal(2), literal(3), record("P", ("x", 0), ("y", 1)), {"Path": "p"}, record("P", base=3), {"Block": {"statements": [{"Let": {"pat": 0, "initializer": 2}}], "tail": 4}}), found=(("value_res", [[3, {"LocalBinding": 0}]]), ("variant_res", [[2, {"StructId": 0}], [4, {"StructId": 0}]]))),
+    Case("a base of a struct whose fields have numbers", f"{NUMBERED}const A: N = N {{ 1: 5, ..N {{ 1: 6, 0: 7 }} }};\n", goals=("A",), exprs=(literal(5), literal(6), literal(7), record("N", ("1", 1), ("0", 2)), record("N", ("1", 0), base=3))),
+    Case("a struct whose fields have numbers, in braces and brackets", f"{NUMBERED}const A: N = ((N {{ 1: 6, 0: (7) }}));\n", goals=("A",), exprs=(literal(6), literal(7), record("N", ("1", 0), ("0", 1))), found=(("variant_res", [[2, {"StructId": 0}]]),)),
+    Case("a struct that is built by a call", f"{NUMBERED}const A: N = (N(7, {{ 6 }}));\n", goals=("A",), exprs=({"Path": "N"}, literal(7), literal(6), {"Block": {"statements": [], "tail": 2}}, {"Call": {"callee": 0, "args": [1, 3]}}), found=(("value_res", [[0, {"StructId": 0}]]),)),
+    Case("a struct without fields", "struct U;\nconst A: U = (U);\n", goals=("A",), exprs=({"Path": "U"},), found=(("value_res", [[0, {"StructId": 0}]]), ("variant_res", None))),
+    Case("a struct without fields, in braces", "struct U;\nconst A: U = U {};\n", goals=("A",), exprs=(record("U"),), found=(("value_res", None), ("variant_res", [[0, {"StructId": 0}]]))),
+    Case("a struct without fields, of a base", "struct U;\nconst A: U = U { ..U };\n", goals=("A",), exprs=({"Path": "U"}, record("U", base=0)), found=(("value_res", [[0, {"StructId": 0}]]), ("variant_res", [[1, {"StructId": 0}]]))),
+    Case("a struct without fields, by a macro", "struct U;\nmacro_rules! u { () => { U {} } }\nmacro_rules! v { () => { U } }\nconst A: (U, U) = (u!(), v!());\n", goals=("A",), exprs=(record("U"), {"Path": "U"}, {"Tuple": {"exprs": [0, 1]}})),
+    Case("a struct without fields, as Self", "struct U;\nimpl U { const A: U = Self; }\n", goals=("{impl#0}::A",), exprs=({"Path": "Self"},), found=(("value_res", [[0, "ImplSelf"]]),)),
+    Case("a struct without fields, in another file", "mod other;\nuse other::*;\n", goals=("other::A",), others=(("other.rs", "pub struct U;\n\npub const A: (U, U) = (U {}, U);\n"),), exprs=(record("U"), {"Path": "U"}, {"Tuple": {"exprs": [0, 1]}})),
+    Case("a struct with braces and without fields", "struct E {}\nconst A: E = E {};\n", goals=("A",), exprs=(record("E"),)),
+    Case("two structs of one name in one body", "struct U;\nconst A: u8 = { struct U { n: u8 } { struct U; let _u = U; } U { n: 5 }.n };\nconst B: U = U;\n", says=("the fields of the type A::U can't be said; left out: A",), goals=("B",)),
     Case("letters beyond ASCII", "const GR\u00d6SSE: u8 = 1; // \u20ac\nconst A: char = '\u20ac';\n", goals=("GR\u00d6SSE", "A")),
     Case("an older edition", "const async: u8 = 1;\n", ("--edition", "2015"), goals=("async",)),
     Case("deep", f"const A: u32 = {'!' * 420}1;\nconst B: u8 = 1;\n", says=("nests more than", "left out: A"), goals=("B",)),
@@ -116,6 +146,7 @@ def run(case, folder):
         if made != list(case.goals):
             yield f"the goals are {made}, where {list(case.goals)} are expected"
         yield from faults(json.loads(shown), len(case.goals))
+        yield from faults_of_body(json.loads(shown), case)
     elif shown:
         yield "something is printed on the standard output"
 
@@ -128,6 +159,17 @@ def faults(world, goals):
         schema = json.loads((ROOT / "schema" / "world.schema.json").read_text(encoding="utf-8"))
         for error in Draft202012Validator(schema).iter_errors(world):
             yield f"refused by the schema at {error.json_path}"
+
+
+def faults_of_body(world, case):
+    """What is wrong with the body of a world's last goal."""
+    number = world["goals"][-1]["def"].get("ConstId")
+    body = world["world"]["bodies"][world["world"]["consts"][number]["body"]] if number is not None else {}
+    if case.exprs and body.get("body", {}).get("exprs") != list(case.exprs):
+        yield f"the expressions are {body.get('body', {}).get('exprs')}, where {list(case.exprs)} are expected"
+    for name, wanted in case.found:
+        if body.get("infer", {}).get(name) != wanted:
+            yield f"{name} is {body.get('infer', {}).get(name)}, where {wanted} is expected"
 
 
 def main():

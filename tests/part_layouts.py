@@ -1,12 +1,13 @@
-"""The layouts of types that have parts, tuples and arrays, as rustc 1.95 chooses them. `compare_rust.py` compares those of the types that
-cases name.
+"""The layouts of types that have parts, tuples, arrays and structs, as rustc 1.95 chooses them. `compare_rust.py` compares those of the types
+that cases name.
 
-The last part of a tuple stays the last one. Of the others those with a greater alignment, or whose size is a multiple of a greater power
+The last part of a tuple stays the last one, and that of a struct doesn't. Of the others those with a greater alignment, or whose size is a multiple of a greater power
 of two, come first, and of these such whose bytes leave more values free, as `char` and `bool` do.
 """
 
 from dataclasses import dataclass
 
+from rust_text import NoBody
 from worlds import BOOL, CHAR, layout
 
 # How many values the bytes of a type leave free.
@@ -27,9 +28,9 @@ def twos(number):
     return (number & -number).bit_length() - 1
 
 
-def in_order(parts):
-    """The numbers of a tuple's parts, in the order in which they lie."""
-    moved = parts[:-1]
+def in_order(parts, last):
+    """The numbers of parts, in the order in which they lie, where so many stay the last ones."""
+    moved = parts[: len(parts) - last]
     most = max((twos(part.layout["align"]) for part in moved), default=0)
     some_free = any(part.free for part in moved)
 
@@ -38,7 +39,7 @@ def in_order(parts):
         group = twos(max(part.layout["align"], part.layout["size"]))
         return -(min(most, group) if some_free else group), -part.free, part.free_at
 
-    return [*sorted(range(len(moved)), key=rank), len(moved)]
+    return [*sorted(range(len(moved)), key=rank), *range(len(moved), len(parts))]
 
 
 def rounded(number, align):
@@ -46,10 +47,10 @@ def rounded(number, align):
     return -(-number // align) * align
 
 
-def of_tuple(parts):
+def of_tuple(parts, last=1):
     """The layout of a tuple of these parts."""
-    align, end, offsets, best = max(part.layout["align"] for part in parts), 0, {}, Placed({})
-    for number in in_order(parts):
+    align, end, offsets, best = max((part.layout["align"] for part in parts), default=1), 0, {}, Placed({})
+    for number in in_order(parts, last):
         part = parts[number]
         offsets[number] = rounded(end, part.layout["align"])
         end = offsets[number] + part.layout["size"]
@@ -59,6 +60,13 @@ def of_tuple(parts):
     return Placed(layout(rounded(end, align), align, placed), best.free, best.free_at)
 
 
+def of_struct(parts):
+    """The layout of a struct of these parts."""
+    if any(part.free for part in parts):
+        raise NoBody("the layout of a struct with a part that leaves values free isn't known here")
+    return of_tuple(parts, 0)
+
+
 def of_array(element, count):
     """The layout of an array of so many elements."""
     found = layout(count * element.layout["size"], element.layout["align"])
@@ -66,9 +74,11 @@ def of_array(element, count):
 
 
 class Layouts:
-    """The layouts of types: those of the rows that are given, and of types that have parts."""
+    """The layouts of types: those of the rows that are given, and of types that have parts. The types of the fields of structs stand
+    by their names."""
 
-    def __init__(self, rows):
+    def __init__(self, rows, structs):
+        self.structs = structs
         self.known = [(ty, Placed(found, FREE.get(ty, 0) if isinstance(ty, str) else 0)) for ty, found in rows]
         self.given = len(self.known)
 
@@ -83,6 +93,8 @@ class Layouts:
     def of_parts(self, ty):
         if "Tuple" in ty:
             return of_tuple([self.placed(part) for part in ty["Tuple"]])
+        if "Adt" in ty:
+            return of_struct([self.placed(part) for part in self.structs[ty["Adt"][0]["StructId"]]])
         element, count = ty["Array"]
         return of_array(self.placed(element), int.from_bytes(bytes.fromhex(count["Value"]["memory"]), "little"))
 
@@ -92,13 +104,14 @@ class Layouts:
 
 
 def has_parts(ty):
-    """Whether a type is one of tuples or of arrays, but for `()`."""
-    return isinstance(ty, dict) and ("Array" in ty or bool(ty.get("Tuple")))
+    """Whether a type is one of structs, of tuples or of arrays, but for `()`."""
+    return isinstance(ty, dict) and ("Array" in ty or "Adt" in ty or bool(ty.get("Tuple")))
 
 
-def rows_with_parts(types, rows):
-    """The rows of those of the types that have parts, and of their parts, over rows of types without."""
-    found = Layouts(rows)
+def rows_with_parts(types, rows, structs=None):
+    """The rows of those of the types that have parts, and of their parts, over rows of types without. The types of the fields of structs
+    stand by their names."""
+    found = Layouts(rows, structs or {})
     for ty in types:
         if has_parts(ty):
             found.placed(ty)

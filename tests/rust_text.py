@@ -1,5 +1,6 @@
 """Reads bodies that are written in Rust: numbers, truth values, characters, names, operators, casts, blocks, `if`, loops, jumps,
-`let`, assignments, calls of functions by their names, method calls, tuples, arrays, fields and indices. It reads functions and types too.
+`let`, assignments, calls of functions by their names, method calls, tuples, arrays, structs, fields and indices. It reads functions, structs
+and types too.
 
 A body is read as a tree of tuples, the first part of which says what it is:
 
@@ -14,8 +15,9 @@ A body is read as a tree of tuples, the first part of which says what it is:
     ("call", name, arguments)               ("method", receiver, name, arguments)
     ("field", operand, name)                ("index", operand, index)
     ("tuple", parts)                        ("array", elements)         ("repeat", operand, count)
+    ("record", name, written fields, each with its value, base or None)
 
-A type is its name, as `u8` and `()`, or one that has parts: `("tuple", types)` and `("array", element, length)`.
+A type is its name, as `u8`, `()` and that of a struct, or one that has parts: `("tuple", types)` and `("array", element, length)`.
 
 A label is its text, as `'a`. `while c { .. }` is read as the loop with an `if` that it stands for,
 `loop { if c { .. } else { break } }`, where the loop's body is the `if` itself. An operator is one of the worlds' JSON, as
@@ -24,7 +26,8 @@ A label is its text, as `'a`. `while c { .. }` is read as the loop with an `if` 
     ("let", name, type or None, initializer or None, block of `else` or None)        ("expr", expression)
 
 A function is read as a `Function`. Its parameters are plain names. One whose first parameter is `self`, with its type, is a method of
-that type, as `fn minus(self: u8, other: u8) -> u8 { self - other }` is.
+that type, as `fn minus(self: u8, other: u8) -> u8 { self - other }` is. A struct is read as a `Struct`. It has no generic parameters, and its name,
+alone of all names, begins with a capital letter.
 """
 
 import re
@@ -53,7 +56,7 @@ BLOCKS = ("{", "if", "loop", "while")
 ENDS = (";", "}", ")", "]", ",", "")
 
 TOKEN = re.compile(
-    r"\s*('(?:\\u\{[0-9a-f]+\}|\\.|[^\\'])'|\d+(?:[iu](?:8|16|32|64|128|size))?|'?[A-Za-z_]\w*|<<=|>>=|&&|\|\||<<|>>|->|[-+*/%&|^=!<>]=|[-+*/%&|^=!<>(){}\[\];:,.])"
+    r"\s*('(?:\\u\{[0-9a-f]+\}|\\.|[^\\'])'|\d+(?:[iu](?:8|16|32|64|128|size))?|'?[A-Za-z_]\w*|<<=|>>=|&&|\|\||<<|>>|->|[-+*/%&|^=!<>]=|\.\.|[-+*/%&|^=!<>(){}\[\];:,.])"
 )
 # The characters that are written with a backslash and one letter or sign.
 ESCAPES = {"n": "\n", "r": "\r", "t": "\t", "0": "\0", "\\": "\\", "'": "'", '"': '"'}
@@ -74,6 +77,16 @@ def character_of(token):
 def tuple_type(types):
     """The type of tuples with parts of these types."""
     return ("tuple", tuple(types)) if types else "()"
+
+
+@dataclass
+class Struct:
+    """A struct: its name, its fields with their types, its shape, as in the world, and its text."""
+
+    name: str
+    fields: list
+    shape: str
+    text: str
 
 
 @dataclass
@@ -250,9 +263,26 @@ class Reader:
         if token[0].isdigit():
             digits, suffix = re.fullmatch(r"(\d+)(\w*)", token).groups()
             return ("number", digits, suffix or None)
+        if token[0].isupper() and self.next() == "{":
+            return self.record(token)
         if token[0].isalpha() or token[0] == "_":
             return ("call", token, self.arguments()) if self.next() == "(" else ("path", token)
         raise NoBody(f"{token!r} stands where an expression is wanted")
+
+    def record(self, name):
+        """What follows the name of a struct: fields with values or without, and a base, in braces."""
+        self.need("{")
+        fields, base = [], None
+        while not self.take("}"):
+            if self.take(".."):
+                base = self.expr()
+                self.need("}")
+                break
+            field = self.need()
+            fields.append((field, self.expr() if self.take(":") else ("path", field)))
+            if self.next() != "}":
+                self.need(",")
+        return ("record", name, fields, base)
 
     def arguments(self):
         """The arguments of a call in brackets."""
@@ -276,6 +306,23 @@ class Reader:
         if self.next() != "":
             raise NoBody(f"{self.next()!r} stands after the end")
         return Function(name, params, ret, tree)
+
+    def struct(self, text):
+        """The whole text as one struct."""
+        self.need("struct")
+        name, fields, token = self.need(), [], self.need("{", "(", ";")
+        while token != ";" and not self.take("}", ")"):
+            field = str(len(fields)) if token == "(" else self.need()
+            if token == "{":
+                self.need(":")
+            fields.append((field, self.type()))
+            if self.next() not in ("}", ")"):
+                self.need(",")
+        if token == "(":
+            self.need(";")
+        if self.next() != "":
+            raise NoBody(f"{self.next()!r} stands after the end")
+        return Struct(name, fields, {"{": "Record", "(": "Tuple", ";": "Unit"}[token], text)
 
     def branch(self):
         """An `if`."""
@@ -363,3 +410,8 @@ def read_type(text):
 def read_function(text):
     """The function that a text is."""
     return Reader(text).function()
+
+
+def read_struct(text):
+    """The struct that a text is."""
+    return Reader(text).struct(text)

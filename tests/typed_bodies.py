@@ -6,6 +6,8 @@ that has parts is that of a tuple or an array, as `rust_text.py` reads it, whose
 block without a tail may have any type that is asked for, as where its end isn't reached. A jump, and a loop that
 no `break` leaves, are of type `!`, and become of the type that is asked for, where one is.
 
+A struct is told by its name in a body, and has its number in the world alone.
+
 A call of a function that returns `!` is one that inference marks as diverging. A method is found by its name alone. A cast to the
 type that its operand has already is a coercion. The target of a compound assignment is borrowed, as for a method of a trait.
 
@@ -39,11 +41,14 @@ from worlds import (
     integer,
     let_statement,
     loop,
+    named_struct_row,
     path,
+    record,
     ref,
     return_with,
     sized,
     statement,
+    struct,
     tuple_expr,
     tuple_of,
     world,
@@ -120,7 +125,7 @@ def settled(ty):
     if isinstance(ty, tuple):
         return tuple_of(*map(settled, ty[1])) if ty[0] == "tuple" else array_of(settled(ty[1]), ty[2])
     if not isinstance(ty, Unknown):
-        return TYPES[ty]
+        return TYPES[ty] if ty in TYPES else struct(ty)
     return TYPES["i32" if ty.is_integer else "!" if ty.is_endless else "()"]
 
 
@@ -153,10 +158,12 @@ class Target:
 
 class Draft:
     """A body of this type that is made node by node, in the order in which its nodes have to stand. It may call these
-    functions."""
+    functions, and name these structs."""
 
-    def __init__(self, ty, functions=()):
+    def __init__(self, ty, functions=(), structs=()):
         self.ty = ty
+        self.structs = {one.name: one for one in structs}
+        self.variant_res = []
         self.functions = {one.name: (place, one) for place, one in enumerate(functions) if not one.is_method()}
         self.methods = {one.name: (place, one) for place, one in enumerate(functions) if one.is_method()}
         self.params, self.self_param, self.diverging, self.method_res = [], None, [], []
@@ -225,11 +232,34 @@ class Draft:
         same(ty, ("array", element, count))
         return self.add({"Repeat": {"initializer": self.expr(operand, element)}}, ty)
 
+    def struct_named(self, name):
+        """A struct by its name."""
+        if name not in self.structs:
+            raise NoBody(f"no struct is called {name}")
+        return self.structs[name]
+
+    def record(self, name, fields, base, ty):
+        """A struct. Its base stands behind its fields, though it is found first."""
+        same(ty, name)
+        types = dict(self.struct_named(name).fields)
+        written = [(field, self.expr(tree, types.get(field, Unknown()))) for field, tree in fields]
+        inside = None if base is None else self.expr(base, name)
+        place = self.add(record(name, written, inside), ty)
+        self.variant_res.append([place, {"StructId": name}])
+        return place
+
     def field(self, operand, name, ty):
-        """A field. One of a tuple is resolved to that part. Any other one isn't resolved, and is of any type."""
+        """A field. One of a tuple or a struct is resolved to that part. Any other one isn't resolved, and is of any type."""
         base = Unknown()
         inside = self.expr(operand, base)
         found = known(base)
+        if isinstance(found, str) and found in self.structs:
+            names = [field for field, _ in self.structs[found].fields]
+            if name in names:
+                same(ty, dict(self.structs[found].fields)[name])
+                place = self.add({"Field": {"expr": inside, "name": name}}, ty)
+                self.fields.append((place, found, names.index(name)))
+                return place
         types = parts_of(found) if isinstance(found, tuple) and found[0] == "tuple" else ()
         if not name.isdigit() or int(name) >= len(types):
             return self.add({"Field": {"expr": inside, "name": name}}, ty)
@@ -239,9 +269,12 @@ class Draft:
         return place
 
     def field_res(self):
-        """What the fields of tuples are resolved to. Tuples of one type have one number."""
+        """What fields are resolved to. Tuples of one type have one number."""
         tuples, made = [], []
         for place, base, index in self.fields:
+            if base in self.structs:
+                made.append([place, {"Left": {"parent": {"StructId": base}, "local_id": index}}])
+                continue
             ty = settled(base)
             if ty not in tuples:
                 tuples.append(ty)
@@ -254,12 +287,15 @@ class Draft:
         return self.add({"Index": {"base": inside, "index": self.expr(index, "usize")}}, ty)
 
     def path(self, name, ty):
-        """A name, which may be one that nothing has."""
+        """A name, which may be one that nothing has, or that of a struct without fields."""
         found = next((scope[name] for scope in reversed(self.scopes) if name in scope), None)
         place = self.add(path(name), ty)
         if found is not None:
             same(ty, self.binding_types[found])
             self.value_res.append([place, {"LocalBinding": found}])
+        elif name in self.structs:
+            same(ty, name)
+            self.value_res.append([place, {"StructId": name}])
         return place
 
     def call(self, name, args, ty):
@@ -449,7 +485,7 @@ class Draft:
         types = {kind: [settled(ty) for ty in getattr(self, kind)] for kind in kinds}
         nodes = filled(exprs=self.exprs, pats=self.pats, bindings=self.bindings, labels=self.labels, params=self.params,
                        self_param=self.self_param)
-        names = {"value_res": self.value_res, "field_res": self.field_res(), "method_res": self.method_res,
+        names = {"value_res": self.value_res, "variant_res": self.variant_res, "field_res": self.field_res(), "method_res": self.method_res,
                  "pat_value_res": self.pat_value_res}
         modes = {"binding_modes": self.binding_modes, "diverging": self.diverging}
         modes["coercion_casts"] = self.coercions()
@@ -464,37 +500,49 @@ def types_in(row):
     return types + [step["target"] for _, steps in found.get("expr_adjustments", []) for step in steps]
 
 
-def body_row(tree, ty, copy_types=SCALARS, functions=()):
-    """The row of a body that is a tree, at a type, with the types that are listed as `Copy`, and the functions that it may
-    call."""
-    draft = Draft(ty, functions)
+def body_row(tree, ty, copy_types=SCALARS, functions=(), structs=()):
+    """The row of a body that is a tree, at a type, with the types that are listed as `Copy`, the functions that it may call, and the
+    structs that it may name."""
+    draft = Draft(ty, functions, structs)
     draft.expr(tree, ty)
     return draft.row(copy_types)
 
 
-def row_of_function(called, copy_types, functions):
+def row_of_function(called, copy_types, functions, structs):
     """The row of a function's body."""
-    draft = Draft(called.ret, functions)
+    draft = Draft(called.ret, functions, structs)
     for name, ty in called.params:
         draft.param(name, ty)
     draft.expr(called.tree, called.ret)
     return draft.row(copy_types)
 
 
-def world_of_bodies(bodies, functions=(), copy_types=SCALARS):
+def numbered(tree, numbers):
+    """A tree in which structs have their numbers, and not their names."""
+    if isinstance(tree, dict):
+        return {key: numbers[part] if key == "StructId" else numbered(part, numbers) for key, part in tree.items()}
+    return [numbered(part, numbers) for part in tree] if isinstance(tree, list) else tree
+
+
+def world_of_bodies(bodies, functions=(), copy_types=SCALARS, structs=()):
     """An input in which each of these bodies, which stand with their types, is a constant and a goal. The bodies of
     the functions stand behind them. Where all types are listed as `Copy`, those with parts are too."""
     consts = [const(settled(ty), name="GOAL", body=place) for place, (_, ty) in enumerate(bodies)]
     goals = [goal({"ConstId": place}) for place in range(len(bodies))]
-    rows = [row for row, _ in bodies] + [row_of_function(one, copy_types, functions) for one in functions]
+    rows = [row for row, _ in bodies] + [row_of_function(one, copy_types, functions, structs) for one in functions]
     called = [
         function([settled(ty) for _, ty in one.params], settled(one.ret), name=one.name, body=len(bodies) + place)
         for place, one in enumerate(functions)
     ]
     named = [row["ty"] for row in consts] + [ty for row in called for ty in (*row["sig"].get("params", []), row["sig"]["ret"])]
-    placed = rows_with_parts([*named, *(ty for row in rows for ty in types_in(row))], LAYOUTS)
+    fields = {one.name: [(name, settled(ty)) for name, ty in one.fields] for one in structs}
+    types = {name: [ty for _, ty in parts] for name, parts in fields.items()}
+    placed = rows_with_parts([*named, *(ty for row in rows for ty in types_in(row))], LAYOUTS, types)
     if copy_types == ALL:
         for row in rows:
             row["infer"]["copy_types"] = [*ALL, *(ty for ty, _ in placed)]
     tables = {"functions": called} if called else {}
-    return world(goals, consts=consts, bodies=rows, layouts=[*LAYOUTS, *placed], **tables)
+    if structs:
+        tables["structs"] = [named_struct_row(one.name, fields[one.name], one.shape) for one in structs]
+    made = world(goals, consts=consts, bodies=rows, layouts=[*LAYOUTS, *placed], **tables)
+    return numbered(made, {one.name: place for place, one in enumerate(structs)}) if structs else made

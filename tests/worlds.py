@@ -162,6 +162,11 @@ def struct_row(*types):
     return filled(name="S", fields=fields(*types), shape="Tuple")
 
 
+def named_struct_row(name, fields, shape):
+    """A struct with these fields, which stand with their types."""
+    return filled(name=name, fields=[{"name": field, "ty": ty} for field, ty in fields], shape=shape)
+
+
 def enum_row(*variants):
     """An enum with the variants of these numbers."""
     return filled(name="E", variants=list(variants))
@@ -234,6 +239,12 @@ def add(lhs, rhs):
 
 def tuple_expr(*exprs):
     return variant("Tuple", exprs=list(exprs))
+
+
+def record(name, fields, base=None):
+    """A struct with these fields, which stand with their expressions, and with a base or without."""
+    written = [{"name": field, "expr": expr} for field, expr in fields]
+    return {"RecordLit": {"path": name, "fields": written, "spread": "None" if base is None else {"Expr": base}}}
 
 
 def array_expr(*exprs):
