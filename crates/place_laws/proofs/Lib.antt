@@ -3,4 +3,5 @@ mod Parts
 mod Pigeonhole
 mod Placed
 mod Updates
+mod UsedUpdates
 mod Writes

@@ -7,7 +7,7 @@ use Rattle.world.specs.declared.items.FieldRow.{FieldRow}
 use Rattle.source_meaning.specs.Core.{FieldOf}
 use Rattle.source_meaning.specs.Meaning.{Value}
 use Rattle.source_meaning.specs.Source.{Operand, At, Place, projected}
-use Rattle.source_meaning.specs.Structs.{FieldSource, all_places, all_sources, picked}
+use Rattle.source_meaning.specs.Structs.{FieldSource, Written, all_places, all_sources, picked}
 use Rattle.source_meaning.specs.Updates.{field_operands}
 
 -- the value at an index among those of the fields is what a written field of a name was evaluated to
@@ -71,3 +71,9 @@ abbrev pub UpdatesGiveTheirFields : Type 0
 UpdatesGiveTheirFields =
     (base : Place) (id : StructId) (rows : List FieldRow) (written : List RecordLitField) (sources : List FieldSource) (given : List Operand) →
     all_sources id rows written ≡ Some sources → length given ≡ length written → AreUpdated base id rows written sources given
+
+-- Where a struct's fields have names of their own, a literal with a base has a field for each operand that is written in it.
+abbrev pub UpdatesUseEachField : Type 0
+UpdatesUseEachField =
+    (id : StructId) (rows : List FieldRow) (written : List RecordLitField) (sources : List FieldSource) → HaveOwnNames rows → all_sources id rows written ≡ Some sources →
+    (place : ℕ) → place < length written → (k : ℕ) × (slice_get sources k ≡ Some (Written place))

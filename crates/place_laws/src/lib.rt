@@ -2,7 +2,7 @@
 //! the functions here have no code: each is a law about it.
 #![tactic(auto)]
 
-ghost use Rattle.place_laws.specs.Literals.{LiteralsGiveTheirFields, LiteralsUseEachField, UpdatesGiveTheirFields};
+ghost use Rattle.place_laws.specs.Literals.{LiteralsGiveTheirFields, LiteralsUseEachField, UpdatesGiveTheirFields, UpdatesUseEachField};
 ghost use Rattle.place_laws.specs.Parts.{FieldsAreParts, PartsAreRead, StructsHaveTheirFields, TuplesHaveTheirParts};
 ghost use Rattle.place_laws.specs.Writes.{WritesAreRead, WritesKeepOthers, WritesKeepTheRest};
 
@@ -39,6 +39,11 @@ pub fn literals_use_each_field()
 /// What a struct literal with a base puts into each field of its struct is the written field of that name, or else that field of the base.
 pub fn updates_give_their_fields()
     ensures { UpdatesGiveTheirFields }
+{}
+
+/// Where the fields of a struct have names of their own, each value that is written in a literal with a base goes into one of them.
+pub fn updates_use_each_field()
+    ensures { UpdatesUseEachField }
 {}
 
 /// What is put at a place lies there afterwards.
