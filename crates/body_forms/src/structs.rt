@@ -5,7 +5,7 @@ ghost use Rattle.std.specs.Option.{option_and_then, option_copied, option_map};
 ghost use Rattle.source_meaning.specs.Source.{Source, named_by, variant_named};
 ghost use Rattle.source_meaning.specs.Core as expr;
 ghost use Rattle.source_meaning.specs.Core.{names_unit, struct_named};
-ghost use Rattle.source_meaning.specs.Structs.{all_places, all_sources, field_sources, place_named, places_named, source_by, struct_args, struct_made};
+ghost use Rattle.source_meaning.specs.Structs.{all_places, all_sources, field_sources, place_named, places_named, source_by, struct_args, struct_made, struct_of};
 ghost use Rattle.types.specs.declared.ids.VariantId.TheVariants as variant;
 ghost use Rattle.world.specs.Lookups.{type_of};
 ghost use Rattle.world.specs.Nodes.{expr_numbers, field_numbers};
@@ -75,15 +75,27 @@ pub(crate) fn struct_made<'a>(context: &Context<'a>, e: ExprId) -> Option<Struct
     }
 }
 
+/// The struct that an expression's own type is, if it is one.
+#[tactic(auto, unfolding(source_meaning::specs::Source::own_type))]
+fn own_struct(context: &Context<'_>, e: ExprId) -> Option<StructId>
+    ensures { result ≡ option_and_then struct_of (type_of context.now.infer.now e.0) }
+{
+    match own_type(context, e) {
+        Some(Ty::Adt(AdtId::StructId(id), _)) => Some(*id),
+        _ => None,
+    }
+}
+
 /// The struct that a path is resolved to, where it is: by inference, or else by its name.
 fn struct_named(context: &Context<'_>, e: ExprId) -> Option<StructId>
-    ensures { result ≡ struct_named (variant_named (source_of context.now) e.0) (named_by (source_of context.now) e.0) }
+    ensures { result ≡ struct_named (option_and_then struct_of (type_of context.now.infer.now e.0)) (variant_named (source_of context.now) e.0) (named_by (source_of context.now) e.0) }
 {
     match context.infer.variant_res.get(&e) {
         Some(VariantId::StructId(id)) => Some(*id),
         Some(_) => None,
         None => match context.infer.value_res.get(&e) {
             Some(ValueNs::StructId(id)) => Some(*id),
+            Some(ValueNs::ImplSelf) => own_struct(context, e),
             _ => None,
         },
     }

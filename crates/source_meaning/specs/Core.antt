@@ -46,7 +46,7 @@ use Rattle.world.specs.declared.pat.Pat.TheVariants as pat
 use Rattle.world.specs.declared.pat.Pat.{Pat}
 use Rattle.world.specs.Lookups.{type_of}
 use Rattle.world.specs.Nodes.{expr_numbers, field_numbers}
-use Rattle.source_meaning.specs.Structs.{StructAt, FieldSource, all_places, all_sources, struct_args}
+use Rattle.source_meaning.specs.Structs.{StructAt, FieldSource, all_places, all_sources, struct_args, struct_of}
 
 -- a literal with a meaning: a truth value, a whole number, or a character, by its code point
 pub data CoreLiteral : Type 0 where
@@ -291,11 +291,13 @@ names_item infer e =
     is_some (lookup (is_at (ExprIdOrd.ghosts.cmp e)) infer.assoc_res)
     || is_some (lookup (is_at (ExprIdOrd.ghosts.cmp e)) infer.variant_res)
 
--- the struct that a path is resolved to: that of `variant_res`, or, where it has no entry there, that of `value_res`
-abbrev pub struct_named : Option VariantId → Option ValueNs → Option StructId
-struct_named (Some (variant.StructId id)) named = Some id
-struct_named None (Some (value.StructId id)) = Some id
-struct_named _ named = None
+-- The struct that a path is resolved to: that of `variant_res`, or, where it has no entry there, that of `value_res`. There `Self` is the struct that the
+-- path's own type is.
+abbrev pub struct_named : (own : Option StructId) → Option VariantId → Option ValueNs → Option StructId
+struct_named own (Some (variant.StructId id)) named = Some id
+struct_named own None (Some (value.StructId id)) = Some id
+struct_named own None (Some value.ImplSelf) = own
+struct_named own _ named = None
 
 -- Whether a path is resolved to a struct, and has the type of that struct before it is adjusted. Then it is taken for a value of a unit struct; that the
 -- struct has no fields is asked of plain bodies alone.
@@ -303,7 +305,7 @@ unfoldable pub names_unit : InferenceResult → ExprId → Bool
 names_unit infer e =
     not (is_some (lookup (is_at (ExprIdOrd.ghosts.cmp e)) infer.assoc_res))
     && is_some (option_and_then (λ id. option_and_then (struct_args id) (type_of infer e.0))
-    (struct_named (lookup (is_at (ExprIdOrd.ghosts.cmp e)) infer.variant_res) (lookup (is_at (ExprIdOrd.ghosts.cmp e)) infer.value_res)))
+    (struct_named (option_and_then struct_of (type_of infer e.0)) (lookup (is_at (ExprIdOrd.ghosts.cmp e)) infer.variant_res) (lookup (is_at (ExprIdOrd.ghosts.cmp e)) infer.value_res)))
 
 -- the binding of a pattern that is a name and no more
 abbrev pub name_of : Pat → Option BindingId

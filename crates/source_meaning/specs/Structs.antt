@@ -41,6 +41,14 @@ args_at id _ = None
 abbrev pub struct_args : StructId → Ty → Option GenericArgs
 struct_args id ty = args_at id (out-Ty ty)
 
+-- the struct that a type is, if it is one
+abbrev struct_at : TyLayer → Option StructId
+struct_at (layer.Adt (adt.StructId id) args) = Some id
+struct_at _ = None
+
+abbrev pub struct_of : Ty → Option StructId
+struct_of ty = struct_at (out-Ty ty)
+
 -- a struct with its fields, at arguments
 abbrev pub struct_with : HirDatabase → StructId → GenericArgs → Option StructAt
 struct_with world id args = option_map (λ fields. record { id = id; args = args; fields = fields }) (fields_of world (variant.StructId id))
