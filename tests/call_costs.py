@@ -594,9 +594,9 @@ class Reading:
 
 def names_unit(rows, infer, e):
     """Whether a path is a value of a struct without fields: it is resolved to a struct, as a variant or else as a value, which is its own
-    type. Whether that has fields isn't asked."""
+    type, or to `Self`, and its own type is a struct. Whether that has fields isn't asked."""
     found, made = rows["variant_res"].get(e, rows["value_res"].get(e)), struct_in(infer["expr_types"][e])
-    return e not in rows["assoc_res"] and made is not None and found == {"StructId": made[0]}
+    return e not in rows["assoc_res"] and made is not None and found in ({"StructId": made[0]}, "ImplSelf")
 
 
 def base_of(part):
