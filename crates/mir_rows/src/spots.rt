@@ -107,3 +107,15 @@ pub fn spot_cell(cells: &[Interval], spot: Spot) -> Option<Interval>
         } => part_of_local(cells, local, offset, size),
     }
 }
+
+/// Where a spot lies, by the cells of the locals. A whole cell is found first.
+#[inline(always)]
+pub fn cell_of_spot(cells: &[Interval], spot: &Spot) -> Option<Interval>
+    requires { HaveEnds cells.now }
+    ensures { result ≡ spot_cell cells.now spot.now }
+{
+    match spot {
+        Spot::Whole(local) => cell_of(cells, *local),
+        Spot::Part { .. } => spot_cell(cells, *spot),
+    }
+}

@@ -1,5 +1,5 @@
 use Rattle.std.proofs.Common.{sym, ◌∙◌}
-use Rattle.mir_rows.proofs.Operands.{out-behind, out-here, out-last}
+use Rattle.mir_rows.proofs.Outside.{out-behind, out-here, out-last}
 use Rattle.mir_rows.proofs.bounds.some_out.Goals as goal
 
 pub returns-then-operand_out : goal.returns-then-operand_out
