@@ -1,5 +1,5 @@
 -- A call: its callee's body runs in the caller's run, from the arguments on, and the caller goes on with the value.
-use Rattle.std.proofs.Common.{◌≡◌, ℕ, suc, ◌+◌, ◌-◌, ◌<◌, ◌≤◌, ◌⊎◌, ⊎_elim, inl, inr, Bool, true, false, cond, List, ◌∷◌, Option, Some, None, Result, Ok, Err, refl, sym, ap, ◌∙◌, subst, arith}
+use Rattle.std.proofs.Common.{◌≡◌, ℕ, suc, ◌+◌, ◌-◌, ◌<◌, ◌≤◌, ◌⊎◌, ⊎_elim, inl, inr, Bool, true, false, cond, List, [], ◌∷◌, Option, Some, None, Result, Ok, Err, refl, sym, ap, ◌∙◌, subst, arith}
 use Rattle.std.specs.Prelude.{slice_get, nat_le, option_and_then, codes}
 use borrow.Author.Tests.{leb-false}
 use Rattle.std.proofs.lemmas.List.{length-replicate}
@@ -15,8 +15,8 @@ use Rattle.mir.specs.declared.answers.Answer.TheVariants as told
 use Rattle.mir.specs.declared.body.MirBody.{MirBody}
 use Rattle.mir.specs.declared.errors.MirEvalError.{MirEvalError}
 use Rattle.mir.specs.declared.errors.MirEvalError as error
-use Rattle.mir.specs.Memory.{Memory, cell_bytes}
-use Rattle.mir.specs.Run.{Program, Frame, Calling, Ending, Faulted, Asked, Ended, operand_type as mir_type, body_query, trail_of, levels_over, entry_of, callee_error, called_cells, called as mir_called, called_by, calls, entered, going_on}
+use Rattle.mir.specs.Memory.{Memory, cell_bytes, number_held}
+use Rattle.mir.specs.Run.{Program, Frame, Calling, Ending, Faulted, Asked, Ended, operand_type as mir_type, body_query, trail_of, levels_over, entry_of, callee_error, called_cells, called as mir_called, called_by, calls, entered, going_on, led, some_out}
 use Rattle.source_meaning.specs.Around.{at_root, marking}
 use Rattle.source_meaning.specs.Calls.{function_called, function_in, source_of, source_called, parameter_cells, filled, started}
 use Rattle.source_meaning.specs.Ends.{Cost, no_cost, turns_alone, one_level_more, plus, End, Fault, Panic, Undefined, NoLayout, Go, Jumps, Faults, Stuck, More, after, then_do}
@@ -44,6 +44,7 @@ use Rattle.mir_lower.proofs.Placing.{AreAligned}
 use Rattle.mir_lower.proofs.Reaching.{none-entered, comes-trans, grown-trans, stops-before}
 use Rattle.mir_lower.proofs.Stopping.{IsPart, cut-onward, defined-by, ends-as, lacks-onward}
 use Rattle.mir_lower.proofs.Taking.{called-cells-take, filling-takes-none, grown-more, rooms}
+use Rattle.mir_lower.proofs.Within.{call-within, more-within, none-out, read-within}
 
 -- runs that are the same under every budget
 enters-same : (turns : ℕ) (run other : ℕ → Ended) → ((budget : ℕ) → run budget ≡ other budget) → Enters turns other → Enters turns run
@@ -154,6 +155,13 @@ module _ (source : Source) (whole : Shape) (frame : Frame) (lands : Landings) (f
   own-call : ReachesCall source id
   own-call = record { caller = source; reached = at_once; makes = makes }
 
+  -- arguments that show values can be read
+  args-within : (args : List MirOperand) (given : List (List ℕ)) → ShowAll whole frame store args given → some_out frame.program.world frame.body (number_held memory frame.cells) args ≡ false
+  args-within [] [] shown = none-out frame memory
+  args-within [] (bytes ∷ given) shown = absurd shown
+  args-within (arg ∷ args) [] shown = absurd shown
+  args-within (arg ∷ args) (bytes ∷ given) shown = more-within frame memory arg args (read-within frame memory arg.kind bytes (shown.0 memory holds)) (args-within args given shown.1)
+
   -- the body that the run is told for the callee; without one the run stops
   told-body : (called : Source) → source_of source.world id ≡ Some called → StopsFor (entering_cost called) ⊎ ((body : MirBody) × DoesBelow (suc fuel) frame.program called body × ((budget : ℕ) → run_from frame memory from budget ≡ going_on budget (mir_called frame memory call id body)))
   unfolding called_by going_on
@@ -172,7 +180,13 @@ module _ (source : Source) (whole : Shape) (frame : Frame) (lands : Landings) (f
     by_answer None known = inl (asks None known (λ budget. refl))
     by_answer (Some (told.Konst konst)) known = inl (asks (Some (told.Konst konst)) known (λ budget. refl))
     by_answer (Some (told.Discriminant number)) known = inl (asks (Some (told.Discriminant number)) known (λ budget. refl))
-    by_answer (Some (told.Body body)) known = inr (body.value, serves.bodies id called body has_body known, leads (Some (told.Body body)) known)
+    by_answer (Some (told.Body body)) known =
+        inr (
+          body.value,
+          serves.bodies id called body has_body known,
+          λ budget. leads (Some (told.Body body)) known budget
+              ∙ ap (λ (out : Bool). going_on budget (led frame out (mir_called frame memory call id body.value))) (call-within frame memory call is-whole (args-within call.args values fit)),
+        )
     by_answer (Some (told.Failed refusal)) known =
         inl (λ cost part.
         stops-now source frame.program (levels_over frame.below) memory cost (run_from frame memory from) (Faulted (callee_error id refusal) (entry_of frame call id ∷ trail_of frame)) (id, makes)

@@ -9,7 +9,7 @@ use Rattle.mir.specs.declared.operand.Operand.{Operand}
 use Rattle.mir.specs.declared.span.MirSpan.{MirSpan}
 use Rattle.mir.specs.declared.switch.SwitchTargets.{SwitchTargets}
 use Rattle.mir.specs.Memory.{Memory}
-use Rattle.mir.specs.Run.{Frame, GoesTo, terminated, switched, operand_bytes}
+use Rattle.mir.specs.Run.{Frame, GoesTo, led, terminated, switched, operand_bytes}
 use Rattle.mir.specs.Switches.{first_target, target_of, pairs_of, otherwise_of}
 use Rattle.numbers.specs.Bytes.{value_of}
 use Rattle.source_meaning.specs.Source.{Source}
@@ -22,6 +22,7 @@ use Rattle.mir_lower.proofs.Branches.{reserved-spared}
 use Rattle.mir_lower.proofs.Growing.{grows-trans}
 use Rattle.mir_lower.proofs.Reserving.{Reserves, reserves, LeadsOn, leads-on}
 use Rattle.mir_lower.proofs.Sparing.{spares-trans, spares-entered}
+use Rattle.mir_lower.proofs.Within.{read-within}
 
 pub goto-leads : (frame : Frame) (memory : Memory) (to : BasicBlockId) (span : MirSpan) → terminated frame memory (Some (record { span = span; kind = Goto to })) ≡ GoesTo frame memory to.0
 unfolding terminated
@@ -54,7 +55,8 @@ switch-leads : (frame : Frame) (memory : Memory) (discr : Operand) (targets : Sw
 unfolding terminated switched
 switch-leads frame memory discr targets span bytes found short =
     let fits : nat_le (length bytes) 16 ≡ true = grind (arith, nat_tests) in
-    ap (switched frame memory targets) found ∙ chosen _ _ (nat_le (length bytes) 16) fits
+    ap (λ (out : Bool). led frame out (switched frame memory targets (operand_bytes frame memory discr.kind))) (read-within frame memory discr.kind bytes found)
+    ∙ ap (switched frame memory targets) found ∙ chosen _ _ (nat_le (length bytes) 16) fits
 
 unequal : (m n : ℕ) → m ≢ n → (m == n) ≡ false
 unequal m n differ = grind (arith, nat_tests)

@@ -5,20 +5,21 @@ use Rattle.std.proofs.lemmas.Bool.{cases_eq}
 use Rattle.std.proofs.lemmas.Bool.Decides.{nat_tests}
 use Rattle.std.proofs.lemmas.Option.{option_and_then_some}
 use Rattle.mir.specs.declared.ids.LocalId.{LocalId}
-use Rattle.mir.specs.Places.{place_cell}
 use Rattle.mir.specs.declared.operand.Rvalue.{Rvalue}
 use Rattle.mir.specs.declared.statement.StatementKind.TheVariants.{Assign}
 use Rattle.mir.specs.declared.address.Interval.{Interval}
 use Rattle.mir.specs.Areas.{with_bytes}
-use Rattle.mir.specs.Memory.{Memory, cell_bytes}
+use Rattle.mir.specs.Memory.{Memory, cell_bytes, number_held}
 use Rattle.mir.specs.Run.{Frame, after_statement, copied, rvalue_bytes, bad_write}
 use Rattle.source_meaning.specs.Source.{Source, Cell, Result as Slot, Node, Binding, Never, Store, same_cell, with_cell_bytes}
 use Rattle.mir_lower.specs.Does.{IsFrameOf, Holds}
 use Rattle.mir.specs.WholePlaces.{whole_place}
+use Rattle.mir.proofs.WholePlaces.{whole-cell}
 use Rattle.mir_lower.specs.Graph.{Shape, local_of}
 use Rattle.mir_lower.specs.Growth.{IsSound}
 use Rattle.mir_lower.specs.Runs.{local_bytes, KeepsOthers}
 use Rattle.mir_lower.proofs.Stack.{length-cell_bytes, can_write, read-written, read-apart}
+use Rattle.mir_lower.proofs.Within.{assigns-bytes}
 
 -- one cell or two, and where it is one, `same_cell` says so
 same_cell-refl : (c : Cell) → same_cell c c ≡ true
@@ -73,14 +74,13 @@ others-stay s frame is memory later l k cell bytes old differ found written size
 -- as many bytes as a cell holds can be assigned to its local; memory then holds the store with them, and else is as it was
 pub assigns : (source : Source) (s : Shape) (frame : Frame) → IsSound source s → IsFrameOf s frame → (store : Store) (memory : Memory) → Holds s frame store memory → (c : Cell) (to : LocalId) (rvalue : Rvalue) (bytes : List ℕ) → local_of s c ≡ Some to.0 → rvalue_bytes frame memory rvalue ≡ Ok bytes → length bytes ≡ length (store c) →
     (later : Memory) × (after_statement frame memory (Assign (whole_place to) rvalue) ≡ Ok later) × Holds s frame (with_cell_bytes store c bytes) later × KeepsOthers frame memory later
-unfolding after_statement copied place_cell
+unfolding copied
 assigns source s frame sound is store memory holds c to rvalue bytes local computed long =
     let at = interval-of frame memory to.0 (store c) (holds.shows c to.0 local) in
     let can = can_write memory at.0 (store c) bytes at.2 long in
     let size : length bytes ≡ at.0.size = long ∙ length-cell_bytes memory at.0 (store c) at.2 in (
       can.0,
-      ap (λ o. copied memory o (rvalue_bytes frame memory rvalue)) at.1
-          ∙ ap (λ r. copied memory (Some at.0) r) computed
+      assigns-bytes frame memory (whole_place to) rvalue at.0 bytes (whole-cell frame.program.world frame.body (number_held memory frame.cells) frame.cells (whole_place to) refl ∙ at.1) computed
           ∙ ap (λ (o : Option Memory). elim o [ Some after ↦ Ok after | None ↦ Err bad_write ]) can.1,
       record {
         shows = λ d k h. ⊎_elim

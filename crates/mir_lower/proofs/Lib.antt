@@ -54,4 +54,5 @@ pub mod Strict
 pub mod Structs
 pub mod Taking
 pub mod Whole
+pub mod Within
 pub mod Writing

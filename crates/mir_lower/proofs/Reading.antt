@@ -27,9 +27,10 @@ use Rattle.mir.specs.declared.address.Address.{Address}
 use Rattle.mir.specs.declared.address.Address.TheVariants.{Stack, Heap, Invalid}
 use Rattle.mir.specs.declared.address.Interval.{Interval}
 use Rattle.mir.specs.declared.body.Local.{Local}
+use Rattle.mir.specs.declared.ids.LocalId.{LocalId}
 use Rattle.mir.specs.declared.operand.OperandKind.TheVariants.{Copy}
 use Rattle.mir.specs.declared.operand.Place.{Place as GraphPlace}
-use Rattle.mir.specs.Memory.{Memory, cell_bytes}
+use Rattle.mir.specs.Memory.{Memory, cell_bytes, number_held}
 use Rattle.mir.specs.Places as graph
 use Rattle.mir.specs.Places.{part_of_cell, cell_at, cell_behind, place_cell, place_type, type_at}
 use Rattle.mir.specs.Run.{Frame, operand_bytes as mir_bytes, operand_type as mir_type}
@@ -72,17 +73,17 @@ same_elem-type : (world : HirDatabase) (elem : PlaceElem) (ty : Ty) → graph.el
 same_elem-type world (Part index) ty = by_layer world index ty (out-Ty ty) refl
 same_elem-type world (FieldOf field) ty = by_parent world field field.parent ty (out-Ty ty) refl refl
 
-same_elem-offset : (world : HirDatabase) (elem : PlaceElem) (ty : Ty) → graph.elem_offset world (elem_of elem) ty ≡ source_place.elem_offset world elem ty
-same_elem-offset world (Part index) ty = refl
-same_elem-offset world (FieldOf field) ty = refl
+same_elem-offset : (world : HirDatabase) (numbers : LocalId → Option ℕ) (elem : PlaceElem) (ty : Ty) → graph.elem_offset world numbers (elem_of elem) ty ≡ source_place.elem_offset world elem ty
+same_elem-offset world numbers (Part index) ty = refl
+same_elem-offset world numbers (FieldOf field) ty = refl
 
 next-type : (world : HirDatabase) (elem : PlaceElem) (ty : Option Ty) → option_and_then (graph.elem_type world (elem_of elem)) ty ≡ option_and_then (source_place.elem_type world elem) ty
 next-type world elem (Some ty) = same_elem-type world elem ty
 next-type world elem None = refl
 
-next-offset : (world : HirDatabase) (elem : PlaceElem) (ty : Option Ty) → option_and_then (graph.elem_offset world (elem_of elem)) ty ≡ option_and_then (source_place.elem_offset world elem) ty
-next-offset world elem (Some ty) = same_elem-offset world elem ty
-next-offset world elem None = refl
+next-offset : (world : HirDatabase) (numbers : LocalId → Option ℕ) (elem : PlaceElem) (ty : Option Ty) → option_and_then (graph.elem_offset world numbers (elem_of elem)) ty ≡ option_and_then (source_place.elem_offset world elem) ty
+next-offset world numbers elem (Some ty) = same_elem-offset world numbers elem ty
+next-offset world numbers elem None = refl
 
 pub same-type : (world : HirDatabase) (elems : List PlaceElem) (ty : Option Ty) → graph.type_behind world (elements_of elems) ty ≡ source_place.type_behind world elems ty
 unfolding graph.type_behind source_place.type_behind
@@ -94,14 +95,14 @@ same_added (Some one) (Some other) = refl
 same_added (Some one) None = refl
 same_added None other = refl
 
-pub same-offset : (world : HirDatabase) (elems : List PlaceElem) (ty : Option Ty) → graph.offset_behind world (elements_of elems) ty ≡ source_place.offset_behind world elems ty
+pub same-offset : (world : HirDatabase) (numbers : LocalId → Option ℕ) (elems : List PlaceElem) (ty : Option Ty) → graph.offset_behind world numbers (elements_of elems) ty ≡ source_place.offset_behind world elems ty
 unfolding graph.offset_behind source_place.offset_behind
-same-offset world [] ty = refl
-same-offset world (elem ∷ rest) ty =
+same-offset world numbers [] ty = refl
+same-offset world numbers (elem ∷ rest) ty =
     let behind = option_and_then (source_place.elem_type world elem) ty in
-    ap (λ first. graph.added first (graph.offset_behind world (elements_of rest) (option_and_then (graph.elem_type world (elem_of elem)) ty))) (next-offset world elem ty)
-    ∙ ap (λ next. graph.added (option_and_then (source_place.elem_offset world elem) ty) (graph.offset_behind world (elements_of rest) next)) (next-type world elem ty)
-    ∙ ap (graph.added (option_and_then (source_place.elem_offset world elem) ty)) (same-offset world rest behind)
+    ap (λ first. graph.added first (graph.offset_behind world numbers (elements_of rest) (option_and_then (graph.elem_type world (elem_of elem)) ty))) (next-offset world numbers elem ty)
+    ∙ ap (λ next. graph.added (option_and_then (source_place.elem_offset world elem) ty) (graph.offset_behind world numbers (elements_of rest) next)) (next-type world elem ty)
+    ∙ ap (graph.added (option_and_then (source_place.elem_offset world elem) ty)) (same-offset world numbers rest behind)
     ∙ same_added (option_and_then (source_place.elem_offset world elem) ty) (source_place.offset_behind world rest behind)
 
 -- A part of what was read is read at its own place.
@@ -163,12 +164,12 @@ abbrev pub size_at : HirDatabase → Option Ty → Option ℕ
 size_at world ty = option_map (λ (layout : Layout). layout.size) (option_and_then (layout_of world) ty)
 
 -- what elements lead to in a cell has the bytes that they lead to in the cell's bytes
-behind-read : (world : HirDatabase) (memory : Memory) (cell : Interval) (bytes : List ℕ) → cell_bytes memory cell ≡ Some bytes → (elems : List PlaceElem) (ty : Option Ty) → option_and_then (cell_bytes memory) (cell_behind world (elements_of elems) ty cell) ≡ bytes_behind world elems ty bytes
+behind-read : (world : HirDatabase) (numbers : LocalId → Option ℕ) (memory : Memory) (cell : Interval) (bytes : List ℕ) → cell_bytes memory cell ≡ Some bytes → (elems : List PlaceElem) (ty : Option Ty) → option_and_then (cell_bytes memory) (cell_behind world numbers (elements_of elems) ty cell) ≡ bytes_behind world elems ty bytes
 unfolding cell_behind bytes_behind graph.type_behind source_place.type_behind
-behind-read world memory cell bytes found [] ty = found
-behind-read world memory cell bytes found (elem ∷ rest) ty =
-    ap (λ t. option_and_then (cell_bytes memory) (option_and_then (λ at. option_and_then (part_of_cell cell at) (size_at world t)) (graph.offset_behind world (elements_of (elem ∷ rest)) ty))) (same-type world (elem ∷ rest) ty)
-    ∙ ap (λ offset. option_and_then (cell_bytes memory) (option_and_then (λ at. option_and_then (part_of_cell cell at) (size_at world (source_place.type_behind world (elem ∷ rest) ty))) offset)) (same-offset world (elem ∷ rest) ty)
+behind-read world numbers memory cell bytes found [] ty = found
+behind-read world numbers memory cell bytes found (elem ∷ rest) ty =
+    ap (λ t. option_and_then (cell_bytes memory) (option_and_then (λ at. option_and_then (part_of_cell cell at) (size_at world t)) (graph.offset_behind world numbers (elements_of (elem ∷ rest)) ty))) (same-type world (elem ∷ rest) ty)
+    ∙ ap (λ offset. option_and_then (cell_bytes memory) (option_and_then (λ at. option_and_then (part_of_cell cell at) (size_at world (source_place.type_behind world (elem ∷ rest) ty))) offset)) (same-offset world numbers (elem ∷ rest) ty)
     ∙ spot-read memory cell bytes found (size_at world (source_place.type_behind world (elem ∷ rest) ty)) (source_place.offset_behind world (elem ∷ rest) ty)
 
 -- A place of the graph that is one of the source has its bytes, whenever store and memory agree, and its type.
@@ -184,14 +185,14 @@ module _ (source : Source) (whole : Shape) (frame : Frame) (place : GraphPlace) 
       ∙ sym there.2
 
   cell-is : (store : Store) (memory : Memory) → Holds whole frame store memory → (cell : Interval) → slice_get frame.cells place.local.0 ≡ Some cell → cell_bytes memory cell ≡ Some (store at.cell) → (elems : List PlaceElem) →
-      option_and_then (cell_bytes memory) (cell_at frame.program.world frame.body frame.cells place (Some (elements_of elems))) ≡ bytes_behind source.world elems (cell_type source at.cell) (store at.cell)
+      option_and_then (cell_bytes memory) (cell_at frame.program.world frame.body (number_held memory frame.cells) frame.cells place (Some (elements_of elems))) ≡ bytes_behind source.world elems (cell_type source at.cell) (store at.cell)
   unfolding bytes_behind
   cell-is store memory holds cell there found [] = ap (option_and_then (cell_bytes memory)) there ∙ found
   cell-is store memory holds cell there found (elem ∷ rest) =
-      ap (λ (c : Option Interval). option_and_then (cell_bytes memory) (option_and_then (cell_behind frame.program.world (elements_of (elem ∷ rest)) (graph.local_type frame.body place.local)) c)) there
-      ∙ ap (λ w. option_and_then (cell_bytes memory) (cell_behind w (elements_of (elem ∷ rest)) (graph.local_type frame.body place.local) cell)) world
-      ∙ ap (λ t. option_and_then (cell_bytes memory) (cell_behind source.world (elements_of (elem ∷ rest)) t cell)) local-type
-      ∙ behind-read source.world memory cell (store at.cell) found (elem ∷ rest) (cell_type source at.cell)
+      ap (λ (c : Option Interval). option_and_then (cell_bytes memory) (option_and_then (cell_behind frame.program.world (number_held memory frame.cells) (elements_of (elem ∷ rest)) (graph.local_type frame.body place.local)) c)) there
+      ∙ ap (λ w. option_and_then (cell_bytes memory) (cell_behind w (number_held memory frame.cells) (elements_of (elem ∷ rest)) (graph.local_type frame.body place.local) cell)) world
+      ∙ ap (λ t. option_and_then (cell_bytes memory) (cell_behind source.world (number_held memory frame.cells) (elements_of (elem ∷ rest)) t cell)) local-type
+      ∙ behind-read source.world (number_held memory frame.cells) memory cell (store at.cell) found (elem ∷ rest) (cell_type source at.cell)
 
   pub place-fits : Fits source (Copy place) whole frame (At at)
   unfolding mir_bytes mir_type place_cell place_type source_place.place_type place_bytes
@@ -199,7 +200,7 @@ module _ (source : Source) (whole : Shape) (frame : Frame) (place : GraphPlace) 
       record {
         bytes = λ store memory holds.
             let cell = interval-of frame memory place.local.0 (store at.cell) (holds.shows at.cell place.local.0 same.found) in
-            ap (λ elements. option_and_then (cell_bytes memory) (cell_at frame.program.world frame.body frame.cells place elements)) found-elements
+            ap (λ elements. option_and_then (cell_bytes memory) (cell_at frame.program.world frame.body (number_held memory frame.cells) frame.cells place elements)) found-elements
             ∙ cell-is store memory holds cell.0 cell.1 cell.2 at.projection;
         ty = ap (type_at frame.program.world frame.body place) found-elements ∙ ap (graph.type_behind frame.program.world (elements_of at.projection)) local-type
             ∙ ap (λ w. graph.type_behind w (elements_of at.projection) (cell_type source at.cell)) world ∙ same-type source.world at.projection (cell_type source at.cell);

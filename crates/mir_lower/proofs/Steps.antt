@@ -7,13 +7,12 @@ use Rattle.numbers.specs.Operators.{Answer, Computes, Panics, Undefined}
 use Rattle.mir.specs.declared.errors.MirEvalError.{MirEvalError}
 use Rattle.mir.specs.declared.errors.MirEvalError as error
 use Rattle.mir.specs.declared.ids.LocalId.{LocalId}
-use Rattle.mir.specs.Places.{place_cell}
 use Rattle.mir.specs.declared.operand.Rvalue.{Rvalue}
 use Rattle.mir.specs.declared.span.MirSpan.{MirSpan}
 use Rattle.mir.specs.declared.statement.Statement.{Statement}
 use Rattle.mir.specs.declared.statement.StatementKind.TheVariants.{Assign}
-use Rattle.mir.specs.Memory.{Memory}
-use Rattle.mir.specs.Run.{Frame, after_statement, copied, read, rvalue_bytes}
+use Rattle.mir.specs.Memory.{Memory, number_held}
+use Rattle.mir.specs.Run.{Frame, after_statement, read, rvalue_bytes}
 use Rattle.source_meaning.specs.Around.{Around}
 use Rattle.source_meaning.specs.Ends.{no_cost, End, Go, Stuck}
 use Rattle.source_meaning.specs.Meaning.{Value, answered as answered_to, answered_for, copy_to, level_at, callees_at, put, put_answer, into_of}
@@ -21,6 +20,7 @@ use Rattle.source_meaning.specs.Source.{Source, node, Cell, Result as Slot, Node
 use Rattle.source_meaning.proofs.Costs.{after-none}
 use Rattle.mir_lower.specs.Does.{Stands, here, IsFrameOf, Holds, Landings, Reaches, Performs, Nothing, DoesOwn}
 use Rattle.mir.specs.WholePlaces.{whole_place}
+use Rattle.mir.proofs.WholePlaces.{whole-cell}
 use Rattle.mir_lower.specs.Graph.{Shape, with_statement, local_of}
 use Rattle.mir_lower.specs.Growth.{Grows, IsSound, IsOpen, IsPlaced}
 use Rattle.mir_lower.specs.Runs.{Point, run_from, Comes}
@@ -29,6 +29,7 @@ use Rattle.mir_lower.proofs.Reaching.{none-entered, reaches-after}
 use Rattle.mir_lower.proofs.Rvalues.{Agrees}
 use Rattle.mir_lower.proofs.Running.{comes-statement, ends-statement}
 use Rattle.mir_lower.proofs.Sound.{binding_local-grows}
+use Rattle.mir_lower.proofs.Within.{assigns-panic}
 use Rattle.mir_lower.specs.Callees.{Serves}
 use Rattle.mir_lower.proofs.Serving.{serves-less}
 
@@ -65,15 +66,14 @@ module _ (source : Source) (s whole : Shape) (frame : Frame) (to : LocalId) (rva
       (λ stuck. subst (Reaches source whole lands frame (here s) (here (with_statement added s)) memory (Nothing whole frame)) (sym stuck) (inr tt))
       (put-cases store (record { cell = c }) bytes)
 
-  faults : (e : MirEvalError) → rvalue_bytes frame memory rvalue ≡ Err e → after_statement frame memory (Assign (whole_place to) rvalue) ≡ Err e
-  unfolding after_statement copied place_cell
-  faults e err =
+  faults : (word : List ℕ) → rvalue_bytes frame memory rvalue ≡ Err (error.Panic word) → after_statement frame memory (Assign (whole_place to) rvalue) ≡ Err (error.Panic word)
+  faults word err =
       let at = interval-of frame memory to.0 (store c) (holds.shows c to.0 local) in
-      ap (λ o. copied memory o (rvalue_bytes frame memory rvalue)) at.1 ∙ ap (λ r. copied memory (Some at.0) r) err
+      assigns-panic frame memory (whole_place to) rvalue at.0 word (whole-cell frame.program.world frame.body (number_held memory frame.cells) frame.cells (whole_place to) refl ∙ at.1) err
 
   pub assigned-agreeing : (answer : Answer) → Agrees answer (rvalue_bytes frame memory rvalue) → Reaches source whole lands frame (here s) (here (with_statement added s)) memory (Nothing whole frame) (put_answer store (record { cell = c }) answer)
   assigned-agreeing (Computes bytes) computes = assigned-bytes bytes computes
-  assigned-agreeing (Panics word) computes = inr (ends-statement added s whole frame memory opened grows is (error.Panic word) (faults (error.Panic word) computes))
+  assigned-agreeing (Panics word) computes = inr (ends-statement added s whole frame memory opened grows is (error.Panic word) (faults word computes))
   assigned-agreeing Undefined computes = inr tt
 
   -- or of what an operation answers for values, where there are some
