@@ -15,6 +15,7 @@ use Rattle.mir.specs.declared.answers.Answer.TheVariants as told
 use Rattle.mir.specs.declared.body.MirBody.{MirBody}
 use Rattle.mir.specs.declared.errors.MirEvalError.{MirEvalError}
 use Rattle.mir.specs.declared.errors.MirEvalError as error
+use Rattle.mir.specs.declared.operand.Operand.{Operand as MirOperand}
 use Rattle.mir.specs.Memory.{Memory, cell_bytes, number_held}
 use Rattle.mir.specs.Run.{Program, Frame, Calling, Ending, Faulted, Asked, Ended, operand_type as mir_type, body_query, trail_of, levels_over, entry_of, callee_error, called_cells, called as mir_called, called_by, calls, entered, going_on, led, some_out}
 use Rattle.source_meaning.specs.Around.{at_root, marking}

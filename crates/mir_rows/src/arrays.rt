@@ -73,15 +73,19 @@ pub(crate) fn element_offset(
 ) -> Option<u128>
     ensures { result ≡ option_map saturated (element_offset length size index) }
 {
-    match (length, size, index) {
-        (Some(length), Some(size), Some(index)) => {
-            if index < length {
-                Some(index.saturating_mul(size as u128))
-            } else {
-                None
-            }
-        }
-        _ => None,
+    let Some(length) = length else {
+        return None;
+    };
+    let Some(size) = size else {
+        return None;
+    };
+    let Some(index) = index else {
+        return None;
+    };
+    if index < length {
+        Some(index.saturating_mul(size as u128))
+    } else {
+        None
     }
 }
 
@@ -99,9 +103,12 @@ pub(crate) fn widened(offset: Option<u64>) -> Option<u128>
 fn is_past(length: Option<u128>, index: Option<u128>) -> bool
     ensures { result ≡ is_past length index }
 {
-    match (length, index) {
-        (Some(length), Some(index)) => length <= index,
-        _ => false,
+    let Some(length) = length else {
+        return false;
+    };
+    match index {
+        Some(index) => length <= index,
+        None => false,
     }
 }
 
@@ -109,10 +116,11 @@ fn is_past(length: Option<u128>, index: Option<u128>) -> bool
 pub(crate) fn elem_past<N: Numbers>(numbers: &N, elem: &PlaceElem, ty: Option<&Ty>) -> bool
     ensures { result ≡ elem_past (N.held numbers.now) elem.now (option_copied ty.entry) }
 {
-    match (elem, ty) {
-        (ProjectionElem::Index(local), Some(ty)) => {
-            is_past(array_length(ty), numbers.number(*local))
-        }
-        _ => false,
+    let ProjectionElem::Index(local) = elem else {
+        return false;
+    };
+    match ty {
+        Some(ty) => is_past(array_length(ty), numbers.number(*local)),
+        None => false,
     }
 }
