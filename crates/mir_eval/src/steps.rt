@@ -277,17 +277,20 @@ pub(crate) fn execute<M: Memory>(
 {
     match statement {
         StatementKind::Assign(place, rvalue) => {
-            let numbers = Held {
-                memory: &*memory,
-                cells: frame.cells,
+            let out = {
+                let numbers = Held {
+                    memory: &*memory,
+                    cells: frame.cells,
+                };
+                assigns_out(
+                    frame.program.db,
+                    frame.body.body(),
+                    &numbers,
+                    *place,
+                    rvalue,
+                )
             };
-            if assigns_out(
-                frame.program.db,
-                frame.body.body(),
-                &numbers,
-                *place,
-                rvalue,
-            ) {
+            if out {
                 return Err(Fault::OutOfBounds);
             }
             match cell_now(frame, memory, *place) {
