@@ -257,14 +257,14 @@ rvalue_bytes frame memory (CheckedBinaryOp op left right) =
 rvalue_bytes frame memory (UnaryOp op operand) = operated_on op (operand_type frame.program.world frame.body operand.kind) (operand_bytes frame memory operand.kind)
 rvalue_bytes frame memory (Aggregate kind operands) = aggregated frame.program.world kind (operands_bytes frame memory operands)
 
--- the operands that an assignment reads, in order
-abbrev pub operands_read : Rvalue → List Operand
-operands_read (Use operand) = operand ∷ []
-operands_read (Repeat operand len) = operand ∷ []
-operands_read (Cast kind operand ty) = operand ∷ []
-operands_read (CheckedBinaryOp op left right) = left ∷ right ∷ []
-operands_read (UnaryOp op operand) = operand ∷ []
-operands_read (Aggregate kind operands) = operands
+-- whether an operand that an assignment reads is out of bounds
+unfoldable pub reads_out : HirDatabase → MirBody → (numbers : LocalId → Option ℕ) → Rvalue → Bool
+reads_out world body numbers (Use operand) = operand_out world body numbers operand.kind
+reads_out world body numbers (Repeat operand len) = operand_out world body numbers operand.kind
+reads_out world body numbers (Cast kind operand ty) = operand_out world body numbers operand.kind
+reads_out world body numbers (CheckedBinaryOp op left right) = operand_out world body numbers left.kind || operand_out world body numbers right.kind
+reads_out world body numbers (UnaryOp op operand) = operand_out world body numbers operand.kind
+reads_out world body numbers (Aggregate kind operands) = some_out world body numbers operands
 
 -- the memory after bytes were copied to a cell
 unfoldable pub copied : Memory → Option Interval → Result (List ℕ) MirEvalError → Result Memory MirEvalError
@@ -275,7 +275,7 @@ copied memory None bytes = Err bad_write
 
 -- whether an assignment uses a place that is out of bounds: its own, or one that it reads
 abbrev pub assigns_out : HirDatabase → MirBody → (numbers : LocalId → Option ℕ) → Place → Rvalue → Bool
-assigns_out world body numbers place rvalue = is_out_of_bounds world body numbers place || some_out world body numbers (operands_read rvalue)
+assigns_out world body numbers place rvalue = is_out_of_bounds world body numbers place || reads_out world body numbers rvalue
 
 -- the memory after what was computed was copied to a place, unless a place that is used is out of bounds (`out`)
 abbrev pub assigned : (out : Bool) → Memory → Option Interval → Result (List ℕ) MirEvalError → Result Memory MirEvalError

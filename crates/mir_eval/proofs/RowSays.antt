@@ -24,7 +24,7 @@ use Rattle.mir.specs.declared.statement.StatementKind.TheVariants.{Assign, FakeR
 use Rattle.mir.specs.declared.switch.SwitchTargets.{SwitchTargets}
 use Rattle.mir.specs.Memory.{Memory, cell_bytes, number_held}
 use Rattle.mir.specs.Places.{is_out_of_bounds}
-use Rattle.mir.specs.Run.{Frame, GoesTo, after_statement, assigned, cell_now, copied, led, operand_bytes, operand_out, operands_read, some_out, operand_type, operated, read, rvalue_bytes, switched, terminated}
+use Rattle.mir.specs.Run.{Frame, GoesTo, after_statement, assigned, cell_now, copied, led, operand_bytes, operand_out, reads_out, operand_type, operated, read, rvalue_bytes, switched, terminated}
 use Rattle.mir.specs.Switches.{first_target, target_of}
 use Rattle.mir_ops.specs.declared.made.Made.{Made}
 use Rattle.mir_ops.specs.Made.{made_bytes}
@@ -78,22 +78,13 @@ module _ (frame : Frame) (memory : Memory) where
   either-false false other first second = second
   either-false true other first second = absurd cc
 
-  one-within : (one : Operand) → operand_out frame.program.world frame.body (number_held memory frame.cells) one.kind ≡ false → some_out frame.program.world frame.body (number_held memory frame.cells) (one ∷ []) ≡ false
-  unfolding some_out
-  one-within one within = ap (λ (b : Bool). b || false) within
-
-  both-within : (one other : Operand) → operand_out frame.program.world frame.body (number_held memory frame.cells) one.kind ≡ false → operand_out frame.program.world frame.body (number_held memory frame.cells) other.kind ≡ false →
-      some_out frame.program.world frame.body (number_held memory frame.cells) (one ∷ other ∷ []) ≡ false
-  unfolding some_out
-  both-within one other first second = ap (λ (b : Bool). b || some_out frame.program.world frame.body (number_held memory frame.cells) (other ∷ [])) first ∙ one-within other second
-
   -- what an assignment leaves whose places aren't out of bounds
-  assigned-within : (place : Place) (to : Spot) (rvalue : Rvalue) → IsSpot (code_in frame) place to → some_out frame.program.world frame.body (number_held memory frame.cells) (operands_read rvalue) ≡ false →
+  assigned-within : (place : Place) (to : Spot) (rvalue : Rvalue) → IsSpot (code_in frame) place to → reads_out frame.program.world frame.body (number_held memory frame.cells) rvalue ≡ false →
       copied memory (cell_now frame memory place) (rvalue_bytes frame memory rvalue) ≡ after_statement frame memory (Assign place rvalue)
   unfolding after_statement
   assigned-within place to rvalue is within =
       ap (λ (out : Bool). assigned out memory (cell_now frame memory place) (rvalue_bytes frame memory rvalue))
-      (sym (either-false (is_out_of_bounds frame.program.world frame.body (number_held memory frame.cells) place) (some_out frame.program.world frame.body (number_held memory frame.cells) (operands_read rvalue)) (is.within (number_held memory frame.cells)) within))
+      (sym (either-false (is_out_of_bounds frame.program.world frame.body (number_held memory frame.cells) place) (reads_out frame.program.world frame.body (number_held memory frame.cells) rvalue) (is.within (number_held memory frame.cells)) within))
 
   -- where a source says that a value lies
   pub lies-whole : (given : Source) (local : LocalId) → given ≡ source.Whole local → (kind : OperandKind) → IsSource (code_in frame) given kind → LiesAt (code_in frame) (at.Whole local) kind
@@ -136,13 +127,14 @@ module _ (frame : Frame) (memory : Memory) where
         ((one other : OperandKind) → AreOperands (code_in frame) kind left right one other → operated op (operand_type frame.program.world frame.body one) (operand_type frame.program.world frame.body other) (operand_bytes frame memory one) (operand_bytes frame memory other) ≡ Ok (made_bytes m)) →
         out ≡ copied memory (spot_cell frame.cells to) (Ok (made_bytes m)) →
         (statement : StatementKind) → Says (code_in frame) (action.Combine op kind to left right) statement → out ≡ after_statement frame memory statement
-    unfolding rvalue_bytes
+    unfolding rvalue_bytes reads_out
     combines op kind left right m makes is (Assign place (CheckedBinaryOp operator one other)) says =
         is
         ∙ ap (λ (cell : Option Interval). copied memory cell (Ok (made_bytes m))) (sym (says.0.lies (number_held memory frame.cells) frame.cells))
         ∙ ap (copied memory (cell_now frame memory place))
         (sym (makes one.kind other.kind says.2) ∙ ap (λ (o : Operator). operated o (operand_type frame.program.world frame.body one.kind) (operand_type frame.program.world frame.body other.kind) (operand_bytes frame memory one.kind) (operand_bytes frame memory other.kind)) (sym says.1))
-        ∙ assigned-within place to (CheckedBinaryOp operator one other) says.0 (both-within one other (source-within left one.kind says.2.left) (source-within right other.kind says.2.right))
+        ∙ assigned-within place to (CheckedBinaryOp operator one other) says.0
+        (either-false (operand_out frame.program.world frame.body (number_held memory frame.cells) one.kind) (operand_out frame.program.world frame.body (number_held memory frame.cells) other.kind) (source-within left one.kind says.2.left) (source-within right other.kind says.2.right))
     combines op kind left right m makes is (Assign place (Use given)) says = absurd says
     combines op kind left right m makes is (Assign place (UnaryOp operator given)) says = absurd says
     combines op kind left right m makes is (Assign place (Cast cast given ty)) says = absurd says
@@ -163,12 +155,12 @@ module _ (frame : Frame) (memory : Memory) where
     -- or the bytes of one operand
     puts : (bytes : Result (List ℕ) MirEvalError) → out ≡ copied memory (spot_cell frame.cells to) bytes →
         (place : Place) (one : Operand) → IsSpot (code_in frame) place to → operand_out frame.program.world frame.body (number_held memory frame.cells) one.kind ≡ false → read (operand_bytes frame memory one.kind) ≡ bytes → out ≡ after_statement frame memory (Assign place (Use one))
-    unfolding rvalue_bytes
+    unfolding rvalue_bytes reads_out
     puts bytes does place one lies within are =
         does
         ∙ ap (λ (cell : Option Interval). copied memory cell bytes) (sym (lies.lies (number_held memory frame.cells) frame.cells))
         ∙ ap (copied memory (cell_now frame memory place)) (sym are)
-        ∙ assigned-within place to (Use one) lies (one-within one within)
+        ∙ assigned-within place to (Use one) lies within
 
     copies : (from : Spot) → out ≡ copied memory (spot_cell frame.cells to) (read (option_and_then (cell_bytes memory) (spot_cell frame.cells from))) →
         (statement : StatementKind) → Says (code_in frame) (action.Copy to from) statement → out ≡ after_statement frame memory statement

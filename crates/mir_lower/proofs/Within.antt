@@ -24,7 +24,7 @@ use Rattle.mir.specs.declared.statement.StatementKind.TheVariants.{Assign}
 use Rattle.mir.specs.Memory.{Memory, cell_bytes, number_held}
 use Rattle.mir.specs.Places.{is_out_of_bounds}
 use Rattle.mir.specs.Projections.{empty_id}
-use Rattle.mir.specs.Run.{Calling, Frame, after_statement, aggregated, assigned, assigns_out, before, calls_out, cast_to, cell_now, copied, operand_bytes, operand_out, operand_type, operands_bytes, operands_read, operated, operated_on, read, repeats, rvalue_bytes, some_out}
+use Rattle.mir.specs.Run.{Calling, Frame, after_statement, aggregated, assigned, assigns_out, before, calls_out, cast_to, cell_now, copied, operand_bytes, operand_out, operand_type, operands_bytes, operated, operated_on, read, reads_out, repeats, rvalue_bytes, some_out}
 use Rattle.mir.proofs.Bounds.{cell-within}
 use Rattle.mir.proofs.WholePlaces.{whole-within}
 
@@ -71,50 +71,48 @@ module _ (frame : Frame) (memory : Memory) where
     by (Some bytes) first None others same = absurd cc
     by None first others within same = absurd cc
 
-  one-read : (operand : Operand) (made : Option (List ℕ) → Result (List ℕ) MirEvalError) → (IsComputed (made None) → ⊥) → IsComputed (made (operand_bytes frame memory operand.kind)) → SomeOut (operand ∷ []) ≡ false
+  one-read : (operand : Operand) (made : Option (List ℕ) → Result (List ℕ) MirEvalError) → (IsComputed (made None) → ⊥) → IsComputed (made (operand_bytes frame memory operand.kind)) → Out operand.kind ≡ false
   one-read operand made fails is = by (operand_bytes frame memory operand.kind) refl is where
-    by : (bytes : Option (List ℕ)) → operand_bytes frame memory operand.kind ≡ bytes → IsComputed (made bytes) → SomeOut (operand ∷ []) ≡ false
-    by (Some bytes) found done = more-within operand [] (read-within operand.kind bytes found) none-out
+    by : (bytes : Option (List ℕ)) → operand_bytes frame memory operand.kind ≡ bytes → IsComputed (made bytes) → Out operand.kind ≡ false
+    by (Some bytes) found done = read-within operand.kind bytes found
     by None found done = absurd (fails done)
 
-  repeated-read : (operand : Operand) (count : Option ℕ) → IsComputed (repeats count (operand_bytes frame memory operand.kind)) → SomeOut (operand ∷ []) ≡ false
+  repeated-read : (operand : Operand) (count : Option ℕ) → IsComputed (repeats count (operand_bytes frame memory operand.kind)) → Out operand.kind ≡ false
   unfolding repeats
   repeated-read operand (Some count) is = one-read operand (repeats (Some count)) (λ done. done) is
   repeated-read operand None is = absurd is
 
-  both-read : (op : Operator) (one other : Operand) (first second : Option Ty) → IsComputed (operated op first second (operand_bytes frame memory one.kind) (operand_bytes frame memory other.kind)) → SomeOut (one ∷ other ∷ []) ≡ false
+  both-read : (op : Operator) (one other : Operand) (first second : Option Ty) → IsComputed (operated op first second (operand_bytes frame memory one.kind) (operand_bytes frame memory other.kind)) → (Out one.kind || Out other.kind) ≡ false
   unfolding operated
   both-read op one other first second is = by (operand_bytes frame memory one.kind) refl (operand_bytes frame memory other.kind) refl is where
-    by : (left : Option (List ℕ)) → operand_bytes frame memory one.kind ≡ left → (right : Option (List ℕ)) → operand_bytes frame memory other.kind ≡ right → IsComputed (operated op first second left right) → SomeOut (one ∷ other ∷ []) ≡ false
-    by (Some left) found (Some right) beside done = more-within one (other ∷ []) (read-within one.kind left found) (more-within other [] (read-within other.kind right beside) none-out)
+    by : (left : Option (List ℕ)) → operand_bytes frame memory one.kind ≡ left → (right : Option (List ℕ)) → operand_bytes frame memory other.kind ≡ right → IsComputed (operated op first second left right) → (Out one.kind || Out other.kind) ≡ false
+    by (Some left) found (Some right) beside done = either-false (Out one.kind) (Out other.kind) (read-within one.kind left found) (read-within other.kind right beside)
     by (Some left) found None beside done = absurd done
     by None found right beside done = absurd done
 
-  parts-read : (kind : AggregateKind) (operands : List Operand) → IsComputed (aggregated frame.program.world kind (operands_bytes frame memory operands)) → SomeOut operands ≡ false
+  parts-read : (kind : AggregateKind) (operands : List Operand) (parts : Option (List (List ℕ))) → operands_bytes frame memory operands ≡ parts → IsComputed (aggregated frame.program.world kind parts) → SomeOut operands ≡ false
   unfolding aggregated
-  parts-read kind operands is = by kind (operands_bytes frame memory operands) refl is where
-    by : (k : AggregateKind) (parts : Option (List (List ℕ))) → operands_bytes frame memory operands ≡ parts → IsComputed (aggregated frame.program.world k parts) → SomeOut operands ≡ false
-    by k (Some parts) found done = all-within operands parts found
-    by (Array ty) None found done = absurd done
-    by (Tuple ty) None found done = absurd done
-    by (Adt id args) None found done = absurd done
+  parts-read kind operands (Some parts) found is = all-within operands parts found
+  parts-read (Array ty) operands None found is = absurd is
+  parts-read (Tuple ty) operands None found is = absurd is
+  parts-read (Adt id args) operands None found is = absurd is
 
   -- what an assignment reads that computes
-  pub computed-within : (rvalue : Rvalue) → IsComputed (rvalue_bytes frame memory rvalue) → SomeOut (operands_read rvalue) ≡ false
-  unfolding rvalue_bytes cast_to operated_on
+  pub computed-within : (rvalue : Rvalue) → IsComputed (rvalue_bytes frame memory rvalue) → reads_out frame.program.world frame.body (number_held memory frame.cells) rvalue ≡ false
+  unfolding rvalue_bytes reads_out cast_to operated_on
   computed-within (Use operand) is = one-read operand read (λ done. done) is
   computed-within (Repeat operand len) is = repeated-read operand (number_in len) is
   computed-within (Cast kind operand ty) is = one-read operand (cast_to ty (operand_type frame.program.world frame.body operand.kind)) (λ done. done) is
   computed-within (CheckedBinaryOp op left right) is = both-read op left right (operand_type frame.program.world frame.body left.kind) (operand_type frame.program.world frame.body right.kind) is
   computed-within (UnaryOp op operand) is = one-read operand (operated_on op (operand_type frame.program.world frame.body operand.kind)) (λ done. done) is
-  computed-within (Aggregate kind operands) is = parts-read kind operands is
+  computed-within (Aggregate kind operands) is = parts-read kind operands (operands_bytes frame memory operands) refl is
 
   -- an assignment that computes, to a place that lies somewhere
   pub does-assign : (place : Place) (rvalue : Rvalue) (cell : Interval) → cell_now frame memory place ≡ Some cell → IsComputed (rvalue_bytes frame memory rvalue) → after_statement frame memory (Assign place rvalue) ≡ copied memory (Some cell) (rvalue_bytes frame memory rvalue)
   unfolding after_statement
   does-assign place rvalue cell there computes =
       ap (λ (out : Bool). assigned out memory (cell_now frame memory place) (rvalue_bytes frame memory rvalue))
-      (either-false (is_out_of_bounds frame.program.world frame.body (number_held memory frame.cells) place) (SomeOut (operands_read rvalue))
+      (either-false (is_out_of_bounds frame.program.world frame.body (number_held memory frame.cells) place) (reads_out frame.program.world frame.body (number_held memory frame.cells) rvalue)
       (cell-within frame.program.world (number_held memory frame.cells) frame.body frame.cells place cell there) (computed-within rvalue computes))
       ∙ ap (λ (o : Option Interval). copied memory o (rvalue_bytes frame memory rvalue)) there
 

@@ -1,6 +1,7 @@
 -- The spots of places: whole cells, and parts of cells.
 use Rattle.std.proofs.Common.{◌≡◌, ℕ, Bool, true, false, List, [], ◌∷◌, length, Option, Some, None, slice_get, sym, ap, refl, ◌∙◌, arith, eqb-true}
 use Rattle.std.specs.Prelude.{if◌then◌else◌, ◌==◌, option_and_then}
+use Rattle.either.specs.declared.Either.TheVariants.{Left, Right}
 use Rattle.types.specs.declared.ty.Ty.{Ty}
 use Rattle.world.specs.declared.database.HirDatabase.{HirDatabase}
 use Rattle.world.specs.declared.layout.Layout.{Layout}
@@ -8,7 +9,7 @@ use Rattle.world.specs.Lookups.{layout_of}
 use Rattle.mir.specs.declared.address.Interval.{Interval}
 use Rattle.mir.specs.declared.ids.LocalId.{LocalId}
 use Rattle.mir.specs.declared.operand.Place.{Place}
-use Rattle.mir.specs.declared.projection.ProjectionElem.TheVariants.{Index}
+use Rattle.mir.specs.declared.projection.ProjectionElem.TheVariants.{Field, Index}
 use Rattle.mir.specs.Elements.{PlaceElem}
 use Rattle.mir.specs.Places.{added, cell_at, cell_behind, elem_offset, elem_type, element_offset, element_size, elements_of, is_out_of_bounds, leads_past, local_type, offset_behind, part_of_cell, past_at, place_cell, type_behind}
 use Rattle.mir.specs.ProjectedTypes.{array_length}
@@ -36,6 +37,8 @@ no-index None size offset is = absurd cc
 any-elem : (world : HirDatabase) (numbers : LocalId → Option ℕ) (elem : PlaceElem) (ty : Option Ty) (offset : ℕ) → option_and_then (elem_offset world no-numbers elem) ty ≡ Some offset → option_and_then (elem_offset world numbers elem) ty ≡ Some offset
 any-elem world numbers (Index local) (Some ty) offset is = absurd (no-index (array_length ty) (element_size world ty) offset is)
 any-elem world numbers (Index local) None offset is = absurd cc
+any-elem world numbers (Field (Left field)) ty offset is = is
+any-elem world numbers (Field (Right field)) ty offset is = is
 any-elem world numbers _ ty offset is = is
 
 any-offset : (world : HirDatabase) (numbers : LocalId → Option ℕ) (elems : Projection) (ty : Option Ty) (offset : ℕ) → offset_behind world no-numbers elems ty ≡ Some offset → offset_behind world numbers elems ty ≡ Some offset

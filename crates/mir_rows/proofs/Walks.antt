@@ -1,5 +1,6 @@
 -- Walks over the elements of a projection, and the cells that they lead to.
 use Rattle.std.proofs.Common.{◌≡◌, ℕ, ◌+◌, ◌^◌, ◌<◌, ◌≤◌, Bool, true, false, ◌||◌, List, [], ◌∷◌, length, drop, get_or, Option, Some, None, Bor, slice_get, refl, sym, ap, ◌∙◌, arith, eqb-true, leb-true, lit≤}
+use borrow.Author.Tests.{leb-false}
 use Rattle.std.specs.Prelude.{IfSome, if◌then◌else◌, ◌==◌, min, nat_le, option_and_then, option_map}
 use Rattle.std.specs.Option.{option_copied}
 use Rattle.std.proofs.lemmas.Bool.Decides.{nat_tests}
@@ -37,15 +38,24 @@ saturated-twice n = least-twice farthest n
 least-of : (most n : ℕ) → n ≤ most → min n most ≡ n
 least-of most n less = omega arith
 
+under : (n short most : ℕ) → n < short → short ≤ most → n < most
+under n short most less near = omega arith
+
+inside-most : (meant size whole most : ℕ) → meant + size ≤ whole → whole < most → meant ≤ most
+inside-most meant size whole most inside less = omega arith
+
+under-le : (n short most : ℕ) → n < short → short ≤ most → n ≤ most
+under-le n short most less near = omega arith
+
 pub saturated-small : (n : ℕ) → n < 2 ^ 64 → saturated n ≡ n
-saturated-small n less = least-of farthest n (let far : 2 ^ 64 ≤ farthest = lit≤ tt in omega (arith, less, far))
+saturated-small n less = least-of farthest n (under-le n (2 ^ 64) farthest less (lit≤ tt))
 
 below-most : (most n offset : ℕ) → offset ≡ min n most → offset < most → n ≡ offset
 below-most most n offset is less = omega arith
 
 -- an offset that isn't saturated
 pub saturated-is : (meant offset : ℕ) → offset ≡ saturated meant → offset < 2 ^ 64 → meant ≡ offset
-saturated-is meant offset is less = below-most farthest meant offset is (let far : 2 ^ 64 ≤ farthest = lit≤ tt in omega (arith, less, far))
+saturated-is meant offset is less = below-most farthest meant offset is (under offset (2 ^ 64) farthest less (lit≤ tt))
 
 -- the number that was saturated
 pub meant-of : (found : Option ℕ) (offset : ℕ) → Some offset ≡ option_map saturated found → (meant : ℕ) × (found ≡ Some meant) × (offset ≡ saturated meant)
@@ -177,30 +187,35 @@ end-size (Stack place) size ends = omega (arith, ends)
 end-size (Heap place) size ends = omega (arith, ends)
 end-size (Invalid n) size ends = omega (arith, ends)
 
--- a part that begins past the cell's end, and one that doesn't, by a saturated offset
-past-cell : (meant size whole most offset : ℕ) → offset ≡ min meant most → whole < offset → nat_le (meant + size) whole ≡ false
-past-cell meant size whole most offset is less =
-    let above : whole < meant + size = omega arith in
+-- so many bytes of a cell from an offset on
+abbrev part : Interval → ℕ → ℕ → Interval
+part cell offset size = record { addr = moved cell.addr offset; size = size }
+
+past-cell : (meant size whole most : ℕ) → whole < meant + size → whole < most → nat_le (min meant most + size) whole ≡ false
+past-cell meant size whole most less near =
+    let above : whole < min meant most + size = omega arith in
     grind (arith, nat_tests)
 
-pub part-past : (cell : Interval) (meant size offset : ℕ) → offset ≡ saturated meant → cell.size < offset → None ≡ part_of_cell cell meant size
-part-past cell meant size offset is less =
-    ap (λ (fits : Bool). if fits then Some (record { addr = moved cell.addr meant; size = size }) else None) (sym (past-cell meant size cell.size farthest offset is less))
+-- a part of a cell by its saturated offset is the same: what isn't in the cell isn't in it by either
+pub part-saturated : (cell : Interval) (meant size : ℕ) → HasEnd cell → part_of_cell cell (saturated meant) size ≡ part_of_cell cell meant size
+part-saturated cell meant size ends = by (nat_le (meant + size) cell.size) refl where
+  short : cell.size < farthest
+  short = under cell.size (2 ^ 64) farthest (end-size cell.addr cell.size ends) (lit≤ tt)
 
-pub part-near : (cell : Interval) (meant size offset : ℕ) → HasEnd cell → offset ≡ saturated meant → offset ≤ cell.size → part_of_cell cell offset size ≡ part_of_cell cell meant size
-part-near cell meant size offset ends is less =
-    let short = end-size cell.addr cell.size ends in
-    ap (λ (n : ℕ). part_of_cell cell n size) (sym (saturated-is meant offset is (omega (arith, short, less))))
+  by : (fits : Bool) → nat_le (meant + size) cell.size ≡ fits → part_of_cell cell (saturated meant) size ≡ part_of_cell cell meant size
+  by true fits =
+      let inside : meant + size ≤ cell.size = leb-true (meant + size) cell.size fits in
+      ap (λ (n : ℕ). part_of_cell cell n size) (least-of farthest meant (inside-most meant size cell.size farthest inside short))
+  by false fits =
+      let outside : cell.size < meant + size = leb-false (meant + size) cell.size fits in
+      ap (λ (b : Bool). if b then Some (part cell (saturated meant) size) else None) (past-cell meant size cell.size farthest outside short)
+      ∙ sym (ap (λ (b : Bool). if b then Some (part cell meant size) else None) fits)
 
 -- behind a part of a cell there is such an address too
 part-end : (address : Address) (offset part size : ℕ) → offset + part ≤ size → usize_of (moved address size) < 2 ^ 64 → usize_of (moved (moved address offset) part) < 2 ^ 64
 part-end (Stack place) offset part size fits ends = omega (arith, fits, ends)
 part-end (Heap place) offset part size fits ends = omega (arith, fits, ends)
 part-end (Invalid n) offset part size fits ends = omega (arith, fits, ends)
-
--- so many bytes of a cell from an offset on
-abbrev part : Interval → ℕ → ℕ → Interval
-part cell offset size = record { addr = moved cell.addr offset; size = size }
 
 part-ends : (cell : Interval) (offset size : ℕ) → HasEnd cell → IfSome (part_of_cell cell offset size) HasEnd
 part-ends cell offset size ends = by (nat_le (offset + size) cell.size) refl where

@@ -4,7 +4,7 @@ ghost use Rattle.std.specs.Prelude.{◌≡◌};
 ghost use Rattle.std.specs.Option.{option_copied};
 ghost use Rattle.mir.specs.Places.{is_out_of_bounds, leads_past, past_at};
 ghost use Rattle.mir.specs.Projections.{projection_of};
-ghost use Rattle.mir.specs.Run.{assigns_out, operand_out, operands_read, some_out};
+ghost use Rattle.mir.specs.Run.{assigns_out, operand_out, reads_out, some_out};
 
 use crate::arrays::{Numbers, elem_past};
 use crate::places::{elem_type, elements, local_type};
@@ -96,10 +96,10 @@ pub fn some_out<N: Numbers>(
     false
 }
 
-/// Whether an operand that an assignment reads is.
-#[tactic(auto, unfolding(mir::specs::Run::some_out))]
+/// Whether an operand that an assignment reads is out of bounds.
+#[tactic(auto, unfolding(mir::specs::Run::reads_out))]
 fn reads_out<N: Numbers>(db: &HirDatabase, body: &MirBody, numbers: &N, rvalue: &Rvalue) -> bool
-    ensures { result ≡ some_out db.now body.now (N.held numbers.now) (operands_read rvalue.now) }
+    ensures { result ≡ reads_out db.now body.now (N.held numbers.now) rvalue.now }
 {
     match rvalue {
         Rvalue::Use(operand) => operand_out(db, body, numbers, &operand.kind),

@@ -1,6 +1,6 @@
 //! Where the values of places lie, and of which types they are.
 
-ghost use Rattle.std.specs.Prelude.{◌≡◌, ℕ, IfSome, option_map, slice_get};
+ghost use Rattle.std.specs.Prelude.{◌≡◌, IfSome, option_map, slice_get};
 ghost use Rattle.std.specs.Option.{option_copied};
 ghost use Rattle.mir.specs.Places.{cell_at, cell_behind, elem_offset, elem_type, local_type, offset_behind, part_of_cell, part_offset, place_cell, place_type, type_at, type_behind};
 ghost use Rattle.mir.specs.Projections.{projection_of};
@@ -113,7 +113,7 @@ pub(crate) fn offset_behind<N: Numbers>(
 /// So many bytes of a cell from an offset on, where the cell has as many.
 fn part_of_cell(cell: Interval, offset: u128, size: u64) -> Option<Interval>
     requires { HasEnd cell }
-    ensures { (meant : ℕ) → offset ≡ saturated meant → result ≡ part_of_cell cell meant size }
+    ensures { result ≡ part_of_cell cell offset size }
 {
     if offset > cell.size as u128 {
         None

@@ -1,7 +1,7 @@
-use Rattle.std.proofs.Common.{Some, None, sym, ◌∙◌}
+use Rattle.std.proofs.Common.{ℕ, Some, None, sym, ap, ◌∙◌}
 use Rattle.std.specs.Option.{option_copied}
-use Rattle.mir.specs.Places.{offset_behind, type_behind}
-use Rattle.mir_rows.proofs.Walks.{behind-by, behind-none, laid-by, meant-of, none-meant}
+use Rattle.mir.specs.Places.{offset_behind, part_of_cell, type_behind}
+use Rattle.mir_rows.proofs.Walks.{behind-by, behind-none, laid-by, meant-of, none-meant, part-saturated}
 use Rattle.mir_rows.proofs.places.cell_behind.Goals as goal
 
 pub returns-then-is_empty : goal.returns-then-is_empty
@@ -23,7 +23,9 @@ pub returns-in-Some-layout_of : goal.returns-in-Some-layout_of
 returns-in-Some-layout_of g c =
     let held = g.N.Numbers.held c.args.numbers.now in
     let meant = meant-of (offset_behind c.args.db.now held c.args.elements.now (option_copied c.args.ty)) c.in-Some.offset c.in-Some.ensures in
-    c.part_of_cell.ensures meant.0 meant.2
+    c.part_of_cell.ensures
+    ∙ ap (λ (n : ℕ). part_of_cell c.args.cell n c.in-Some-layout_of.layout.now.size) meant.2
+    ∙ part-saturated c.args.cell meant.0 c.in-Some-layout_of.layout.now.size c.requires
     ∙ laid-by c.args.db.now held c.args.elements.now (option_copied c.args.ty) c.args.cell (sym c.is_empty.ensures ∙ c.if-is_empty.false) meant.0 (sym meant.1) c.in-Some-type_behind.seen.now c.in-Some-type_behind.ensures (Some c.in-Some-layout_of.layout.now) c.in-Some-layout_of.ensures
 
 pub returns-in-None : goal.returns-in-None

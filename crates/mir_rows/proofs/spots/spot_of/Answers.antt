@@ -1,4 +1,4 @@
-use Rattle.std.proofs.Common.{◌≡◌, ◌<◌, ◌^◌, Some, sym, ap, ◌∙◌, rules}
+use Rattle.std.proofs.Common.{◌≡◌, ◌<◌, ◌^◌, Some, sym, ap, ◌∙◌, arith, rules}
 use Rattle.std.specs.Prelude.{option_map}
 use Rattle.mir.specs.Places.{local_type, offset_behind, type_behind}
 use Rattle.mir_rows.specs.Places.{saturated}
@@ -21,7 +21,7 @@ returns c =
     let found : Some c.in_ok-offset.offset ≡ option_map saturated (offset_behind c.args.db.now no-numbers elements ty) =
     c.in_ok-offset.ensures ∙ ap (λ t. option_map saturated (offset_behind c.args.db.now no-numbers elements t)) c.local_type-ty.ensures in
     let meant = meant-of (offset_behind c.args.db.now no-numbers elements ty) c.in_ok-offset.offset found in
-    let small : c.in_ok-offset.offset < 2 ^ 64 = search rules in
+    let small : c.in_ok-offset.offset < 2 ^ 64 = first_of (omega arith, search rules) in
     part (prepared c.args.db.now c.args.body.now) c.args.place (search rules) elements c.in_ok-elements.ensures (sym c.is_empty.ensures ∙ c.if-is_empty.false)
     c.in_ok-offset.offset (meant.1 ∙ ap Some (saturated-is meant.0 c.in_ok-offset.offset meant.2 small))
     c.in_ok-seen.seen.now (c.in_ok-seen.ensures ∙ ap (type_behind c.args.db.now elements) c.local_type-ty.ensures)
