@@ -1,10 +1,9 @@
 -- One assignment: what the source writes is written to the local of its cell.
-use Rattle.std.proofs.Common.{◌≡◌, ℕ, zero, suc, ◌⊎◌, ⊎_elim, inl, inr, Bool, true, false, cond, List, length, Option, Some, None, Ok, Err, refl, sym, ap, ◌∙◌, subst, eqb}
+use Rattle.std.proofs.Common.{◌≡◌, ℕ, zero, suc, ◌⊎◌, ⊎_elim, inl, inr, Bool, true, false, cond, List, length, Option, Some, None, Ok, Err, refl, sym, ◌∙◌, subst, eqb}
 use borrow.Author.Tests.{eqb-true}
 use Rattle.source_meaning.specs.Core.{CoreExpr, Operation}
 use Rattle.types.specs.declared.ty.Ty.{Ty}
 use Rattle.numbers.specs.Operators.{Answer, Computes, Panics, Undefined}
-use Rattle.mir.specs.declared.errors.MirEvalError.{MirEvalError}
 use Rattle.mir.specs.declared.errors.MirEvalError as error
 use Rattle.mir.specs.declared.ids.LocalId.{LocalId}
 use Rattle.mir.specs.declared.operand.Rvalue.{Rvalue}

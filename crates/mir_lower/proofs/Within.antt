@@ -1,11 +1,7 @@
 -- What can be read or written isn't out of bounds, so an assignment that computes does what it computes.
 use Rattle.std.proofs.Common.{◌≡◌, ℕ, Bool, true, false, ◌||◌, List, [], ◌∷◌, Option, Some, None, Result, Ok, Err, refl, sym, ap, ◌∙◌, subst}
-use Rattle.std.specs.Prelude.{option_and_then}
 use Rattle.std.proofs.lemmas.Option.{option_and_then_some}
 use Rattle.types.specs.declared.ty.Ty.{Ty}
-use Rattle.world.specs.Checked.{fixed_size}
-use Rattle.world.specs.declared.database.HirDatabase.{HirDatabase}
-use Rattle.world.specs.declared.layout.Layout.{Layout}
 use Rattle.numbers.specs.Constants.{number_in}
 use Rattle.numbers.specs.declared.operator.Operator.{Operator}
 use Rattle.mir.specs.declared.address.Interval.{Interval}
@@ -19,12 +15,11 @@ use Rattle.mir.specs.declared.operand.OperandKind.TheVariants.{Copy, Constant}
 use Rattle.mir.specs.declared.operand.Place.{Place}
 use Rattle.mir.specs.declared.operand.Rvalue.{Rvalue}
 use Rattle.mir.specs.declared.operand.Rvalue.TheVariants.{Use, Repeat, Cast, CheckedBinaryOp, UnaryOp, Aggregate}
-use Rattle.mir.specs.declared.operand.UnOp.{UnOp}
 use Rattle.mir.specs.declared.statement.StatementKind.TheVariants.{Assign}
 use Rattle.mir.specs.Memory.{Memory, cell_bytes, number_held}
 use Rattle.mir.specs.Places.{is_out_of_bounds}
 use Rattle.mir.specs.Projections.{empty_id}
-use Rattle.mir.specs.Run.{Calling, Frame, after_statement, aggregated, assigned, assigns_out, before, calls_out, cast_to, cell_now, copied, operand_bytes, operand_out, operand_type, operands_bytes, operated, operated_on, read, reads_out, repeats, rvalue_bytes, some_out}
+use Rattle.mir.specs.Run.{Calling, Frame, after_statement, aggregated, assigned, before, calls_out, cast_to, cell_now, copied, operand_bytes, operand_out, operand_type, operands_bytes, operated, operated_on, read, reads_out, repeats, rvalue_bytes, some_out}
 use Rattle.mir.proofs.Bounds.{cell-within}
 use Rattle.mir.proofs.WholePlaces.{whole-within}
 

@@ -7,7 +7,6 @@ use Rattle.world.specs.declared.database.HirDatabase.{HirDatabase}
 use Rattle.numbers.specs.Operators.{Answer, Computes, Panics, Undefined}
 use Rattle.mir.specs.Areas.{with_bytes}
 use Rattle.mir.specs.declared.address.Interval.{Interval}
-use Rattle.mir.specs.declared.errors.MirEvalError.{MirEvalError}
 use Rattle.mir.specs.declared.errors.MirEvalError as error
 use Rattle.mir.specs.declared.ids.LocalId.{LocalId}
 use Rattle.mir.specs.declared.operand.Place.{Place as GraphPlace}

@@ -1,12 +1,11 @@
 -- The spots of places: whole cells, and parts of cells.
-use Rattle.std.proofs.Common.{◌≡◌, ℕ, Bool, true, false, List, [], ◌∷◌, length, Option, Some, None, slice_get, sym, ap, refl, ◌∙◌, arith, eqb-true}
+use Rattle.std.proofs.Common.{◌≡◌, ℕ, Bool, true, false, [], ◌∷◌, length, Option, Some, None, slice_get, sym, ap, refl, ◌∙◌, arith, eqb-true}
 use Rattle.std.specs.Prelude.{if◌then◌else◌, ◌==◌, option_and_then}
 use Rattle.either.specs.declared.Either.TheVariants.{Left, Right}
 use Rattle.types.specs.declared.ty.Ty.{Ty}
 use Rattle.world.specs.declared.database.HirDatabase.{HirDatabase}
 use Rattle.world.specs.declared.layout.Layout.{Layout}
 use Rattle.world.specs.Lookups.{layout_of}
-use Rattle.mir.specs.declared.address.Interval.{Interval}
 use Rattle.mir.specs.declared.ids.LocalId.{LocalId}
 use Rattle.mir.specs.declared.operand.Place.{Place}
 use Rattle.mir.specs.declared.projection.ProjectionElem.TheVariants.{Field, Index}
