@@ -40,6 +40,9 @@ impl<M: Memory> Numbers for Held<'_, M> {
         let Some(view) = read(self.memory, cell) else {
             return None;
         };
+        if view.len() > 16 {
+            return None;
+        }
         match gather(&view) {
             Some(bytes) => Some(number_of(bytes.bytes())),
             None => None,

@@ -1,5 +1,6 @@
-use Rattle.std.proofs.Common.{◌≡◌, ◌<◌, ◌^◌, Some, sym, ap, ◌∙◌, arith, rules}
+use Rattle.std.proofs.Common.{◌≡◌, ◌<◌, ◌^◌, Option, Some, sym, ap, ◌∙◌, arith, rules}
 use Rattle.std.specs.Prelude.{option_map}
+use Rattle.types.specs.declared.ty.Ty.{Ty}
 use Rattle.mir.specs.Places.{local_type, offset_behind, type_behind}
 use Rattle.mir_rows.specs.Places.{saturated}
 use Rattle.mir_rows.specs.Spots.{prepared}
@@ -19,7 +20,7 @@ returns c =
     let elements = c.in_ok-elements.elements.now in
     let ty = local_type c.args.body.now c.args.place.local in
     let found : Some c.in_ok-offset.offset ≡ option_map saturated (offset_behind c.args.db.now no-numbers elements ty) =
-    c.in_ok-offset.ensures ∙ ap (λ t. option_map saturated (offset_behind c.args.db.now no-numbers elements t)) c.local_type-ty.ensures in
+    c.in_ok-offset.ensures ∙ ap (λ (t : Option Ty). option_map saturated (offset_behind c.args.db.now no-numbers elements t)) c.local_type-ty.ensures in
     let meant = meant-of (offset_behind c.args.db.now no-numbers elements ty) c.in_ok-offset.offset found in
     let small : c.in_ok-offset.offset < 2 ^ 64 = first_of (omega arith, search rules) in
     part (prepared c.args.db.now c.args.body.now) c.args.place (search rules) elements c.in_ok-elements.ensures (sym c.is_empty.ensures ∙ c.if-is_empty.false)
