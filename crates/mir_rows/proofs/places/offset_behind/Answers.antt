@@ -35,15 +35,15 @@ loop-elem-preserved g c =
     let elem = c.elem-item.result in
     let held = g.N.Numbers.held c.args.numbers.now in
     let more = c.in-Some-elem_offset.more in
-    let sum = c.saturating_add-offset.ensures in
+    let now = c.saturating_add-offset.ensures in
     record {
       sum =
           ap (λ (t : Option Ty). option_map saturated (added (Some c.saturating_add-offset.result) (offset_behind c.args.db.now held (drop (at.elem-index + 1) c.args.elements.now) t)))
           (seen-next c.args.db.now elem at.seen c.in-Some.ty c.elem_type-seen.result c.in-Some.is c.elem_type-seen.ensures)
-          ∙ ap (λ (n : ℕ). option_map saturated (added (Some n) (offset_behind c.args.db.now held (drop (at.elem-index + 1) c.args.elements.now) (option_and_then (elem_type c.args.db.now elem) (option_copied at.seen))))) sum
+          ∙ ap (λ (n : ℕ). option_map saturated (added (Some n) (offset_behind c.args.db.now held (drop (at.elem-index + 1) c.args.elements.now) (option_and_then (elem_type c.args.db.now elem) (option_copied at.seen))))) now
           ∙ offset-more c.args.elements.now at.elem-index elem c.loop-elem-test.true c.elem-item.is c.args.db.now held at.offset (option_copied at.seen) _ at.invariant.sum more
           (c.in-Some-elem_offset.ensures ∙ ap (λ (s : Option (Bor Ty)). option_map saturated (option_and_then (elem_offset c.args.db.now held elem) (option_copied s))) (sym c.in-Some.is));
-      small = ap saturated sum ∙ saturated-twice (at.offset + more) ∙ sym sum;
+      small = ap saturated now ∙ saturated-twice (at.offset + more) ∙ sym now;
     }
 
 pub returns : goal.returns
