@@ -1,3 +1,4 @@
+mod Bounds
 mod Literals
 mod Parts
 mod Pigeonhole

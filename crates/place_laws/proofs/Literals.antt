@@ -6,10 +6,10 @@ use Rattle.std.proofs.lemmas.List.Quantifiers.{position-Some}
 use Rattle.std.proofs.lemmas.Option.{slice_get-get_or, slice_get_within}
 use Rattle.world.specs.declared.expr.RecordLitField.{RecordLitField}
 use Rattle.world.specs.declared.items.FieldRow.{FieldRow}
-use Rattle.source_meaning.specs.Meaning.{Value}
+use Rattle.source_meaning.specs.Source.{Operand}
 use Rattle.source_meaning.specs.Structs.{picked, place_named, places_named}
 use Rattle.source_meaning.proofs.Structs.{picked-more, picked-none}
-use Rattle.place_laws.specs.Literals.{AreGiven, HaveOwnNames, IsGiven, LiteralsGiveTheirFields, LiteralsUseEachField}
+use Rattle.place_laws.specs.Literals.{AreFieldsFilled, HaveOwnNames, IsWritten, LiteralsGiveTheirFields, LiteralsUseEachField}
 use Rattle.place_laws.proofs.Pigeonhole.{AreApart, each-stands}
 
 -- the written field at the place of a name has that name
@@ -37,37 +37,37 @@ both (Some place) (Some others) places is goal = goal place others refl refl (le
 both (Some place) None places is goal = absurd cc
 both None rest places is goal = absurd cc
 
-are-given : (rows : List FieldRow) (written : List RecordLitField) (places : List ℕ) (values : List Value) → places_named rows written ≡ Some places → length values ≡ length written → AreGiven rows written places values
+are-filled : (rows : List FieldRow) (written : List RecordLitField) (places : List ℕ) (given : List Operand) → places_named rows written ≡ Some places → length given ≡ length written → AreFieldsFilled rows written places given
 unfolding places_named
-are-given [] written places values is many =
+are-filled [] written places given is many =
     let same : places ≡ [] = cc in
-    record { fields = []; picks = subst (λ ps. picked ps values ≡ Some []) (sym same) (picked-none values); many = refl; each = λ k row at. absurd cc }
-are-given (field ∷ rows) written places values is many =
+    record { fields = []; picks = subst (λ ps. picked ps given ≡ Some []) (sym same) (picked-none given); many = refl; each = λ k row at. absurd cc }
+are-filled (field ∷ rows) written places given is many =
     both (place_named field.name written) (places_named rows written) places is (λ place others at rest same.
     let named = has-name field.name written place at in
-    let value = element-at values place (subst (λ n. place < n) (sym many) (slice_get_within written place named.one named.stands)) in
-    let later = are-given rows written others values rest many in
+    let operand = element-at given place (subst (λ n. place < n) (sym many) (slice_get_within written place named.one named.stands)) in
+    let later = are-filled rows written others given rest many in
     record {
-      fields = value.0 ∷ later.fields;
-      picks = subst (λ ps. picked ps values ≡ Some (value.0 ∷ later.fields)) (sym same) (picked-more place others values value.0 later.fields value.1 later.picks);
+      fields = operand.0 ∷ later.fields;
+      picks = subst (λ ps. picked ps given ≡ Some (operand.0 ∷ later.fields)) (sym same) (picked-more place others given operand.0 later.fields operand.1 later.picks);
       many = ap suc later.many;
-      each = each-of place named value later;
+      each = each-of place named operand later;
     })
   where
-    each-of : (place : ℕ) → HasName field.name written place → (value : (v : Value) × (slice_get values place ≡ Some v)) → {others : List ℕ} (later : AreGiven rows written others values) →
-        (k : ℕ) (row : FieldRow) → slice_get (field ∷ rows) k ≡ Some row → IsGiven written values (value.0 ∷ later.fields) k row.name
-    each-of place named value later zero row at =
+    each-of : (place : ℕ) → HasName field.name written place → (operand : (one : Operand) × (slice_get given place ≡ Some one)) → {others : List ℕ} (later : AreFieldsFilled rows written others given) →
+        (k : ℕ) (row : FieldRow) → slice_get (field ∷ rows) k ≡ Some row → IsWritten written given (operand.0 ∷ later.fields) k row.name
+    each-of place named operand later zero row at =
         let same : field ≡ row = cc in
-        record { place = place; one = named.one; stands = named.stands; named = subst (λ (r : FieldRow). named.one.name ≡ r.name) same named.named; value = value.0; evaluated = value.1; there = refl }
-    each-of place named value later (suc k) row at =
-        let given = later.each k row at in
-        record { place = given.place; one = given.one; stands = given.stands; named = given.named; value = given.value; evaluated = given.evaluated; there = given.there }
+        record { place = place; one = named.one; stands = named.stands; named = subst (λ (r : FieldRow). named.one.name ≡ r.name) same named.named; operand = operand.0; evaluated = operand.1; there = refl }
+    each-of place named operand later (suc k) row at =
+        let found = later.each k row at in
+        record { place = found.place; one = found.one; stands = found.stands; named = found.named; operand = found.operand; evaluated = found.evaluated; there = found.there }
 
 pub literals : LiteralsGiveTheirFields
-literals rows written places values is many = by_test (length rows == length written) is
+literals rows written places given is many = by_test (length rows == length written) is
   where
-    by_test : (test : Bool) → if test then places_named rows written else None ≡ Some places → AreGiven rows written places values
-    by_test true found = are-given rows written places values found many
+    by_test : (test : Bool) → if test then places_named rows written else None ≡ Some places → AreFieldsFilled rows written places given
+    by_test true found = are-filled rows written places given found many
     by_test false found = absurd cc
 
 -- the place at an index is that of a written field which has the name of the row there

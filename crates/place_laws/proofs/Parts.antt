@@ -8,7 +8,7 @@ use Rattle.world.specs.declared.database.HirDatabase.{HirDatabase}
 use Rattle.numbers.specs.Aggregates.{constructed, with_part, with_parts}
 use Rattle.source_meaning.specs.Places.{added, bytes_behind, elem_offset, offset_behind, part_of, part_offset, place_bytes, place_type, type_behind}
 use Rattle.source_meaning.specs.Core.{PlaceElem, Part, FieldOf}
-use Rattle.source_meaning.specs.Source.{cell_type}
+use Rattle.source_meaning.specs.Source.{cell_type, number_held}
 use Rattle.source_meaning.proofs.Aggregates.{length-with_part, with_part-within}
 use Rattle.source_meaning.proofs.Places.{offset_behind-more}
 use Rattle.place_laws.specs.Parts.{ArePartsApart, FieldsAreParts, HasItsPart, PartsAreRead, StructsHaveTheirFields, TuplesHaveTheirParts}
@@ -50,25 +50,25 @@ part-of-part offset size at count bytes read found within =
 -- The bytes of a field.
 
 -- what elements lead to, of which there is one at least, by where it begins and by its size
-at-end : (world : HirDatabase) (elems : List PlaceElem) (elem : PlaceElem) (ty : Option Ty) (bytes : List ℕ) → bytes_behind world (elems ++ elem ∷ []) ty bytes ≡ option_and_then (λ offset. option_and_then (λ size. part_of offset size bytes) (size_at world (type_behind world (elems ++ elem ∷ []) ty))) (offset_behind world (elems ++ elem ∷ []) ty)
+at-end : (world : HirDatabase) (numbers : ℕ → Option ℕ) (elems : List PlaceElem) (elem : PlaceElem) (ty : Option Ty) (bytes : List ℕ) → bytes_behind world numbers (elems ++ elem ∷ []) ty bytes ≡ option_and_then (λ offset. option_and_then (λ size. part_of offset size bytes) (size_at world (type_behind world (elems ++ elem ∷ []) ty))) (offset_behind world numbers (elems ++ elem ∷ []) ty)
 unfolding bytes_behind
-at-end world [] elem ty bytes = refl
-at-end world (first ∷ rest) elem ty bytes = refl
+at-end world numbers [] elem ty bytes = refl
+at-end world numbers (first ∷ rest) elem ty bytes = refl
 
 -- the bytes of a value that elements lead to are a part of it
-record IsPart (world : HirDatabase) (elems : List PlaceElem) (ty : Option Ty) (bytes read : List ℕ) : Type 0 where
+record IsPart (world : HirDatabase) (numbers : ℕ → Option ℕ) (elems : List PlaceElem) (ty : Option Ty) (bytes read : List ℕ) : Type 0 where
   offset : ℕ
-  begins : offset_behind world elems ty ≡ Some offset
+  begins : offset_behind world numbers elems ty ≡ Some offset
   size : ℕ
   is : part_of offset size bytes ≡ Some read
 
-is-part : (world : HirDatabase) (elems : List PlaceElem) (ty : Option Ty) (bytes read : List ℕ) → bytes_behind world elems ty bytes ≡ Some read → IsPart world elems ty bytes read
+is-part : (world : HirDatabase) (numbers : ℕ → Option ℕ) (elems : List PlaceElem) (ty : Option Ty) (bytes read : List ℕ) → bytes_behind world numbers elems ty bytes ≡ Some read → IsPart world numbers elems ty bytes read
 unfolding bytes_behind offset_behind
-is-part world [] ty bytes read found =
+is-part world numbers [] ty bytes read found =
     record { offset = 0; begins = refl; size = length bytes; is = reads 0 (length bytes) bytes (omega arith) ∙ ap Some (take-length bytes) ∙ found }
-is-part world (elem ∷ rest) ty bytes read found = by_spot (offset_behind world (elem ∷ rest) ty) refl (size_at world (type_behind world (elem ∷ rest) ty)) found
+is-part world numbers (elem ∷ rest) ty bytes read found = by_spot (offset_behind world numbers (elem ∷ rest) ty) refl (size_at world (type_behind world (elem ∷ rest) ty)) found
   where
-    by_spot : (offset : Option ℕ) → offset_behind world (elem ∷ rest) ty ≡ offset → (size : Option ℕ) → option_and_then (λ at. option_and_then (λ n. part_of at n bytes) size) offset ≡ Some read → IsPart world (elem ∷ rest) ty bytes read
+    by_spot : (offset : Option ℕ) → offset_behind world numbers (elem ∷ rest) ty ≡ offset → (size : Option ℕ) → option_and_then (λ at. option_and_then (λ n. part_of at n bytes) size) offset ≡ Some read → IsPart world numbers (elem ∷ rest) ty bytes read
     by_spot (Some offset) begins (Some size) is = record { offset = offset; begins = begins; size = size; is = is }
     by_spot (Some offset) begins None is = absurd cc
     by_spot None begins size is = absurd cc
@@ -78,13 +78,14 @@ unfolding place_bytes place_type
 fields source store place elem ty bytes offset size typed found at has within =
     let from = cell_type source place.cell in
     let all = store place.cell in
-    let base = is-part source.world place.projection from all bytes found in
-    let begins : offset_behind source.world (place.projection ++ elem ∷ []) from ≡ Some (base.offset + offset) =
-    offset_behind-more source.world place.projection elem from
-    ∙ ap (λ given. added given (option_and_then (elem_offset source.world elem) (type_behind source.world place.projection from))) base.begins
-    ∙ ap (λ given. added (Some base.offset) (option_and_then (elem_offset source.world elem) given)) typed
+    let numbers = number_held store in
+    let base = is-part source.world numbers place.projection from all bytes found in
+    let begins : offset_behind source.world numbers (place.projection ++ elem ∷ []) from ≡ Some (base.offset + offset) =
+    offset_behind-more source.world numbers place.projection elem from
+    ∙ ap (λ given. added given (option_and_then (elem_offset source.world numbers elem) (type_behind source.world place.projection from))) base.begins
+    ∙ ap (λ given. added (Some base.offset) (option_and_then (elem_offset source.world numbers elem) given)) typed
     ∙ ap (added (Some base.offset)) at in
-    at-end source.world place.projection elem from all
+    at-end source.world numbers place.projection elem from all
     ∙ ap (option_and_then (λ start. option_and_then (λ count. part_of start count all) (size_at source.world (type_behind source.world (place.projection ++ elem ∷ []) from)))) begins
     ∙ ap (option_and_then (λ count. part_of (base.offset + offset) count all)) has
     ∙ part-of-part base.offset base.size offset size all bytes base.is within
@@ -161,15 +162,15 @@ offset-of : (size : ℕ) (offsets : List ℕ) (given : List (List ℕ)) (bytes :
 unfolding constructed
 offset-of size offsets given bytes k part is at = has-offset offsets given (replicate size 0) bytes is k part at
 
-has-its-part : (elem : PlaceElem) (k : ℕ) → ((world : HirDatabase) (ty : Ty) → elem_offset world elem ty ≡ part_offset world k ty) → HasItsPart elem k
+has-its-part : (elem : PlaceElem) (k : ℕ) → ((world : HirDatabase) (numbers : ℕ → Option ℕ) (ty : Ty) → elem_offset world numbers elem ty ≡ part_offset world k ty) → HasItsPart elem k
 has-its-part elem k takes source store place ty layout given bytes part typed laid made found apart at has =
     let offset = offset-of layout.size layout.offsets given bytes k part made at in
     let read = is-read offset.0 (length part) bytes part (parts layout.size layout.offsets given bytes k offset.0 part made apart offset.1 at) in
-    fields source store place elem ty bytes offset.0 (length part) typed found (takes source.world ty ∙ ap (option_and_then (λ l. slice_get l.offsets k)) laid ∙ offset.1) has read.inside
+    fields source store place elem ty bytes offset.0 (length part) typed found (takes source.world (number_held store) ty ∙ ap (option_and_then (λ l. slice_get l.offsets k)) laid ∙ offset.1) has read.inside
     ∙ ap Some (sym read.is)
 
 pub tuples : TuplesHaveTheirParts
-tuples k = has-its-part (Part k) k (λ world ty. refl)
+tuples k = has-its-part (Part k) k (λ world numbers ty. refl)
 
 pub structs : StructsHaveTheirFields
-structs field = has-its-part (FieldOf field) field.local_id (λ world ty. refl)
+structs field = has-its-part (FieldOf field) field.local_id (λ world numbers ty. refl)

@@ -1,3 +1,4 @@
+pub mod Bounds
 pub mod Literals
 pub mod Parts
 pub mod Writes

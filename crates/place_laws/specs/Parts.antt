@@ -7,16 +7,16 @@ use Rattle.world.specs.declared.layout.Layout.{Layout}
 use Rattle.numbers.specs.Aggregates.{constructed}
 use Rattle.source_meaning.specs.Places.{elem_offset, part_of, place_bytes, place_type}
 use Rattle.source_meaning.specs.Core.{PlaceElem, Part, FieldOf}
-use Rattle.source_meaning.specs.Source.{Source, Store, Place, projected}
+use Rattle.source_meaning.specs.Source.{Source, Store, Place, number_held, projected}
 use Rattle.place_laws.specs.Writes.{size_of}
 
 -- The bytes of a place with one element more are bytes of the place without it: as many as the type has that the element leads to, from the
--- element's offset on, where they end inside.
+-- element's offset on, where they end inside. The offset of an element of an array is known by the index that the store holds.
 abbrev pub FieldsAreParts : Type 0
 FieldsAreParts =
     (source : Source) (store : Store) (place : Place) (elem : PlaceElem) (ty : Ty) (bytes : List ℕ) (offset size : ℕ) →
     place_type source place ≡ Some ty → place_bytes source store place ≡ Some bytes →
-    elem_offset source.world elem ty ≡ Some offset → size_of source (projected elem place) ≡ Some size → offset + size ≤ length bytes →
+    elem_offset source.world (number_held store) elem ty ≡ Some offset → size_of source (projected elem place) ≡ Some size → offset + size ≤ length bytes →
     place_bytes source store (projected elem place) ≡ Some (take size (drop offset bytes))
 
 -- no two parts share a byte, each from its offset on

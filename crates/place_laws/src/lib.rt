@@ -2,6 +2,7 @@
 //! the functions here have no code: each is a law about it.
 #![tactic(auto)]
 
+ghost use Rattle.place_laws.specs.Bounds.{OutOfBoundsIsNowhere};
 ghost use Rattle.place_laws.specs.Literals.{LiteralsGiveTheirFields, LiteralsUseEachField, UpdatesGiveTheirFields, UpdatesUseEachField};
 ghost use Rattle.place_laws.specs.Parts.{FieldsAreParts, PartsAreRead, StructsHaveTheirFields, TuplesHaveTheirParts};
 ghost use Rattle.place_laws.specs.Writes.{WritesAreRead, WritesKeepOthers, WritesKeepTheRest};
@@ -26,12 +27,12 @@ pub fn structs_have_their_fields()
     ensures { StructsHaveTheirFields }
 {}
 
-/// What a struct literal puts into each field of its struct is the value of a written field of that name.
+/// What a struct literal puts into each field of its struct is the operand of a written field of that name.
 pub fn literals_give_their_fields()
     ensures { LiteralsGiveTheirFields }
 {}
 
-/// Where the fields of a struct have names of their own, each value that is written in its literal goes into one of them.
+/// Where the fields of a struct have names of their own, each field that is written in its literal goes into one of them.
 pub fn literals_use_each_field()
     ensures { LiteralsUseEachField }
 {}
@@ -46,7 +47,12 @@ pub fn updates_use_each_field()
     ensures { UpdatesUseEachField }
 {}
 
-/// What is put at a place lies there afterwards.
+/// A place that is out of bounds has no bytes, and none can be put there.
+pub fn out_of_bounds_is_nowhere()
+    ensures { OutOfBoundsIsNowhere }
+{}
+
+/// What is put at a place lies there afterwards, where the place isn't in the cell of an index.
 pub fn writes_are_read()
     ensures { WritesAreRead }
 {}
@@ -56,7 +62,7 @@ pub fn writes_keep_the_rest()
     ensures { WritesKeepTheRest }
 {}
 
-/// A part that lies apart from a place in its cell has the same bytes after something was put at the place.
+/// A part that lies apart from a place in its cell, which isn't that of an index, has the same bytes after something was put at the place.
 pub fn writes_keep_others()
     ensures { WritesKeepOthers }
 {}

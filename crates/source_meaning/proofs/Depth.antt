@@ -11,12 +11,12 @@ use Rattle.world.specs.Checked.{IsCheckedBody}
 use Rattle.world.specs.Nodes.{optional}
 use Rattle.numbers.specs.declared.operator.Operator.{Operator}
 use Rattle.source_meaning.specs.Structs.{FieldSource}
-use Rattle.source_meaning.specs.Core.{Assigned, Assignee, Operation, PlaceElem, Field, Strict, Update, Logic, If, Assign, Compound, Block, Call}
+use Rattle.source_meaning.specs.Core.{Assigned, Assignee, ElementAt, Operation, PlaceElem, Field, Strict, Update, Logic, If, Assign, Compound, Block, Call}
 use Rattle.source_meaning.specs.Source.{Source, node}
 use Rattle.source_meaning.specs.Steps.{parts_of, assigned_parts, assignee_parts, statement_parts}
 use Rattle.source_meaning.specs.Valid.{Evaluates, itself, part, NeedsLayout, own, inside}
 use Rattle.source_meaning.proofs.Core.{part_is_below}
-use Rattle.source_meaning.proofs.Parts.{among, first_is_contained, rest_is_contained, strict_parts, update_parts, if_parts, compound_parts, block_parts, call_parts, sized_part_is_part}
+use Rattle.source_meaning.proofs.Parts.{among, elem_parts, first_is_contained, rest_is_contained, strict_parts, update_parts, if_parts, compound_parts, block_parts, call_parts, sized_part_is_part}
 
 -- what is evaluated where an expression is comes no later than it
 pub evaluated_is_no_later : (source : Source) → IsCheckedBody source.body source.infer → {e f : ℕ} → Evaluates source e f → f ≤ e
@@ -36,7 +36,11 @@ needed_is_evaluated source (inside {e = e} {child = child} within rest) = part (
 
 -- a field evaluates its base
 pub field_base_is_part : (source : Source) (e base : ℕ) (field : PlaceElem) → node source e ≡ Some (Field base field) → Contains (parts_of (node source e)) base
-field_base_is_part source e base field is = subst (λ form. Contains (parts_of form) base) (sym is) (first_is_contained base [])
+field_base_is_part source e base field is = subst (λ form. Contains (parts_of form) base) (sym is) (first_is_contained base (elem_parts field))
+
+-- and an element evaluates its index as well
+pub field_index_is_part : (source : Source) (e base n index : ℕ) → node source e ≡ Some (Field base (ElementAt n index)) → Contains (parts_of (node source e)) index
+field_index_is_part source e base n index is = subst (λ form. Contains (parts_of form) index) (sym is) (rest_is_contained base (index ∷ []) index (first_is_contained index []))
 
 -- a strict form evaluates its operands
 pub operand_is_part : (source : Source) (e : ℕ) (operation : Operation) (operands : List ℕ) (child : ℕ) → node source e ≡ Some (Strict operation operands) → Contains operands child → Contains (parts_of (node source e)) child

@@ -13,13 +13,13 @@ use Rattle.source_meaning.specs.Structs.{FieldSource}
 use Rattle.source_meaning.specs.Around.{Around, Target, at_root, marking, inside, target_of}
 use Rattle.source_meaning.specs.Calls.{source_called, must_not_return, parameter_cells, started}
 use Rattle.source_meaning.specs.Core as expr
-use Rattle.source_meaning.specs.Core.{Assigned, Assignee, ByField, ByPath, ByPattern, ByPlace, CoreExpr, Operation, PlaceElem, is_place}
+use Rattle.source_meaning.specs.Core.{Assigned, Assignee, ByField, ByPath, ByPattern, ByPlace, CoreExpr, ElementAt, FieldOf, Operation, Part, PlaceElem, is_place}
 use Rattle.source_meaning.specs.Ends.{Cost, turns_alone, End, Go, Jumps, Break, Continue, Return, Faults, Stuck, More, IsOver, after, then_do}
 use Rattle.source_meaning.specs.Events.{marked, marked_as_operand, marked_as_place, marked_by_assigned, marked_by_statement}
 use Rattle.source_meaning.specs.Laid.{is_laid_out}
-use Rattle.source_meaning.specs.Meaning.{Levels, Callees, no_fuel, field_place, field_into, place_of, operand_of, operands_of, strict_into, update_into, is_byte, deciding_byte, decided_into, branched, logic_into, tail_into, branch_into, if_into, assignee_place, assign_into, assigned_place, compound_into, statement_of, statements_of, block_into, caught, again_into, labelled_into, turn_of, loop_into, break_to, return_into, call_returned, call_diverged, call_ended, entered_from, entered_into, into_of, level_above, level_at, returned, where_laid, body_meaning, callees_at, meaning_from}
-use Rattle.source_meaning.specs.Places.{operand_bytes, operands_bytes}
-use Rattle.source_meaning.specs.Source.{Source, Store, Path, Result, Node, Operand, zeroed, node, unadjusted, never_marks, own_path, target, root}
+use Rattle.source_meaning.specs.Meaning.{Levels, Callees, no_fuel, within_bounds, stepped, field_place, field_into, place_of, operand_of, operands_of, strict_into, update_into, is_byte, deciding_byte, decided_into, branched, logic_into, tail_into, branch_into, if_into, assignee_place, assign_into, assigned_place, compound_into, statement_of, statements_of, block_into, caught, again_into, labelled_into, turn_of, loop_into, break_to, return_into, call_returned, call_diverged, call_ended, entered_from, entered_into, into_of, level_above, level_at, returned, where_laid, body_meaning, callees_at, meaning_from}
+use Rattle.source_meaning.specs.Places.{operand_bytes, operand_out, operands_bytes, some_out}
+use Rattle.source_meaning.specs.Source.{Source, Store, Path, Place, Result, IndexOf, Node, Operand, zeroed, node, unadjusted, never_marks, own_path, target, root}
 
 -- what is over after a cost is over
 over_before : {A : Type 0} (cost : Cost) (end : End A) → IsOver (after cost end) → IsOver end
@@ -47,6 +47,11 @@ after_agrees cost first second same over = ap (after cost) (same (over_before co
 where_agrees : {A : Type 0} (test : Bool) (first second : End A) → (IsOver first → second ≡ first) → IsOver (if test then first else Stuck) → (if test then second else Stuck) ≡ (if test then first else Stuck)
 where_agrees true first second same over = same over
 where_agrees false first second same over = refl
+
+-- and so do those that a place out of bounds keeps from being done
+within_bounds_agrees : {A : Type 0} (out : Bool) (first second : End A) → (out ≡ false → IsOver first → second ≡ first) → IsOver (within_bounds out first) → within_bounds out second ≡ within_bounds out first
+within_bounds_agrees true first second same over = refl
+within_bounds_agrees false first second same over = same refl over
 
 -- where a branch agrees with another, so do the whole ones
 branched_agrees : (first second : End (Unit {0})) → (IsOver first → second ≡ first) → IsOver (branched first) → branched second ≡ branched first
@@ -128,9 +133,16 @@ pub record Agrees (below above : Levels) : Type 0 where
   pub own : (around : Around) (e : ℕ) (path : Path) (store : Store) → IsOver ((below around).own e path store) → (above around).own e path store ≡ (below around).own e path store
 
 module _ (source : Source) (below above : Levels) (agrees : Agrees below above) where
-  field_place_agrees : (around : Around) (base : ℕ) (field : PlaceElem) (store : Store) → IsOver (field_place (below around) base field store) → field_place (above around) base field store ≡ field_place (below around) base field store
+  stepped_agrees : (around : Around) (base : ℕ) (elem : PlaceElem) (place : Place) (store : Store) → IsOver (stepped source below around base elem place store) → stepped source above around base elem place store ≡ stepped source below around base elem place store
+  stepped_agrees around base (Part index) place store over = refl
+  stepped_agrees around base (FieldOf field) place store over = refl
+  stepped_agrees around base (ElementAt e index) place store over =
+      let behind = marking (IndexOf e ∷ []) (marking (marked_as_place source base) around) in
+      then_do_agrees ((below behind).into index _ store) ((above behind).into index _ store) _ _ (agrees.into behind index _ store) (λ done later o. refl) over
+
+  field_place_agrees : (around : Around) (base : ℕ) (field : PlaceElem) (store : Store) → IsOver (field_place source below around base field store) → field_place source above around base field store ≡ field_place source below around base field store
   field_place_agrees around base field store over =
-      then_do_agrees ((below around).place base store) ((above around).place base store) _ _ (agrees.place around base store) (λ place later o. refl) over
+      then_do_agrees ((below around).place base store) ((above around).place base store) _ _ (agrees.place around base store) (λ place later o. stepped_agrees around base field place later o) over
 
   place_agrees : (around : Around) (e : ℕ) (form : Option CoreExpr) (store : Store) → IsOver (place_of source below around e form store) → place_of source above around e form store ≡ place_of source below around e form store
   place_agrees around e (Some (expr.Path name)) store over = refl
@@ -185,7 +197,7 @@ module _ (source : Source) (below above : Levels) (agrees : Agrees below above) 
   logic_agrees : (around : Around) (op : LogicOp) (left right : ℕ) (path : Path) (store : Store) → IsOver (logic_into source below around op left right path store) → logic_into source above around op left right path store ≡ logic_into source below around op left right path store
   logic_agrees around op left right path store over =
       then_do_agrees ((below around).operand left store) ((above around).operand left store) _ _ (agrees.operand around left store) (λ given later o.
-      branched_agrees _ _ (decided_agrees (marking (marked_as_operand source left) around) given right (is_byte (deciding_byte op) (operand_bytes source later given)) path later) o) over
+      within_bounds_agrees (operand_out source later given) _ _ (λ within. branched_agrees _ _ (decided_agrees (marking (marked_as_operand source left) around) given right (is_byte (deciding_byte op) (operand_bytes source later given)) path later)) o) over
 
   branch_agrees : (around : Around) (then_branch : ℕ) (else_branch : Option ExprId) (holds : Option Bool) (path : Path) (store : Store) → IsOver (branch_into source below around then_branch else_branch holds path store) → branch_into source above around then_branch else_branch holds path store ≡ branch_into source below around then_branch else_branch holds path store
   branch_agrees around then_branch else_branch (Some true) path store over = agrees.into around then_branch path store over
@@ -195,20 +207,20 @@ module _ (source : Source) (below above : Levels) (agrees : Agrees below above) 
   if_agrees : (around : Around) (condition then_branch : ℕ) (else_branch : Option ExprId) (path : Path) (store : Store) → IsOver (if_into source below around condition then_branch else_branch path store) → if_into source above around condition then_branch else_branch path store ≡ if_into source below around condition then_branch else_branch path store
   if_agrees around condition then_branch else_branch path store over =
       then_do_agrees ((below around).operand condition store) ((above around).operand condition store) _ _ (agrees.operand around condition store) (λ given later o.
-      branched_agrees _ _ (branch_agrees (marking (marked_as_operand source condition) around) then_branch else_branch (is_byte 1 (operand_bytes source later given)) path later) o) over
+      within_bounds_agrees (operand_out source later given) _ _ (λ within. branched_agrees _ _ (branch_agrees (marking (marked_as_operand source condition) around) then_branch else_branch (is_byte 1 (operand_bytes source later given)) path later)) o) over
 
-  field_agrees : (around : Around) (base : ℕ) (field : PlaceElem) (path : Path) (store : Store) → IsOver (field_into source (below around) base field path store) → field_into source (above around) base field path store ≡ field_into source (below around) base field path store
+  field_agrees : (around : Around) (base : ℕ) (field : PlaceElem) (path : Path) (store : Store) → IsOver (field_into source below around base field path store) → field_into source above around base field path store ≡ field_into source below around base field path store
   field_agrees around base field path store over =
-      then_do_agrees (field_place (below around) base field store) (field_place (above around) base field store) _ _ (field_place_agrees around base field store) (λ place later o. refl) over
+      then_do_agrees (field_place source below around base field store) (field_place source above around base field store) _ _ (field_place_agrees around base field store) (λ place later o. refl) over
 
-  assigned_place_agrees : (around : Around) (to : Assigned) (store : Store) → IsOver (assigned_place source (below around) to store) → assigned_place source (above around) to store ≡ assigned_place source (below around) to store
+  assigned_place_agrees : (around : Around) (to : Assigned) (store : Store) → IsOver (assigned_place source below around to store) → assigned_place source above around to store ≡ assigned_place source below around to store
   assigned_place_agrees around (ByPath e) store over = refl
   assigned_place_agrees around (ByField base elem) store over = field_place_agrees around base elem store over
 
   compound_agrees : (around : Around) (op : Operator) (to : Assigned) (value : ℕ) (store : Store) → IsOver (compound_into source below around op to value store) → compound_into source above around op to value store ≡ compound_into source below around op to value store
   compound_agrees around op to value store over =
       let behind = marking (marked_by_assigned source to) around in
-      then_do_agrees (assigned_place source (below around) to store) (assigned_place source (above around) to store) _ _ (assigned_place_agrees around to store) (λ place later o.
+      then_do_agrees (assigned_place source below around to store) (assigned_place source above around to store) _ _ (assigned_place_agrees around to store) (λ place later o.
       then_do_agrees ((below behind).operand value later) ((above behind).operand value later) _ _ (agrees.operand behind value later) (λ given last o'. refl) o) over
 
   assignee_place_agrees : (around : Around) (to : Assignee) (store : Store) → IsOver (assignee_place source (below around) to store) → assignee_place source (above around) to store ≡ assignee_place source (below around) to store
@@ -270,7 +282,7 @@ module _ (source : Source) (below above : Levels) (agrees : Agrees below above) 
     into_agrees around e (Some (expr.Return value)) path store over = return_agrees around value store over
     into_agrees around e (Some (expr.Call callee args)) path store over =
         then_do_agrees (operands_of source below around args store) (operands_of source above around args store) _ _ (operands_agree around args store) (λ given later o.
-        entered_agrees callees others callees_agree (must_not_return source e) (source_called source e callee) (operands_bytes source later given) path later o) over
+        within_bounds_agrees (some_out source later given) _ _ (λ within. entered_agrees callees others callees_agree (must_not_return source e) (source_called source e callee) (operands_bytes source later given) path later) o) over
     into_agrees around e _ path store over = refl
 
     above_agrees : Agrees (level_above source below callees) (level_above source above others)

@@ -14,7 +14,7 @@ use Rattle.source_meaning.specs.Entering.{below}
 use Rattle.source_meaning.specs.Laid.{needing_in, needing, has_layout, is_laid_node, is_laid_or_none, is_laid_out}
 use Rattle.source_meaning.specs.Laws.{LayoutsAreTested}
 use Rattle.source_meaning.specs.Source.{Source, node, unadjusted, diverges, own_type, node_type, binding_type, root}
-use Rattle.source_meaning.specs.Steps.{Step, Operand, Place, Into, Bind, Open, Close, steps_of, step_part, parts_of}
+use Rattle.source_meaning.specs.Steps.{Step, Operand, Place, Into, Index, Bind, Open, Close, steps_of, step_part, parts_of}
 use Rattle.source_meaning.specs.Valid.{Evaluates, itself, part, IsPlainCall, HasPlainForm, IsPlain, IsLaidOut, IsLaidOutNode, sized_part, sized_parts, NeedsLayout, own, inside, AreLaidOut, Calls}
 use Rattle.source_meaning.proofs.Calls.{called_by_name, called_world}
 use Rattle.source_meaning.proofs.Core.{part_is_below}
@@ -103,6 +103,7 @@ step_is_sized source (Operand e) child is within =
     (subst (λ test. Contains (cond test [] (child ∷ [])) child) (sym is) (first_is_contained child []))
 step_is_sized source (Place e) child is within = within
 step_is_sized source (Into e) child is within = within
+step_is_sized source (Index e index) child is within = within
 step_is_sized source (Bind pat) child is within = within
 step_is_sized source Open child is within = within
 step_is_sized source Close child is within = within

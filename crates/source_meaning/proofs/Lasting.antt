@@ -1,5 +1,5 @@
 -- With enough fuel an evaluation ends, or enters as many blocks as one likes.
-use Rattle.std.proofs.Common.{◌≡◌, ℕ, zero, suc, ◌<◌, ◌≤◌, ◌+◌, Bool, true, false, cond, List, [], ◌∷◌, ◌++◌, length, slice_get, ◌==◌, if◌then◌else◌, Option, Some, None, refl, sym, subst, arith}
+use Rattle.std.proofs.Common.{◌≡◌, ℕ, zero, suc, ◌<◌, ◌≤◌, ◌+◌, Bool, true, false, cond, List, [], ◌∷◌, ◌++◌, length, slice_get, ◌==◌, if◌then◌else◌, ◌||◌, Option, Some, None, refl, sym, subst, arith}
 use Rattle.std.specs.Prelude.{flat_map, Contains}
 use Rattle.std.proofs.lemmas.List.Elements.{Contains-append_left, Contains-append_right}
 use Rattle.types.specs.declared.ids.StructId.{StructId}
@@ -18,24 +18,24 @@ use Rattle.world.specs.Checked.{IsChecked, IsCheckedBody}
 use Rattle.world.specs.Nodes.{optional}
 use Rattle.numbers.specs.declared.operator.Operator.{Operator}
 use Rattle.numbers.specs.Operators.{Answer, Computes, Panics, Undefined}
-use Rattle.source_meaning.specs.Structs.{FieldSource}
+use Rattle.source_meaning.specs.Structs.{FieldSource, picked}
 use Rattle.source_meaning.specs.Around.{Around, Target, at_root, marking, inside, target_of}
 use Rattle.source_meaning.specs.Calls.{source_at, source_called, must_not_return, parameter_cells, started}
 use Rattle.source_meaning.specs.Core as expr
-use Rattle.source_meaning.specs.Core.{Assigned, Assignee, ByField, ByPath, ByPattern, ByPlace, CoreExpr, PlaceElem, is_place}
+use Rattle.source_meaning.specs.Core.{Assigned, Assignee, ByField, ByPath, ByPattern, ByPlace, CoreExpr, ElementAt, FieldOf, MakeStruct, Operation, Part, PlaceElem, is_place}
 use Rattle.source_meaning.specs.Ends.{Cost, no_cost, plus, turns_alone, End, Go, Jumps, Break, Continue, Return, Faults, NoLayout, Stuck, More, GoesOn, after, then_do}
 use Rattle.source_meaning.specs.Entering.{entering}
 use Rattle.source_meaning.specs.Events.{marked, marked_as_operand, marked_as_place, marked_by_assigned, marked_by_statement}
 use Rattle.source_meaning.specs.Laid.{is_laid_out}
-use Rattle.source_meaning.specs.Meaning.{Levels, Callees, constant_cost, put, copy_to, put_literal, put_answer, literal_operand, literal_bytes, named_place, named_into, bind, put_all, put_at, copy_at, answer_at, bound_place, assignee_place, assign_into, assigned_place, compound_into, update_into, field_place, place_of, operand_of, operands_of, is_byte, deciding_byte, reading_cost, decided_into, branched, logic_into, tail_into, branch_into, if_into, statement_of, statements_of, block_into, caught, again_into, turn_of, break_to, continue_to, return_into, call_returned, call_diverged, call_ended, unfit_meaning, entered_from, entered_into, into_of, level_at, returned, where_laid, body_meaning, callees_at, meaning_from}
-use Rattle.source_meaning.specs.Places.{cell_with, place_bytes, operand_bytes, operands_bytes}
-use Rattle.source_meaning.specs.Source.{Source, Store, Path, Place, Cell, Result, Node, Binding, Operand, Literally, zeroed, node, unadjusted, never_marks, own_path, own_type, named_by, pattern, target, compound_target, root}
+use Rattle.source_meaning.specs.Meaning.{Levels, Callees, within_bounds, constant_cost, put, copy_to, read_into, assign_at, combined_at, made_into, operated_into, stepped, put_literal, put_answer, literal_operand, literal_bytes, named_place, named_into, bind, put_all, put_at, copy_at, answer_at, bound_place, assignee_place, assign_into, assigned_place, compound_into, update_into, field_place, place_of, operand_of, operands_of, is_byte, deciding_byte, reading_cost, decided_into, branched, logic_into, tail_into, branch_into, if_into, statement_of, statements_of, block_into, caught, again_into, turn_of, break_to, continue_to, return_into, call_returned, call_diverged, call_ended, unfit_meaning, entered_from, entered_into, into_of, level_at, returned, where_laid, body_meaning, callees_at, meaning_from}
+use Rattle.source_meaning.specs.Places.{cell_with, is_out_of_bounds, place_bytes, operand_bytes, operand_out, operands_bytes, some_out}
+use Rattle.source_meaning.specs.Source.{Source, Store, Path, Place, Cell, IndexOf, Result, Node, Binding, Operand, Literally, At, zeroed, node, unadjusted, never_marks, own_path, own_type, named_by, pattern, target, compound_target, root}
 use Rattle.source_meaning.specs.Steps.{parts_of, assigned_parts, assignee_parts, statement_parts}
 use Rattle.source_meaning.proofs.Calls.{called_row, above_roots, root_is_below}
 use Rattle.source_meaning.proofs.Core.{part_is_below}
-use Rattle.source_meaning.proofs.Depth.{field_base_is_part}
+use Rattle.source_meaning.proofs.Depth.{field_base_is_part, field_index_is_part}
 use Rattle.source_meaning.proofs.Never.{unadjusted-plain}
-use Rattle.source_meaning.proofs.Parts.{first_is_contained, rest_is_contained, strict_parts, update_parts, if_parts, compound_parts, block_parts, tail_part, call_parts}
+use Rattle.source_meaning.proofs.Parts.{elem_parts, first_is_contained, rest_is_contained, strict_parts, update_parts, if_parts, compound_parts, block_parts, tail_part, call_parts}
 
 -- an end, or a lack of fuel after at least `limit` blocks
 abbrev Lasts : {A : Type 0} → ℕ → End A → Type 0
@@ -128,6 +128,11 @@ module _ (limit : ℕ) where
   branched_lasts : (branch : End (Unit {0})) → Lasts limit branch → Lasts limit (branched branch)
   branched_lasts branch over = lasts_after limit (turns_alone 1) _ (then_do_lasts branch _ over (λ done later. tt))
 
+  -- what isn't done where a place is out of bounds
+  within_bounds_lasts : {A : Type 0} (out : Bool) (end : End A) → (out ≡ false → Lasts limit end) → Lasts limit (within_bounds out end)
+  within_bounds_lasts true end over = tt
+  within_bounds_lasts false end over = over refl
+
   put_lasts : (store : Store) (path : Path) (bytes : List ℕ) → Lasts limit (put store path bytes)
   unfolding put
   put_lasts store path bytes = either_lasts limit (length bytes == length (store path.cell)) (Go tt _ _) Stuck tt tt
@@ -135,6 +140,9 @@ module _ (limit : ℕ) where
   copy_lasts : (store : Store) (path : Path) (bytes : Option (List ℕ)) → Lasts limit (copy_to store path bytes)
   copy_lasts store path (Some bytes) = put_lasts store path bytes
   copy_lasts store path None = tt
+
+  read_lasts : (source : Source) (operand : Operand) (path : Path) (store : Store) → Lasts limit (read_into source operand path store)
+  read_lasts source operand path store = within_bounds_lasts (operand_out source store operand) _ (λ within. copy_lasts store path (operand_bytes source store operand))
 
   put_literal_lasts : (source : Source) (e : ℕ) (store : Store) (path : Path) (bytes : Option (List ℕ)) → Lasts limit (put_literal source e store path bytes)
   put_literal_lasts source e store path (Some bytes) = lasts_after limit (constant_cost source e) (put store path bytes) (put_lasts store path bytes)
@@ -144,6 +152,14 @@ module _ (limit : ℕ) where
   put_answer_lasts store path (Computes bytes) = put_lasts store path bytes
   put_answer_lasts store path (Panics word) = tt
   put_answer_lasts store path Undefined = tt
+
+  made_lasts : (source : Source) (id : StructId) (args : GenericArgs) (fields : Option (List Operand)) (path : Path) (store : Store) → Lasts limit (made_into source id args fields path store)
+  made_lasts source id args (Some fields) path store = within_bounds_lasts (some_out source store fields) _ (λ within. put_answer_lasts store path _)
+  made_lasts source id args None path store = tt
+
+  operated_lasts : (source : Source) (e : ℕ) (operation : Operation) (given : List Operand) (path : Path) (store : Store) → Lasts limit (operated_into source e operation given path store)
+  operated_lasts source e (MakeStruct id args places) given path store = made_lasts source id args (picked places given) path store
+  operated_lasts source e operation given path store = within_bounds_lasts (some_out source store given) _ (λ within. put_answer_lasts store path _)
 
   literal_operand_lasts : (source : Source) (e : ℕ) (store : Store) (bytes : Option (List ℕ)) → Lasts limit (literal_operand source e store bytes)
   literal_operand_lasts source e store (Some bytes) = by_type (own_type source e)
@@ -162,7 +178,7 @@ module _ (limit : ℕ) where
   named_into_lasts _ path store = tt
 
   bind_lasts : (source : Source) (pat : Option BindingId) (place : Place) (store : Store) → Lasts limit (bind source pat place store)
-  bind_lasts source (Some id) place store = copy_lasts store (record { cell = Binding id.0 }) (place_bytes source store place)
+  bind_lasts source (Some id) place store = read_lasts source (At place) (record { cell = Binding id.0 }) store
   bind_lasts source None place store = tt
 
   put_all_lasts : (store : Store) (cell : Cell) (bytes : Option (List ℕ)) → Lasts limit (put_all store cell bytes)
@@ -180,6 +196,12 @@ module _ (limit : ℕ) where
   answer_at_lasts source store place (Computes bytes) = put_at_lasts source store place bytes
   answer_at_lasts source store place (Panics word) = tt
   answer_at_lasts source store place Undefined = tt
+
+  assign_at_lasts : (source : Source) (to from : Place) (store : Store) → Lasts limit (assign_at source to from store)
+  assign_at_lasts source to from store = within_bounds_lasts (is_out_of_bounds source store to || is_out_of_bounds source store from) _ (λ within. copy_at_lasts source store to (place_bytes source store from))
+
+  combined_at_lasts : (source : Source) (op : Operator) (place : Place) (given : Operand) (store : Store) → Lasts limit (combined_at source op place given store)
+  combined_at_lasts source op place given store = within_bounds_lasts (some_out source store (At place ∷ given ∷ [])) _ (λ within. answer_at_lasts source store place _)
 
   bound_place_lasts : (named : Option BindingId) (store : Store) → Lasts limit (bound_place named store)
   bound_place_lasts (Some id) store = tt
@@ -224,14 +246,25 @@ module _ (limit : ℕ) where
     operand : (around : Around) (store : Store) → Lasts limit ((levels around).operand e store)
     into : (around : Around) (path : Path) (store : Store) → Lasts limit ((levels around).into e path store)
 
-  field_place_lasts : (below : Levels) (around : Around) (base : ℕ) (field : PlaceElem) (store : Store) → Lasts limit ((below around).place base store) → Lasts limit (field_place (below around) base field store)
-  field_place_lasts below around base field store over = then_do_lasts ((below around).place base store) _ over (λ place later. tt)
+  -- the index that leads to an element lasts
+  abbrev IndexLasts : Levels → PlaceElem → Type 0
+  IndexLasts below (ElementAt n index) = (around : Around) (path : Path) (store : Store) → Lasts limit ((below around).into index path store)
+  IndexLasts below _ = Unit {0}
+
+  stepped_lasts : (source : Source) (below : Levels) (around : Around) (base : ℕ) (elem : PlaceElem) (place : Place) (store : Store) → IndexLasts below elem → Lasts limit (stepped source below around base elem place store)
+  stepped_lasts source below around base (Part index) place store over = tt
+  stepped_lasts source below around base (FieldOf field) place store over = tt
+  stepped_lasts source below around base (ElementAt e index) place store over =
+      let behind = marking (IndexOf e ∷ []) (marking (marked_as_place source base) around) in then_do_lasts ((below behind).into index _ store) _ (over behind _ store) (λ done later. tt)
+
+  field_place_lasts : (source : Source) (below : Levels) (around : Around) (base : ℕ) (elem : PlaceElem) (store : Store) → Lasts limit ((below around).place base store) → IndexLasts below elem → Lasts limit (field_place source below around base elem store)
+  field_place_lasts source below around base elem store over index_over = then_do_lasts ((below around).place base store) _ over (λ place later. stepped_lasts source below around base elem place later index_over)
 
   place_lasts : (source : Source) (below : Levels) (around : Around) (e : ℕ) (form : Option CoreExpr) (store : Store) → ((within : Around) (path : Path) (later : Store) → Lasts limit ((below within).into e path later)) →
-      ((base : ℕ) (field : PlaceElem) → form ≡ Some (expr.Field base field) → Lasts limit ((below around).place base store)) → Lasts limit (place_of source below around e form store)
-  place_lasts source below around e (Some (expr.Path name)) store over base_is = named_place_lasts (named_by source e) store
-  place_lasts source below around e (Some (expr.Field base field)) store over base_is = field_place_lasts below around base field store (base_is base field refl)
-  place_lasts source below around e _ store over base_is =
+      ((base : ℕ) (elem : PlaceElem) → form ≡ Some (expr.Field base elem) → Lasts limit ((below around).place base store) × IndexLasts below elem) → Lasts limit (place_of source below around e form store)
+  place_lasts source below around e (Some (expr.Path name)) store over parts_are = named_place_lasts (named_by source e) store
+  place_lasts source below around e (Some (expr.Field base elem)) store over parts_are = let parts = parts_are base elem refl in field_place_lasts source below around base elem store parts.0 parts.1
+  place_lasts source below around e _ store over parts_are =
       let within = marking (Node e ∷ []) around in
       then_do_lasts ((below within).into e _ store) _ (over within _ store) (λ value later. tt)
 
@@ -258,7 +291,7 @@ module _ (limit : ℕ) where
         let base_ends = ends base (first_is_contained base operands) in
         let behind = marking (marked_as_place source base) around in
         then_do_lasts ((below around).place base store) _ (base_ends.place around store) (λ from later.
-        then_do_lasts (operands_of source below behind operands later) _ (operands_lasts behind operands later (λ child within. ends child (rest_is_contained base operands child within))) (λ given last. put_answer_lasts last path _))
+        then_do_lasts (operands_of source below behind operands later) _ (operands_lasts behind operands later (λ child within. ends child (rest_is_contained base operands child within))) (λ given last. made_lasts source id args _ path last))
 
     statement_lasts : (around : Around) (statement : Statement) (store : Store) → ((child : ℕ) → Contains (statement_parts statement) child → LastsIn below child) → Lasts limit (statement_of source (below around) statement store)
     statement_lasts around (statement.Let pat (Some e) None) store ends =
@@ -283,7 +316,7 @@ module _ (limit : ℕ) where
     tail_lasts around None path store ends = tt
 
     decided_lasts : (around : Around) (left : Operand) (right : ℕ) (decides : Option Bool) (path : Path) (store : Store) → LastsIn below right → Lasts limit (decided_into source (below around) left right decides path store)
-    decided_lasts around left right (Some true) path store ends = lasts_after limit (reading_cost source left) _ (copy_lasts store path (operand_bytes source store left))
+    decided_lasts around left right (Some true) path store ends = lasts_after limit (reading_cost source left) _ (read_lasts source left path store)
     decided_lasts around left right (Some false) path store ends = ends.into around path store
     decided_lasts around left right None path store ends = tt
 
@@ -291,8 +324,9 @@ module _ (limit : ℕ) where
     logic_lasts around op left right path store ends =
         let left_ends = ends left (first_is_contained left (right ∷ [])) in
         then_do_lasts ((below around).operand left store) _ (left_ends.operand around store) (λ given later.
+        within_bounds_lasts (operand_out source later given) _ (λ within.
         branched_lasts _ (decided_lasts (marking (marked_as_operand source left) around) given right (is_byte (deciding_byte op) (operand_bytes source later given)) path later
-        (ends right (rest_is_contained left (right ∷ []) right (first_is_contained right [])))))
+        (ends right (rest_is_contained left (right ∷ []) right (first_is_contained right []))))))
 
     branch_lasts : (around : Around) (then_branch : ℕ) (else_branch : Option ExprId) (holds : Option Bool) (path : Path) (store : Store) → ((child : ℕ) → Contains (then_branch ∷ optional else_branch) child → LastsIn below child) → Lasts limit (branch_into source below around then_branch else_branch holds path store)
     branch_lasts around then_branch else_branch (Some true) path store ends =
@@ -305,8 +339,9 @@ module _ (limit : ℕ) where
     if_lasts around condition then_branch else_branch path store ends =
         let condition_ends = ends condition (first_is_contained condition (then_branch ∷ optional else_branch)) in
         then_do_lasts ((below around).operand condition store) _ (condition_ends.operand around store) (λ given later.
+        within_bounds_lasts (operand_out source later given) _ (λ in_bounds.
         branched_lasts _ (branch_lasts (marking (marked_as_operand source condition) around) then_branch else_branch (is_byte 1 (operand_bytes source later given)) path later (λ child within.
-        ends child (rest_is_contained condition (then_branch ∷ optional else_branch) child within))))
+        ends child (rest_is_contained condition (then_branch ∷ optional else_branch) child within)))))
 
     block_lasts : (around : Around) (statements : List Statement) (tail : Option ExprId) (path : Path) (store : Store) → ((child : ℕ) → Contains (flat_map statement_parts statements ++ optional tail) child → LastsIn below child) → Lasts limit (block_into source below around statements tail path store)
     block_lasts around statements tail path store ends =
@@ -339,19 +374,29 @@ module _ (limit : ℕ) where
         let behind = marking (marked_as_place source value) around in
         then_do_lasts ((below around).place value store) _ (value_ends.place around store) (λ from later.
         then_do_lasts (assignee_place source (below behind) to later) _ (assignee_place_lasts behind to later (λ child within. ends child (rest_is_contained value (assignee_parts to) child within))) (λ place last.
-        copy_at_lasts source last place (place_bytes source last from)))
+        assign_at_lasts source place from last))
 
-    assigned_place_lasts : (around : Around) (to : Assigned) (store : Store) → ((child : ℕ) → Contains (assigned_parts to) child → LastsIn below child) → Lasts limit (assigned_place source (below around) to store)
+    -- the parts of a field or an element last
+    index_lasts : (elem : PlaceElem) → ((child : ℕ) → Contains (elem_parts elem) child → LastsIn below child) → IndexLasts below elem
+    index_lasts (Part index) ends = tt
+    index_lasts (FieldOf field) ends = tt
+    index_lasts (ElementAt n index) ends = let index_ends = ends index (first_is_contained index []) in λ around path store. index_ends.into around path store
+
+    parts_last : (around : Around) (base : ℕ) (elem : PlaceElem) (store : Store) → ((child : ℕ) → Contains (base ∷ elem_parts elem) child → LastsIn below child) → Lasts limit (field_place source below around base elem store)
+    parts_last around base elem store ends =
+        let base_ends = ends base (first_is_contained base (elem_parts elem)) in
+        field_place_lasts source below around base elem store (base_ends.place around store) (index_lasts elem (λ child within. ends child (rest_is_contained base (elem_parts elem) child within)))
+
+    assigned_place_lasts : (around : Around) (to : Assigned) (store : Store) → ((child : ℕ) → Contains (assigned_parts to) child → LastsIn below child) → Lasts limit (assigned_place source below around to store)
     assigned_place_lasts around (ByPath e) store ends = bound_place_lasts (compound_target source e) store
-    assigned_place_lasts around (ByField base elem) store ends =
-        let base_ends = ends base (first_is_contained base []) in field_place_lasts below around base elem store (base_ends.place around store)
+    assigned_place_lasts around (ByField base elem) store ends = parts_last around base elem store ends
 
     compound_lasts : (around : Around) (op : Operator) (to : Assigned) (value : ℕ) (store : Store) → ((child : ℕ) → Contains (assigned_parts to ++ value ∷ []) child → LastsIn below child) → Lasts limit (compound_into source below around op to value store)
     compound_lasts around op to value store ends =
         let value_ends = ends value (Contains-append_right (assigned_parts to) (value ∷ []) value (first_is_contained value [])) in
         let behind = marking (marked_by_assigned source to) around in
-        then_do_lasts (assigned_place source (below around) to store) _ (assigned_place_lasts around to store (λ child within. ends child (Contains-append_left (assigned_parts to) (value ∷ []) child within))) (λ place later.
-        then_do_lasts ((below behind).operand value later) _ (value_ends.operand behind later) (λ given last. answer_at_lasts source last place _))
+        then_do_lasts (assigned_place source below around to store) _ (assigned_place_lasts around to store (λ child within. ends child (Contains-append_left (assigned_parts to) (value ∷ []) child within))) (λ place later.
+        then_do_lasts ((below behind).operand value later) _ (value_ends.operand behind later) (λ given last. combined_at_lasts source op place given last))
 
     return_lasts : (around : Around) (value : Option ExprId) (store : Store) → ((child : ℕ) → Contains (optional value) child → LastsIn below child) → Lasts limit (return_into source below around value store)
     return_lasts around value store ends = then_do_lasts (tail_into (below around) value around.result store) _ (tail_lasts around value around.result store ends) (λ done later. tt)
@@ -361,11 +406,10 @@ module _ (limit : ℕ) where
     into_lasts callees around e (Some (expr.Path name)) path store is repeats enters ends = named_into_lasts (named_by source e) path store
     into_lasts callees around e (Some expr.UnitStruct) path store is repeats enters ends = tt
     into_lasts callees around e (Some (expr.Field base field)) path store is repeats enters ends =
-        let base_ends = ends base (first_is_contained base []) in
-        then_do_lasts (field_place (below around) base field store) _ (field_place_lasts below around base field store (base_ends.place around store)) (λ place later. copy_lasts later path (place_bytes source later place))
+        then_do_lasts (field_place source below around base field store) _ (parts_last around base field store ends) (λ place later. read_lasts source (At place) path later)
     into_lasts callees around e (Some (expr.Strict operation operands)) path store is repeats enters ends =
         then_do_lasts (operands_of source below around operands store) _ (operands_lasts around operands store (λ child within.
-        ends child (subst (λ parts. Contains parts child) (sym (strict_parts operation operands)) within))) (λ given later. put_answer_lasts later path _)
+        ends child (subst (λ parts. Contains parts child) (sym (strict_parts operation operands)) within))) (λ given later. operated_lasts source e operation given path later)
     into_lasts callees around e (Some (expr.Update base id args sources operands)) path store is repeats enters ends =
         update_lasts around base id args sources operands path store (λ child within. ends child (subst (λ parts. Contains parts child) (sym (update_parts base id args sources operands)) within))
     into_lasts callees around e (Some (expr.Logic op left right)) path store is repeats enters ends = logic_lasts around op left right path store ends
@@ -390,7 +434,7 @@ module _ (limit : ℕ) where
     into_lasts callees around e (Some (expr.Call callee args)) path store is repeats enters ends =
         then_do_lasts (operands_of source below around args store) _ (operands_lasts around args store (λ child within.
         ends child (subst (λ parts. Contains parts child) (sym (call_parts callee args)) within))) (λ given later.
-        entered_lasts callees (must_not_return source e) (source_called source e callee) (operands_bytes source later given) path later (enters callee))
+        within_bounds_lasts (some_out source later given) _ (λ in_bounds. entered_lasts callees (must_not_return source e) (source_called source e callee) (operands_bytes source later given) path later (enters callee)))
     into_lasts callees around e None path store is repeats enters ends = tt
 
 -- The fuel with which each expression numbered below `bound` ends, or enters at least `many` blocks, where the root of each body that a
@@ -449,7 +493,7 @@ body_lasts source start many fuel lasts =
     lasts_after_entering source many _ (where_laid_lasts many (is_laid_out source) _ (returned_lasts source many _ (into_from_own many source fuel (root source) (first_around source) _ start (lasts _ _ start))))
 
 -- Where each expression numbered below `bound` lasts itself with enough fuel, so does each as a place: a field is the place of its base,
--- which has a lower number, with one unit of fuel less.
+-- which has a lower number, with one unit of fuel less, and an index is evaluated itself.
 place_goes_on : (limit : ℕ) (source : Source) → IsCheckedBody source.body source.infer → (bound enough : ℕ) →
     ((e fuel : ℕ) → e < bound → enough ≤ fuel → (around : Around) (path : Path) (store : Store) → Lasts limit ((level_at source fuel around).own e path store)) →
     (under e fuel : ℕ) → e < under → under ≤ bound → under + enough ≤ fuel → (around : Around) (store : Store) → Lasts limit ((level_at source fuel around).place e store)
@@ -459,10 +503,18 @@ place_goes_on limit source checked bound enough owns (suc under) e zero less wit
 place_goes_on limit source checked bound enough owns (suc under) e (suc fuel) less within long around store =
     place_lasts limit source (level_at source fuel) around e (unadjusted source e) store
     (λ a p l. into_from_own limit source fuel e a p l (owns e fuel (omega arith) (omega arith) _ _ l))
-    (λ base field is.
-    let plain = unadjusted-plain source e (expr.Field base field) is in
-    let earlier = part_is_below source checked e base (field_base_is_part source e base field plain.1) in
-    place_goes_on limit source checked bound enough owns under base fuel (omega arith) (omega arith) (omega arith) around store)
+    (λ base elem is.
+    let plain = unadjusted-plain source e (expr.Field base elem) is in
+    let earlier = part_is_below source checked e base (field_base_is_part source e base elem plain.1) in
+    (place_goes_on limit source checked bound enough owns under base fuel (omega arith) (omega arith) (omega arith) around store, by_elem base elem plain.1))
+  where
+    -- an index has a lower number as well, and is evaluated itself
+    by_elem : (base : ℕ) (elem : PlaceElem) → node source e ≡ Some (expr.Field base elem) → IndexLasts limit (level_at source fuel) elem
+    by_elem base (Part index) is = tt
+    by_elem base (FieldOf field) is = tt
+    by_elem base (ElementAt n index) is = λ a p l.
+        let earlier = part_is_below source checked e index (field_index_is_part source e base n index is) in
+        into_from_own limit source fuel index a p l (owns index fuel (omega arith) (omega arith) _ _ l)
 
 own_goes_on : (top : ℕ) (source : Source) → AreBelow source.world top → IsCheckedBody source.body source.infer → (many bound e fuel : ℕ) → e < bound → fuel_for top many bound ≤ fuel →
     (around : Around) (path : Path) (store : Store) → Lasts many ((level_at source fuel around).own e path store)

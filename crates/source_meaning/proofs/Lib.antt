@@ -7,6 +7,7 @@ pub mod Defined
 pub mod Depth
 pub mod Elements
 pub mod Fuel
+pub mod Indices
 pub mod Laid
 pub mod Lasting
 pub mod Layouts
@@ -18,6 +19,7 @@ pub mod Places
 pub mod Reached
 pub mod Runs
 pub mod Sizes
+pub mod Sound
 pub mod Stores
 pub mod Structs
 pub mod Updates

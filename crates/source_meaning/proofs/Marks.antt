@@ -5,6 +5,7 @@ use Rattle.std.proofs.lemmas.List.Concat.{flat_map-append}
 use Rattle.std.proofs.lemmas.List.Elements.{Contains-append_left, Contains-append_right}
 use Rattle.types.specs.declared.ids.BindingId.{BindingId}
 use Rattle.types.specs.declared.ids.ExprId.{ExprId}
+use Rattle.types.specs.declared.ids.FieldId.{FieldId}
 use Rattle.types.specs.declared.ids.LabelId.{LabelId}
 use Rattle.types.specs.declared.ids.PatId.{PatId}
 use Rattle.types.specs.declared.operators.LogicOp.{LogicOp}
@@ -15,11 +16,11 @@ use Rattle.world.specs.declared.body.Statement.TheVariants as statement
 use Rattle.world.specs.Checked.{IsCheckedBody}
 use Rattle.numbers.specs.declared.operator.Operator.{Operator}
 use Rattle.source_meaning.specs.Structs.{FieldSource}
-use Rattle.source_meaning.specs.Core.{Assigned, Assignee, ByField, ByPath, ByPattern, ByPlace, CoreExpr, CoreLiteral, Operation, PlaceElem, Literal, Path, UnitStruct, Field, Strict, Update, Logic, If, Assign, Compound, Block, Labelled, Loop, Break, Continue, Return, Call, is_literal, is_path, is_place}
-use Rattle.source_meaning.specs.Events.{Event, Opens, Marks, Closes, own_mark, place_events, operand_events, step_events, form_events, events_in, events, events_through, Scopes, after_event, scopes_after, innermost, marks_of, marked, marked_itself, marked_as_place, marked_as_operand, marked_by_assigned, marked_by_assignee, marked_by_statement, marked_by_tail, marked_in_block}
+use Rattle.source_meaning.specs.Core.{Assigned, Assignee, ByField, ByPath, ByPattern, ByPlace, CoreExpr, CoreLiteral, ElementAt, FieldOf, Operation, Part, PlaceElem, Literal, Path, UnitStruct, Field, Strict, Update, Logic, If, Assign, Compound, Block, Labelled, Loop, Break, Continue, Return, Call, is_literal, is_path, is_place}
+use Rattle.source_meaning.specs.Events.{Event, Opens, Marks, Closes, own_mark, place_events, operand_events, step_events, form_events, events_in, events, events_through, Scopes, after_event, scopes_after, innermost, marks_of, marked, marked_itself, marked_as_place, marked_as_operand, marked_by_assigned, marked_by_assignee, marked_by_elem, marked_by_statement, marked_by_tail, marked_in_block}
 use Rattle.source_meaning.specs.Laws.{ScopesNest}
-use Rattle.source_meaning.specs.Source.{Source, Cell, Node, Binding, Never, node, unadjusted, diverges, never_marks, pattern, bound_by}
-use Rattle.source_meaning.specs.Steps.{Step, Operand, Place, Into, Bind, Open, Close, statement_steps, tail_steps, block_steps, assigned_steps, assignee_steps, steps_of, step_part, parts_of}
+use Rattle.source_meaning.specs.Source.{Source, Cell, IndexOf, Node, Binding, Never, node, unadjusted, diverges, never_marks, pattern, bound_by}
+use Rattle.source_meaning.specs.Steps.{Step, Operand, Place, Into, Index, Bind, Open, Close, statement_steps, tail_steps, block_steps, elem_steps, field_steps, assigned_steps, assignee_steps, steps_of, step_part, parts_of}
 use Rattle.source_meaning.proofs.Core.{part_is_below}
 use Rattle.source_meaning.proofs.Never.{unadjusted-plain}
 use Rattle.source_meaning.proofs.Parts.{first_is_contained}
@@ -142,13 +143,25 @@ module _ (source : Source) (below : ℕ → List Event) (closed : (e : ℕ) → 
   base_is_closed : (base : ℕ) → IsClosed (flat_map (step_events source below) (Place base ∷ []))
   base_is_closed base = append_is_closed (place_events source below base) [] (place_is_closed base) none_is_closed
 
+  -- an index marks its cell first
+  index_is_closed : (e index : ℕ) → IsClosed (Marks (IndexOf e) ∷ below index)
+  index_is_closed e index = append_is_closed (Marks (IndexOf e) ∷ []) (below index) (mark_is_closed (IndexOf e)) (closed index)
+
+  elem_is_closed : (elem : PlaceElem) → IsClosed (flat_map (step_events source below) (elem_steps elem))
+  elem_is_closed (Part index) = none_is_closed
+  elem_is_closed (FieldOf field) = none_is_closed
+  elem_is_closed (ElementAt e index) = append_is_closed (Marks (IndexOf e) ∷ below index) [] (index_is_closed e index) none_is_closed
+
+  field_is_closed : (base : ℕ) (elem : PlaceElem) → IsClosed (flat_map (step_events source below) (field_steps base elem))
+  field_is_closed base elem = append_is_closed (place_events source below base) (flat_map (step_events source below) (elem_steps elem)) (place_is_closed base) (elem_is_closed elem)
+
   assignee_is_closed : (to : Assignee) → IsClosed (flat_map (step_events source below) (assignee_steps to))
   assignee_is_closed (ByPattern pat) = none_is_closed
   assignee_is_closed (ByPlace e) = base_is_closed e
 
   assigned_is_closed : (to : Assigned) → IsClosed (flat_map (step_events source below) (assigned_steps to))
   assigned_is_closed (ByPath e) = none_is_closed
-  assigned_is_closed (ByField base elem) = base_is_closed base
+  assigned_is_closed (ByField base elem) = field_is_closed base elem
 
   assign_is_closed : (to : Assignee) (value : ℕ) → IsClosed (flat_map (step_events source below) (Place value ∷ assignee_steps to))
   assign_is_closed to value = append_is_closed (place_events source below value) (flat_map (step_events source below) (assignee_steps to)) (place_is_closed value) (assignee_is_closed to)
@@ -179,7 +192,7 @@ module _ (source : Source) (below : ℕ → List Event) (closed : (e : ℕ) → 
   form_is_closed (Some (Literal given)) = none_is_closed
   form_is_closed (Some (Path name)) = none_is_closed
   form_is_closed (Some UnitStruct) = none_is_closed
-  form_is_closed (Some (Field base field)) = base_is_closed base
+  form_is_closed (Some (Field base elem)) = field_is_closed base elem
   form_is_closed (Some (Strict operation operands)) = operands_are_closed operands
   form_is_closed (Some (Update base id args sources operands)) = update_is_closed base operands
   form_is_closed (Some (Logic op left right)) = logic_is_closed left right
@@ -227,6 +240,7 @@ step_events_same source below other (first ∷ rest) same =
     step_same (Operand e) same = ap (λ inside. cond (is_literal (unadjusted source e)) [] (cond (is_path (unadjusted source e)) [] (own_mark (is_place (unadjusted source e)) e ++ inside))) (same e (first_is_contained e []))
     step_same (Place e) same = ap (λ inside. cond (is_path (unadjusted source e)) [] (own_mark (is_place (unadjusted source e)) e ++ inside)) (same e (first_is_contained e []))
     step_same (Into e) same = same e (first_is_contained e [])
+    step_same (Index e index) same = ap (λ inside. Marks (IndexOf e) ∷ inside) (same index (first_is_contained index []))
     step_same (Bind pat) same = refl
     step_same Open same = refl
     step_same Close same = refl
@@ -322,6 +336,30 @@ pub operand_marks : (source : Source) (e : ℕ) → is_literal (unadjusted sourc
 unfolding marked_as_operand marked_as_place
 operand_marks source e is = ap (λ test. marks_of (cond test [] (place_events source (events source) e))) is
 
+-- a base and a step from it mark what the base does as a place, and then what the step does
+steps_mark : (source : Source) (base : ℕ) (elem : PlaceElem) → marks_of (events_through source (field_steps base elem)) ≡ marked_as_place source base ++ marked_by_elem source elem
+unfolding marked_as_place marked_by_elem
+steps_mark source base elem =
+    marks-append (place_events source (events source) base) (events_through source (elem_steps elem)) (place_is_closed source (events source) (events_are_closed source) base)
+    (elem_is_closed source (events source) (events_are_closed source) elem)
+
+-- a step to the part of a tuple or to a field marks nothing
+pub no_elem_marks_part : (source : Source) (index : ℕ) → marked_by_elem source (Part index) ≡ []
+unfolding marked_by_elem
+no_elem_marks_part source index = no_marks
+
+pub no_elem_marks_field : (source : Source) (field : FieldId) → marked_by_elem source (FieldOf field) ≡ []
+unfolding marked_by_elem
+no_elem_marks_field source field = no_marks
+
+-- and one to an element the cell of its index, and what the index does
+pub element_marks : (source : Source) (n index : ℕ) → marked_by_elem source (ElementAt n index) ≡ IndexOf n ∷ marked source index
+unfolding marked_by_elem marked
+element_marks source n index =
+    ap marks_of (append-nil (Marks (IndexOf n) ∷ events source index))
+    ∙ marks-append (Marks (IndexOf n) ∷ []) (events source index) (mark_is_closed (IndexOf n)) (events_are_closed source index)
+    ∙ ap (λ cells. cells ++ marks_of (events source index)) (one_mark (IndexOf n))
+
 module _ (source : Source) (checked : IsCheckedBody source.body source.infer) (e : ℕ) (less : e < length source.body.exprs) where
   form_marks : (form : Option CoreExpr) → node source e ≡ form → marked_itself source e ≡ marks_of (form_events source (events source) form)
   unfolding marked_itself
@@ -342,19 +380,18 @@ module _ (source : Source) (checked : IsCheckedBody source.body source.infer) (e
   pub name_marks : (name : List ℕ) → node source e ≡ Some (Path name) → marked_itself source e ≡ []
   name_marks name is = form_marks (Some (Path name)) is ∙ no_marks
 
-  -- a field evaluated into a path marks what its base does as a place
-  pub part_marks : (base : ℕ) (field : PlaceElem) → node source e ≡ Some (Field base field) → marked_itself source e ≡ marked_as_place source base
-  unfolding marked_as_place
-  part_marks base field is = form_marks (Some (Field base field)) is ∙ ap marks_of (append-nil (place_events source (events source) base))
+  -- a field or an element evaluated into a path marks what its base does as a place, and then what its step does
+  pub part_marks : (base : ℕ) (elem : PlaceElem) → node source e ≡ Some (Field base elem) → marked_itself source e ≡ marked_as_place source base ++ marked_by_elem source elem
+  part_marks base elem is = form_marks (Some (Field base elem)) is ∙ steps_mark source base elem
 
-  -- and so does a field as a place
-  pub field_marks : (base : ℕ) (field : PlaceElem) → unadjusted source e ≡ Some (Field base field) → marked_as_place source e ≡ marked_as_place source base
+  -- and so does one as a place
+  pub field_marks : (base : ℕ) (elem : PlaceElem) → unadjusted source e ≡ Some (Field base elem) → marked_as_place source e ≡ marked_as_place source base ++ marked_by_elem source elem
   unfolding marked
-  field_marks base field is =
-      let plain = unadjusted-plain source e (Field base field) is in
+  field_marks base elem is =
+      let plain = unadjusted-plain source e (Field base elem) is in
       no_path_marks source e true (ap is_path is) (ap is_place is)
       ∙ itself_marks ∙ ap (λ test. cond test (Never e ∷ []) [] ++ marked_itself source e) plain.0
-      ∙ part_marks base field plain.1
+      ∙ part_marks base elem plain.1
 
   pub strict_marks : (operation : Operation) (operands : List ℕ) → node source e ≡ Some (Strict operation operands) → marked_itself source e ≡ flat_map (marked_as_operand source) operands
   strict_marks operation operands is = form_marks (Some (Strict operation operands)) is ∙ operands_mark source operands
@@ -443,14 +480,14 @@ pub place_target_marks : (source : Source) (e : ℕ) → marked_by_assignee sour
 unfolding marked_by_assignee marked_as_place
 place_target_marks source e = ap marks_of (append-nil (place_events source (events source) e))
 
--- that of a compound assignment marks nothing where it is a path, and else what the base of the field does as a place
+-- that of a compound assignment marks nothing where it is a path, and else what the base does as a place, and what the step from it does
 pub path_target_marks : (source : Source) (e : ℕ) → marked_by_assigned source (ByPath e) ≡ []
 unfolding marked_by_assigned
 path_target_marks source e = no_marks
 
-pub field_target_marks : (source : Source) (base : ℕ) (elem : PlaceElem) → marked_by_assigned source (ByField base elem) ≡ marked_as_place source base
-unfolding marked_by_assigned marked_as_place
-field_target_marks source base elem = ap marks_of (append-nil (place_events source (events source) base))
+pub field_target_marks : (source : Source) (base : ℕ) (elem : PlaceElem) → marked_by_assigned source (ByField base elem) ≡ marked_as_place source base ++ marked_by_elem source elem
+unfolding marked_by_assigned
+field_target_marks source base elem = steps_mark source base elem
 
 pub let_marks : (source : Source) (pat : PatId) (e : ExprId) → marked_by_statement source (statement.Let pat (Some e) None) ≡ marked_as_place source e.0 ++ bound_by (pattern source pat.0)
 unfolding marked_by_statement marked_as_place

@@ -12,9 +12,9 @@ use Rattle.world.specs.declared.body.Statement.TheVariants as statement
 use Rattle.world.specs.Nodes.{optional}
 use Rattle.numbers.specs.declared.operator.Operator.{Operator}
 use Rattle.source_meaning.specs.Structs.{FieldSource}
-use Rattle.source_meaning.specs.Core.{Assigned, Assignee, ByField, ByPath, ByPattern, ByPlace, CoreExpr, Operation, Strict, Update, Logic, If, Assign, Compound, Block, Call, is_truth}
+use Rattle.source_meaning.specs.Core.{Assigned, Assignee, ByField, ByPath, ByPattern, ByPlace, CoreExpr, ElementAt, FieldOf, Operation, Part, PlaceElem, Field, Strict, Update, Logic, If, Assign, Compound, Block, Call, is_truth}
 use Rattle.source_meaning.specs.Source.{Source, unadjusted}
-use Rattle.source_meaning.specs.Steps.{Step, Operand, Place, Into, Bind, Open, Close, statement_steps, tail_steps, block_steps, assigned_steps, assignee_steps, steps_of, step_part, parts_of, assigned_parts, assignee_parts, statement_parts}
+use Rattle.source_meaning.specs.Steps.{Step, Operand, Place, Into, Index, Bind, Open, Close, statement_steps, tail_steps, block_steps, elem_steps, field_parts, assigned_steps, assignee_steps, steps_of, step_part, parts_of, assigned_parts, assignee_parts, statement_parts}
 use Rattle.source_meaning.specs.Valid.{sized_part, sized_parts}
 
 -- a list has its first element, and what the rest has
@@ -47,6 +47,10 @@ among_more f g (first ∷ rest) y more within =
 pub flat_map-flat_map : {X Y Z : Type 0} (f : X → List Y) (g : Y → List Z) (xs : List X) → flat_map g (flat_map f xs) ≡ flat_map (λ x. flat_map g (f x)) xs
 flat_map-flat_map f g [] = refl
 flat_map-flat_map f g (x ∷ xs) = flat_map-append g (f x) (flat_map f xs) ∙ ap (λ rest. flat_map g (f x) ++ rest) (flat_map-flat_map f g xs)
+
+-- the expressions that are evaluated for a step into a value: the index that leads to an element
+abbrev pub elem_parts : PlaceElem → List ℕ
+elem_parts elem = flat_map step_part (elem_steps elem)
 
 -- a strict form evaluates its operands
 pub operand_parts : (operands : List ℕ) → flat_map step_part (map Operand operands) ≡ operands
@@ -96,6 +100,7 @@ sized_is_part source (Operand e) child within = by_truth (is_truth (unadjusted s
     by_truth false within = within
 sized_is_part source (Place e) child within = within
 sized_is_part source (Into e) child within = within
+sized_is_part source (Index e index) child within = within
 sized_is_part source (Bind pat) child within = within
 sized_is_part source Open child within = within
 sized_is_part source Close child within = within
@@ -157,9 +162,19 @@ sized_compound_parts : (source : Source) (op : Operator) (to : Assigned) (value 
     sized_parts source (Some (Compound op to value)) ≡ flat_map (sized_part source) (assigned_steps to) ++ flat_map (sized_part source) (Operand value ∷ [])
 sized_compound_parts source op to value = flat_map-append (sized_part source) (assigned_steps to) (Operand value ∷ [])
 
+-- the index that leads to an element needs a layout, since it is evaluated into a cell
+pub sized_elem_parts : (source : Source) (elem : PlaceElem) → flat_map (sized_part source) (elem_steps elem) ≡ elem_parts elem
+sized_elem_parts source (Part index) = refl
+sized_elem_parts source (FieldOf field) = refl
+sized_elem_parts source (ElementAt e index) = refl
+
+-- and so does what a field or an element evaluates
+pub sized_field_parts : (source : Source) (base : ℕ) (elem : PlaceElem) → sized_parts source (Some (Field base elem)) ≡ field_parts base elem
+sized_field_parts source base elem = ap (λ rest. base ∷ rest) (sized_elem_parts source elem)
+
 sized_assigned_part : (source : Source) (to : Assigned) (child : ℕ) → Contains (assigned_parts to) child → Contains (flat_map (sized_part source) (assigned_steps to)) child
 sized_assigned_part source (ByPath e) child within = within
-sized_assigned_part source (ByField base elem) child within = within
+sized_assigned_part source (ByField base elem) child within = subst (λ parts. Contains parts child) (sym (sized_field_parts source base elem)) within
 
 pub assigned_is_sized : (source : Source) (op : Operator) (to : Assigned) (value child : ℕ) → Contains (assigned_parts to) child → Contains (sized_parts source (Some (Compound op to value))) child
 assigned_is_sized source op to value child within =

@@ -1,6 +1,6 @@
 -- A plain body of a checked world is never stuck, and never ends in a jump: each value has the size of its type.
 use Rattle.std.specs.Prelude.{All, flat_map, Contains}
-use Rattle.std.proofs.Common.{⊎_elim, ◌⊎◌, inl, inr, ◌≡◌, ◌≢◌, ℕ, zero, suc, Bool, true, false, cond, if◌then◌else◌, ◌==◌, List, [], ◌∷◌, ◌++◌, length, map, Option, Some, None, unwrap_or, option_and_then, option_map, ℤ, pos, refl, sym, ap, ◌∙◌, subst, arith, eq-eqb}
+use Rattle.std.proofs.Common.{⊎_elim, ◌⊎◌, inl, inr, ◌≡◌, ◌≢◌, ℕ, zero, suc, Bool, true, false, ◌||◌, cond, if◌then◌else◌, ◌==◌, List, [], ◌∷◌, ◌++◌, length, map, Option, Some, None, unwrap_or, option_map, ℤ, pos, refl, sym, ap, ◌∙◌, subst, arith, eq-eqb}
 use Rattle.std.proofs.lemmas.Bool.{false≢true}
 use Rattle.std.proofs.lemmas.List.{length-replicate}
 use Rattle.std.proofs.lemmas.List.Elements.{All-head, All-tail, Contains-append_left, Contains-append_right, Contains-append_cases}
@@ -16,150 +16,43 @@ use Rattle.types.specs.declared.ids.LabelId.{LabelId}
 use Rattle.types.specs.declared.operators.LogicOp.{LogicOp}
 use Rattle.types.specs.declared.ty.Ty.{Ty, Bool as BoolTy, Int as IntType, Uint as UintType}
 use Rattle.world.specs.Checked.{IsChecked, IsCheckedBody}
-use Rattle.world.specs.Lookups.{layout_of}
+use Rattle.types.specs.declared.ids.VariantId.TheVariants as variant
+use Rattle.world.specs.declared.items.FieldRow.{FieldRow}
+use Rattle.world.specs.Lookups.{fields_of, layout_of}
 use Rattle.world.specs.Nodes.{optional}
-use Rattle.source_meaning.specs.Structs.{FieldSource}
+use Rattle.source_meaning.specs.Structs.{FieldSource, picked}
 use Rattle.source_meaning.specs.Updates.{field_operands}
 use Rattle.numbers.specs.Bytes.{low_bytes}
 use Rattle.numbers.specs.declared.operator.Operator.{Operator}
-use Rattle.numbers.specs.Operators.{Answer, Computes, Panics, Undefined}
 use Rattle.numbers.proofs.Digits.{length-low_bytes}
 use Rattle.source_meaning.specs.Aggregates.{HasAggregates}
 use Rattle.source_meaning.specs.Around.{Opened, Target, Around, at_root, marking, entered, inside as inside_of, is_meant, meant, target_of}
 use Rattle.source_meaning.specs.Calls.{must_not_return, parameter_cells, parameters}
 use Rattle.source_meaning.specs.Core as expr
-use Rattle.source_meaning.specs.Core.{Assigned, Assignee, ByField, ByPath, ByPattern, ByPlace, CoreExpr, CoreLiteral, Truth, Number, Character, Operation, Combine, PlaceElem, is_truth}
-use Rattle.source_meaning.specs.Ends.{Cost, no_cost, turns_alone, plus, End, Go, Jumps, Jump, Break, Continue, Return, Faults, NoLayout, Stuck, More, JumpsNowhere, after, then_do}
+use Rattle.source_meaning.specs.Core.{Assigned, Assignee, ByField, ByPath, ByPattern, ByPlace, CoreExpr, CoreLiteral, Truth, Number, Character, ElementAt, FieldOf, Operation, Combine, MakeStruct, Part, PlaceElem, is_truth}
+use Rattle.source_meaning.specs.Ends.{no_cost, turns_alone, plus, End, Go, Jumps, Break, Continue, Return, Faults, Stuck, More, JumpsNowhere, after, then_do}
 use Rattle.source_meaning.specs.Entering.{entering}
 use Rattle.source_meaning.specs.Events.{marked, marked_as_operand, marked_as_place, marked_by_assigned, marked_by_statement}
 use Rattle.source_meaning.specs.Laid.{is_laid_out}
-use Rattle.source_meaning.specs.Meaning.{Level, Levels, Callees, Value, operand_kind, values_of, answered, answered_for, truth_byte, literal_bytes, constant_cost, put, copy_to, put_literal, put_answer, literal_operand, named_place, named_into, field_place, bind, operands_of, strict_into, deciding_byte, reading_cost, decided_into, branched, logic_into, tail_into, branch_into, if_into, put_all, put_at, copy_at, answer_at, bound_place, assignee_place, assign_into, assigned_place, compound_into, struct_of, update_into, statement_of, statements_of, block_into, caught, again_into, labelled_into, turn_of, loop_into, break_to, break_into, continue_to, continue_into, return_into, call_ended, unfit_meaning, entered_from, entered_into, call_into, no_fuel, place_of, operand_of, into_of, level_above, level_at, returned, where_laid, body_meaning, callees_at, meaning_from}
-use Rattle.source_meaning.specs.Places.{cell_with, place_bytes, operand_bytes, operands_bytes}
-use Rattle.source_meaning.specs.Source.{Source, Store, IsSized, Path, Place, Cell, Result, Node, Binding, Operand, Literally, At, zeroed, node, unadjusted, never_marks, own_path, own_type, node_type, own_layout, pattern, target, compound_target, root, cell_type, binding_type, cell_size}
+use Rattle.source_meaning.specs.Meaning.{Level, Levels, Callees, Value, within_bounds, read_into, combined_at, made_into, operated_into, stepped, operand_kind, values_of, answered, answered_for, truth_byte, literal_bytes, constant_cost, put, put_literal, put_answer, literal_operand, named_place, named_into, field_place, bind, operands_of, strict_into, deciding_byte, reading_cost, decided_into, branched, logic_into, tail_into, branch_into, if_into, bound_place, assignee_place, assign_into, assigned_place, compound_into, struct_of, update_into, statement_of, statements_of, block_into, caught, again_into, labelled_into, turn_of, loop_into, break_to, break_into, continue_to, continue_into, return_into, call_ended, unfit_meaning, entered_from, entered_into, call_into, no_fuel, place_of, operand_of, into_of, level_above, level_at, body_meaning, callees_at, meaning_from}
+use Rattle.source_meaning.specs.Places.{is_out_of_bounds, place_bytes, operand_bytes, operand_out, operands_bytes, some_out}
+use Rattle.source_meaning.specs.Source.{Source, Store, IsSized, Path, Place, Cell, IndexOf, Result, Node, Binding, Operand, Literally, At, zeroed, node, unadjusted, never_marks, own_path, own_type, node_type, own_layout, pattern, target, compound_target, root, cell_type, binding_type, cell_size}
 use Rattle.source_meaning.specs.Steps.{parts_of, assigned_parts, assignee_parts, statement_parts, tail_steps}
 use Rattle.source_meaning.specs.Steps as step
-use Rattle.source_meaning.specs.Valid.{Evaluates, itself, part, IsNumber, IsBool, IsPlainLiteral, IsPlainLet, IsPlainStatement, IsPlainTail, IsCombined, IsPlainAssigned, IsPlainAssignee, IsPlainField, HasPlainForm, IsPlainNode, EvaluatesIn, itself_in, part_in, opened_in, HasPlainTarget, HasOpenTarget, FitsAround, JumpsFit, IsPlain, IsLaidOut, IsLaidOutNode, sized_part, sized_parts, NeedsLayout, own, inside, Calls, through, at_once, IsPlainThroughout, IsPlainCall}
+use Rattle.source_meaning.specs.Valid.{Evaluates, itself, part, HaveTypes, IsTyped, IsNumber, IsBool, IsPlainLiteral, IsPlainLet, IsPlainStatement, IsPlainTail, IsCombined, IsPlainAssigned, IsPlainAssignee, IsPlainField, HasElem, HasPlainIndex, HasPlainForm, IsPlainNode, EvaluatesIn, itself_in, part_in, opened_in, HasPlainTarget, HasOpenTarget, FitsAround, JumpsFit, IsPlain, IsLaidOut, IsLaidOutNode, sized_part, sized_parts, NeedsLayout, own, inside, Calls, through, at_once, IsPlainThroughout, IsPlainCall}
 use Rattle.source_meaning.proofs.Aggregates.{AreBytes}
 use Rattle.source_meaning.proofs.Calls.{called_world, called_is_checked, called_by_name, AreFor, started_is_sized}
 use Rattle.source_meaning.proofs.Depth.{evaluates_then, operand_is_part, update_operand_is_part, argument_is_part, logic_operand_is_part, if_part_is_part, combined_is_part}
+use Rattle.source_meaning.proofs.Indices.{HasOwnIndex, has_index_cell, index_cell_type, node_has_index, target_has_index}
 use Rattle.source_meaning.proofs.Laid.{layouts_are_tested}
 use Rattle.source_meaning.proofs.Layouts.{bool_is_number, bool_length_is_one}
 use Rattle.source_meaning.proofs.Never.{undiverted-type, own_path-fits, unadjusted-plain}
 use Rattle.source_meaning.proofs.Operators.{Fits, IsLengthOf}
-use Rattle.source_meaning.proofs.Parts.{first_is_contained, rest_is_contained, operand_is_sized, first_is_sized, right_is_sized, branch_is_sized, assigned_value_is_sized, assignee_is_sized, assigned_is_sized, combined_value_is_sized, sized_part_is_part, sized_block_parts, sized_tail}
-use Rattle.source_meaning.proofs.Places.{IsPlaceOf, IsLiteralOf, IsOperandOf, AreOperandsOf, byte_decides, whole_is_place, part_is_place, place_has_bytes, place_takes_bytes, place_has_value, values_of-more, same_size, operand_is_value, truth_has_byte, operands_are_values, operands_have_bytes, arguments_fit}
-use Rattle.source_meaning.proofs.Stores.{with_bytes_is_sized}
-use Rattle.source_meaning.proofs.Updates.{fields-are-read}
-use Rattle.source_meaning.proofs.Values.{size_at, combined_fits, number_is_long, struct_fits, typed_fits}
-
--- how many bytes the values of an expression itself have
-abbrev pub size_of : Source → ℕ → ℕ
-size_of source e = size_at source (own_type source e)
-
--- one of these targets is an expression
-abbrev pub IsNode : List Target → ℕ → Type 0
-IsNode targets node = (target : Target) × Contains targets target × (target.opened.node ≡ node)
-
--- a jump leads to one of these targets, or out of the body
-abbrev pub IsTarget : List Target → Jump → Type 0
-IsTarget targets (Break node) = IsNode targets node
-IsTarget targets (Continue node) = IsNode targets node
-IsTarget targets Return = Unit {0}
-
--- an end that isn't stuck, and which leaves sized cells where it is a value, or a jump, which leads to a target or out of the body
-abbrev pub IsSound : {A : Type 0} → Source → List Target → (A → Type 0) → End A → Type 0
-IsSound source targets P (Go value store cost) = IsSized source store × P value
-IsSound source targets P (Jumps to store cost) = IsSized source store × IsTarget targets to
-IsSound source targets P (Faults fault cost) = Unit {0}
-IsSound source targets P Stuck = ⊥
-IsSound source targets P (More cost) = Unit {0}
-
-after_is_sound : {A : Type 0} (source : Source) (targets : List Target) (P : A → Type 0) (cost : Cost) (end : End A) → IsSound source targets P end → IsSound source targets P (after cost end)
-unfolding after
-after_is_sound source targets P cost (Go value store rest) sound = sound
-after_is_sound source targets P cost (Jumps to store rest) sound = sound
-after_is_sound source targets P cost (Faults fault rest) sound = tt
-after_is_sound source targets P cost Stuck sound = sound
-after_is_sound source targets P cost (More rest) sound = tt
-
-then_do_is_sound : {A B : Type 0} (source : Source) (targets : List Target) (P : A → Type 0) (Q : B → Type 0) (first : End A) (next : A → Store → End B) → IsSound source targets P first → ((value : A) (store : Store) → IsSized source store → P value → IsSound source targets Q (next value store)) → IsSound source targets Q (then_do first next)
-unfolding then_do
-then_do_is_sound source targets P Q (Go value store cost) next sound rest = after_is_sound source targets Q cost (next value store) (rest value store sound.0 sound.1)
-then_do_is_sound source targets P Q (Jumps to store cost) next sound rest = sound
-then_do_is_sound source targets P Q (Faults fault cost) next sound rest = tt
-then_do_is_sound source targets P Q Stuck next sound rest = sound
-then_do_is_sound source targets P Q (More cost) next sound rest = tt
-
-abbrev Nothing : Unit {0} → Type 0
-Nothing done = Unit {0}
-
-either_is_sound : (source : Source) (targets : List Target) (test : Bool) (one other : End (Unit {0})) → test ≡ true → IsSound source targets Nothing one → IsSound source targets Nothing (if test then one else other)
-either_is_sound source targets true one other is sound = sound
-either_is_sound source targets false one other is sound = absurd (false≢true is)
-
-put_is_sound : (source : Source) (targets : List Target) (store : Store) (path : Path) (bytes : List ℕ) → IsSized source store → length bytes ≡ cell_size source path.cell → IsSound source targets Nothing (put store path bytes)
-unfolding put
-put_is_sound source targets store path bytes sized fits =
-    either_is_sound source targets (length bytes == length (store path.cell)) _ Stuck (eq-eqb _ _ (fits ∙ sym (sized.holds_all path.cell))) (with_bytes_is_sized source store path.cell bytes sized fits, tt)
-
-copy_is_sound : (source : Source) (targets : List Target) (store : Store) (path : Path) (given : Option (List ℕ)) → IsSized source store → AreBytes (cell_size source path.cell) given → IsSound source targets Nothing (copy_to store path given)
-copy_is_sound source targets store path given sized there =
-    subst (λ bytes. IsSound source targets Nothing (copy_to store path bytes)) (sym there.is) (put_is_sound source targets store path there.bytes sized there.long)
-
-put_answer_is_sound : (source : Source) (targets : List Target) (store : Store) (path : Path) (answer : Answer) → IsSized source store → Fits (cell_size source path.cell) answer → IsSound source targets Nothing (put_answer store path answer)
-put_answer_is_sound source targets store path (Computes bytes) sized fits = put_is_sound source targets store path bytes sized fits
-put_answer_is_sound source targets store path (Panics word) sized fits = tt
-put_answer_is_sound source targets store path Undefined sized fits = fits
-
--- all bytes of a cell are replaced by as many
-put_all_is_sound : (source : Source) (targets : List Target) (store : Store) (cell : Cell) (given : Option (List ℕ)) → IsSized source store → AreBytes (cell_size source cell) given → IsSound source targets Nothing (put_all store cell given)
-put_all_is_sound source targets store cell given sized there =
-    subst (λ bytes. IsSound source targets Nothing (put_all store cell bytes)) (sym there.is) (with_bytes_is_sized source store cell there.bytes sized there.long, tt)
-
--- bytes of the size of a place's type are put there
-put_at_is_sound : (source : Source) (targets : List Target) (store : Store) (place : Place) (ty : Option Ty) (bytes : List ℕ) → IsSized source store → IsPlaceOf source place ty → length bytes ≡ size_at source ty → IsSound source targets Nothing (put_at source store place bytes)
-put_at_is_sound source targets store place ty bytes sized fits long =
-    put_all_is_sound source targets store place.cell (cell_with source store place bytes) sized (place_takes_bytes source store place ty bytes sized fits long)
-
-copy_at_is_sound : (source : Source) (targets : List Target) (store : Store) (place : Place) (ty : Option Ty) (given : Option (List ℕ)) → IsSized source store → IsPlaceOf source place ty → AreBytes (size_at source ty) given → IsSound source targets Nothing (copy_at source store place given)
-copy_at_is_sound source targets store place ty given sized fits there =
-    subst (λ bytes. IsSound source targets Nothing (copy_at source store place bytes)) (sym there.is) (put_at_is_sound source targets store place ty there.bytes sized fits there.long)
-
-answer_at_is_sound : (source : Source) (targets : List Target) (store : Store) (place : Place) (ty : Option Ty) (answer : Answer) → IsSized source store → IsPlaceOf source place ty → Fits (size_at source ty) answer → IsSound source targets Nothing (answer_at source store place answer)
-answer_at_is_sound source targets store place ty (Computes bytes) sized fits long = put_at_is_sound source targets store place ty bytes sized fits long
-answer_at_is_sound source targets store place ty (Panics word) sized fits long = tt
-answer_at_is_sound source targets store place ty Undefined sized fits long = long
-
--- the end of a body that is neither stuck nor a jump; a value has as many bytes as the result's cell
-abbrev pub IsSettled : Source → End (List ℕ) → Type 0
-IsSettled source (Go value store cost) = length value ≡ cell_size source Result
-IsSettled source (Jumps to store cost) = ⊥
-IsSettled source (Faults fault cost) = Unit {0}
-IsSettled source Stuck = ⊥
-IsSettled source (More cost) = Unit {0}
-
-after_is_settled : (source : Source) (cost : Cost) (end : End (List ℕ)) → IsSettled source end → IsSettled source (after cost end)
-unfolding after
-after_is_settled source cost (Go value store rest) settled = settled
-after_is_settled source cost (Jumps to store rest) settled = settled
-after_is_settled source cost (Faults fault rest) settled = tt
-after_is_settled source cost Stuck settled = settled
-after_is_settled source cost (More rest) settled = tt
-
--- a body is settled from where its layouts are tested on, if it is where they are there: else its meaning is a fault
-where_laid_is_settled : (source : Source) (laid : Bool) (end : End (List ℕ)) → (laid ≡ true → IsSettled source end) → IsSettled source (where_laid laid end)
-where_laid_is_settled source true end settled = settled refl
-where_laid_is_settled source false end settled = tt
-
--- arguments that don't fit are no matter where a callee can't be entered
-unfit_is_settled : (called : Source) (laid : Bool) → laid ≡ false → IsSettled called (unfit_meaning laid called)
-unfit_is_settled called true is = absurd (false≢true (sym is))
-unfit_is_settled called false is = after_is_settled called (entering called) (Faults NoLayout no_cost) tt
-
--- the callees of a body end well, from wherever they are entered: where their types have layouts, from a store that fits them
-pub record AreSoundCallees (source : Source) (callees : Callees) : Type 0 where
-  pub settle : (called : Source) → Calls source called → (start : Store) → IsSized called start → IsSettled called (callees called start)
-  pub unlaid : (called : Source) → Calls source called → is_laid_out called ≡ false → (start : Store) → IsSettled called (callees called start)
+use Rattle.source_meaning.proofs.Parts.{elem_parts, first_is_contained, rest_is_contained, operand_is_sized, first_is_sized, right_is_sized, branch_is_sized, assigned_value_is_sized, assignee_is_sized, assigned_is_sized, combined_value_is_sized, sized_field_parts, sized_part_is_part, sized_block_parts, sized_tail}
+use Rattle.source_meaning.proofs.Places.{IsPlaceOf, IsLiteralOf, IsOperandOf, AreOperandsOf, byte_decides, neither, whole_is_place, part_is_place, place_has_bytes, place_has_value, values_of-more, same_size, operand_is_value, truth_has_byte, operands_are_values, operands_have_bytes, arguments_fit}
+use Rattle.source_meaning.proofs.Sound.{size_of, IsNode, IsSound, after_is_sound, then_do_is_sound, within_bounds_is_sound, Nothing, put_is_sound, copy_is_sound, put_answer_is_sound, copy_at_is_sound, answer_at_is_sound, IsSettled, after_is_settled, returned_is_settled, where_laid_is_settled, unfit_is_settled, AreSoundCallees}
+use Rattle.source_meaning.proofs.Updates.{AreFields, fields-are-read, picked-are-read}
+use Rattle.source_meaning.proofs.Values.{IsNoStruct, size_at, combined_fits, number_is_long, struct_fits, typed_fits}
 
 -- the type of each binding that no closure owns has a layout
 abbrev pub AreBindingsLaidOut : Source → Type 0
@@ -325,19 +218,19 @@ module _ (source : Source) (checked : IsChecked source.world) where
 
   -- the callee of a plain call ends well, from the arguments that the call's operands are
   callee_is_sound : (callees : Callees) → AreSoundCallees source callees → (targets : List Target) (diverging : Bool) (e : ℕ) (callee : Option ℕ) (args : List ℕ) (ty : Ty) (form : IsPlainCall source e callee args ty) → Calls source form.called →
-      (given : List Operand) (path : Path) (store : Store) → IsSized source store → cell_size form.called Result ≡ cell_size source path.cell → OperandsFit args given →
+      (given : List Operand) (path : Path) (store : Store) → IsSized source store → cell_size form.called Result ≡ cell_size source path.cell → OperandsFit args given → some_out source store given ≡ false →
       IsSound source targets Nothing (entered_into callees diverging (Some form.called) (operands_bytes source store given) path store)
-  callee_is_sound callees callees_are targets diverging e callee args ty form calls given path store sized same fit = by_test (is_laid_out form.called) refl
+  callee_is_sound callees callees_are targets diverging e callee args ty form calls given path store sized same fit within = by_test (is_laid_out form.called) refl
     where
       by_test : (test : Bool) → is_laid_out form.called ≡ test → IsSound source targets Nothing (entered_into callees diverging (Some form.called) (operands_bytes source store given) path store)
       by_test true laid =
           let world = called_world source calls.e calls.callee form.called calls.enters in
           let tested = layouts_are_tested form.called (called_is_checked source calls.e calls.callee form.called checked calls.enters) in
-          let read = arguments_fit source checked form.called world (tested.0 laid) form.row.sig.params args form.bound given store sized form.arguments_have form.parameters_have fit in
+          let read = arguments_fit source checked form.called world (tested.0 laid) form.row.sig.params args form.bound given store sized form.arguments_have form.parameters_have fit within in
           subst (λ bytes. IsSound source targets Nothing (entered_into callees diverging (Some form.called) bytes path store)) (sym read.1)
           (entered_is_sound targets callees diverging form.called form.bound read.0 path store sized same form.binds read.2 (callees_are.settle form.called calls))
       by_test false unlaid =
-          let read = operands_have_bytes source checked form.row.sig.params args given store sized form.arguments_have fit in
+          let read = operands_have_bytes source checked form.row.sig.params args given store sized form.arguments_have fit within in
           subst (λ bytes. IsSound source targets Nothing (entered_into callees diverging (Some form.called) bytes path store)) (sym read.1)
           (unlaid_is_sound targets callees diverging form.called _ path store sized same unlaid (callees_are.unlaid form.called calls unlaid))
 
@@ -367,9 +260,11 @@ module _ (source : Source) (checked : IsChecked source.world) where
       (after_is_sound source targets Nothing (constant_cost source e) (put store path bytes) (put_is_sound source targets store path bytes sized fits))
 
   -- what lies at a place goes to a cell of its type
-  copied_is_sound : (targets : List Target) (place : Place) (ty : Option Ty) (path : Path) (store : Store) → IsSized source store → IsPlaceOf source place ty → cell_type source path.cell ≡ ty → IsSound source targets Nothing (copy_to store path (place_bytes source store place))
+  copied_is_sound : (targets : List Target) (place : Place) (ty : Option Ty) (path : Path) (store : Store) → IsSized source store → IsPlaceOf source place ty → cell_type source path.cell ≡ ty → IsSound source targets Nothing (read_into source (At place) path store)
   copied_is_sound targets place ty path store sized fits is =
-      copy_is_sound source targets store path (place_bytes source store place) sized (subst (λ size. AreBytes size (place_bytes source store place)) (sym (ap (size_at source) is)) (place_has_bytes source store place ty sized fits))
+      within_bounds_is_sound source targets Nothing (is_out_of_bounds source store place) _ (λ within.
+      copy_is_sound source targets store path (place_bytes source store place) sized
+      (subst (λ size. AreBytes size (place_bytes source store place)) (sym (ap (size_at source) is)) (place_has_bytes source store place ty sized fits within)))
 
   -- the binding of a plain `let` has the initializer's type
   bind_is_sound : (targets : List Target) (pat e : ℕ) (place : Place) (store : Store) → IsPlainLet source pat e → IsSized source store → PlaceFits e place → IsSound source targets Nothing (bind source (pattern source pat) place store)
@@ -400,23 +295,37 @@ module _ (source : Source) (checked : IsChecked source.world) where
       part_is_fine outer e child (Some (expr.Block statements tail)) is (sized_block_parts source statements tail child within) fine
 
   module _ (aggregates : HasAggregates source.world) (below : Levels) (sound : (outer : List Opened) (around : Around) → Stands outer around → IsSoundLevel outer around.targets (below around)) where
-    -- what an element leads to from the place that a base is
-    part_place_is_sound : (outer : List Opened) (around : Around) (stands : Stands outer around) (base : ℕ) (elem : PlaceElem) (ty : Ty) (store : Store) → IsPlainField source base elem ty → IsFine source outer base → IsSized source store →
-        IsSound source around.targets (λ place. IsPlaceOf source place (Some ty)) (field_place (below around) base elem store)
-    part_place_is_sound outer around stands base elem ty store plain fine sized =
-        then_do_is_sound source around.targets (PlaceFits base) (λ place. IsPlaceOf source place (Some ty)) ((below around).place base store) _ ((sound outer around stands).place base store fine sized) (λ place later sized' fits. (
-          sized',
-          part_is_place source aggregates place plain.base_ty elem ty (subst (IsPlaceOf source place) plain.base_has fits) plain.has_elem,
-        ))
+    -- what an element leads to from a place, after its index was evaluated where there is one
+    stepped_is_sound : (outer : List Opened) (around : Around) (stands : Stands outer around) (base : ℕ) (elem : PlaceElem) (ty : Ty) (place : Place) (store : Store) → (plain : IsPlainField source base elem ty) → HasOwnIndex source elem →
+        ((child : ℕ) → Contains (elem_parts elem) child → IsFine source outer child) → IsPlaceOf source place (Some plain.base_ty) → IsSized source store → IsSound source around.targets (λ found. IsPlaceOf source found (Some ty)) (stepped source below around base elem place store)
+    stepped_is_sound outer around stands base elem ty place store plain indexed parts fits sized = by_elem elem plain.has_elem plain.has_index indexed parts
+      where
+        by_elem : (given : PlaceElem) → HasElem source.world given plain.base_ty ty → HasPlainIndex source given → HasOwnIndex source given → ((child : ℕ) → Contains (elem_parts given) child → IsFine source outer child) →
+            IsSound source around.targets (λ found. IsPlaceOf source found (Some ty)) (stepped source below around base given place store)
+        by_elem (Part index) has plain_index own_index fine = (sized, part_is_place source checked aggregates place plain.base_ty (Part index) ty fits has tt)
+        by_elem (FieldOf field) has plain_index own_index fine = (sized, part_is_place source checked aggregates place plain.base_ty (FieldOf field) ty fits has tt)
+        by_elem (ElementAt n index) has plain_index own_index fine =
+            let behind = marking (IndexOf n ∷ []) (marking (marked_as_place source base) around) in
+            then_do_is_sound source around.targets Nothing (λ found. IsPlaceOf source found (Some ty)) ((below behind).into index _ store) _
+            ((sound outer behind (marks_stand _ (marks_stand _ stands))).into index _ store (fine index (first_is_contained index [])) sized (index_cell_type source n index own_index))
+            (λ done later sized' is. (sized', part_is_place source checked aggregates place plain.base_ty (ElementAt n index) ty fits has (has_index_cell source (ElementAt n index) own_index plain_index)))
+
+    -- the place of a field or an element, by that of its base
+    part_place_is_sound : (outer : List Opened) (around : Around) (stands : Stands outer around) (base : ℕ) (elem : PlaceElem) (ty : Ty) (store : Store) → IsPlainField source base elem ty → HasOwnIndex source elem →
+        ((child : ℕ) → Contains (base ∷ elem_parts elem) child → IsFine source outer child) → IsSized source store → IsSound source around.targets (λ place. IsPlaceOf source place (Some ty)) (field_place source below around base elem store)
+    part_place_is_sound outer around stands base elem ty store plain indexed parts sized =
+        then_do_is_sound source around.targets (PlaceFits base) (λ place. IsPlaceOf source place (Some ty)) ((below around).place base store) _
+        ((sound outer around stands).place base store (parts base (first_is_contained base (elem_parts elem))) sized) (λ place later sized' fits.
+        stepped_is_sound outer around stands base elem ty place later plain indexed (λ child within. parts child (rest_is_contained base (elem_parts elem) child within)) (subst (IsPlaceOf source place) plain.base_has fits) sized')
 
     -- a field is a part of its base's place, and has its own type
     field_is_sound : (outer : List Opened) (around : Around) (stands : Stands outer around) (e base : ℕ) (field : PlaceElem) (store : Store) → node source e ≡ Some (expr.Field base field) → IsFine source outer e → IsSized source store →
-        IsSound source around.targets (λ place. IsPlaceOf source place (own_type source e)) (field_place (below around) base field store)
+        IsSound source around.targets (λ place. IsPlaceOf source place (own_type source e)) (field_place source below around base field store)
     field_is_sound outer around stands e base field store is fine sized =
         let plain = fine.plain e itself in
-        let base_is_fine = part_is_fine outer e base (Some (expr.Field base field)) is (first_is_contained base []) fine in
-        subst (λ ty. IsSound source around.targets (λ place. IsPlaceOf source place ty) (field_place (below around) base field store)) (sym plain.has_type)
-        (part_place_is_sound outer around stands base field plain.ty store (form_of e _ is plain) base_is_fine sized)
+        subst (λ ty. IsSound source around.targets (λ place. IsPlaceOf source place ty) (field_place source below around base field store)) (sym plain.has_type)
+        (part_place_is_sound outer around stands base field plain.ty store (form_of e _ is plain) (node_has_index source e base field is) (λ child within.
+        part_is_fine outer e child (Some (expr.Field base field)) is (subst (λ parts. Contains parts child) (sym (sized_field_parts source base field)) within) fine) sized)
 
     place_is_sound : (outer : List Opened) (around : Around) (stands : Stands outer around) (e : ℕ) (form : Option CoreExpr) (store : Store) → unadjusted source e ≡ form → IsFine source outer e → IsSized source store → IsSound source around.targets (PlaceFits e) (place_of source below around e form store)
     place_is_sound outer around stands e (Some (expr.Path name)) store is fine sized =
@@ -427,7 +336,7 @@ module _ (source : Source) (checked : IsChecked source.world) where
         (sized, whole_is_place source (Binding form.0.binding.0) (node_type source e) (form.0.binding_has ∙ sym form.1) laid.of_value)
     place_is_sound outer around stands e (Some (expr.Field base field)) store is fine sized =
         let found = unadjusted-plain source e _ is in
-        subst (λ ty. IsSound source around.targets (λ place. IsPlaceOf source place ty) (field_place (below around) base field store)) (sym (undiverted-type source e found.0))
+        subst (λ ty. IsSound source around.targets (λ place. IsPlaceOf source place ty) (field_place source below around base field store)) (sym (undiverted-type source e found.0))
         (field_is_sound outer around stands e base field store found.1 fine sized)
     place_is_sound outer around stands e _ store is fine sized =
         let laid = fine.laid_out e own in
@@ -483,18 +392,43 @@ module _ (source : Source) (checked : IsChecked source.world) where
         then_do_is_sound source around.targets (OperandFits e) (OperandsFit (e ∷ rest)) ((below around).operand e store) _ ((sound outer around stands).operand e store (fine e (first_is_contained e rest)) sized) (λ first later sized' fits.
         then_do_is_sound source around.targets (OperandsFit rest) (OperandsFit (e ∷ rest)) (operands_of source below (marking (marked_as_operand source e) around) rest later) _ (operands_are_sound outer (marking (marked_as_operand source e) around) (marks_stand (marked_as_operand source e) stands) rest later (λ child within. fine child (rest_is_contained e rest child within)) sized') (λ others last sized'' fit. (sized'', (fits, fit))))
 
+    -- a struct is made of operands that are values of its fields' types
+    made_is_sound : (targets : List Target) (id : StructId) (args : GenericArgs) (rows : List FieldRow) (found : Option (List Operand)) (ty : Ty) (path : Path) (store : Store) → IsSized source store → cell_type source path.cell ≡ Some ty → IsLaidOut source (Some ty) →
+        ty ≡ Adt (adt.StructId id) args → fields_of source.world (variant.StructId id) ≡ Some rows → AreFields source store args rows found → IsSound source targets Nothing (made_into source id args found path store)
+    made_is_sound targets id args rows found ty path store sized fits laid is there fields =
+        subst (λ given. IsSound source targets Nothing (made_into source id args given path store)) (sym fields.is)
+        (within_bounds_is_sound source targets Nothing (some_out source store fields.operands) _ (λ within.
+        let read = fields.are within in
+        put_answer_is_sound source targets store path _ sized
+        (subst (λ size. Fits size (struct_of (layout_of source.world (Adt (adt.StructId id) args)) (values_of source store fields.operands))) (sym (ap (size_at source) fits))
+        (subst (λ values. Fits (size_at source (Some ty)) (struct_of (layout_of source.world (Adt (adt.StructId id) args)) values)) (sym read.read)
+        (struct_fits source checked aggregates id args rows read.types read.values ty laid is there read.typed read.are)))))
+
+    -- and any other operation computes a value of its type
+    computed_is_sound : (targets : List Target) (e : ℕ) (operation : Operation) → IsNoStruct operation → (operands : List ℕ) (types : List Ty) (given : List Operand) (ty : Ty) (path : Path) (store : Store) → IsSized source store → own_type source e ≡ Some ty → cell_type source path.cell ≡ Some ty → IsLaidOut source (Some ty) →
+        HaveTypes source operands types → IsTyped source.world operation types ty → OperandsFit operands given → IsSound source targets Nothing (within_bounds (some_out source store given) (put_answer store path (answered_for source.world (own_type source e) operation (values_of source store given))))
+    computed_is_sound targets e operation other operands types given ty path store sized is fits laid have typed fit =
+        within_bounds_is_sound source targets Nothing (some_out source store given) _ (λ within.
+        let read = operands_are_values source checked operands types given store sized have fit within in
+        put_answer_is_sound source targets store path _ sized
+        (subst (λ size. Fits size (answered_for source.world (own_type source e) operation (values_of source store given))) (sym (ap (size_at source) fits))
+        (subst (λ values. Fits (size_at source (Some ty)) (answered_for source.world (own_type source e) operation values)) (sym read.1)
+        (subst (λ own_ty. Fits (size_at source (Some ty)) (answered source.world own_ty operation read.0)) (sym is)
+        (typed_fits source checked aggregates operation other types read.0 ty laid typed read.2)))))
+
+    operated_is_sound : (targets : List Target) (e : ℕ) (operation : Operation) (operands : List ℕ) (types : List Ty) (given : List Operand) (ty : Ty) (path : Path) (store : Store) → IsSized source store → own_type source e ≡ Some ty → cell_type source path.cell ≡ Some ty → IsLaidOut source (Some ty) →
+        HaveTypes source operands types → IsTyped source.world operation types ty → OperandsFit operands given → IsSound source targets Nothing (operated_into source e operation given path store)
+    operated_is_sound targets e (MakeStruct id args places) operands types given ty path store sized is fits laid have typed fit =
+        made_is_sound targets id args typed.fields (picked places given) ty path store sized fits laid typed.is typed.found (picked-are-read source checked aggregates store sized operands types given have fit args typed.fields places typed.given typed.picks typed.each)
+    operated_is_sound targets e operation operands types given ty path store sized is fits laid have typed fit = computed_is_sound targets e operation tt operands types given ty path store sized is fits laid have typed fit
+
     strict_is_sound : (outer : List Opened) (around : Around) (stands : Stands outer around) (e : ℕ) (operation : Operation) (operands : List ℕ) (path : Path) (store : Store) → node source e ≡ Some (expr.Strict operation operands) → IsFine source outer e → IsSized source store → OwnFits e path → IsSound source around.targets Nothing (strict_into source below around e operation operands path store)
     strict_is_sound outer around stands e operation operands path store is fine sized fits =
         let plain = fine.plain e itself in
         let form = form_of e _ is plain in
         then_do_is_sound source around.targets (OperandsFit operands) Nothing (operands_of source below around operands store) _ (operands_are_sound outer around stands operands store (λ child within.
         operand_is_fine outer e child (Some (expr.Strict operation operands)) is (operand_is_part source e operation operands child is within) (operand_is_sized source operands child within) fine) sized) (λ given later sized' fit.
-        let read = operands_are_values source checked operands form.types given later sized' form.operands_have fit in
-        put_answer_is_sound source around.targets later path _ sized'
-        (subst (λ size. Fits size (answered_for source.world (own_type source e) operation (values_of source later given))) (sym (ap (size_at source) (fits ∙ plain.has_type)))
-        (subst (λ values. Fits (size_at source (Some plain.ty)) (answered_for source.world (own_type source e) operation values)) (sym read.1)
-        (subst (λ ty. Fits (size_at source (Some plain.ty)) (answered source.world ty operation read.0)) (sym plain.has_type)
-        (typed_fits source checked aggregates operation form.types read.0 plain.ty (laid_at outer e plain.ty fine plain.has_type) form.typed read.2)))))
+        operated_is_sound around.targets e operation operands form.types given plain.ty path later sized' plain.has_type (fits ∙ plain.has_type) (laid_at outer e plain.ty fine plain.has_type) form.operands_have form.typed fit)
 
     -- the fields of a struct that has a base are values of their types
     update_is_sound : (outer : List Opened) (around : Around) (stands : Stands outer around) (e base : ℕ) (id : StructId) (args : GenericArgs) (sources : List FieldSource) (operands : List ℕ) (path : Path) (store : Store) → node source e ≡ Some (expr.Update base id args sources operands) → IsFine source outer e → IsSized source store → OwnFits e path →
@@ -509,11 +443,8 @@ module _ (source : Source) (checked : IsChecked source.world) where
         then_do_is_sound source around.targets (OperandsFit operands) Nothing (operands_of source below behind operands later) _ (operands_are_sound outer behind (marks_stand _ stands) operands later (λ child within.
         operand_is_fine outer e child whole is (update_operand_is_part source e base id args sources operands child is within) (λ truth. rest_is_contained base _ child (operand_is_sized source operands child within truth)) fine) sized') (λ given last sized'' fit.
         let base_at = subst (IsPlaceOf source from) form.base_has at in
-        let read = fields-are-read source checked aggregates last sized'' from plain.ty base_at operands form.types given form.operands_have fit args form.fields sources form.each in
-        put_answer_is_sound source around.targets last path _ sized''
-        (subst (λ size. Fits size (struct_of (layout_of source.world (Adt (adt.StructId id) args)) (option_and_then (values_of source last) (field_operands from given sources)))) (sym (ap (size_at source) (fits ∙ plain.has_type)))
-        (subst (λ values. Fits (size_at source (Some plain.ty)) (struct_of (layout_of source.world (Adt (adt.StructId id) args)) values)) (sym read.read)
-        (struct_fits source checked aggregates id args form.fields read.types read.values plain.ty (laid_at outer e plain.ty fine plain.has_type) form.is form.found read.typed read.are)))))
+        let fields = fields-are-read source checked aggregates last sized'' from plain.ty base_at operands form.types given form.operands_have fit args form.fields sources form.each in
+        made_is_sound around.targets id args form.fields (field_operands from given sources) plain.ty path last sized'' (fits ∙ plain.has_type) (laid_at outer e plain.ty fine plain.has_type) form.is form.found fields))
 
     statement_is_sound : (outer : List Opened) (around : Around) (stands : Stands outer around) (given : Statement) (store : Store) → IsPlainStatement source given → ((child : ℕ) → Contains (statement_parts given) child → IsFine source outer child) → IsSized source store → IsSound source around.targets Nothing (statement_of source (below around) given store)
     statement_is_sound outer around stands (statement.Let pat (Some e) None) store plain parts sized =
@@ -543,7 +474,7 @@ module _ (source : Source) (checked : IsChecked source.world) where
 
     decided_is_sound : (outer : List Opened) (around : Around) (stands : Stands outer around) (left : Operand) (right : ℕ) (test : Bool) (path : Path) (store : Store) → IsFine source outer right → IsSized source store → PathFits right path → AreBytes (cell_size source path.cell) (operand_bytes source store left) → IsSound source around.targets Nothing (decided_into source (below around) left right (Some test) path store)
     decided_is_sound outer around stands left right true path store fine sized fits there =
-        after_is_sound source around.targets Nothing (reading_cost source left) _ (copy_is_sound source around.targets store path (operand_bytes source store left) sized there)
+        after_is_sound source around.targets Nothing (reading_cost source left) _ (within_bounds_is_sound source around.targets Nothing (operand_out source store left) _ (λ within. copy_is_sound source around.targets store path (operand_bytes source store left) sized there))
     decided_is_sound outer around stands left right false path store fine sized fits there = (sound outer around stands).into right path store fine sized fits
 
     logic_is_sound : (outer : List Opened) (around : Around) (stands : Stands outer around) (e : ℕ) (op : LogicOp) (left right : ℕ) (path : Path) (store : Store) → node source e ≡ Some (expr.Logic op left right) → IsFine source outer e → IsSized source store → OwnFits e path → IsSound source around.targets Nothing (logic_into source below around op left right path store)
@@ -554,12 +485,13 @@ module _ (source : Source) (checked : IsChecked source.world) where
         let size : cell_size source path.cell ≡ 1 = ap (size_at source) (fits ∙ is_bool) ∙ scalar_size BoolTy (laid_at outer e BoolTy fine is_bool) tt in
         let left_is_fine = operand_is_fine outer e left (Some (expr.Logic op left right)) is (logic_operand_is_part source e op left right left is (first_is_contained left (right ∷ []))) (first_is_sized source left (step.Into right ∷ [])) fine in
         then_do_is_sound source around.targets (OperandFits left) Nothing ((below around).operand left store) _ ((sound outer around stands).operand left store left_is_fine sized) (λ given later sized' fit.
-        let byte = truth_has_byte source checked left given later sized' form.left_has fit in
+        within_bounds_is_sound source around.targets Nothing (operand_out source later given) _ (λ within.
+        let byte = truth_has_byte source checked left given later sized' form.left_has fit within in
         let behind = marking (marked_as_operand source left) around in
         let decides = byte_decides (deciding_byte op) (operand_bytes source later given) byte in
         branched_is_sound around.targets _
         (subst (λ test. IsSound source around.targets Nothing (decided_into source (below behind) given right test path later)) (sym decides.1)
-        (decided_is_sound outer behind (marks_stand _ stands) given right decides.0 path later (part_is_fine outer e right (Some (expr.Logic op left right)) is (right_is_sized source op left right) fine) sized' (fits ∙ is_bool ∙ sym form.right_has) (subst (λ count. AreBytes count (operand_bytes source later given)) (sym size) byte))))
+        (decided_is_sound outer behind (marks_stand _ stands) given right decides.0 path later (part_is_fine outer e right (Some (expr.Logic op left right)) is (right_is_sized source op left right) fine) sized' (fits ∙ is_bool ∙ sym form.right_has) (subst (λ count. AreBytes count (operand_bytes source later given)) (sym size) byte)))))
 
     branch_is_sound : (outer : List Opened) (around : Around) (stands : Stands outer around) (then_branch : ℕ) (else_branch : Option ExprId) (test : Bool) (ty : Ty) (path : Path) (store : Store) → node_type source then_branch ≡ Some ty → IsPlainTail source else_branch ty → cell_type source path.cell ≡ Some ty → ((child : ℕ) → Contains (then_branch ∷ optional else_branch) child → IsFine source outer child) → IsSized source store → IsSound source around.targets Nothing (branch_into source below around then_branch else_branch (Some test) path store)
     branch_is_sound outer around stands then_branch else_branch true ty path store has plain fits parts sized =
@@ -575,11 +507,12 @@ module _ (source : Source) (checked : IsChecked source.world) where
         let condition_is_fine = operand_is_fine outer e condition whole is (if_part_is_part source e condition then_branch else_branch condition is (first_is_contained condition (then_branch ∷ optional else_branch))) (first_is_sized source condition (step.Into then_branch ∷ tail_steps else_branch)) fine in
         then_do_is_sound source around.targets (OperandFits condition) Nothing ((below around).operand condition store) _ ((sound outer around stands).operand condition store condition_is_fine sized) (λ given later sized' fit.
         let behind = marking (marked_as_operand source condition) around in
-        let holds = byte_decides 1 (operand_bytes source later given) (truth_has_byte source checked condition given later sized' form.condition_has fit) in
+        within_bounds_is_sound source around.targets Nothing (operand_out source later given) _ (λ in_bounds.
+        let holds = byte_decides 1 (operand_bytes source later given) (truth_has_byte source checked condition given later sized' form.condition_has fit in_bounds) in
         branched_is_sound around.targets _
         (subst (λ test. IsSound source around.targets Nothing (branch_into source below behind then_branch else_branch test path later)) (sym holds.1)
         (branch_is_sound outer behind (marks_stand _ stands) then_branch else_branch holds.0 plain.ty path later form.then_has form.else_has (fits ∙ plain.has_type) (λ child within.
-        part_is_fine outer e child whole is (branch_is_sized source condition then_branch else_branch child within) fine) sized')))
+        part_is_fine outer e child whole is (branch_is_sized source condition then_branch else_branch child within) fine) sized'))))
 
     -- the target of an assignment is a place of its type
     assignee_is_sound : (outer : List Opened) (around : Around) (stands : Stands outer around) (to : Assignee) (ty : Ty) (store : Store) → IsPlainAssignee source to ty → AreBindingsLaidOut source → ((child : ℕ) → Contains (assignee_parts to) child → IsFine source outer child) → IsSized source store →
@@ -598,27 +531,32 @@ module _ (source : Source) (checked : IsChecked source.world) where
         then_do_is_sound source around.targets (PlaceFits value) Nothing ((below around).place value store) _ ((sound outer around stands).place value store value_is_fine sized) (λ from later sized' fits.
         then_do_is_sound source around.targets (λ place. IsPlaceOf source place (Some form.ty)) Nothing (assignee_place source (below behind) to later) _
         (assignee_is_sound outer behind (marks_stand _ stands) to form.ty later form.assignee fine.bindings (λ child within. part_is_fine outer e child whole is (assignee_is_sized source to value child within) fine) sized') (λ place last sized'' fits'.
-        copy_at_is_sound source around.targets last place (Some form.ty) (place_bytes source last from) sized'' fits' (place_has_bytes source last from (Some form.ty) sized'' (subst (IsPlaceOf source from) form.value_has fits))))
+        within_bounds_is_sound source around.targets Nothing (is_out_of_bounds source last place || is_out_of_bounds source last from) _ (λ in_bounds.
+        let both = neither (is_out_of_bounds source last place) (is_out_of_bounds source last from) in_bounds in
+        copy_at_is_sound source around.targets last place (Some form.ty) (place_bytes source last from) sized'' fits' both.0 (place_has_bytes source last from (Some form.ty) sized'' (subst (IsPlaceOf source from) form.value_has fits) both.1))))
 
     -- and so is that of a compound assignment
-    assigned_place_is_sound : (outer : List Opened) (around : Around) (stands : Stands outer around) (to : Assigned) (ty : Ty) (store : Store) → IsPlainAssigned source to ty → AreBindingsLaidOut source → ((child : ℕ) → Contains (assigned_parts to) child → IsFine source outer child) → IsSized source store →
-        IsSound source around.targets (λ place. IsPlaceOf source place (Some ty)) (assigned_place source (below around) to store)
-    assigned_place_is_sound outer around stands (ByPath e) ty store plain laid parts sized = bound_place_is_sound around.targets (compound_target source e) plain.binding ty store laid plain.names plain.binding_has sized
-    assigned_place_is_sound outer around stands (ByField base elem) ty store plain laid parts sized = part_place_is_sound outer around stands base elem ty store plain (parts base (first_is_contained base [])) sized
+    assigned_place_is_sound : (outer : List Opened) (around : Around) (stands : Stands outer around) (e : ℕ) (op : Operator) (to : Assigned) (value : ℕ) (ty : Ty) (store : Store) → node source e ≡ Some (expr.Compound op to value) → IsPlainAssigned source to ty → AreBindingsLaidOut source →
+        ((child : ℕ) → Contains (assigned_parts to) child → IsFine source outer child) → IsSized source store → IsSound source around.targets (λ place. IsPlaceOf source place (Some ty)) (assigned_place source below around to store)
+    assigned_place_is_sound outer around stands e op (ByPath target) value ty store is plain laid parts sized = bound_place_is_sound around.targets (compound_target source target) plain.binding ty store laid plain.names plain.binding_has sized
+    assigned_place_is_sound outer around stands e op (ByField base elem) value ty store is plain laid parts sized = part_place_is_sound outer around stands base elem ty store plain (target_has_index source e op base elem value is) parts sized
 
     -- what an operator makes of what lies at a place and a value has the size of the place's type
     combined_is_sound : (targets : List Target) (op : Operator) (ty other_ty : Ty) (value : ℕ) (place : Place) (given : Operand) (store : Store) → IsCombined op ty other_ty ty → node_type source value ≡ Some other_ty → IsSized source store → IsPlaceOf source place (Some ty) → OperandFits value given →
-        IsSound source targets Nothing (answer_at source store place (answered_for source.world None (Combine op) (values_of source store (At place ∷ given ∷ []))))
-    unfolding answered values_of
+        IsSound source targets Nothing (combined_at source op place given store)
+    unfolding answered values_of some_out
     combined_is_sound targets op ty other_ty value place given store typed has sized fits fits' =
-        let left = place_has_value source checked store place ty sized fits in
-        let right = operand_is_value source checked value other_ty given store sized has fits' in
+        within_bounds_is_sound source targets Nothing (some_out source store (At place ∷ given ∷ [])) _ (λ in_bounds.
+        let first = neither (is_out_of_bounds source store place) (some_out source store (given ∷ [])) in_bounds in
+        let second = neither (operand_out source store given) false first.1 in
+        let left = place_has_value source checked store place ty sized fits first.0 in
+        let right = operand_is_value source checked value other_ty given store sized has fits' second.0 in
         let one : Value = record { kind = operand_kind source (At place); bytes = left.bytes } in
         let other : Value = record { kind = operand_kind source given; bytes = right.bytes } in
         let read = values_of-more source store (At place) (given ∷ []) left.bytes (other ∷ []) left.is (values_of-more source store given [] right.bytes [] right.is refl) in
-        answer_at_is_sound source targets store place (Some ty) _ sized fits
+        answer_at_is_sound source targets store place (Some ty) _ sized fits first.0
         (subst (λ values. Fits (size_at source (Some ty)) (answered_for source.world None (Combine op) values)) (sym read)
-        (combined_fits source op ty other_ty ty one other typed (λ number. scalar_size ty fits.laid number) left.value right.value))
+        (combined_fits source op ty other_ty ty one other typed (λ number. scalar_size ty fits.laid number) left.value right.value)))
 
     compound_is_sound : (outer : List Opened) (around : Around) (stands : Stands outer around) (e : ℕ) (op : Operator) (to : Assigned) (value : ℕ) (store : Store) → node source e ≡ Some (expr.Compound op to value) → IsFine source outer e → IsSized source store → IsSound source around.targets Nothing (compound_into source below around op to value store)
     compound_is_sound outer around stands e op to value store is fine sized =
@@ -626,8 +564,8 @@ module _ (source : Source) (checked : IsChecked source.world) where
         let whole = Some (expr.Compound op to value) in
         let behind = marking (marked_by_assigned source to) around in
         let value_is_fine = operand_is_fine outer e value whole is (combined_is_part source e op to value is) (combined_value_is_sized source op to value) fine in
-        then_do_is_sound source around.targets (λ place. IsPlaceOf source place (Some form.ty)) Nothing (assigned_place source (below around) to store) _
-        (assigned_place_is_sound outer around stands to form.ty store form.assigned fine.bindings (λ child within. part_is_fine outer e child whole is (assigned_is_sized source op to value child within) fine) sized) (λ place later sized' fits.
+        then_do_is_sound source around.targets (λ place. IsPlaceOf source place (Some form.ty)) Nothing (assigned_place source below around to store) _
+        (assigned_place_is_sound outer around stands e op to value form.ty store is form.assigned fine.bindings (λ child within. part_is_fine outer e child whole is (assigned_is_sized source op to value child within) fine) sized) (λ place later sized' fits.
         then_do_is_sound source around.targets (OperandFits value) Nothing ((below behind).operand value later) _ ((sound outer behind (marks_stand _ stands)).operand value later value_is_fine sized') (λ given last sized'' fits'.
         combined_is_sound around.targets op form.ty form.other value place given last form.typed form.value_has sized'' fits fits'))
 
@@ -743,8 +681,9 @@ module _ (source : Source) (checked : IsChecked source.world) where
         ap (size_at form.called) form.body_has ∙ same_size source form.called world (Some form.row.sig.ret) ∙ ap (size_at source) (sym (fits ∙ plain.has_type ∙ ap Some form.typed)) in
         then_do_is_sound source around.targets (OperandsFit args) Nothing (operands_of source below around args store) _ (operands_are_sound outer around stands args store (λ child within.
         operand_is_fine outer e child (Some (expr.Call callee args)) is (argument_is_part source e callee args child is within) (operand_is_sized source args child within) fine) sized) (λ given later sized' fit.
+        within_bounds_is_sound source around.targets Nothing (some_out source later given) _ (λ in_bounds.
         subst (λ found. IsSound source around.targets Nothing (entered_into callees (must_not_return source e) found (operands_bytes source later given) path later)) (sym enters)
-        (callee_is_sound callees callees_are around.targets (must_not_return source e) e callee args plain.ty form calls given path later sized' same fit))
+        (callee_is_sound callees callees_are around.targets (must_not_return source e) e callee args plain.ty form calls given path later sized' same fit in_bounds)))
 
     into_is_sound : (callees : Callees) → AreSoundCallees source callees → (outer : List Opened) (around : Around) (stands : Stands outer around) (e : ℕ) (form : Option CoreExpr) (path : Path) (store : Store) → node source e ≡ form → IsFine source outer e → IsSized source store → OwnFits e path → IsSound source around.targets Nothing (into_of source below callees around e form path store)
     into_is_sound callees callees_are outer around stands e (Some (expr.Literal given)) path store is fine sized fits =
@@ -758,7 +697,7 @@ module _ (source : Source) (checked : IsChecked source.world) where
         (put_is_sound source around.targets store path (store (Binding form.binding.0)) sized (sized.holds_all (Binding form.binding.0) ∙ ap (size_at source) (form.binding_has ∙ sym plain.has_type ∙ sym fits)))
     into_is_sound callees callees_are outer around stands e (Some expr.UnitStruct) path store is fine sized fits = (sized, tt)
     into_is_sound callees callees_are outer around stands e (Some (expr.Field base field)) path store is fine sized fits =
-        then_do_is_sound source around.targets (λ place. IsPlaceOf source place (own_type source e)) Nothing (field_place (below around) base field store) _ (field_is_sound outer around stands e base field store is fine sized)
+        then_do_is_sound source around.targets (λ place. IsPlaceOf source place (own_type source e)) Nothing (field_place source below around base field store) _ (field_is_sound outer around stands e base field store is fine sized)
         (λ place later sized' given. copied_is_sound around.targets place (own_type source e) path later sized' given fits)
     into_is_sound callees callees_are outer around stands e (Some (expr.Strict operation operands)) path store is fine sized fits = strict_is_sound outer around stands e operation operands path store is fine sized fits
     into_is_sound callees callees_are outer around stands e (Some (expr.Update base id args sources operands)) path store is fine sized fits = update_is_sound outer around stands e base id args sources operands path store is fine sized fits
@@ -786,20 +725,6 @@ module _ (source : Source) (checked : IsChecked source.world) where
 
   root_stands : Stands [] (marking (parameter_cells source) (at_root (record { cell = Result })))
   root_stands = record { opened = refl; fits = λ target contained. absurd (let less = contained.1 in omega arith); returns = refl }
-
-no_node : (node : ℕ) → IsNode [] node → ⊥
-no_node node is = let less = is.1.1 in omega arith
-
--- around a root nothing is open, so the only jump out of it is a `return`, which ends the body well
-returned_is_settled : (source : Source) (end : End (Unit {0})) → IsSound source [] Nothing end → IsSettled source (returned source end)
-unfolding after
-returned_is_settled source (Go done store cost) sound = sound.0.holds_all Result
-returned_is_settled source (Jumps (Break node) store cost) sound = no_node node sound.1
-returned_is_settled source (Jumps (Continue node) store cost) sound = no_node node sound.1
-returned_is_settled source (Jumps Return store cost) sound = sound.0.holds_all Result
-returned_is_settled source (Faults fault cost) sound = tt
-returned_is_settled source Stuck sound = sound
-returned_is_settled source (More cost) sound = tt
 
 -- a plain body ends well, where the levels of its expressions do: where a type that it needs has no layout, it can't be entered
 body_is_settled : (source : Source) (checked : IsChecked source.world) → IsCheckedBody source.body source.infer → (levels : Levels) → IsPlain source →

@@ -1,5 +1,5 @@
 -- What operations make of values of the types that they are on: a value of the result's size, or a panic.
-use Rattle.std.proofs.Common.{⊎_elim, ◌⊎◌, ◌≡◌, ℕ, zero, suc, ◌*◌, false, true, List, [], ◌∷◌, length, map, flat_map, slice_get, All, IfSome, Option, Some, unwrap_or, option_map, option_and_then, refl, sym, ap, ◌∙◌, subst, arith, length-append}
+use Rattle.std.proofs.Common.{⊎_elim, ◌⊎◌, ◌≡◌, ℕ, suc, ◌*◌, false, true, List, [], ◌∷◌, length, map, flat_map, slice_get, All, IfSome, Option, Some, unwrap_or, option_map, option_and_then, refl, sym, ap, ◌∙◌, subst, arith, length-append}
 use Rattle.std.proofs.lemmas.List.Elements.{All-head, All-tail}
 use Rattle.types.specs.declared.ty.Ty.{Ty, Bool as BoolTy, Int as IntType, Uint as UintType, Char as CharType}
 use Rattle.types.specs.declared.ids.AdtId.TheVariants as adt
@@ -18,12 +18,17 @@ use Rattle.source_meaning.specs.Aggregates.{array_length, made, laid_out, repeat
 use Rattle.source_meaning.specs.Core.{Operation, Negate, Invert, Keep, Convert, Combine, MakeTuple, MakeArray, Repeat, MakeStruct}
 use Rattle.source_meaning.specs.Meaning.{Value, converted_to, answered, struct_of}
 use Rattle.source_meaning.specs.Source.{Source}
-use Rattle.source_meaning.specs.Structs.{AreFieldTypes, picked}
+use Rattle.source_meaning.specs.Structs.{AreFieldTypes}
 use Rattle.source_meaning.specs.Valid.{IsNumber, IsBool, AreIntegers, AreScalars, AreShifted, AreCompared, IsCombined, IsTyped, IsLaidOut}
 use Rattle.source_meaning.proofs.Aggregates.{AreInside, constructed-there, length-repeated, length_of_array}
 use Rattle.source_meaning.proofs.Layouts.{number_has_length, number_has_size, integer_is_number, bool_is_number, scalar_is_number, bool_length_is_one}
-use Rattle.source_meaning.proofs.Structs.{fields-are-parts, picked-more, picked-none, picks-first}
+use Rattle.source_meaning.proofs.Structs.{fields-are-parts}
 use Rattle.source_meaning.proofs.Operators.{Fits, IsLengthOf, IsAllowed, allowed_on_integer, allowed_on_scalar, allowed_on_number, length_is_width, converted_fits, unshifted_fits, compared_fits, shift_fits, negated_fits, inverted_fits}
+
+-- an operation that makes no struct
+abbrev pub IsNoStruct : Operation → Type 0
+IsNoStruct (MakeStruct id args places) = ⊥
+IsNoStruct _ = Unit {0}
 
 -- how many bytes the values of a type have
 abbrev pub size_at : Source → Option Ty → ℕ
@@ -155,25 +160,6 @@ module _ (source : Source) where
         let there = constructed-there layout.size layout.offsets (map (λ value. value.bytes) values) (parts_are_inside layout.size layout.offsets types values has.count has.inside are) in
         subst (λ given. Fits layout.size (made given)) (sym there.is) there.long
 
-    -- the value at the place of a type
-    value-at : (types : List Ty) (values : List Value) → AreValues source types values → (k : ℕ) (ty : Ty) → slice_get types k ≡ Some ty → (value : Value) × (slice_get values k ≡ Some value) × IsValueOf source ty value
-    value-at [] values are k ty at = absurd cc
-    value-at (one ∷ types) [] are k ty at = absurd are
-    value-at (one ∷ types) (value ∷ values) are zero ty at = let same : one ≡ ty = cc in (value, refl, subst (λ t. IsValueOf source t value) same are.0)
-    value-at (one ∷ types) (value ∷ values) are (suc k) ty at = value-at types values are.1 k ty at
-
-    -- and those at places
-    picked-values : (places : List ℕ) (types : List Ty) (values : List Value) (given : List Ty) → AreValues source types values → picked places types ≡ Some given → (chosen : List Value) × (picked places values ≡ Some chosen) × AreValues source given chosen
-    picked-values [] types values given are is =
-        let none : Some given ≡ Some [] = sym is ∙ picked-none types in
-        let same : given ≡ [] = cc in
-        ([], picked-none values, subst (λ types. AreValues source types []) (sym same) tt)
-    picked-values (place ∷ places) types values given are is =
-        let from = picks-first place places types given is in
-        let first = value-at types values are place from.first from.there in
-        let rest = picked-values places types values from.others are from.rest in
-        (first.0 ∷ rest.0, picked-more place places values first.0 rest.0 first.1 rest.1, subst (λ types. AreValues source types (first.0 ∷ rest.0)) (sym from.are) (first.2, rest.2))
-
     -- a struct of values of its fields' types has its size
     pub struct_fits : HasAggregates source.world → (id : StructId) (args : GenericArgs) (fields : List FieldRow) (types : List Ty) (values : List Value) (ty : Ty) → IsLaidOut source (Some ty) → ty ≡ Adt (adt.StructId id) args →
         fields_of source.world (variant.StructId id) ≡ Some fields → AreFieldTypes source.world args fields types → AreValues source types values → Fits (size_at source (Some ty)) (struct_of (layout_of source.world (Adt (adt.StructId id) args)) (Some values))
@@ -194,50 +180,46 @@ module _ (source : Source) where
         let is = subst (λ t. IsValueOf source t value) (All-head (λ one. one ≡ element) ty types each) are.0 in
         omega (arith, length-append value.bytes (flat_map (λ one. one.bytes) values), value_is_long element inner value found is, length-elements element inner types values found (All-tail (λ one. one ≡ element) ty types each) are.1)
 
-    -- what an operation makes of values of types that fit it has the size of its own type
-    pub typed_fits : HasAggregates source.world → (operation : Operation) (types : List Ty) (values : List Value) (ty : Ty) → IsLaidOut source (Some ty) → IsTyped source.world operation types ty → AreValues source types values →
+    -- what an operation makes of values of types that fit it has the size of its own type, where it makes no struct
+    pub typed_fits : HasAggregates source.world → (operation : Operation) → IsNoStruct operation → (types : List Ty) (values : List Value) (ty : Ty) → IsLaidOut source (Some ty) → IsTyped source.world operation types ty → AreValues source types values →
         Fits (size_at source (Some ty)) (answered source.world (Some ty) operation values)
     unfolding answered
-    typed_fits aggregates Negate (a ∷ []) values ty laid typed are =
+    typed_fits aggregates Negate other (a ∷ []) values ty laid typed are =
         let value = single a values are in
         let one = subst (λ t. IsValueOf source t value.0) typed.1 value.2 in
         let number = integer_is_number ty typed.0 in
         subst (λ given. Fits (size_at source (Some ty)) (answered source.world (Some ty) Negate given)) (sym value.1)
         (subst (λ size. Fits size (negated value.0.kind value.0.bytes)) (value_size ty value.0 number (number_is_long ty laid number) one) (negated_fits ty value.0.kind value.0.bytes typed.0 one.kind (one.long number)))
-    typed_fits aggregates Invert (a ∷ []) values ty laid typed are =
+    typed_fits aggregates Invert other (a ∷ []) values ty laid typed are =
         let value = single a values are in
         let one = subst (λ t. IsValueOf source t value.0) typed.1 value.2 in
         let number = scalar_is_number ty typed.0 in
         subst (λ given. Fits (size_at source (Some ty)) (answered source.world (Some ty) Invert given)) (sym value.1)
         (subst (λ size. Fits size (inverted value.0.kind value.0.bytes)) (value_size ty value.0 number (number_is_long ty laid number) one) (inverted_fits ty value.0.kind value.0.bytes typed.0 one.kind (one.long number)))
-    typed_fits aggregates Keep (a ∷ []) values ty laid typed are =
+    typed_fits aggregates Keep other (a ∷ []) values ty laid typed are =
         let value = single a values are in
         let one = subst (λ t. IsValueOf source t value.0) typed value.2 in
         subst (λ given. Fits (size_at source (Some ty)) (answered source.world (Some ty) Keep given)) (sym value.1) (kept_fits ty value.0 (number_is_long ty laid) one)
-    typed_fits aggregates Convert (a ∷ []) values ty laid typed are =
+    typed_fits aggregates Convert other (a ∷ []) values ty laid typed are =
         let value = single a values are in
         let size : fixed_size ty ≡ Some (size_at source (Some ty)) = number_has_size source.world ty laid.layout checked typed.1 laid.found ∙ ap Some (sym (laid_size ty laid)) in
         subst (λ given. Fits (size_at source (Some ty)) (answered source.world (Some ty) Convert given)) (sym value.1)
         (subst (λ size. Fits (size_at source (Some ty)) (converted_to size value.0)) (sym size)
         (converted_fits a value.0.kind (size_at source (Some ty)) value.0.bytes typed.0 value.2.kind (value.2.long typed.0) (length_is_width ty (size_at source (Some ty)) typed.1 (number_is_long ty laid typed.1))))
-    typed_fits aggregates (Combine op) (a ∷ b ∷ []) values ty laid typed are =
+    typed_fits aggregates (Combine op) other (a ∷ b ∷ []) values ty laid typed are =
         let given = pair a b values are in
         subst (λ all. Fits (size_at source (Some ty)) (answered source.world (Some ty) (Combine op) all)) (sym given.2) (combined_fits op a b ty given.0 given.1 typed (number_is_long ty laid) given.3 given.4)
-    typed_fits aggregates MakeTuple types values ty laid typed are =
+    typed_fits aggregates MakeTuple other types values ty laid typed are =
         let found : layout_of source.world (Tuple types) ≡ Some laid.layout = subst (λ t. layout_of source.world t ≡ Some laid.layout) typed laid.found in
         subst (λ size. Fits size (laid_out (layout_of source.world ty) (map (λ value. value.bytes) values))) (sym (laid_size ty laid))
         (subst (λ layout. Fits laid.layout.size (laid_out layout (map (λ value. value.bytes) values))) (sym laid.found)
         (tuple_fits types values laid.layout (aggregates.tuples types laid.layout found) are))
-    typed_fits aggregates (MakeStruct id args places) types values ty laid typed are =
-        let chosen = picked-values places types values typed.given are typed.picks in
-        subst (λ fields. Fits (size_at source (Some ty)) (struct_of (layout_of source.world (Adt (adt.StructId id) args)) fields)) (sym chosen.1)
-        (struct_fits aggregates id args typed.fields typed.given chosen.0 ty laid typed.is typed.found typed.each chosen.2)
-    typed_fits aggregates MakeArray types values ty laid typed are =
+    typed_fits aggregates MakeArray other types values ty laid typed are =
         let found : layout_of source.world (Array typed.element typed.len) ≡ Some laid.layout = subst (λ t. layout_of source.world t ≡ Some laid.layout) typed.is laid.found in
         let has = aggregates.arrays typed.element typed.len laid.layout found in
         let product : laid.layout.size ≡ length types * has.inner.size = subst (λ count. IfSome count (λ n. laid.layout.size ≡ n * has.inner.size)) typed.count has.product in
         length-elements typed.element has.inner types values has.has typed.each are ∙ sym product ∙ sym (laid_size ty laid)
-    typed_fits aggregates Repeat (a ∷ []) values ty laid typed are =
+    typed_fits aggregates Repeat other (a ∷ []) values ty laid typed are =
         let value = single a values are in
         let found : layout_of source.world (Array a typed.len) ≡ Some laid.layout = subst (λ t. layout_of source.world t ≡ Some laid.layout) typed.is laid.found in
         let has = aggregates.arrays a typed.len laid.layout found in
@@ -246,9 +228,10 @@ module _ (source : Source) where
         subst (λ given. Fits (size_at source (Some ty)) (answered source.world (Some ty) Repeat given)) (sym value.1)
         (subst (λ count. Fits (size_at source (Some ty)) (repeated_for count value.0.bytes)) (sym count)
         (length-repeated typed.count value.0.bytes ∙ ap (λ size. typed.count * size) (value_is_long a has.inner value.0 has.has value.2) ∙ sym product ∙ sym (laid_size ty laid)))
-    typed_fits aggregates Negate _ values ty laid typed are = absurd typed
-    typed_fits aggregates Invert _ values ty laid typed are = absurd typed
-    typed_fits aggregates Keep _ values ty laid typed are = absurd typed
-    typed_fits aggregates Convert _ values ty laid typed are = absurd typed
-    typed_fits aggregates (Combine op) _ values ty laid typed are = absurd typed
-    typed_fits aggregates Repeat _ values ty laid typed are = absurd typed
+    typed_fits aggregates (MakeStruct id args places) other types values ty laid typed are = absurd other
+    typed_fits aggregates Negate other _ values ty laid typed are = absurd typed
+    typed_fits aggregates Invert other _ values ty laid typed are = absurd typed
+    typed_fits aggregates Keep other _ values ty laid typed are = absurd typed
+    typed_fits aggregates Convert other _ values ty laid typed are = absurd typed
+    typed_fits aggregates (Combine op) other _ values ty laid typed are = absurd typed
+    typed_fits aggregates Repeat other _ values ty laid typed are = absurd typed

@@ -46,12 +46,12 @@ pub record CombinesBinding (source : Source) (assigned : ℕ) : Type 0 where
   pub names : compound_target source assigned ≡ Some binding
   pub there : IsBinding source binding
 
--- the target of an assignment that is built: a path to a binding of the body, or an expression that is a path or a field and isn't adjusted
+-- the target of an assignment that is built: a path to a binding of the body, or an expression that is a path, a field or an element and isn't adjusted
 abbrev pub IsBuiltAssignee : Source → Assignee → Type 0
 IsBuiltAssignee source (ByPattern pat) = AssignsBinding source pat
 IsBuiltAssignee source (ByPlace e) = is_place (unadjusted source e) ≡ true
 
--- the target of a compound assignment that is built: a path to a binding of the body, or a part of a tuple or a struct
+-- the target of a compound assignment that is built: a path to a binding of the body, or a part of a tuple, a struct or an array
 abbrev pub IsBuiltAssigned : Source → Assigned → Type 0
 IsBuiltAssigned source (ByPath e) = CombinesBinding source e
 IsBuiltAssigned source (ByField base elem) = Unit {0}

@@ -46,6 +46,7 @@ use Rattle.world.specs.declared.pat.Pat.TheVariants as pat
 use Rattle.world.specs.declared.pat.Pat.{Pat}
 use Rattle.world.specs.Lookups.{type_of}
 use Rattle.world.specs.Nodes.{expr_numbers, field_numbers}
+use Rattle.source_meaning.specs.Indices.{is_array, is_usize}
 use Rattle.source_meaning.specs.Structs.{StructAt, FieldSource, all_places, all_sources, struct_args, struct_of}
 
 -- a literal with a meaning: a truth value, a whole number, or a character, by its code point
@@ -69,10 +70,12 @@ pub data Operation : Type 0 where
   Repeat : Operation
   MakeStruct : (id : StructId) → (args : GenericArgs) → (places : List ℕ) → Operation
 
--- one step from a value into it: to the part of a tuple at an index, or to a field of a struct
+-- One step from a value into it: to the part of a tuple at an index, to a field of a struct, or to an element of an array. An index expression
+-- `e` leads to the element whose number the expression `index` has.
 pub data PlaceElem : Type 0 where
   Part : (index : ℕ) → PlaceElem
   FieldOf : (field : FieldId) → PlaceElem
+  ElementAt : (e index : ℕ) → PlaceElem
 
 -- What an assignment writes to, which is its assignee in the Rust Reference, by the pattern that its target is: the place of the expression
 -- that the pattern holds, or what any other pattern says. So far only a path to a binding says something.
@@ -81,8 +84,8 @@ pub data Assignee : Type 0 where
   ByPlace : (e : ℕ) → Assignee
 
 -- What a compound assignment reads and writes, which is its assigned operand in the Rust Reference, by the expression that its left operand
--- is: a part of a tuple or a field of a struct, by its base and the step into it, or what any other expression names. So far only a path to a binding names
--- something.
+-- is: a part of a tuple, a field of a struct or an element of an array, by its base and the step into it, or what any other expression names. So far
+-- only a path to a binding names something.
 pub data Assigned : Type 0 where
   ByPath : (e : ℕ) → Assigned
   ByField : (base : ℕ) → (elem : PlaceElem) → Assigned
@@ -93,7 +96,8 @@ pub data Assigned : Type 0 where
 -- ends a loop or a labelled block around it, with a value or without, and a `continue` starts it again. A `return` ends the
 -- body, with a value or without. A call evaluates its arguments from left to right, and then enters the body of a function: the one that
 -- its callee's type names, or, where it is a method call, the one that it is resolved to; the receiver is its first argument. A field is
--- a part of its base, which is a tuple or a struct. A struct literal with a base has the base's place first, then operands from left to right, and
+-- a part of its base, which is a tuple, a struct or an array; so an index expression is one as well, whose base has its place before the index is
+-- evaluated. A struct literal with a base has the base's place first, then operands from left to right, and
 -- makes a struct of both; for each field of the struct, in the order of its row, it has what gives the field (`FieldSource`). A path to a
 -- unit struct is a value without parts.
 pub data CoreExpr : Type 0 where
@@ -196,6 +200,8 @@ pub record Findings : Type 0 where
   pub casts : ExprId → Option Operation
   -- the step that it takes from its base, where it names a field
   pub field : ExprId → Option PlaceElem
+  -- the step that it takes from its base, where it is an index expression
+  pub element : (base index : ExprId) → Option PlaceElem
   -- the struct that it makes a value of, where it is resolved to one
   pub made : Option StructAt
   -- what a pattern is as the target of an assignment
@@ -208,6 +214,7 @@ abbrev pub core_of : Findings → Expr → Option CoreExpr
 core_of found (expr.Literal given) = option_map Literal (core_literal given)
 core_of found (expr.Path name) = path_form found.names_unit found.names_item name
 core_of found (expr.Field base name) = option_map (Field base.0) (found.field base)
+core_of found (expr.Index base index) = option_map (Field base.0) (found.element base index)
 core_of found (expr.UnaryOp e op) = unary_form e.0 (unary_operation op)
 core_of found (expr.Cast operand) = unary_form operand.0 (found.casts operand)
 core_of found (expr.BinaryOp lhs rhs op) = option_and_then (binary_form (found.assigned lhs) lhs.0 rhs.0) op
@@ -285,6 +292,12 @@ field_named infer e = lookup (is_at (ExprIdOrd.ghosts.cmp e)) infer.field_res
 abbrev pub field_taken : InferenceResult → (e base : ExprId) → Option PlaceElem
 field_taken infer e base = option_and_then (field_step (value_type infer base)) (field_named infer e)
 
+-- The step that an index expression takes from its base: that to an element, where the base is an array and the index a `usize`. No other index
+-- has a meaning so far; that of a type of the program is a call.
+abbrev pub element_taken : InferenceResult → (e base index : ExprId) → Option PlaceElem
+element_taken infer e base index =
+    if is_array (value_type infer base) && is_usize (value_type infer index) then Some (ElementAt e.0 index.0) else None
+
 -- whether a path is resolved to an associated item or a variant
 unfoldable pub names_item : InferenceResult → ExprId → Bool
 names_item infer e =
@@ -340,10 +353,11 @@ is_dereferenced_pattern infer p = is_positive (lookup (is_at (PatIdOrd.ghosts.cm
 abbrev pub step_from : (base : ℕ) → Option PlaceElem → Option (ℕ × PlaceElem)
 step_from base step = option_map (λ elem. (base, elem)) step
 
--- the base and the step of the field that an expression is, where it is one
-abbrev pub part_in : (taken : ExprId → Option PlaceElem) → Expr → Option (ℕ × PlaceElem)
-part_in taken (expr.Field base name) = step_from base.0 (taken base)
-part_in taken _ = None
+-- the base and the step of the field or the element that an expression is, where it is one, by the steps that it would take
+abbrev pub part_in : (field : ExprId → Option PlaceElem) → (element : (base index : ExprId) → Option PlaceElem) → Expr → Option (ℕ × PlaceElem)
+part_in field element (expr.Field base name) = step_from base.0 (field base)
+part_in field element (expr.Index base index) = step_from base.0 (element base index)
+part_in field element _ = None
 
 -- the expression that a pattern holds as the target of an assignment
 abbrev pub expr_in : Pat → Option ExprId
@@ -389,7 +403,7 @@ abbrev pub is_path : Option CoreExpr → Bool
 is_path (Some (Path name)) = true
 is_path _ = false
 
--- whether an expression whose value isn't adjusted names a place, and so is given no temporary: a path, or a field
+-- whether an expression whose value isn't adjusted names a place, and so is given no temporary: a path, or a field or an element
 abbrev pub is_place : Option CoreExpr → Bool
 is_place (Some (Path name)) = true
 is_place (Some (Field base field)) = true

@@ -7,7 +7,7 @@ use Rattle.heights.specs.Heights.{height}
 use Rattle.world.specs.Lookups.{layout_of}
 use Rattle.source_meaning.specs.Core.{is_place}
 use Rattle.source_meaning.specs.Ends.{Cost}
-use Rattle.source_meaning.specs.Source.{Source, Cell, Node, Binding, Never, binding_type, cell_layout, node, unadjusted, own_type, node_type, root}
+use Rattle.source_meaning.specs.Source.{Source, Cell, IndexOf, Node, Binding, Never, binding_type, cell_layout, node, unadjusted, own_type, node_type, root}
 use Rattle.source_meaning.specs.Steps.{parts_of}
 
 -- the numbers below a bound, from the greatest down
@@ -23,16 +23,17 @@ room_of None = 0
 abbrev pub cell_room : Source → Cell → ℕ
 cell_room source cell = room_of (cell_layout source cell)
 
--- whether an expression has a cell: a path or a field has none, unless it is the root, whose cell is that of the result
+-- whether an expression has a cell: a path, a field or an element has none, unless it is the root, whose cell is that of the result
 abbrev pub has_cell : Source → ℕ → Bool
 has_cell source e = not (is_place (unadjusted source e)) || (e == root source)
 
 -- how many bytes the cells of a body take at most: those of its expressions, those of the `!` of expressions that are adjusted
--- by `NeverToAny`, and those of its bindings that no closure owns
+-- by `NeverToAny`, those of the indices of index expressions, and those of its bindings that no closure owns
 unfoldable pub body_room : Source → ℕ
 body_room source =
     sum (map (λ e. cell_room source (Node e)) (filter (has_cell source) (below (length source.body.exprs))))
     + sum (map (λ e. cell_room source (Never e)) (below (length source.body.exprs)))
+    + sum (map (λ e. cell_room source (IndexOf e)) (below (length source.body.exprs)))
     + sum (map (λ b. cell_room source (Binding b)) (below (length source.body.bindings)))
 
 -- whether a type has a layout with a size

@@ -3,9 +3,9 @@
 use Rattle.std.specs.Prelude.{Bool, ℕ, zero, suc, cond, List, [], ◌∷◌, ◌++◌, length, map, flat_map, Option, Some, None}
 use Rattle.types.specs.declared.ids.ExprId.{ExprId}
 use Rattle.world.specs.declared.body.Statement.{Statement}
-use Rattle.source_meaning.specs.Core.{Assigned, Assignee, CoreExpr, is_literal, is_path, is_place}
-use Rattle.source_meaning.specs.Source.{Source, Cell, Node, node, unadjusted, never_marks, pattern, bound_by}
-use Rattle.source_meaning.specs.Steps.{Step, assigned_steps, assignee_steps, statement_steps, tail_steps, block_steps, steps_of}
+use Rattle.source_meaning.specs.Core.{Assigned, Assignee, CoreExpr, PlaceElem, is_literal, is_path, is_place}
+use Rattle.source_meaning.specs.Source.{Source, Cell, IndexOf, Node, node, unadjusted, never_marks, pattern, bound_by}
+use Rattle.source_meaning.specs.Steps.{Step, assigned_steps, assignee_steps, elem_steps, statement_steps, tail_steps, block_steps, steps_of}
 use Rattle.source_meaning.specs.Steps as step
 
 -- a scope opens, a cell is marked as live in the innermost open scope, or the innermost open scope closes
@@ -19,7 +19,8 @@ abbrev pub own_mark : (has_none : Bool) → ℕ → List Event
 own_mark has_none e = cond has_none [] (Marks (Node e) ∷ [])
 
 -- An expression that is evaluated to a place and is none itself has its own cell marked, before what it is made of. A field
--- as a place marks what its base marks as a place, and a literal as an operand has no cell.
+-- as a place marks what its base marks as a place; an element marks, after that, the cell of its index, before what the index is made of. A literal as an
+-- operand has no cell.
 abbrev pub place_events : Source → (ℕ → List Event) → ℕ → List Event
 place_events source below e = cond (is_path (unadjusted source e)) [] (own_mark (is_place (unadjusted source e)) e ++ below e)
 
@@ -30,6 +31,7 @@ abbrev pub step_events : Source → (ℕ → List Event) → Step → List Event
 step_events source below (step.Operand e) = operand_events source below e
 step_events source below (step.Place e) = place_events source below e
 step_events source below (step.Into e) = below e
+step_events source below (step.Index e index) = Marks (IndexOf e) ∷ below index
 step_events source below (step.Bind pat) = map Marks (bound_by (pattern source pat))
 step_events source below step.Open = Opens ∷ []
 step_events source below step.Close = Closes ∷ []
@@ -78,7 +80,8 @@ unfoldable pub marks_of : List Event → List Cell
 marks_of listed = innermost (scopes_after ([] ∷ []) listed)
 
 -- The cells that come into use in the scope that is open around: in an expression that is evaluated into a place, to a
--- place, or to an operand; in the target of an assignment, and of a compound one; in a statement; in a tail; and in a block's own scope.
+-- place, or to an operand; in a step into a value; in the target of an assignment, and of a compound one; in a statement; in a tail; and in a block's own
+-- scope.
 unfoldable pub marked : Source → ℕ → List Cell
 marked source e = marks_of (events source e)
 
@@ -91,6 +94,9 @@ marked_as_place source e = marks_of (place_events source (events source) e)
 
 unfoldable pub marked_as_operand : Source → ℕ → List Cell
 marked_as_operand source e = marks_of (operand_events source (events source) e)
+
+unfoldable pub marked_by_elem : Source → PlaceElem → List Cell
+marked_by_elem source elem = marks_of (events_through source (elem_steps elem))
 
 unfoldable pub marked_by_assignee : Source → Assignee → List Cell
 marked_by_assignee source to = marks_of (events_through source (assignee_steps to))

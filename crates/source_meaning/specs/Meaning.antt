@@ -1,6 +1,6 @@
 -- What a typed body means: its value, or how else it ends, by evaluating its tree of expressions. It knows no
 -- basic blocks. Fuel bounds how deep the evaluation goes.
-use Rattle.std.specs.Prelude.{◌≡◌, ℕ, zero, suc, pos, Bool, true, false, cond, if◌then◌else◌, ◌==◌, List, [], ◌∷◌, ◌++◌, length, map, flat_map, drop, Option, Some, None, option_and_then, option_map, codes}
+use Rattle.std.specs.Prelude.{◌≡◌, ℕ, zero, suc, pos, Bool, true, false, cond, if◌then◌else◌, ◌==◌, ◌||◌, List, [], ◌∷◌, ◌++◌, length, map, flat_map, drop, Option, Some, None, option_and_then, option_map, codes}
 use Rattle.types.specs.declared.ids.BindingId.{BindingId}
 use Rattle.types.specs.declared.ids.ExprId.{ExprId}
 use Rattle.types.specs.declared.ids.LabelId.{LabelId}
@@ -27,16 +27,16 @@ use Rattle.source_meaning.specs.Aggregates.{array_length, laid_out, repeated_for
 use Rattle.source_meaning.specs.Calls.{source_called, must_not_return, parameter_cells, started}
 use Rattle.source_meaning.specs.Contents.{Contents, bytes_in, holding}
 use Rattle.source_meaning.specs.Core as expr
-use Rattle.source_meaning.specs.Core.{Assigned, Assignee, ByField, ByPath, ByPattern, ByPlace, CoreExpr, CoreLiteral, Truth, Number, Character, Operation, Negate, Invert, Keep, Convert, Combine, MakeTuple, MakeArray, Repeat, MakeStruct, PlaceElem, is_place}
-use Rattle.source_meaning.specs.Ends.{Cost, no_cost, turns_alone, bytes_alone, plus, one_level_more, End, Go, Jumps, Break, Continue, Return, Faults, Panic, Undefined as UndefinedBehavior, NoLayout, Stuck, More, after, then_do, IsOver}
+use Rattle.source_meaning.specs.Core.{Assigned, Assignee, ByField, ByPath, ByPattern, ByPlace, CoreExpr, CoreLiteral, Truth, Number, Character, Operation, Negate, Invert, Keep, Convert, Combine, MakeTuple, MakeArray, Repeat, MakeStruct, PlaceElem, ElementAt, is_place}
+use Rattle.source_meaning.specs.Ends.{Cost, no_cost, turns_alone, bytes_alone, plus, one_level_more, End, Go, Jumps, Break, Continue, Return, Faults, Fault, Panic, Undefined as UndefinedBehavior, NoLayout, Stuck, More, after, then_do, IsOver}
 use Rattle.source_meaning.specs.Entering.{room_of, entering, run_cost}
 use Rattle.source_meaning.specs.Laid.{is_laid_out}
 use Rattle.source_meaning.specs.Around.{Around, Target, at_root, marking, inside, target_of}
 use Rattle.source_meaning.specs.Events.{marked, marked_as_place, marked_as_operand, marked_by_assigned, marked_by_statement, marked_by_tail, marked_in_block}
-use Rattle.source_meaning.specs.Places.{cell_with, place_bytes, operand_type, operand_bytes, operands_bytes}
+use Rattle.source_meaning.specs.Places.{cell_with, is_out_of_bounds, place_bytes, operand_out, operand_type, operand_bytes, operands_bytes, some_out}
 use Rattle.source_meaning.specs.Structs.{FieldSource, picked}
 use Rattle.source_meaning.specs.Updates.{field_operands}
-use Rattle.source_meaning.specs.Source.{Source, node, unadjusted, own_type, own_layout, named_by, pattern, target, compound_target, root, Cell, Result, Node, Binding, Path, Place, whole, projected, never_marks, own_path, Store, zeroed, with_cell_bytes, Operand, Literally, At, drops}
+use Rattle.source_meaning.specs.Source.{Source, node, unadjusted, own_type, own_layout, named_by, pattern, target, compound_target, root, Cell, IndexOf, Result, Node, Binding, Path, Place, whole, projected, never_marks, own_path, Store, zeroed, with_cell_bytes, Operand, Literally, At, drops}
 
 -- the byte of a truth value: 1 for true
 abbrev pub truth_byte : Bool → ℕ
@@ -52,6 +52,16 @@ literal_bytes source e (Character code) = option_map (λ layout. low_bytes layou
 unfoldable pub put : Store → Path → Contents → End (Unit {0})
 put store path bytes =
     if length bytes == length (store path.cell) then Go tt (with_cell_bytes store path.cell bytes) no_cost else Stuck
+
+-- the use of a place that is out of bounds
+abbrev pub out_of_bounds : Fault
+out_of_bounds = Panic (codes "Index out of bounds")
+
+-- What an operation on places does: a panic, where one of them is out of bounds (`out`). That comes before all else in it: before bytes are read, and
+-- before anything is computed of them.
+abbrev pub within_bounds : {A : Type 0} → (out : Bool) → End A → End A
+within_bounds true end = Faults out_of_bounds no_cost
+within_bounds false end = end
 
 -- bytes are written that were read, where there are some
 abbrev pub copy_to : Store → Path → Option Contents → End (Unit {0})
@@ -101,7 +111,7 @@ struct_of layout (Some fields) = laid_out layout (map (λ field. field.bytes) fi
 struct_of layout None = Undefined
 
 -- What an operation makes of its operands' values; `ty`: the type of the expression that it is. The elements of an array lie one behind
--- another.
+-- another. A struct is made of its fields' values (`made_into`).
 unfoldable pub answered : HirDatabase → (ty : Option Ty) → Operation → List Value → Answer
 answered world ty Negate (one ∷ []) = negated one.kind one.bytes
 answered world ty Invert (one ∷ []) = inverted one.kind one.bytes
@@ -110,7 +120,6 @@ answered world ty Convert (one ∷ []) = converted_to (option_and_then fixed_siz
 answered world ty (Combine op) (left ∷ right ∷ []) = computed op left.kind right.kind left.bytes right.bytes
 answered world ty MakeTuple parts = laid_out (option_and_then (layout_of world) ty) (map (λ part. part.bytes) parts)
 answered world ty MakeArray parts = Computes (flat_map (λ part. part.bytes) parts)
-answered world ty (MakeStruct id args places) parts = struct_of (layout_of world (Adt (adt.StructId id) args)) (picked places parts)
 answered world ty Repeat (one ∷ []) = repeated_for (option_and_then array_length ty) one.bytes
 answered world ty _ _ = Undefined
 
@@ -149,15 +158,23 @@ abbrev pub named_place : Option ValueNs → Store → End Place
 named_place (Some (LocalBinding b)) store = Go (whole (Binding b.0)) store no_cost
 named_place _ store = Stuck
 
--- the place of a field: that of its base, with one more element
-abbrev pub field_place : Level → (base : ℕ) → (elem : PlaceElem) → Store → End Place
-field_place below base elem store = then_do (below.place base store) (λ place later. Go (projected elem place) later no_cost)
+-- What the step to a field or an element makes of the place of its base: that with one more element. The index of an element is evaluated first, into
+-- its own cell, over the cells that the base marked. It isn't looked at before the place is used.
+abbrev pub stepped : Source → Levels → Around → (base : ℕ) → (elem : PlaceElem) → Place → Store → End Place
+stepped source below around base (ElementAt e index) place store =
+    then_do ((below (marking (IndexOf e ∷ []) (marking (marked_as_place source base) around))).into index (record { cell = IndexOf e }) store)
+    (λ _ later. Go (projected (ElementAt e index) place) later no_cost)
+stepped source below around base elem place store = Go (projected elem place) store no_cost
+
+-- the place of a field or an element: its base's place, and then the step
+abbrev pub field_place : Source → Levels → Around → (base : ℕ) → (elem : PlaceElem) → Store → End Place
+field_place source below around base elem store = then_do ((below around).place base store) (stepped source below around base elem)
 
 -- a path is the place that it names; an expression that is no place goes into a cell of its own, which is then its
 -- place
 abbrev pub place_of : Source → Levels → Around → ℕ → Option CoreExpr → Store → End Place
 place_of source below around e (Some (expr.Path name)) store = named_place (named_by source e) store
-place_of source below around e (Some (expr.Field base elem)) store = field_place (below around) base elem store
+place_of source below around e (Some (expr.Field base elem)) store = field_place source below around base elem store
 place_of source below around e _ store =
     then_do ((below (marking (Node e ∷ []) around)).into e (record { cell = Node e }) store) (λ _ later. Go (whole (Node e)) later no_cost)
 
@@ -181,10 +198,23 @@ operands_of source below around (e ∷ rest) store =
     then_do ((below around).operand e store) (λ first later.
     then_do (operands_of source below (marking (marked_as_operand source e) around) rest later) (λ others last. Go (first ∷ others) last no_cost))
 
--- the operands from left to right, and then the operation, which reads them all, computes, and writes
+-- a struct at generic arguments is made of operands that give its fields, where each field has one
+abbrev pub made_into : Source → StructId → GenericArgs → (fields : Option (List Operand)) → Path → Store → End (Unit {0})
+made_into source id args (Some fields) path store =
+    within_bounds (some_out source store fields) (put_answer store path (struct_of (layout_of source.world (Adt (adt.StructId id) args)) (values_of source store fields)))
+made_into source id args None path store = Stuck
+
+-- An operation finds its operands' places, reads them all, computes, and writes. The operands of a struct literal are those that give its fields, in the
+-- order of these.
+abbrev pub operated_into : Source → ℕ → Operation → (given : List Operand) → Path → Store → End (Unit {0})
+operated_into source e (MakeStruct id args places) given path store = made_into source id args (picked places given) path store
+operated_into source e operation given path store =
+    within_bounds (some_out source store given) (put_answer store path (answered_for source.world (own_type source e) operation (values_of source store given)))
+
+-- the operands from left to right, and then the operation
 abbrev pub strict_into : Source → Levels → Around → ℕ → Operation → List ℕ → Path → Store → End (Unit {0})
 strict_into source below around e operation operands path store =
-    then_do (operands_of source below around operands store) (λ given later. put_answer later path (answered_for source.world (own_type source e) operation (values_of source later given)))
+    then_do (operands_of source below around operands store) (λ given later. operated_into source e operation given path later)
 
 -- The place of the base, then the operands from left to right, and then the struct is made of the values of its fields: what is written for
 -- each, or what lies at the field of the base then.
@@ -192,7 +222,7 @@ abbrev pub update_into : Source → Levels → Around → (base : ℕ) → Struc
 update_into source below around base id args sources operands path store =
     then_do ((below around).place base store) (λ from later.
     then_do (operands_of source below (marking (marked_as_place source base) around) operands later) (λ given last.
-    put_answer last path (struct_of (layout_of source.world (Adt (adt.StructId id) args)) (option_and_then (values_of source last) (field_operands from given sources)))))
+    made_into source id args (field_operands from given sources) path last))
 
 -- Whether bytes are one byte, and this is the given number. Other bytes than one have no answer.
 abbrev pub is_byte : ℕ → Option Contents → Option Bool
@@ -209,9 +239,13 @@ abbrev pub reading_cost : Source → Operand → Cost
 reading_cost source (Literally ty bytes) = bytes_alone (room_of (layout_of source.world ty))
 reading_cost source (At path) = no_cost
 
+-- an operand's bytes are written
+abbrev pub read_into : Source → Operand → Path → Store → End (Unit {0})
+read_into source operand path store = within_bounds (operand_out source store operand) (copy_to store path (operand_bytes source store operand))
+
 -- An operand that decides is written. Else the right operand is evaluated into the path.
 abbrev pub decided_into : Source → Level → Operand → (right : ℕ) → Option Bool → Path → Store → End (Unit {0})
-decided_into source below left right (Some true) path store = after (reading_cost source left) (copy_to store path (operand_bytes source store left))
+decided_into source below left right (Some true) path store = after (reading_cost source left) (read_into source left path store)
 decided_into source below left right (Some false) path store = below.into right path store
 decided_into source below left right None path store = Stuck
 
@@ -223,7 +257,8 @@ branched branch = after (turns_alone 1) (then_do branch (λ _ last. Go tt last (
 abbrev pub logic_into : Source → Levels → Around → LogicOp → (left right : ℕ) → Path → Store → End (Unit {0})
 logic_into source below around op left right path store =
     then_do ((below around).operand left store) (λ given later.
-    branched (decided_into source (below (marking (marked_as_operand source left) around)) given right (is_byte (deciding_byte op) (operand_bytes source later given)) path later))
+    within_bounds (operand_out source later given)
+    (branched (decided_into source (below (marking (marked_as_operand source left) around)) given right (is_byte (deciding_byte op) (operand_bytes source later given)) path later)))
 
 -- an expression that may be left out, evaluated into a path: the tail of a block, or the second branch of an `if`
 abbrev pub tail_into : Level → Option ExprId → Path → Store → End (Unit {0})
@@ -241,21 +276,21 @@ branch_into source below around then_branch else_branch None path store = Stuck
 abbrev pub if_into : Source → Levels → Around → (condition then_branch : ℕ) → (else_branch : Option ExprId) → Path → Store → End (Unit {0})
 if_into source below around condition then_branch else_branch path store =
     then_do ((below around).operand condition store) (λ given later.
-    branched (branch_into source below (marking (marked_as_operand source condition) around) then_branch else_branch (is_byte 1 (operand_bytes source later given)) path later))
+    within_bounds (operand_out source later given)
+    (branched (branch_into source below (marking (marked_as_operand source condition) around) then_branch else_branch (is_byte 1 (operand_bytes source later given)) path later)))
 
 -- the bytes of what a path names
 abbrev pub named_into : Option ValueNs → Path → Store → End (Unit {0})
 named_into (Some (LocalBinding b)) path store = put store path (store (Binding b.0))
 named_into _ path store = Stuck
 
--- the base of a field is evaluated to a place, and then the bytes of the part are copied
-abbrev pub field_into : Source → Level → (base : ℕ) → (elem : PlaceElem) → Path → Store → End (Unit {0})
-field_into source below base elem path store =
-    then_do (field_place below base elem store) (λ place later. copy_to later path (place_bytes source later place))
+-- the bytes of a field or an element are copied from its place
+abbrev pub field_into : Source → Levels → Around → (base : ℕ) → (elem : PlaceElem) → Path → Store → End (Unit {0})
+field_into source below around base elem path store = then_do (field_place source below around base elem store) (λ place later. read_into source (At place) path later)
 
 -- a name is bound: the bytes of a place go into the binding's cell
 abbrev pub bind : Source → Option BindingId → Place → Store → End (Unit {0})
-bind source (Some id) place store = copy_to store (record { cell = Binding id.0 }) (place_bytes source store place)
+bind source (Some id) place store = read_into source (At place) (record { cell = Binding id.0 }) store
 bind source None place store = Stuck
 
 -- a `let` with an initializer: its place, and then the name is bound. An expression statement: its place, and then
@@ -281,6 +316,11 @@ abbrev pub copy_at : Source → Store → Place → Option Contents → End (Uni
 copy_at source store place (Some bytes) = put_at source store place bytes
 copy_at source store place None = Stuck
 
+-- The bytes of one place are copied to another. Both are found before anything is read.
+abbrev pub assign_at : Source → (to from : Place) → Store → End (Unit {0})
+assign_at source to from store =
+    within_bounds (is_out_of_bounds source store to || is_out_of_bounds source store from) (copy_at source store to (place_bytes source store from))
+
 -- what an operation answers is put there, where it answers something for its operands
 abbrev pub answer_at : Source → Store → Place → Answer → End (Unit {0})
 answer_at source store place (Computes bytes) = put_at source store place (holding bytes)
@@ -303,21 +343,24 @@ assignee_place source below (ByPlace e) store = if is_place (unadjusted source e
 abbrev pub assign_into : Source → Levels → Around → Assignee → (value : ℕ) → Store → End (Unit {0})
 assign_into source below around to value store =
     then_do ((below around).place value store) (λ from later.
-    then_do (assignee_place source (below (marking (marked_as_place source value) around)) to later) (λ place last.
-    copy_at source last place (place_bytes source last from)))
+    then_do (assignee_place source (below (marking (marked_as_place source value) around)) to later) (λ place last. assign_at source place from last))
 
 -- the place that a compound assignment reads and writes
-abbrev pub assigned_place : Source → Level → Assigned → Store → End Place
-assigned_place source below (ByPath e) store = bound_place (compound_target source e) store
-assigned_place source below (ByField base elem) store = field_place below base elem store
+abbrev pub assigned_place : Source → Levels → Around → Assigned → Store → End Place
+assigned_place source below around (ByPath e) store = bound_place (compound_target source e) store
+assigned_place source below around (ByField base elem) store = field_place source below around base elem store
 
--- The target's place, then the value's operand, and then one operation that reads both and writes to the place. The path that the assignment is
--- evaluated into isn't written, as for any assignment.
+-- one operation that reads a place and an operand, and writes what an operator makes of both to the place
+abbrev pub combined_at : Source → Operator → Place → Operand → Store → End (Unit {0})
+combined_at source op place given store =
+    within_bounds (some_out source store (At place ∷ given ∷ [])) (answer_at source store place (answered_for source.world None (Combine op) (values_of source store (At place ∷ given ∷ []))))
+
+-- The target's place, then the value's operand, and then the operation on both. The path that the assignment is evaluated into isn't written, as for
+-- any assignment.
 abbrev pub compound_into : Source → Levels → Around → Operator → Assigned → (value : ℕ) → Store → End (Unit {0})
 compound_into source below around op to value store =
-    then_do (assigned_place source (below around) to store) (λ place later.
-    then_do ((below (marking (marked_by_assigned source to) around)).operand value later) (λ given last.
-    answer_at source last place (answered_for source.world None (Combine op) (values_of source last (At place ∷ given ∷ [])))))
+    then_do (assigned_place source below around to store) (λ place later.
+    then_do ((below (marking (marked_by_assigned source to) around)).operand value later) (λ given last. combined_at source op place given last))
 
 -- statements in order
 unfoldable pub statements_of : Source → Levels → Around → List Statement → Store → End (Unit {0})
@@ -435,18 +478,19 @@ entered_into callees diverging (Some callee) (Some given) path store =
     entered_from callees diverging callee (started callee (cond diverging (zeroed callee Result) (store path.cell)) given) path store
 entered_into callees diverging _ _ path store = Stuck
 
--- A call: its arguments' operands from left to right, and then its terminator, which reads them all, late, and enters the callee's body.
+-- A call: its arguments' operands from left to right, and then its terminator, which finds their places, reads them all, late, and enters the callee's
+-- body.
 abbrev pub call_into : Source → Levels → Callees → Around → ℕ → (callee : Option ℕ) → (args : List ℕ) → Path → Store → End (Unit {0})
 call_into source below callees around e callee args path store =
     then_do (operands_of source below around args store) (λ given later.
-    entered_into callees (must_not_return source e) (source_called source e callee) (operands_bytes source later given) path later)
+    within_bounds (some_out source later given) (entered_into callees (must_not_return source e) (source_called source e callee) (operands_bytes source later given) path later))
 
 -- An expression itself evaluated into a path: the forms that have a meaning so far. A path to a unit struct writes nothing.
 abbrev pub into_of : Source → Levels → Callees → Around → ℕ → Option CoreExpr → Path → Store → End (Unit {0})
 into_of source below callees around e (Some (expr.Literal l)) path store = put_literal source e store path (literal_bytes source e l)
 into_of source below callees around e (Some (expr.Path name)) path store = named_into (named_by source e) path store
 into_of source below callees around e (Some expr.UnitStruct) path store = Go tt store no_cost
-into_of source below callees around e (Some (expr.Field base elem)) path store = field_into source (below around) base elem path store
+into_of source below callees around e (Some (expr.Field base elem)) path store = field_into source below around base elem path store
 into_of source below callees around e (Some (expr.Strict operation operands)) path store = strict_into source below around e operation operands path store
 into_of source below callees around e (Some (expr.Update base id args sources operands)) path store = update_into source below around base id args sources operands path store
 into_of source below callees around e (Some (expr.Logic op left right)) path store = logic_into source below around op left right path store

@@ -6,6 +6,8 @@ use Rattle.types.specs.contracts.ids.ExprIdOrd.TheImpl as ExprIdOrd
 use Rattle.types.specs.contracts.ids.PatIdOrd.TheImpl as PatIdOrd
 use Rattle.world.specs.declared.body.Body.{Body}
 use Rattle.world.specs.declared.database.HirDatabase.{HirDatabase}
+use Rattle.world.specs.declared.expr.Expr.{Expr}
+use Rattle.world.specs.declared.expr.Expr.TheVariants as expr
 use Rattle.world.specs.declared.infer.InferenceResult.{InferenceResult}
 use Rattle.world.specs.declared.infer.ValueNs.{ValueNs}
 use Rattle.world.specs.declared.layout.Layout.{Layout}
@@ -16,8 +18,9 @@ use Rattle.types.specs.declared.ids.ExprId.{ExprId}
 use Rattle.types.specs.declared.ids.PatId.{PatId}
 use Rattle.types.specs.declared.ids.VariantId.{VariantId}
 use Rattle.world.specs.Lookups.{layout_of, type_of, expr_of, is_copy}
-use Rattle.source_meaning.specs.Contents.{Contents, holding}
-use Rattle.source_meaning.specs.Core.{Assigned, Assignee, ByField, ByPath, ByPattern, ByPlace, CoreExpr, Findings, PlaceElem, cast_operation, core_of, expr_in, field_taken, is_adjusted_otherwise, is_adjusted_twice, named_path, part_in, type_after, is_adjusted_pattern, is_dereferenced_pattern, path_of, pattern_names_item, local_named, name_of, names_item, names_unit, never_target}
+use Rattle.numbers.specs.Constants.{number_of_bytes}
+use Rattle.source_meaning.specs.Contents.{Contents, bytes_in, holding}
+use Rattle.source_meaning.specs.Core.{Assigned, Assignee, ByField, ByPath, ByPattern, ByPlace, CoreExpr, Findings, PlaceElem, cast_operation, core_of, element_taken, expr_in, field_taken, is_adjusted_otherwise, is_adjusted_twice, named_path, part_in, type_after, is_adjusted_pattern, is_dereferenced_pattern, path_of, pattern_names_item, local_named, name_of, names_item, names_unit, never_target}
 use Rattle.source_meaning.specs.Structs.{struct_made}
 
 -- a typed body in its world, and the arguments of its generics, of which there are none in any body that has a meaning so far
@@ -43,12 +46,12 @@ assignee_by p None = ByPattern p
 abbrev pub assignee : Source → PatId → Assignee
 assignee source p = assignee_by p.0 (pattern_expr source p.0)
 
--- The base and the step of the field that an expression is as the left operand of a compound assignment, where it is one. One
+-- The base and the step of the field or the element that an expression is as the left operand of a compound assignment, where it is one. One
 -- adjustment, of whatever kind, isn't looked at: inference adds one there, by which an operator's method would borrow the operand.
 unfoldable pub assigned_field : Source → ℕ → Option (ℕ × PlaceElem)
 assigned_field source e =
     if is_adjusted_twice source.infer (record { 0 = e }) then None
-    else option_and_then (part_in (field_taken source.infer (record { 0 = e }))) (expr_of source.body e)
+    else option_and_then (part_in (field_taken source.infer (record { 0 = e })) (element_taken source.infer (record { 0 = e }))) (expr_of source.body e)
 
 -- what an expression is as the target of a compound assignment
 abbrev pub assigned_by : ℕ → Option (ℕ × PlaceElem) → Assigned
@@ -69,6 +72,7 @@ findings source e = record {
   names_item = names_item source.infer (record { 0 = e });
   casts = cast_operation source.infer (record { 0 = e });
   field = field_taken source.infer (record { 0 = e });
+  element = element_taken source.infer (record { 0 = e });
   made = struct_made source.world (variant_named source e) (type_of source.infer e);
   assignee = assignee source;
   assigned = assigned source;
@@ -149,13 +153,23 @@ abbrev pub root : Source → ℕ
 root source = source.body.body_expr.0
 
 -- What holds a value while a body is evaluated: the place that its result goes to, one cell for each binding that no
--- closure owns, one for each expression that is evaluated to a place and is none itself, and one for the `!` of each that is
--- adjusted by `NeverToAny`.
+-- closure owns, one for each expression that is evaluated to a place and is none itself, one for the `!` of each that is
+-- adjusted by `NeverToAny`, and one for the index of each index expression.
 pub data Cell : Type 0 where
   Result : Cell
   Node : (e : ℕ) → Cell
   Binding : (b : ℕ) → Cell
   Never : (e : ℕ) → Cell
+  IndexOf : (e : ℕ) → Cell
+
+-- the index of an index expression
+abbrev pub index_in : Expr → Option ℕ
+index_in (expr.Index base index) = Some index.0
+index_in _ = None
+
+-- the index of an expression of the source, where it is an index expression
+abbrev pub index_of : Source → ℕ → Option ℕ
+index_of source e = option_and_then index_in (expr_of source.body e)
 
 -- the type of a cell's value
 abbrev pub cell_type : Source → Cell → Option Ty
@@ -163,6 +177,7 @@ cell_type source Result = node_type source (root source)
 cell_type source (Node e) = node_type source e
 cell_type source (Binding b) = binding_type source b
 cell_type source (Never e) = cond (diverges source e) (own_type source e) None
+cell_type source (IndexOf e) = option_and_then (node_type source) (index_of source e)
 
 abbrev pub cell_layout : Source → Cell → Option Layout
 cell_layout source cell = option_and_then (layout_of source.world) (cell_type source cell)
@@ -176,6 +191,7 @@ same_cell Result Result = true
 same_cell (Node e) (Node f) = e == f
 same_cell (Binding b) (Binding c) = b == c
 same_cell (Never e) (Never f) = e == f
+same_cell (IndexOf e) (IndexOf f) = e == f
 same_cell _ _ = false
 
 -- the cell that a pattern binds
@@ -237,6 +253,10 @@ pub record IsSized (source : Source) (store : Store) : Type 0 where
 -- the store with other contents in one cell
 abbrev pub with_cell_bytes : Store → Cell → Contents → Store
 with_cell_bytes store cell contents = λ other. cond (same_cell cell other) contents (store other)
+
+-- the number that the cell of an index expression's index holds, where it has at most 16 bytes
+abbrev pub number_held : Store → (e : ℕ) → Option ℕ
+number_held store e = number_of_bytes (bytes_in (store (IndexOf e)))
 
 -- what an operation reads: a literal's bytes, of a type, or what lies at a place when the operation runs
 pub data Operand : Type 0 where

@@ -5,14 +5,16 @@ use Rattle.types.specs.declared.ids.ExprId.{ExprId}
 use Rattle.world.specs.declared.body.Statement.{Statement}
 use Rattle.world.specs.declared.body.Statement.TheVariants as statement
 use Rattle.source_meaning.specs.Core as expr
-use Rattle.source_meaning.specs.Core.{Assigned, Assignee, ByField, ByPath, ByPattern, ByPlace, CoreExpr}
+use Rattle.source_meaning.specs.Core.{Assigned, Assignee, ByField, ByPath, ByPattern, ByPlace, CoreExpr, ElementAt, PlaceElem}
 
 -- A step of a form: it evaluates an expression to an operand, to a place, or into a given place (the form's own, that of the loop
--- which a `break` ends, or the return path), binds a pattern, or opens or closes a scope.
+-- which a `break` ends, or the return path), evaluates the index of an index expression `e` into the cell that it has for it, binds a pattern, or opens
+-- or closes a scope.
 pub data Step : Type 0 where
   Operand : (e : ℕ) → Step
   Place : (e : ℕ) → Step
   Into : (e : ℕ) → Step
+  Index : (e index : ℕ) → Step
   Bind : (pat : ℕ) → Step
   Open : Step
   Close : Step
@@ -33,6 +35,15 @@ tail_steps None = []
 abbrev pub block_steps : List Statement → Option ExprId → List Step
 block_steps statements tail = flat_map statement_steps statements ++ tail_steps tail
 
+-- what is evaluated for a step into a value: the index that leads to an element
+abbrev pub elem_steps : PlaceElem → List Step
+elem_steps (ElementAt e index) = Index e index ∷ []
+elem_steps _ = []
+
+-- the base of a field is evaluated to a place, and then what the step from it needs
+abbrev pub field_steps : (base : ℕ) → PlaceElem → List Step
+field_steps base elem = Place base ∷ elem_steps elem
+
 -- what is evaluated for the target of an assignment, and of a compound one
 abbrev pub assignee_steps : Assignee → List Step
 assignee_steps (ByPattern pat) = []
@@ -40,14 +51,14 @@ assignee_steps (ByPlace e) = Place e ∷ []
 
 abbrev pub assigned_steps : Assigned → List Step
 assigned_steps (ByPath e) = []
-assigned_steps (ByField base elem) = Place base ∷ []
+assigned_steps (ByField base elem) = field_steps base elem
 
 -- The steps of each form, in order of lowering. The callee of a call isn't evaluated: it is named by a path, whose type is a function's own.
 abbrev pub steps_of : CoreExpr → List Step
 steps_of (expr.Literal given) = []
 steps_of (expr.Path name) = []
 steps_of expr.UnitStruct = []
-steps_of (expr.Field base field) = Place base ∷ []
+steps_of (expr.Field base elem) = field_steps base elem
 steps_of (expr.Strict operation operands) = map Operand operands
 steps_of (expr.Update base id args sources operands) = Place base ∷ map Operand operands
 steps_of (expr.Logic op left right) = Operand left ∷ Into right ∷ []
@@ -67,12 +78,17 @@ abbrev pub step_part : Step → List ℕ
 step_part (Operand e) = e ∷ []
 step_part (Place e) = e ∷ []
 step_part (Into e) = e ∷ []
+step_part (Index e index) = index ∷ []
 step_part _ = []
 
 -- the expressions that an expression evaluates, or may evaluate (both branches of an `if`), in the order of lowering
 abbrev pub parts_of : Option CoreExpr → List ℕ
 parts_of (Some form) = flat_map step_part (steps_of form)
 parts_of None = []
+
+-- the expressions that are evaluated for a field or an element
+abbrev pub field_parts : (base : ℕ) → PlaceElem → List ℕ
+field_parts base elem = flat_map step_part (field_steps base elem)
 
 -- the expressions that are evaluated for the target of an assignment, and of a compound one
 abbrev pub assignee_parts : Assignee → List ℕ

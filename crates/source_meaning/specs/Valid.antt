@@ -17,6 +17,7 @@ use Rattle.world.specs.declared.items.FieldsShape.TheVariants.{Unit as UnitShape
 use Rattle.world.specs.declared.items.FunctionRow.{FunctionRow}
 use Rattle.world.specs.declared.items.StructRow.{StructRow}
 use Rattle.world.specs.declared.layout.Layout.{Layout}
+use Rattle.types.specs.declared.scalars.UintTy.TheVariants.{Usize}
 use Rattle.types.specs.declared.ty.Const.{Const}
 use Rattle.types.specs.declared.ty.GenericArgs.{GenericArgs}
 use Rattle.types.specs.declared.ty.Ty.TheVariants.{Adt as AdtTy, Array as ArrayTy, Tuple as TupleTy}
@@ -29,7 +30,7 @@ use Rattle.numbers.specs.declared.operator.Operator.TheVariants.{Add, Sub, Mul, 
 use Rattle.source_meaning.specs.Around.{Opened, meant}
 use Rattle.source_meaning.specs.Calls.{function_called, source_of, source_called, parameters}
 use Rattle.source_meaning.specs.Core as expr
-use Rattle.source_meaning.specs.Core.{Assigned, Assignee, ByField, ByPath, ByPattern, ByPlace, CoreExpr, CoreLiteral, Truth, Number, Character, Operation, Negate, Invert, Keep, Convert, Combine, MakeTuple, MakeArray, Repeat, MakeStruct, PlaceElem, Part, FieldOf, is_place, is_truth, IsNoCall}
+use Rattle.source_meaning.specs.Core.{Assigned, Assignee, ByField, ByPath, ByPattern, ByPlace, CoreExpr, CoreLiteral, Truth, Number, Character, Operation, Negate, Invert, Keep, Convert, Combine, MakeTuple, MakeArray, Repeat, MakeStruct, PlaceElem, Part, FieldOf, ElementAt, is_place, is_truth, IsNoCall}
 use Rattle.source_meaning.specs.Source.{Source, node, unadjusted, diverges, own_type, node_type, binding_type, pattern, pattern_type, target, compound_target, named_by, root}
 use Rattle.source_meaning.specs.Structs.{AreFieldTypes, FieldSource, Written, OfBase, field_type, picked}
 use Rattle.source_meaning.specs.Steps.{Step, steps_of, step_part, parts_of}
@@ -208,7 +209,7 @@ pub record IsPlainTarget (source : Source) (pat : ℕ) (ty : Ty) : Type 0 where
   pub target_has : pattern_type source pat ≡ Some ty
   pub binding_has : binding_type source binding.0 ≡ Some ty
 
--- an expression of a type is a path or a field, and isn't adjusted
+-- an expression of a type is a path, a field or an element, and isn't adjusted
 pub record IsPlainPlace (source : Source) (e : ℕ) (ty : Ty) : Type 0 where
   pub place : is_place (unadjusted source e) ≡ true
   pub has : node_type source e ≡ Some ty
@@ -256,10 +257,23 @@ pub record HasField (world : HirDatabase) (field : FieldId) (base ty : Ty) : Typ
   pub typed : row.ty ≡ ty
   pub field_has : field_type world args row ≡ Some ty
 
+-- an array of elements of a type, of a length that is known
+pub record HasElements (base ty : Ty) : Type 0 where
+  pub len : Const
+  pub count : ℕ
+  pub is : base ≡ ArrayTy ty len
+  pub known : number_in len ≡ Some count
+
 -- a type has what an element leads to, of a type
 abbrev pub HasElem : HirDatabase → PlaceElem → (base ty : Ty) → Type 0
 HasElem world (Part index) base ty = HasPart index base ty
 HasElem world (FieldOf field) base ty = HasField world field base ty
+HasElem world (ElementAt e index) base ty = HasElements base ty
+
+-- the index that leads to an element is a `usize`
+abbrev pub HasPlainIndex : Source → PlaceElem → Type 0
+HasPlainIndex source (ElementAt e index) = node_type source index ≡ Some (UintTy Usize)
+HasPlainIndex source _ = Unit {0}
 
 -- what gives a field has a type that the field has at generic arguments: a written operand's, or that of a field of the base
 abbrev pub IsGiven : HirDatabase → GenericArgs → (base : Ty) → (types : List Ty) → FieldRow → FieldSource → Type 0
@@ -283,11 +297,13 @@ pub record IsPlainUpdate (source : Source) (base : ℕ) (id : StructId) (args : 
   pub operands_have : HaveTypes source operands types
   pub each : AreGiven source.world args ty types fields sources
 
--- the type of a field's base has what inference resolved the field to, of the field's type
+-- the type of a field's base has what inference resolved the field to, of the field's type; the base of an index is an array of elements of its type, and the
+-- index a `usize`
 pub record IsPlainField (source : Source) (base : ℕ) (elem : PlaceElem) (ty : Ty) : Type 0 where
   pub base_ty : Ty
   pub base_has : node_type source base ≡ Some base_ty
   pub has_elem : HasElem source.world elem base_ty ty
+  pub has_index : HasPlainIndex source elem
 
 -- the target of a compound assignment is a place of a type
 abbrev pub IsPlainAssigned : Source → Assigned → Ty → Type 0
