@@ -1,3 +1,4 @@
+pub mod Bounds
 pub mod Interning
 pub mod Queries
 mod Targets

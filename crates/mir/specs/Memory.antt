@@ -1,5 +1,5 @@
 -- The memory of a run as its frames use it: the cells of a body's locals, and why locals can have none.
-use Rattle.std.specs.Prelude.{ℕ, if◌then◌else◌, List, [], ◌∷◌, Option, Some, None, Result, Ok, Err, codes}
+use Rattle.std.specs.Prelude.{ℕ, if◌then◌else◌, List, [], ◌∷◌, Option, Some, None, Result, Ok, Err, codes, slice_get, option_and_then}
 use Rattle.world.specs.declared.database.HirDatabase.{HirDatabase}
 use Rattle.world.specs.declared.layout.Layout.{Layout}
 use Rattle.types.specs.declared.ty.Ty.{Ty}
@@ -11,7 +11,9 @@ use Rattle.mir.specs.declared.body.Local.{Local}
 use Rattle.mir.specs.declared.mem_fault.MemFault.{MemFault}
 use Rattle.mir.specs.declared.errors.MirEvalError.{MirEvalError}
 use Rattle.mir.specs.declared.errors.MirEvalError as error
+use Rattle.mir.specs.declared.ids.LocalId.{LocalId}
 use Rattle.mir.specs.Errors.{layout_error_of}
+use Rattle.numbers.specs.Constants.{number_of_bytes}
 
 -- what a run keeps its bytes in: a stack and a heap, each up to a limit
 abbrev pub Memory : Type 0
@@ -20,6 +22,10 @@ Memory = Areas
 -- the bytes of a cell, where the memory has them
 abbrev pub cell_bytes : Memory → Interval → Option (List ℕ)
 cell_bytes memory cell = bytes_at memory cell.addr cell.size
+
+-- the unsigned number that a local holds, by the cells of all locals, where its cell has at most 16 bytes
+unfoldable pub number_held : Memory → (cells : List Interval) → LocalId → Option ℕ
+number_held memory cells local = option_and_then number_of_bytes (option_and_then (cell_bytes memory) (slice_get cells local.0))
 
 -- how large a local's cell is, and which number divides its address; or why it can have none: its type has no layout, or no size
 unfoldable pub cell_size_of : Ty → Option Layout → Result CellSize MirEvalError

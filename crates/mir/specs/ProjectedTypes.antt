@@ -106,6 +106,22 @@ element_at _ = None
 abbrev pub element_type : Ty → Option Ty
 element_type ty = element_at (out-Ty ty)
 
+-- the type of the elements of an array
+abbrev array_element_at : TyLayer → Option Ty
+array_element_at (layer.Array element len) = Some element
+array_element_at _ = None
+
+abbrev pub array_element : Ty → Option Ty
+array_element ty = array_element_at (out-Ty ty)
+
+-- how many elements an array has, where the length in its type is a number
+abbrev array_length_at : TyLayer → Option ℕ
+array_length_at (layer.Array element len) = number_in len
+array_length_at _ = None
+
+abbrev pub array_length : Ty → Option ℕ
+array_length ty = array_length_at (out-Ty ty)
+
 -- a number as a constant of the type `usize`
 abbrev pub usize_const : ℕ → Const
 usize_const n = constant.Value (record { ty = type.Uint Usize; memory = low_digits 8 n; memory_map = map.Empty })

@@ -1,6 +1,6 @@
 -- What a run of a body means: blocks entered one after another, over one memory and a stack of frames, under a budget of blocks. A
 -- call enters the body of its callee where the run was told that body; where it wasn't, the run asks for it.
-use Rattle.std.specs.Prelude.{ℕ, zero, suc, List, [], ◌∷◌, ◌++◌, length, drop, filter, map, not, replicate, Option, Some, None, is_some, Result, Ok, Err, slice_get, option_map, option_and_then, codes, decimal, if◌then◌else◌, nat_le}
+use Rattle.std.specs.Prelude.{ℕ, ◌||◌, Bool, true, false, zero, suc, List, [], ◌∷◌, ◌++◌, length, drop, filter, map, not, replicate, Option, Some, None, is_some, Result, Ok, Err, slice_get, option_map, option_and_then, codes, decimal, if◌then◌else◌, nat_le}
 use Rattle.std.specs.List.{concat}
 use Rattle.either.specs.declared.Either.TheVariants.{Left}
 use Rattle.types.specs.declared.ids.AdtId.TheVariants as adt
@@ -65,8 +65,8 @@ use Rattle.mir.specs.declared.statement.StatementKind.{StatementKind}
 use Rattle.mir.specs.declared.statement.StatementKind.TheVariants.{Assign, FakeRead, StorageLive, StorageDead}
 use Rattle.mir.specs.declared.address.Interval.{Interval}
 use Rattle.mir.specs.Areas.{first_areas, with_bytes}
-use Rattle.mir.specs.Memory.{Memory, cell_bytes, cell_before, cells_of}
-use Rattle.mir.specs.Places.{place_cell, place_type}
+use Rattle.mir.specs.Memory.{Memory, cell_bytes, cell_before, cells_of, number_held}
+use Rattle.mir.specs.Places.{is_out_of_bounds, place_cell, place_type}
 
 -- What a run goes by: its world, how deep calls may nest, how many bytes cells may take, and the answers that it was told, at most one
 -- to each query.
@@ -118,10 +118,24 @@ layer_bytes _ = None
 abbrev pub constant_bytes : Const → Option (List ℕ)
 constant_bytes konst = layer_bytes (out-Const konst)
 
+-- where a place's value lies now: an index on the way to it is what its local holds now
+abbrev pub cell_now : Frame → Memory → Place → Option Interval
+cell_now frame memory place = place_cell frame.program.world frame.body (number_held memory frame.cells) frame.cells place
+
 -- the bytes that an operand has now
 unfoldable pub operand_bytes : Frame → Memory → OperandKind → Option (List ℕ)
-operand_bytes frame memory (Copy place) = option_and_then (cell_bytes memory) (place_cell frame.program.world frame.body frame.cells place)
+operand_bytes frame memory (Copy place) = option_and_then (cell_bytes memory) (cell_now frame memory place)
 operand_bytes frame memory (Constant konst ty) = constant_bytes konst
+
+-- whether an operand is a place that is out of bounds; `numbers` gives the number that a local holds
+unfoldable pub operand_out : HirDatabase → MirBody → (numbers : LocalId → Option ℕ) → OperandKind → Bool
+operand_out world body numbers (Copy place) = is_out_of_bounds world body numbers place
+operand_out world body numbers (Constant konst ty) = false
+
+-- whether one of operands is
+unfoldable pub some_out : HirDatabase → MirBody → (numbers : LocalId → Option ℕ) → List Operand → Bool
+some_out world body numbers [] = false
+some_out world body numbers (operand ∷ rest) = operand_out world body numbers operand.kind || some_out world body numbers rest
 
 -- the type of an operand
 unfoldable pub operand_type : HirDatabase → MirBody → OperandKind → Option Ty
@@ -134,6 +148,10 @@ bad_read = error.UndefinedBehavior (codes "out of bound memory read")
 
 abbrev pub bad_write : MirEvalError
 bad_write = error.UndefinedBehavior (codes "out of bound memory write")
+
+-- the use of a place that is out of bounds
+abbrev pub out_of_bounds : MirEvalError
+out_of_bounds = error.Panic (codes "Index out of bounds")
 
 -- what an operator's answer is in a run
 unfoldable pub answered : Answer → Result (List ℕ) MirEvalError
@@ -239,6 +257,15 @@ rvalue_bytes frame memory (CheckedBinaryOp op left right) =
 rvalue_bytes frame memory (UnaryOp op operand) = operated_on op (operand_type frame.program.world frame.body operand.kind) (operand_bytes frame memory operand.kind)
 rvalue_bytes frame memory (Aggregate kind operands) = aggregated frame.program.world kind (operands_bytes frame memory operands)
 
+-- whether an operand that an assignment reads is out of bounds
+unfoldable pub reads_out : HirDatabase → MirBody → (numbers : LocalId → Option ℕ) → Rvalue → Bool
+reads_out world body numbers (Use operand) = operand_out world body numbers operand.kind
+reads_out world body numbers (Repeat operand len) = operand_out world body numbers operand.kind
+reads_out world body numbers (Cast kind operand ty) = operand_out world body numbers operand.kind
+reads_out world body numbers (CheckedBinaryOp op left right) = operand_out world body numbers left.kind || operand_out world body numbers right.kind
+reads_out world body numbers (UnaryOp op operand) = operand_out world body numbers operand.kind
+reads_out world body numbers (Aggregate kind operands) = some_out world body numbers operands
+
 -- the memory after bytes were copied to a cell
 unfoldable pub copied : Memory → Option Interval → Result (List ℕ) MirEvalError → Result Memory MirEvalError
 copied memory (Some cell) (Ok bytes) =
@@ -246,9 +273,20 @@ copied memory (Some cell) (Ok bytes) =
 copied memory (Some cell) (Err e) = Err e
 copied memory None bytes = Err bad_write
 
--- the memory after a statement
+-- whether an assignment uses a place that is out of bounds: its own, or one that it reads
+abbrev pub assigns_out : HirDatabase → MirBody → (numbers : LocalId → Option ℕ) → Place → Rvalue → Bool
+assigns_out world body numbers place rvalue = is_out_of_bounds world body numbers place || reads_out world body numbers rvalue
+
+-- the memory after what was computed was copied to a place, unless a place that is used is out of bounds (`out`)
+abbrev pub assigned : (out : Bool) → Memory → Option Interval → Result (List ℕ) MirEvalError → Result Memory MirEvalError
+assigned true memory cell bytes = Err out_of_bounds
+assigned false memory cell bytes = copied memory cell bytes
+
+-- The memory after a statement. An assignment finds its place and those that it reads before it computes: one that is out of bounds then is a
+-- fault.
 unfoldable pub after_statement : Frame → Memory → StatementKind → Result Memory MirEvalError
-after_statement frame memory (Assign place rvalue) = copied memory (place_cell frame.program.world frame.body frame.cells place) (rvalue_bytes frame memory rvalue)
+after_statement frame memory (Assign place rvalue) =
+    assigned (assigns_out frame.program.world frame.body (number_held memory frame.cells) place rvalue) memory (cell_now frame memory place) (rvalue_bytes frame memory rvalue)
 after_statement frame memory (FakeRead place) = Ok memory
 after_statement frame memory (StorageLive local) = Ok memory
 after_statement frame memory (StorageDead local) = Ok memory
@@ -371,7 +409,7 @@ entered frame memory call id body destination =
 unfoldable pub called : Frame → Memory → Calling → FunctionId → MirBody → Next
 called frame memory call id body =
     elim call.target [
-      | Some block ↦ elim (place_cell frame.program.world frame.body frame.cells call.destination) [
+      | Some block ↦ elim (cell_now frame memory call.destination) [
         | Some cell ↦ entered frame memory call id body (Some cell)
         | None ↦ faults frame bad_write
       ]
@@ -381,16 +419,28 @@ called frame memory call id body =
           else faults frame error.StackOverflow
     ]
 
+-- where something leads, unless a place that is used is out of bounds (`out`)
+abbrev pub led : Frame → (out : Bool) → Next → Next
+led frame true next = faults frame out_of_bounds
+led frame false next = next
+
 -- the error of a call whose callee's body can't be got
 abbrev pub callee_error : FunctionId → ConstEvalError → MirEvalError
 callee_error id (constant.MirLowerError refusal) = error.MirLowerError id refusal
 callee_error id (constant.MirEvalError e) = e
 callee_error id constant.NoMemory = error.NoMemory
 
--- where a call of a function leads, by the answer to the query for its body
+-- whether a call uses a place that is out of bounds: its destination, or that of an argument
+abbrev pub calls_out : HirDatabase → MirBody → (numbers : LocalId → Option ℕ) → Calling → Bool
+calls_out world body numbers call = is_out_of_bounds world body numbers call.destination || some_out world body numbers call.args
+
+-- Where a call of a function leads, by the answer to the query for its body. Once that is told, the call's places are found before the body is entered, or
+-- refused: one that is out of bounds is a fault.
 unfoldable pub called_by : Frame → Memory → Calling → FunctionId × GenericArgs → Option Told → Next
-called_by frame memory call callee (Some (told.Body body)) = called frame memory call callee.0 body.value
-called_by frame memory call callee (Some (told.Failed e)) = Stops (Faulted (callee_error callee.0 e) (entry_of frame call callee.0 ∷ trail_of frame))
+called_by frame memory call callee (Some (told.Body body)) =
+    led frame (calls_out frame.program.world frame.body (number_held memory frame.cells) call) (called frame memory call callee.0 body.value)
+called_by frame memory call callee (Some (told.Failed e)) =
+    led frame (calls_out frame.program.world frame.body (number_held memory frame.cells) call) (Stops (Faulted (callee_error callee.0 e) (entry_of frame call callee.0 ∷ trail_of frame)))
 called_by frame memory call callee _ = Asks (body_query callee) frame memory call
 
 -- where a call leads; calls of other things than functions aren't built
@@ -409,13 +459,13 @@ switched frame memory targets (Some bytes) =
     else faults frame (error.NotSupported (codes "comparison of this type"))
 switched frame memory targets None = faults frame bad_read
 
--- what a terminator does
+-- what a terminator does; a switch on a place that is out of bounds is a fault
 unfoldable pub terminated : Frame → Memory → Option Terminator → Next
 terminated frame memory None = faults frame (error.NotSupported (codes "block without terminator"))
 terminated frame memory (Some terminator) =
     elim terminator.kind [
       | Goto target ↦ GoesTo frame memory target.0
-      | SwitchInt discr targets ↦ switched frame memory targets (operand_bytes frame memory discr.kind)
+      | SwitchInt discr targets ↦ led frame (operand_out frame.program.world frame.body (number_held memory frame.cells) discr.kind) (switched frame memory targets (operand_bytes frame memory discr.kind))
       | Return ↦ after_return frame memory
       | Drop place target unwind ↦ GoesTo frame memory target.0
       | Call func args destination target cleanup from_hir_call ↦ calls frame memory (calling func args destination target terminator.span)

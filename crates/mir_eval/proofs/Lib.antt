@@ -1,4 +1,5 @@
 pub mod Aggregating
+pub mod Assigning
 pub mod Callers
 pub mod Ends
 pub mod Entering

@@ -1,5 +1,5 @@
 -- What rows say, said of a run: the bytes of sources, what statements do, and where terminators lead.
-use Rattle.std.proofs.Common.{◌≡◌, ℕ, List, [], ◌∷◌, length, slice_index_or, Option, Some, None, Result, Ok, refl, sym, ap, ◌∙◌, subst, arith}
+use Rattle.std.proofs.Common.{◌≡◌, ℕ, Bool, true, false, ◌||◌, List, [], ◌∷◌, length, slice_index_or, Option, Some, None, Result, Ok, refl, sym, ap, ◌∙◌, subst, arith}
 use Rattle.std.specs.Prelude.{IfSome, if◌then◌else◌, ◌==◌, option_map, option_and_then}
 use Rattle.std.specs.List.{concat}
 use Rattle.numbers.specs.Bytes.{value_of}
@@ -17,13 +17,14 @@ use Rattle.mir.specs.declared.operand.Operand.{Operand}
 use Rattle.mir.specs.declared.operand.OperandKind.{OperandKind}
 use Rattle.mir.specs.declared.operand.OperandKind.TheVariants as operand
 use Rattle.mir.specs.declared.operand.Place.{Place}
+use Rattle.mir.specs.declared.operand.Rvalue.{Rvalue}
 use Rattle.mir.specs.declared.operand.Rvalue.TheVariants.{Use, Repeat, CheckedBinaryOp, UnaryOp, Cast, Aggregate}
 use Rattle.mir.specs.declared.statement.StatementKind.{StatementKind}
 use Rattle.mir.specs.declared.statement.StatementKind.TheVariants.{Assign, FakeRead, StorageLive, StorageDead}
 use Rattle.mir.specs.declared.switch.SwitchTargets.{SwitchTargets}
-use Rattle.mir.specs.Memory.{Memory, cell_bytes}
-use Rattle.mir.specs.Places.{place_cell}
-use Rattle.mir.specs.Run.{Frame, GoesTo, after_statement, copied, operand_bytes, operand_type, operated, read, rvalue_bytes, switched, terminated}
+use Rattle.mir.specs.Memory.{Memory, cell_bytes, number_held}
+use Rattle.mir.specs.Places.{is_out_of_bounds}
+use Rattle.mir.specs.Run.{Frame, GoesTo, after_statement, assigned, cell_now, copied, led, operand_bytes, operand_out, reads_out, operand_type, operated, read, rvalue_bytes, switched, terminated}
 use Rattle.mir.specs.Switches.{first_target, target_of}
 use Rattle.mir_ops.specs.declared.made.Made.{Made}
 use Rattle.mir_ops.specs.Made.{made_bytes}
@@ -56,8 +57,34 @@ module _ (frame : Frame) (memory : Memory) where
   -- the bytes of an operand whose value lies at a spot
   pub spot-bytes : (spot : Spot) (kind : OperandKind) → LiesAt (code_in frame) spot kind → operand_bytes frame memory kind ≡ option_and_then (cell_bytes memory) (spot_cell frame.cells spot)
   unfolding operand_bytes
-  spot-bytes spot (operand.Copy place) is = ap (λ (found : Option Interval). option_and_then (cell_bytes memory) found) (is frame.cells)
+  spot-bytes spot (operand.Copy place) is = ap (λ (found : Option Interval). option_and_then (cell_bytes memory) found) (is.lies (number_held memory frame.cells) frame.cells)
   spot-bytes spot (operand.Constant konst ty) is = absurd is
+
+  -- such an operand isn't out of bounds
+  spot-within : (spot : Spot) (kind : OperandKind) → LiesAt (code_in frame) spot kind → operand_out frame.program.world frame.body (number_held memory frame.cells) kind ≡ false
+  unfolding operand_out
+  spot-within spot (operand.Copy place) is = is.within (number_held memory frame.cells)
+  spot-within spot (operand.Constant konst ty) is = absurd is
+
+  -- nor is one that a source is
+  source-within : (given : Source) (kind : OperandKind) → IsSource (code_in frame) given kind → operand_out frame.program.world frame.body (number_held memory frame.cells) kind ≡ false
+  unfolding operand_out
+  source-within (source.Whole local) kind is = spot-within (at.Whole local) kind is
+  source-within (source.Part local offset size) kind is = spot-within (at.Part local offset size) kind is
+  source-within (source.Constant short) (operand.Copy place) is = absurd cc
+  source-within (source.Constant short) (operand.Constant konst ty) is = refl
+
+  either-false : (one other : Bool) → one ≡ false → other ≡ false → (one || other) ≡ false
+  either-false false other first second = second
+  either-false true other first second = absurd cc
+
+  -- what an assignment leaves whose places aren't out of bounds
+  assigned-within : (place : Place) (to : Spot) (rvalue : Rvalue) → IsSpot (code_in frame) place to → reads_out frame.program.world frame.body (number_held memory frame.cells) rvalue ≡ false →
+      copied memory (cell_now frame memory place) (rvalue_bytes frame memory rvalue) ≡ after_statement frame memory (Assign place rvalue)
+  unfolding after_statement
+  assigned-within place to rvalue is within =
+      ap (λ (out : Bool). assigned out memory (cell_now frame memory place) (rvalue_bytes frame memory rvalue))
+      (sym (either-false (is_out_of_bounds frame.program.world frame.body (number_held memory frame.cells) place) (reads_out frame.program.world frame.body (number_held memory frame.cells) rvalue) (is.within (number_held memory frame.cells)) within))
 
   -- where a source says that a value lies
   pub lies-whole : (given : Source) (local : LocalId) → given ≡ source.Whole local → (kind : OperandKind) → IsSource (code_in frame) given kind → LiesAt (code_in frame) (at.Whole local) kind
@@ -100,12 +127,14 @@ module _ (frame : Frame) (memory : Memory) where
         ((one other : OperandKind) → AreOperands (code_in frame) kind left right one other → operated op (operand_type frame.program.world frame.body one) (operand_type frame.program.world frame.body other) (operand_bytes frame memory one) (operand_bytes frame memory other) ≡ Ok (made_bytes m)) →
         out ≡ copied memory (spot_cell frame.cells to) (Ok (made_bytes m)) →
         (statement : StatementKind) → Says (code_in frame) (action.Combine op kind to left right) statement → out ≡ after_statement frame memory statement
-    unfolding after_statement rvalue_bytes
+    unfolding rvalue_bytes reads_out
     combines op kind left right m makes is (Assign place (CheckedBinaryOp operator one other)) says =
         is
-        ∙ ap (λ (cell : Option Interval). copied memory cell (Ok (made_bytes m))) (sym (says.0 frame.cells))
-        ∙ ap (copied memory (place_cell frame.program.world frame.body frame.cells place))
+        ∙ ap (λ (cell : Option Interval). copied memory cell (Ok (made_bytes m))) (sym (says.0.lies (number_held memory frame.cells) frame.cells))
+        ∙ ap (copied memory (cell_now frame memory place))
         (sym (makes one.kind other.kind says.2) ∙ ap (λ (o : Operator). operated o (operand_type frame.program.world frame.body one.kind) (operand_type frame.program.world frame.body other.kind) (operand_bytes frame memory one.kind) (operand_bytes frame memory other.kind)) (sym says.1))
+        ∙ assigned-within place to (CheckedBinaryOp operator one other) says.0
+        (either-false (operand_out frame.program.world frame.body (number_held memory frame.cells) one.kind) (operand_out frame.program.world frame.body (number_held memory frame.cells) other.kind) (source-within left one.kind says.2.left) (source-within right other.kind says.2.right))
     combines op kind left right m makes is (Assign place (Use given)) says = absurd says
     combines op kind left right m makes is (Assign place (UnaryOp operator given)) says = absurd says
     combines op kind left right m makes is (Assign place (Cast cast given ty)) says = absurd says
@@ -125,16 +154,17 @@ module _ (frame : Frame) (memory : Memory) where
 
     -- or the bytes of one operand
     puts : (bytes : Result (List ℕ) MirEvalError) → out ≡ copied memory (spot_cell frame.cells to) bytes →
-        (place : Place) (one : Operand) → IsSpot (code_in frame) place to → read (operand_bytes frame memory one.kind) ≡ bytes → out ≡ after_statement frame memory (Assign place (Use one))
-    unfolding after_statement rvalue_bytes
-    puts bytes does place one lies are =
+        (place : Place) (one : Operand) → IsSpot (code_in frame) place to → operand_out frame.program.world frame.body (number_held memory frame.cells) one.kind ≡ false → read (operand_bytes frame memory one.kind) ≡ bytes → out ≡ after_statement frame memory (Assign place (Use one))
+    unfolding rvalue_bytes reads_out
+    puts bytes does place one lies within are =
         does
-        ∙ ap (λ (cell : Option Interval). copied memory cell bytes) (sym (lies frame.cells))
-        ∙ ap (copied memory (place_cell frame.program.world frame.body frame.cells place)) (sym are)
+        ∙ ap (λ (cell : Option Interval). copied memory cell bytes) (sym (lies.lies (number_held memory frame.cells) frame.cells))
+        ∙ ap (copied memory (cell_now frame memory place)) (sym are)
+        ∙ assigned-within place to (Use one) lies within
 
     copies : (from : Spot) → out ≡ copied memory (spot_cell frame.cells to) (read (option_and_then (cell_bytes memory) (spot_cell frame.cells from))) →
         (statement : StatementKind) → Says (code_in frame) (action.Copy to from) statement → out ≡ after_statement frame memory statement
-    copies from does (Assign place (Use one)) says = puts _ does place one says.0 (ap read (spot-bytes from one.kind says.1))
+    copies from does (Assign place (Use one)) says = puts _ does place one says.0 (spot-within from one.kind says.1) (ap read (spot-bytes from one.kind says.1))
     copies from does (Assign place (CheckedBinaryOp operator one other)) says = absurd says
     copies from does (Assign place (UnaryOp operator one)) says = absurd says
     copies from does (Assign place (Cast cast one ty)) says = absurd says
@@ -150,7 +180,7 @@ module _ (frame : Frame) (memory : Memory) where
 
     puts-short : (short : Short) → out ≡ copied memory (spot_cell frame.cells to) (Ok (short_bytes short)) →
         (statement : StatementKind) → Says (code_in frame) (action.Put to short) statement → out ≡ after_statement frame memory statement
-    puts-short short does (Assign place (Use one)) says = puts _ does place one says.0 (ap read (constant-bytes (short_bytes short) one.kind says.1))
+    puts-short short does (Assign place (Use one)) says = puts _ does place one says.0 (source-within (source.Constant short) one.kind says.1) (ap read (constant-bytes (short_bytes short) one.kind says.1))
     puts-short short does (Assign place (CheckedBinaryOp operator one other)) says = absurd says
     puts-short short does (Assign place (UnaryOp operator one)) says = absurd says
     puts-short short does (Assign place (Cast cast one ty)) says = absurd says
@@ -192,7 +222,8 @@ module _ (frame : Frame) (memory : Memory) where
     branch-kind : (terminator : Terminator) (kind : TerminatorKind) → Leads (code_in frame) (way.Branch spot value hit miss) kind → terminated frame memory (Some (record terminator { kind = kind })) ≡ GoesTo frame memory Chosen.0
     unfolding terminated
     branch-kind terminator (ends.SwitchInt discr targets) leads =
-        ap (switched frame memory targets) (spot-bytes spot discr.kind leads.0 ∙ reads) ∙ ap (λ (t : SwitchTargets). switched frame memory t (Some (byte ∷ []))) leads.1 ∙ tested
+        ap (λ (out : Bool). led frame out (switched frame memory targets (operand_bytes frame memory discr.kind))) (spot-within spot discr.kind leads.0)
+        ∙ ap (switched frame memory targets) (spot-bytes spot discr.kind leads.0 ∙ reads) ∙ ap (λ (t : SwitchTargets). switched frame memory t (Some (byte ∷ []))) leads.1 ∙ tested
     branch-kind terminator (ends.Goto target) leads = absurd leads
     branch-kind terminator (ends.Drop place target unwind) leads = absurd leads
     branch-kind terminator ends.Return leads = absurd leads

@@ -16,8 +16,8 @@ use Rattle.mir.specs.Answers.{IsAfterPut, answer_to}
 use Rattle.mir.specs.declared.answers.Answer.{Answer}
 use Rattle.mir.specs.declared.answers.Query.{Query}
 use Rattle.mir.specs.declared.body.MirBody.{MirBody}
-use Rattle.mir.specs.Run.{body_query, called, called_by, Calling, Frame}
-use Rattle.mir.specs.Memory.{Memory}
+use Rattle.mir.specs.Run.{body_query, called, called_by, calls_out, led, Calling, Frame}
+use Rattle.mir.specs.Memory.{Memory, number_held}
 use Rattle.mir.specs.declared.answers.Answer.TheVariants as told
 use Rattle.mir_rows.specs.Callees.{AreSizes}
 use Rattle.mir_rows.specs.declared.callees.Callee.{Callee}
@@ -30,9 +30,9 @@ pub plain-is : (id : FunctionId) (args : GenericArgs) → args.0 ≡ [] → body
 plain-is id args none = ap (λ (given : List GenericArg). body_query (id, record { 0 = given })) none
 
 -- the body that was told is the one that is called
-pub told-is-called : (frame : Frame) (memory : Memory) (call : Calling) (callee : FunctionId × GenericArgs) (answer : Option Answer) (body : MirBody) → told_body answer ≡ Some body → called_by frame memory call callee answer ≡ called frame memory call callee.0 body
+pub told-is-called : (frame : Frame) (memory : Memory) (call : Calling) (callee : FunctionId × GenericArgs) (answer : Option Answer) (body : MirBody) → told_body answer ≡ Some body → called_by frame memory call callee answer ≡ led frame (calls_out frame.program.world frame.body (number_held memory frame.cells) call) (called frame memory call callee.0 body)
 unfolding called_by
-told-is-called frame memory call callee (Some (told.Body rc)) body is = let same : rc.value ≡ body = cc in ap (called frame memory call callee.0) same
+told-is-called frame memory call callee (Some (told.Body rc)) body is = let same : rc.value ≡ body = cc in ap (λ (b : MirBody). led frame (calls_out frame.program.world frame.body (number_held memory frame.cells) call) (called frame memory call callee.0 b)) same
 told-is-called frame memory call callee (Some (told.Konst konst)) body is = absurd cc
 told-is-called frame memory call callee (Some (told.Discriminant number)) body is = absurd cc
 told-is-called frame memory call callee (Some (told.Failed e)) body is = absurd cc

@@ -6,7 +6,7 @@ use Rattle.mir.specs.declared.body.Terminator.{Terminator}
 use Rattle.mir.specs.declared.errors.MirEvalError.{MirEvalError}
 use Rattle.mir.specs.declared.errors.MirEvalError as error
 use Rattle.mir.specs.Memory.{Memory}
-use Rattle.mir.specs.Run.{Frame, Next, GoesTo, after_return, faults, going_on, terminated, bad_read, bad_write, part_outside, Ended}
+use Rattle.mir.specs.Run.{Frame, Next, GoesTo, after_return, faults, going_on, terminated, bad_read, bad_write, out_of_bounds, part_outside, Ended}
 use Rattle.mir_eval.specs.declared.faults.Fault.{Fault}
 use Rattle.mir_eval.specs.declared.faults.Fault.TheVariants as fault
 use Rattle.mir_eval.specs.declared.steps.Exit.{Exit}
@@ -20,6 +20,7 @@ abbrev pub error_of : Fault → MirEvalError
 error_of fault.BadRead = bad_read
 error_of fault.BadWrite = bad_write
 error_of (fault.Panic op) = error.Panic (panic_word op)
+error_of fault.OutOfBounds = out_of_bounds
 error_of fault.Undefined = error.NotSupported (codes "comparison of this type")
 error_of fault.NoTerminator = error.NotSupported (codes "block without terminator")
 error_of fault.OutOfBlocks = error.ExecutionLimitExceeded

@@ -1,10 +1,10 @@
 //! Values that are made of operands: one value again and again, arrays, tuples, and structs.
 
-ghost use Rattle.std.specs.Prelude.{◌≡◌, ℕ, List, replicate, is_some, slice_get, IfOk, Some, Err};
+ghost use Rattle.std.specs.Prelude.{◌≡◌, ℕ, List, replicate, is_some, slice_get, Some, Err};
 ghost use Rattle.std.specs.Option.{option_copied};
 ghost use Rattle.numbers.specs.Constants.{number_in};
 ghost use Rattle.mir.specs.declared.address.Interval.{Interval};
-ghost use Rattle.mir.specs.Run.{aggregated, composed, copied, joined, operand_bytes, operands_bytes, placed_parts, repeats, struct_layout};
+ghost use Rattle.mir.specs.Run.{aggregated, composed, copied, joined, operand_bytes, operands_bytes, placed_parts, repeats};
 ghost use Rattle.mir_mem.specs.Construction.{placed_at};
 ghost use Rattle.mir_eval.specs.declared.faults.Fault.TheVariants.{NoMemory};
 ghost use Rattle.mir_eval.specs.Frames.{frame_of};
@@ -16,9 +16,9 @@ use crate::frames::StackFrame;
 use crate::steps::operand;
 use mir::{AggregateKind, Interval, Operand, OperandKind};
 use mir_mem::{Memory, append, is_too_long, put_view, repeat, zeros};
+use mir_rows::struct_layout;
 use numbers::number_in;
-use std::alloc::Global;
-use world::{AdtId, Bytes, Const, GenericArgs, HirDatabase, Layout, TryClone, Ty, VariantId};
+use world::{Bytes, Const, Layout};
 
 /// Copies bytes that were computed to a cell.
 #[tactic(auto, unfolding(mir::specs::Run::copied))]
@@ -162,24 +162,6 @@ fn composed<M: Memory>(
     match layout {
         Some(layout) => laid_out(frame, memory, layout, operands),
         None => Err(Fault::NoLayout),
-    }
-}
-
-/// The layout of a struct's values.
-fn struct_layout<'a>(
-    alloc: Global,
-    db: &'a HirDatabase,
-    id: VariantId,
-    args: &GenericArgs,
-) -> Result<Option<&'a Layout>, world::NoMemory>
-    ensures { IfOk result (λ layout. option_copied layout ≡ struct_layout db.now id args.now) }
-{
-    match id {
-        VariantId::StructId(id) => {
-            let ty = Ty::Adt(AdtId::StructId(id), args.try_clone(alloc)?);
-            Ok(db.layout_of(&ty))
-        }
-        _ => Ok(None),
     }
 }
 

@@ -5,15 +5,15 @@ ghost use Rattle.std.specs.Prelude.{◌≡◌, ◌⊎◌, Ok, Err, IfOk, IfErr, 
 ghost use Rattle.mir.specs.declared.errors.MirEvalError as error;
 ghost use Rattle.mir_rows.specs.Alignments.{HasAlignments};
 ghost use Rattle.mir_rows.specs.Callees.{AreSizes};
-ghost use Rattle.mir.specs.Memory.{cells_of, sizes_of};
-ghost use Rattle.mir.specs.Run.{called_cells, copied, filled, function_in, operand_bytes, operand_type, read};
+ghost use Rattle.mir.specs.Memory.{cells_of, number_held, sizes_of};
+ghost use Rattle.mir.specs.Run.{calls_out, called_cells, copied, filled, function_in, operand_bytes, operand_type, read};
 ghost use Rattle.mir_rows.specs.Places.{HasEnd, HaveEnds};
 ghost use Rattle.mir_eval.specs.Calls.{call_is, function_is};
 ghost use Rattle.mir_eval.specs.Frames.{frame_of};
 ghost use Rattle.mir_eval.specs.Machine.{call_at};
 ghost use Rattle.mir_eval.specs.Steps.{left_with};
 
-use crate::cells::cell_of;
+use crate::cells::Held;
 use crate::faults::Fault;
 use crate::frames::{Program, StackFrame};
 use crate::places::{lay_out, listed, push};
@@ -23,7 +23,7 @@ use mir::{
     OperandKind, Place, TerminatorKind,
 };
 use mir_mem::Memory;
-use mir_rows::{Callee, place_type};
+use mir_rows::{Callee, cell_of, is_out_of_bounds, place_type, some_out};
 use std::alloc::Global;
 use std::rc::Rc;
 use world::{CallableDefId, FunctionId, GenericArgs, HirDatabase, List, Ty};
@@ -100,6 +100,20 @@ pub(crate) fn callee<'r>(
         },
         OperandKind::Constant { ty, .. } => function_in(ty),
     }
+}
+
+/// Whether a call uses a place that is out of bounds: its destination, or that of an argument.
+pub(crate) fn calls_out<M: Memory>(frame: StackFrame<'_, '_>, memory: &M, call: Call<'_>) -> bool
+    ensures { result ≡ calls_out frame.entry.program.now.db.now frame.entry.body.now.body (number_held (M.areas memory.now) frame.entry.cells.now) (call_is call.entry) }
+{
+    let db = frame.program.db;
+    let body = frame.body.body();
+    let numbers = Held {
+        memory,
+        cells: frame.cells,
+    };
+    is_out_of_bounds(db, body, &numbers, call.destination)
+        || some_out(db, body, &numbers, call.args)
 }
 
 /// New cells for locals, whose sizes may be known.

@@ -1,37 +1,52 @@
 //! The cells of locals, and the bytes in them.
 
-ghost use Rattle.std.specs.Prelude.{◌≡◌, slice_get, option_map, Some, Ok};
+ghost use Rattle.std.specs.Prelude.{◌≡◌, option_map, Some, Ok};
 ghost use Rattle.std.specs.List.{concat};
 ghost use Rattle.mir.specs.Memory.{cell_bytes};
 ghost use Rattle.mir.specs.Run.{copied, read};
-ghost use Rattle.mir_rows.specs.Places.{HaveEnds};
-ghost use Rattle.mir_rows.specs.Spots.{spot_cell};
 ghost use Rattle.mir_eval.specs.Steps.{left_with};
 
 use crate::faults::Fault;
 use mir::{Interval, LocalId};
-use mir_mem::{Memory, View};
-use mir_rows::{Spot, spot_cell};
+use mir_mem::{Memory, View, gather};
+use mir_rows::{Numbers, cell_of};
+use numbers::number_of;
 
-/// The cell of a local.
-pub(crate) fn cell_of(cells: &[Interval], local: LocalId) -> Option<Interval>
-    ensures { result ≡ slice_get cells.now local.0 }
-{
-    match cells.get(local.0 as usize) {
-        Some(cell) => Some(*cell),
-        None => None,
+/// The cells of locals over a memory, in which the locals that are used as indices hold numbers.
+pub(crate) struct Held<'r, M> {
+    pub memory: &'r M,
+    pub cells: &'r [Interval],
+}
+
+impl<M> Drop for Held<'_, M> {
+    fn drop(self) {
+        let Held {
+            memory: _memory,
+            cells: _cells,
+        } = self;
     }
 }
 
-/// Where a spot lies, by the cells of the locals. A whole cell is found first.
-#[inline(always)]
-pub(crate) fn cell_at(cells: &[Interval], spot: &Spot) -> Option<Interval>
-    requires { HaveEnds cells.now }
-    ensures { result ≡ spot_cell cells.now spot.now }
-{
-    match spot {
-        Spot::Whole(local) => cell_of(cells, *local),
-        Spot::Part { .. } => spot_cell(cells, *spot),
+impl<M: Memory> Numbers for Held<'_, M> {
+    ghost use Rattle.mir.specs.Memory.{number_held};
+
+    ghost held = { λ locals. number_held (M.areas locals.memory.now) locals.cells.now };
+
+    #[tactic(auto, unfolding(mir::specs::Memory::number_held))]
+    fn number(&self, local: LocalId) -> Option<u128> {
+        let Some(cell) = cell_of(self.cells, local) else {
+            return None;
+        };
+        let Some(view) = read(self.memory, cell) else {
+            return None;
+        };
+        if view.len() > 16 {
+            return None;
+        }
+        match gather(&view) {
+            Some(bytes) => Some(number_of(bytes.bytes())),
+            None => None,
+        }
     }
 }
 

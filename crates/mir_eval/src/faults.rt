@@ -14,6 +14,8 @@ pub(crate) enum Fault {
     BadRead,
     BadWrite,
     Panic(BinOp),
+    /// A place is out of bounds.
+    OutOfBounds,
     Undefined,
     NoTerminator,
     OutOfBlocks,
@@ -51,6 +53,10 @@ pub(crate) fn to_error(alloc: Global, fault: Fault) -> Result<MirEvalError, NoMe
         }
         Fault::Panic(op) => {
             let text = Text::from_str(alloc, op.panic_word())?;
+            Ok(MirEvalError::Panic(text))
+        }
+        Fault::OutOfBounds => {
+            let text = Text::from_str(alloc, "Index out of bounds")?;
             Ok(MirEvalError::Panic(text))
         }
         Fault::Undefined => {

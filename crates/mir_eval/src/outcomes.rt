@@ -9,12 +9,13 @@ ghost use Rattle.mir.specs.Run.{bad_read, returned};
 ghost use Rattle.mir_eval.specs.Frames.{callers};
 ghost use Rattle.mir_eval.specs.Machine.{height_of, on_levels, value_of, wrapped, outcome_of};
 
-use crate::cells::{cell_of, read};
+use crate::cells::read;
 use crate::faults::{Fault, to_error};
 use crate::frames::Suspended;
 use heights::is_within;
 use mir::{Interval, LocalId, MirBody, MirEvalError, TrailEntry};
 use mir_mem::{Memory, View, copy_of};
+use mir_rows::cell_of;
 use std::alloc::Global;
 use world::{Box, Const, List, MemoryMap, NoMemory, TryClone, ValueConst};
 

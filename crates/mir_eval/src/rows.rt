@@ -14,14 +14,14 @@ ghost use Rattle.mir_rows.specs.Spots.{spot_cell};
 ghost use Rattle.mir_eval.specs.Frames.{code_in, frame_of};
 ghost use Rattle.mir_eval.specs.Steps.{left_with, OrNoMemory};
 
-use crate::cells::{cell_at, cell_of, copy, read, write};
+use crate::cells::{copy, read, write};
 use crate::faults::Fault;
 use crate::frames::StackFrame;
 use crate::steps::execute;
 use mir::{BasicBlock, BinOp};
 use mir_mem::{Memory, View, whole};
 use mir_ops::{Made, byte_of, bytes1, bytes2, bytes4, bytes8, bytes16, made_of};
-use mir_rows::{Action, Row, Short, Source, Spot, part_of_local};
+use mir_rows::{Action, Row, Short, Source, Spot, cell_of, cell_of_spot, part_of_local};
 use numbers::Kind;
 
 /// The bytes of a source now, where it has some.
@@ -76,7 +76,7 @@ fn assign_made<M: Memory>(
 ) -> Result<(), Fault>
     ensures { left_with (M.areas memory.new) result ≡ copied (M.areas memory.old) (spot_cell frame.entry.cells.now to.now) (Ok (made_bytes made)) }
 {
-    let Some(to) = cell_at(frame.cells, to) else {
+    let Some(to) = cell_of_spot(frame.cells, to) else {
         return Err(Fault::BadWrite);
     };
     match made {
@@ -100,8 +100,8 @@ fn copy_value<M: Memory>(
 ) -> Result<(), Fault>
     ensures { left_with (M.areas memory.new) result ≡ copied (M.areas memory.old) (spot_cell frame.entry.cells.now to.now) (read (option_and_then (cell_bytes (M.areas memory.old)) (spot_cell frame.entry.cells.now from.now))) }
 {
-    match cell_at(frame.cells, to) {
-        Some(to) => match cell_at(frame.cells, from) {
+    match cell_of_spot(frame.cells, to) {
+        Some(to) => match cell_of_spot(frame.cells, from) {
             Some(from) => copy(memory, from, to),
             None => Err(Fault::BadRead),
         },
@@ -120,7 +120,7 @@ fn put<M: Memory>(
 ) -> Result<(), Fault>
     ensures { left_with (M.areas memory.new) result ≡ copied (M.areas memory.old) (spot_cell frame.entry.cells.now to.now) (Ok (short_bytes value.now)) }
 {
-    match cell_at(frame.cells, to) {
+    match cell_of_spot(frame.cells, to) {
         Some(to) => write(memory, to, value.bytes()),
         None => Err(Fault::BadWrite),
     }

@@ -12,18 +12,18 @@ ghost use Rattle.std.specs.Coded.{codes};
 ghost use Rattle.world.specs.contracts.database.HirDatabase as database;
 
 use crate::blocks::{enter, enter_all};
-use crate::calls::{Call, Function, call_at, callee, callee_cells, fill};
+use crate::calls::{Call, Function, call_at, callee, callee_cells, calls_out, fill};
 use crate::faults::{Fault, to_error};
 use crate::frames::{Point, Program, StackFrame, Suspended};
 use crate::outcomes::{faulted, returned};
 use crate::places::{lay_out, listed};
-use crate::steps::{Exit, Halt, Stop};
+use crate::steps::{Exit, Halt, Stop, cell_now};
 use either::Either;
 use mir::{
     Answer, BasicBlockId, ConstEvalError, Interval, MirBody, MirEvalError, Query, TrailEntry,
 };
 use mir_mem::Memory;
-use mir_rows::{Callee, Code, callee_of, place_cell, ready};
+use mir_rows::{Callee, Code, callee_of, ready};
 use std::alloc::Global;
 use std::mem;
 use std::rc::Rc;
@@ -77,7 +77,8 @@ pub(crate) enum Went {
 
 impl<'a, M: Memory + Drop> Run<'a, M> {
     ghost use Rattle.mir.specs.declared.errors.MirEvalError as error;
-    ghost use Rattle.mir.specs.Run.{after_return, begun, called, called_by, callee_error, body_query, calls, next_from, entered, entry_of, entering, faults, terminated, trail_of, Stops, GoesTo, Faulted};
+    ghost use Rattle.mir.specs.Memory.{number_held};
+    ghost use Rattle.mir.specs.Run.{after_return, begun, called, called_by, callee_error, body_query, calls, calls_out, led, next_from, entered, entry_of, entering, faults, terminated, trail_of, Stops, GoesTo, Faulted};
     ghost use Rattle.mir.specs.Answers.{answer_to, answers_kind, IsAfterPut};
     ghost use Rattle.mir_eval.specs.Calls.{call_is, called_frame, function_is};
     ghost use Rattle.mir_eval.specs.Frames.{program_of};
@@ -341,18 +342,22 @@ impl<'a, M: Memory + Drop> Run<'a, M> {
     ) -> Went
         requires world { callee.body.value.world ≡ self.old.program.db.now }
         requires sizes { ForSome callee.sizes (λ sizes. AreSizes self.old.program.db.now callee.body.value.body.locals sizes.value) }
-        ensures leads { Leads M.areas (frame_in self.old) (called (frame_in self.old) (M.areas self.old.memory) (call_is call.entry) id callee.entry.body.value.body) self.new result }
+        ensures leads { Leads M.areas (frame_in self.old) (led (frame_in self.old) (calls_out self.old.program.db.now self.old.body.value.body (number_held (M.areas self.old.memory) self.old.cells.items) (call_is call.entry)) (called (frame_in self.old) (M.areas self.old.memory) (call_is call.entry) id callee.entry.body.value.body)) self.new result }
         ensures same { self.new.left ≡ self.old.left }
         ensures run { IsInRun (frame_in self.old) self.new result }
         ensures asks { AsksAtCall self.new result }
     {
+        let frame = StackFrame {
+            program: &self.program,
+            body: self.body.as_ref(),
+            cells: self.cells.as_slice(),
+            below: self.below.as_slice(),
+        };
+        if calls_out(frame, &self.memory, call) {
+            return self.fault(alloc, Fault::OutOfBounds);
+        }
         match call.target {
-            Some(_) => match place_cell(
-                self.program.db,
-                self.body.as_ref().body(),
-                self.cells.as_slice(),
-                call.destination,
-            ) {
+            Some(_) => match cell_now(frame, &self.memory, call.destination) {
                 Some(cell) => self.enter_body(alloc, call, id, callee, Some(cell)),
                 None => self.fault(alloc, Fault::BadWrite),
             },
@@ -366,11 +371,20 @@ impl<'a, M: Memory + Drop> Run<'a, M> {
         }
     }
 
-    /// Ends a run at a call of a function whose body could not be got.
+    /// Ends a run at a call of a function whose body could not be got, or that uses a place that is out of bounds.
     fn refuse(&self, alloc: Global, call: Call<'_>, id: FunctionId, error: &ConstEvalError) -> Went
         ensures asks { AsksAtCall self.now result }
-        ensures leads { Leads M.areas (frame_in self.now) (Stops (Faulted (callee_error id error.now) (entry_of (frame_in self.now) (call_is call.entry) id ∷ trail_of (frame_in self.now)))) self.now result }
+        ensures leads { Leads M.areas (frame_in self.now) (led (frame_in self.now) (calls_out self.now.program.db.now self.now.body.value.body (number_held (M.areas self.now.memory) self.now.cells.items) (call_is call.entry)) (Stops (Faulted (callee_error id error.now) (entry_of (frame_in self.now) (call_is call.entry) id ∷ trail_of (frame_in self.now))))) self.now result }
     {
+        let frame = StackFrame {
+            program: &self.program,
+            body: self.body.as_ref(),
+            cells: self.cells.as_slice(),
+            below: self.below.as_slice(),
+        };
+        if calls_out(frame, &self.memory, call) {
+            return self.fault(alloc, Fault::OutOfBounds);
+        }
         let entry = TrailEntry {
             callee: Either::Left(id),
             span: call.span,

@@ -1,24 +1,26 @@
 //! The steps of a run, as the body itself says them: operands, assignments, statements and terminators.
 
-ghost use Rattle.std.specs.Prelude.{◌≡◌, ◌≢◌, ◌<◌, ◌≤◌, IfOk, IsSome, Ok, Some, option_and_then, option_map};
+ghost use Rattle.std.specs.Prelude.{◌≡◌, ◌≢◌, ◌<◌, ◌≤◌, IfOk, IfSome, IsSome, Ok, Some, option_and_then, option_map};
 ghost use Rattle.std.specs.List.{concat};
-ghost use Rattle.mir.specs.Run.{copied, read, answered, operated, computed_of, cast_to, operated_on, rvalue_bytes, operand_bytes, operand_type, after_statement, switched, terminated};
+ghost use Rattle.mir.specs.Memory.{number_held};
+ghost use Rattle.mir.specs.Run.{assigns_out, cell_now, led, operand_out, copied, read, answered, operated, computed_of, cast_to, operated_on, rvalue_bytes, operand_bytes, operand_type, after_statement, switched, terminated};
 ghost use Rattle.mir_eval.specs.Machine.{call_of};
 ghost use Rattle.mir_eval.specs.declared.steps.Exit.TheVariants.{Calls};
 ghost use Rattle.numbers.specs.Computed.{answer_of, count_of};
+ghost use Rattle.mir_rows.specs.Places.{HasEnd};
 ghost use Rattle.mir_eval.specs.Frames.{frame_of};
 ghost use Rattle.mir_eval.specs.Steps.{operated_bytes, left_with, next_of, OrNoMemory};
 
 use crate::aggregates::{aggregate, assign_bytes, repeated};
-use crate::cells::{copy, read, write};
+use crate::cells::{Held, copy, read, write};
 use crate::faults::Fault;
 use crate::frames::StackFrame;
 use mir::{
-    BasicBlockId, BinOp, CastKind, Interval, OperandKind, Rvalue, StatementKind, SwitchTargets,
-    Terminator, TerminatorKind, UnOp, fixed_size,
+    BasicBlockId, BinOp, CastKind, Interval, OperandKind, Place, Rvalue, StatementKind,
+    SwitchTargets, Terminator, TerminatorKind, UnOp, fixed_size,
 };
 use mir_mem::{Memory, View, gather, whole};
-use mir_rows::{constant_bytes, operand_kind, place_cell};
+use mir_rows::{assigns_out, constant_bytes, operand_kind, operand_out, place_cell};
 use numbers::{Computed, compute, convert, invert, negate, number_of};
 use types::Ty;
 
@@ -47,6 +49,29 @@ pub(crate) struct Stop {
     pub left: u64,
 }
 
+/// Where a place's value lies now.
+#[inline(always)]
+pub(crate) fn cell_now<M: Memory>(
+    frame: StackFrame<'_, '_>,
+    memory: &M,
+    place: Place,
+) -> Option<Interval>
+    ensures cell { result ≡ cell_now (frame_of frame.entry) (M.areas memory.now) place }
+    ensures ends { IfSome result HasEnd }
+{
+    let numbers = Held {
+        memory,
+        cells: frame.cells,
+    };
+    place_cell(
+        frame.program.db,
+        frame.body.body(),
+        &numbers,
+        frame.cells,
+        place,
+    )
+}
+
 /// The bytes that an operand has now.
 #[inline(always)]
 #[tactic(auto, unfolding(mir::specs::Run::operand_bytes), using(mir_mem::proofs::Joined::concat_pieces_of))]
@@ -58,12 +83,7 @@ pub(crate) fn operand<'r, M: Memory>(
     ensures { option_map concat result ≡ operand_bytes (frame_of frame.entry) (M.areas memory.now) kind.now }
 {
     match kind {
-        OperandKind::Copy(place) => match place_cell(
-            frame.program.db,
-            frame.body.body(),
-            frame.cells,
-            *place,
-        ) {
+        OperandKind::Copy(place) => match cell_now(frame, memory, *place) {
             Some(cell) => read(memory, cell),
             None => None,
         },
@@ -85,12 +105,7 @@ pub(crate) fn assign_operand<M: Memory>(
     ensures { left_with (M.areas memory.new) result ≡ copied (M.areas memory.old) (Some to) (read (operand_bytes (frame_of frame.entry) (M.areas memory.old) kind.now)) }
 {
     match kind {
-        OperandKind::Copy(place) => match place_cell(
-            frame.program.db,
-            frame.body.body(),
-            frame.cells,
-            *place,
-        ) {
+        OperandKind::Copy(place) => match cell_now(frame, memory, *place) {
             Some(from) => copy(memory, from, to),
             None => Err(Fault::BadRead),
         },
@@ -261,15 +276,28 @@ pub(crate) fn execute<M: Memory>(
     ensures { OrNoMemory result (left_with (M.areas memory.new) result ≡ after_statement (frame_of frame.entry) (M.areas memory.old) statement.now) }
 {
     match statement {
-        StatementKind::Assign(place, rvalue) => match place_cell(
-            frame.program.db,
-            frame.body.body(),
-            frame.cells,
-            *place,
-        ) {
-            Some(to) => assign(frame, memory, to, rvalue),
-            None => Err(Fault::BadWrite),
-        },
+        StatementKind::Assign(place, rvalue) => {
+            let out = {
+                let numbers = Held {
+                    memory: &*memory,
+                    cells: frame.cells,
+                };
+                assigns_out(
+                    frame.program.db,
+                    frame.body.body(),
+                    &numbers,
+                    *place,
+                    rvalue,
+                )
+            };
+            if out {
+                return Err(Fault::OutOfBounds);
+            }
+            match cell_now(frame, memory, *place) {
+                Some(to) => assign(frame, memory, to, rvalue),
+                None => Err(Fault::BadWrite),
+            }
+        }
         StatementKind::FakeRead(_) => Ok(()),
         StatementKind::StorageLive(_) => Ok(()),
         StatementKind::StorageDead(_) => Ok(()),
@@ -284,9 +312,16 @@ fn branch<M: Memory>(
     discr: &OperandKind,
     targets: &SwitchTargets,
 ) -> Result<Exit, Fault>
-    ensures leads { (terminator : _) → next_of (frame_of frame.entry) (M.areas memory.now) terminator result ≡ switched (frame_of frame.entry) (M.areas memory.now) targets.now (operand_bytes (frame_of frame.entry) (M.areas memory.now) discr.now) }
+    ensures leads { (terminator : _) → next_of (frame_of frame.entry) (M.areas memory.now) terminator result ≡ led (frame_of frame.entry) (operand_out frame.entry.program.now.db.now frame.entry.body.now.body (number_held (M.areas memory.now) frame.entry.cells.now) discr.now) (switched (frame_of frame.entry) (M.areas memory.now) targets.now (operand_bytes (frame_of frame.entry) (M.areas memory.now) discr.now)) }
     ensures block { result ≢ Ok Calls }
 {
+    let numbers = Held {
+        memory,
+        cells: frame.cells,
+    };
+    if operand_out(frame.program.db, frame.body.body(), &numbers, discr) {
+        return Err(Fault::OutOfBounds);
+    }
     let Some(view) = operand(frame, memory, discr) else {
         return Err(Fault::BadRead);
     };

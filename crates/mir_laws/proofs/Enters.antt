@@ -4,8 +4,7 @@ use Rattle.std.specs.Prelude.{Result, Ok, Err, nat_le}
 use Rattle.types.specs.declared.ids.FunctionId.{FunctionId}
 use Rattle.mir.specs.declared.address.Interval.{Interval}
 use Rattle.mir.specs.Memory.{Memory}
-use Rattle.mir.specs.Places.{place_cell}
-use Rattle.mir.specs.Run.{Frame, Calling, Next, Stops, GoesTo, Asks, levels_over, called_cells, filled, entered, called}
+use Rattle.mir.specs.Run.{Frame, Calling, Next, Stops, GoesTo, Asks, levels_over, called_cells, cell_now, filled, entered, called, led}
 use Rattle.mir.specs.declared.body.MirBody.{MirBody}
 use Rattle.mir.specs.declared.errors.MirEvalError.{MirEvalError}
 use Rattle.mir_laws.specs.Questions.{AsksNothing, DidNotAsk}
@@ -22,6 +21,11 @@ entering_asks_nothing start (GoesTo frame memory block) enters = tt
 entering_asks_nothing start (Asks q frame memory call) enters = absurd enters
 
 module _ (frame : Frame) where
+  -- or to the fault of a place that is out of bounds
+  pub enters_led : (out : Bool) (next : Next) → Enters frame next → Enters frame (led frame out next)
+  enters_led true next enters = tt
+  enters_led false next enters = enters
+
   module _ (memory : Memory) (call : Calling) (id : FunctionId) (body : MirBody) where
     enters_filled : (destination : Option Interval) (placed : List Interval × Memory) (r : Result Memory MirEvalError)
         → called_cells frame.program.world body.locals destination memory ≡ Ok placed
@@ -41,7 +45,7 @@ module _ (frame : Frame) where
     enters_body : (destination : Option Interval) → Enters frame (entered frame memory call id body destination)
     enters_body destination = enters_placed destination (called_cells frame.program.world body.locals destination memory) refl
 
-    enters_returning : (cell : Option Interval) (block : ℕ) → call.target ≡ Some block → place_cell frame.program.world frame.body frame.cells call.destination ≡ cell
+    enters_returning : (cell : Option Interval) (block : ℕ) → call.target ≡ Some block → cell_now frame memory call.destination ≡ cell
         → Enters frame (called frame memory call id body)
     unfolding called
     enters_returning (Some cell) block is cell_is = rw (is, cell_is, called) (enters_body (Some cell))
@@ -54,7 +58,7 @@ module _ (frame : Frame) where
     enters_nested false is fits_is = rw (is, fits_is, called) tt
 
     enters_by : (target : Option ℕ) → call.target ≡ target → Enters frame (called frame memory call id body)
-    enters_by (Some block) is = enters_returning (place_cell frame.program.world frame.body frame.cells call.destination) block is refl
+    enters_by (Some block) is = enters_returning (cell_now frame memory call.destination) block is refl
     enters_by None is = enters_nested (nat_le (suc (levels_over frame.below)) frame.program.nesting) is refl
 
     pub enters_called : Enters frame (called frame memory call id body)

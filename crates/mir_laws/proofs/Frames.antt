@@ -3,9 +3,8 @@ use Rattle.std.proofs.Common.{◌≡◌, List, [], ◌∷◌, refl, ap}
 use Rattle.std.specs.Prelude.{slice_get, Result, Ok, Err}
 use Rattle.numbers.specs.Constants.{number_in}
 use Rattle.mir.specs.declared.address.Interval.{Interval}
-use Rattle.mir.specs.Memory.{Memory}
-use Rattle.mir.specs.Places.{place_cell}
-use Rattle.mir.specs.Run.{Frame, read, repeats, aggregated, operand_bytes, operands_bytes, rvalue_bytes, copied, after_statement, after_statements, filled}
+use Rattle.mir.specs.Memory.{Memory, number_held}
+use Rattle.mir.specs.Run.{Frame, read, repeats, aggregated, operand_bytes, operands_bytes, rvalue_bytes, assigned, assigns_out, cell_now, copied, after_statement, after_statements, filled}
 use Rattle.mir.specs.declared.answers.Answer.{Answer}
 use Rattle.mir.specs.declared.answers.Query.{Query}
 use Rattle.mir.specs.declared.errors.MirEvalError.{MirEvalError}
@@ -48,7 +47,7 @@ module _ (later : List (Query × Answer)) (frame : Frame) where
 
   same_statement : (memory : Memory) (kind : StatementKind) → after_statement (telling later frame) memory kind ≡ after_statement frame memory kind
   unfolding after_statement
-  same_statement memory (Assign place rvalue) = ap (copied memory (place_cell frame.program.world frame.body frame.cells place)) (same_rvalue memory rvalue)
+  same_statement memory (Assign place rvalue) = ap (assigned (assigns_out frame.program.world frame.body (number_held memory frame.cells) place rvalue) memory (cell_now frame memory place)) (same_rvalue memory rvalue)
   same_statement memory (FakeRead place) = refl
   same_statement memory (StorageLive local) = refl
   same_statement memory (StorageDead local) = refl

@@ -4,8 +4,8 @@ use Rattle.std.specs.Prelude.{slice_get, Result, Ok, Err, length, option_and_the
 use Rattle.types.specs.declared.ids.FunctionId.{FunctionId}
 use Rattle.types.specs.declared.ty.GenericArgs.{GenericArgs}
 use Rattle.mir.specs.Answers.{answer_to, answers_kind}
-use Rattle.mir.specs.Memory.{Memory, cell_bytes}
-use Rattle.mir.specs.Run.{Frame, Waiting, Calling, Next, Stops, GoesTo, Asks, operand_bytes, operand_type, function_in, body_query, calling, returned, resumed, after_return, after_statements, called, called_by, calls, switched, terminated, next_from}
+use Rattle.mir.specs.Memory.{Memory, cell_bytes, number_held}
+use Rattle.mir.specs.Run.{Frame, Waiting, Calling, Next, Faulted, Stops, GoesTo, Asks, callee_error, entry_of, operand_bytes, operand_out, operand_type, function_in, body_query, calling, calls_out, led, returned, resumed, after_return, after_statements, called, called_by, calls, switched, terminated, trail_of, next_from}
 use Rattle.mir.specs.declared.answers.Answer.{Answer}
 use Rattle.mir.specs.declared.answers.Answer.TheVariants as answer
 use Rattle.mir.specs.declared.body.BasicBlock.{BasicBlock}
@@ -15,7 +15,7 @@ use Rattle.mir.specs.declared.body.TerminatorKind.TheVariants.{Goto, SwitchInt, 
 use Rattle.mir.specs.declared.errors.MirEvalError.{MirEvalError}
 use Rattle.mir.specs.declared.switch.SwitchTargets.{SwitchTargets}
 use Rattle.mir_laws.specs.Questions.{DidNotAsk, IsQuestion}
-use Rattle.mir_laws.proofs.Enters.{Enters, enters_called}
+use Rattle.mir_laws.proofs.Enters.{Enters, enters_called, enters_led}
 
 -- what is known of where a block of a frame leads
 abbrev pub Keeps : Frame → Next → Type 0
@@ -48,8 +48,14 @@ module _ (frame : Frame) where
       → Keeps frame (calls frame memory call)
   unfolding calls called_by
   kept_by memory call callee (Some (answer.Body body)) is told_is =
-      rw (is, told_is, calls) (kept_by_entering frame (called frame memory call callee.0 body.value) (enters_called frame memory call callee.0 body.value))
-  kept_by memory call callee (Some (answer.Failed e)) is told_is = rw (is, told_is, calls) tt
+      rw (is, told_is, calls)
+      (kept_by_entering frame (led frame (calls_out frame.program.world frame.body (number_held memory frame.cells) call) (called frame memory call callee.0 body.value))
+      (enters_led frame (calls_out frame.program.world frame.body (number_held memory frame.cells) call) (called frame memory call callee.0 body.value) (enters_called frame memory call callee.0 body.value)))
+  kept_by memory call callee (Some (answer.Failed e)) is told_is =
+      let refused : Next = Stops (Faulted (callee_error callee.0 e) (entry_of frame call callee.0 ∷ trail_of frame)) in
+      rw (is, told_is, calls)
+      (kept_by_entering frame (led frame (calls_out frame.program.world frame.body (number_held memory frame.cells) call) refused)
+      (enters_led frame (calls_out frame.program.world frame.body (number_held memory frame.cells) call) refused tt))
   kept_by memory call callee (Some (answer.Konst konst)) is told_is =
       kept_asking memory call callee (rw (is, told_is, calls)) (apart callee (answer.Konst konst) (answer_to frame.program.answers (body_query callee)) told_is refl)
   kept_by memory call callee (Some (answer.Discriminant number)) is told_is =
@@ -76,6 +82,10 @@ module _ (frame : Frame) where
   kept_switched memory targets (Some bytes) = kept_small memory targets bytes (nat_le (length bytes) 16) refl
   kept_switched memory targets None = tt
 
+  kept_led : (out : Bool) (next : Next) → Keeps frame next → Keeps frame (led frame out next)
+  kept_led true next keeps = tt
+  kept_led false next keeps = keeps
+
   kept_resumed : (memory : Memory) (caller : Waiting) (below : List Waiting) (next : Option ℕ) → caller.next ≡ next
       → Keeps frame (resumed frame.program memory caller below)
   unfolding resumed
@@ -97,7 +107,9 @@ module _ (frame : Frame) where
       → Keeps frame (terminated frame memory (Some terminator))
   unfolding terminated
   kept_kind memory terminator (Goto target) is = rw (is, terminated) refl
-  kept_kind memory terminator (SwitchInt discr targets) is = rw (is, terminated) (kept_switched memory targets (operand_bytes frame memory discr.kind))
+  kept_kind memory terminator (SwitchInt discr targets) is =
+      rw (is, terminated)
+      (kept_led (operand_out frame.program.world frame.body (number_held memory frame.cells) discr.kind) (switched frame memory targets (operand_bytes frame memory discr.kind)) (kept_switched memory targets (operand_bytes frame memory discr.kind)))
   kept_kind memory terminator Return is = rw (is, terminated) (kept_return memory frame.below refl)
   kept_kind memory terminator (Drop place target unwind) is = rw (is, terminated) refl
   kept_kind memory terminator (Call func args destination target cleanup from_hir_call) is =

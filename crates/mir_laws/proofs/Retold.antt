@@ -5,9 +5,8 @@ use Rattle.types.specs.declared.ids.FunctionId.{FunctionId}
 use Rattle.types.specs.declared.ty.GenericArgs.{GenericArgs}
 use Rattle.mir.specs.Answers.{answer_to}
 use Rattle.mir.specs.declared.address.Interval.{Interval}
-use Rattle.mir.specs.Memory.{Memory}
-use Rattle.mir.specs.Places.{place_cell}
-use Rattle.mir.specs.Run.{Frame, Waiting, Calling, Next, Stops, GoesTo, Asks, operand_bytes, operand_type, function_in, body_query, calling, levels_over, resumed, after_return, after_statements, called_cells, filled, entered, called, called_by, calls, switched, terminated, next_from}
+use Rattle.mir.specs.Memory.{Memory, number_held}
+use Rattle.mir.specs.Run.{Frame, Waiting, Calling, Next, Faulted, Stops, GoesTo, Asks, callee_error, entry_of, operand_bytes, operand_out, operand_type, function_in, body_query, calling, calls_out, cell_now, led, levels_over, resumed, after_return, after_statements, called_cells, filled, entered, called, called_by, calls, switched, terminated, trail_of, next_from}
 use Rattle.mir.specs.declared.answers.Answer.{Answer}
 use Rattle.mir.specs.declared.answers.Answer.TheVariants as answer
 use Rattle.mir.specs.declared.answers.Query.{Query}
@@ -47,7 +46,7 @@ module _ (later : List (Query × Answer)) (frame : Frame) where
     retold_entered : (destination : Option Interval) → entered (telling later frame) memory call id body destination ≡ retold later (entered frame memory call id body destination)
     retold_entered destination = retold_placed destination (called_cells frame.program.world body.locals destination memory) refl
 
-    retold_returning : (cell : Option Interval) (block : ℕ) → call.target ≡ Some block → place_cell frame.program.world frame.body frame.cells call.destination ≡ cell
+    retold_returning : (cell : Option Interval) (block : ℕ) → call.target ≡ Some block → cell_now frame memory call.destination ≡ cell
         → called (telling later frame) memory call id body ≡ retold later (called frame memory call id body)
     unfolding called
     retold_returning (Some cell) block is cell_is = rw (is, cell_is, called) (retold_entered (Some cell))
@@ -60,8 +59,13 @@ module _ (later : List (Query × Answer)) (frame : Frame) where
     retold_nested false is fits_is = rw (is, fits_is, called)
 
     retold_called : (target : Option ℕ) → call.target ≡ target → called (telling later frame) memory call id body ≡ retold later (called frame memory call id body)
-    retold_called (Some block) is = retold_returning (place_cell frame.program.world frame.body frame.cells call.destination) block is refl
+    retold_called (Some block) is = retold_returning (cell_now frame memory call.destination) block is refl
     retold_called None is = retold_nested (nat_le (suc (levels_over frame.below)) frame.program.nesting) is refl
+
+  -- something that is led to, or the fault of a place that is out of bounds
+  retold_led : (out : Bool) (now before : Next) → now ≡ retold later before → led (telling later frame) out now ≡ retold later (led frame out before)
+  retold_led true now before same = refl
+  retold_led false now before same = same
 
   -- a call of a function, by the answer to the query for its body before the run was told more
   retold_by : (memory : Memory) (call : Calling) (callee : FunctionId × GenericArgs) (told : Option Answer) → Extends frame.program.answers later
@@ -70,10 +74,14 @@ module _ (later : List (Query × Answer)) (frame : Frame) where
   unfolding calls called_by
   retold_by memory call callee (Some (answer.Body body)) extends is told_is =
       let later_is : answer_to later (body_query callee) ≡ Some (answer.Body body) = extends (body_query callee) (answer.Body body) told_is in
-      rw (is, told_is, later_is, calls) (retold_called memory call callee.0 body.value call.target refl)
+      rw (is, told_is, later_is, calls)
+      (retold_led (calls_out frame.program.world frame.body (number_held memory frame.cells) call) (called (telling later frame) memory call callee.0 body.value) (called frame memory call callee.0 body.value)
+      (retold_called memory call callee.0 body.value call.target refl))
   retold_by memory call callee (Some (answer.Failed e)) extends is told_is =
       let later_is : answer_to later (body_query callee) ≡ Some (answer.Failed e) = extends (body_query callee) (answer.Failed e) told_is in
       rw (is, told_is, later_is, calls)
+      (retold_led (calls_out frame.program.world frame.body (number_held memory frame.cells) call) (Stops (Faulted (callee_error callee.0 e) (entry_of (telling later frame) call callee.0 ∷ trail_of (telling later frame))))
+      (Stops (Faulted (callee_error callee.0 e) (entry_of frame call callee.0 ∷ trail_of frame))) refl)
   retold_by memory call callee (Some (answer.Konst konst)) extends is told_is = rw (is, told_is, is, calls)
   retold_by memory call callee (Some (answer.Discriminant number)) extends is told_is = rw (is, told_is, is, calls)
   retold_by memory call callee None extends is told_is = rw (is, told_is, is, calls)
@@ -115,7 +123,9 @@ module _ (later : List (Query × Answer)) (frame : Frame) where
   unfolding terminated
   retold_kind memory terminator (Goto target) extends is = rw (is, terminated)
   retold_kind memory terminator (SwitchInt discr targets) extends is =
-      rw (is, same_operand later frame memory discr.kind, terminated) (retold_switched memory targets (operand_bytes frame memory discr.kind))
+      rw (is, same_operand later frame memory discr.kind, terminated)
+      (retold_led (operand_out frame.program.world frame.body (number_held memory frame.cells) discr.kind) (switched (telling later frame) memory targets (operand_bytes frame memory discr.kind)) (switched frame memory targets (operand_bytes frame memory discr.kind))
+      (retold_switched memory targets (operand_bytes frame memory discr.kind)))
   retold_kind memory terminator Return extends is = rw (is, terminated) (retold_return memory frame.below refl)
   retold_kind memory terminator (Drop place target unwind) extends is = rw (is, terminated)
   retold_kind memory terminator (Call func args destination target cleanup from_hir_call) extends is =

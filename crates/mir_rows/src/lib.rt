@@ -3,19 +3,25 @@
 //! row of its own is left to the body. A body that can be called stands beside the sizes of its cells.
 #![tactic(auto)]
 
+mod arrays;
+mod bounds;
 mod building;
 mod callees;
 mod cell_sizes;
 mod code;
+mod layouts;
 mod operands;
 mod places;
 mod row;
 mod spots;
 
+pub use arrays::Numbers;
+pub use bounds::{assigns_out, is_out_of_bounds, operand_out, some_out};
 pub use callees::{Callee, callee_of, ready};
 pub use cell_sizes::sizes;
 pub use code::Code;
+pub use layouts::struct_layout;
 pub use operands::{constant_bytes, operand_kind};
-pub use places::{place_cell, place_type};
+pub use places::{cell_of, place_cell, place_type};
 pub use row::{Action, BlockRows, Row, Short, Source, Way};
-pub use spots::{Spot, part_of_local, spot_cell};
+pub use spots::{Spot, cell_of_spot, part_of_local, spot_cell};

@@ -1,12 +1,12 @@
 //! Where the values of places lie, and of which types they are.
 
-ghost use Rattle.std.specs.Prelude.{◌≡◌, ℕ, ◌*◌, ◌^◌, ◌≤◌, IfSome, Some, option_and_then, option_map, slice_get};
+ghost use Rattle.std.specs.Prelude.{◌≡◌, IfSome, option_map, slice_get};
 ghost use Rattle.std.specs.Option.{option_copied};
 ghost use Rattle.mir.specs.Places.{cell_at, cell_behind, elem_offset, elem_type, local_type, offset_behind, part_of_cell, part_offset, place_cell, place_type, type_at, type_behind};
 ghost use Rattle.mir.specs.Projections.{projection_of};
-ghost use Rattle.world.specs.Lookups.{layout_of};
-ghost use Rattle.mir_rows.specs.Places.{HasEnd, HaveEnds};
+ghost use Rattle.mir_rows.specs.Places.{saturated, HasEnd, HaveEnds};
 
+use crate::arrays::{Numbers, array_element, array_length, element_offset, element_size, widened};
 use crate::spots::part;
 use either::Either;
 use mir::{
@@ -27,12 +27,13 @@ pub(crate) fn local_type(body: &MirBody, local: LocalId) -> Option<&Ty>
 }
 
 /// The type that an element leads to from a value of a type.
-fn elem_type<'a>(db: &'a HirDatabase, elem: &PlaceElem, ty: &'a Ty) -> Option<&'a Ty>
+pub(crate) fn elem_type<'a>(db: &'a HirDatabase, elem: &PlaceElem, ty: &'a Ty) -> Option<&'a Ty>
     ensures { option_copied result ≡ elem_type db.now elem.now ty.now }
 {
     match elem {
         ProjectionElem::Field(Either::Left(field)) => struct_field(db, *field, ty),
         ProjectionElem::Field(Either::Right(field)) => tuple_part(ty, *field),
+        ProjectionElem::Index(_) => array_element(ty),
         _ => None,
     }
 }
@@ -47,13 +48,22 @@ fn part_offset(db: &HirDatabase, index: u32, ty: &Ty) -> Option<u64>
     }
 }
 
-/// How far behind the first byte of a value of a type what an element leads to begins.
-fn elem_offset(db: &HirDatabase, elem: &PlaceElem, ty: &Ty) -> Option<u64>
-    ensures { result ≡ elem_offset db.now elem.now ty.now }
+/// How far behind the first byte of a value of a type what an element leads to begins: the greatest number in place of a greater one.
+fn elem_offset<N: Numbers>(db: &HirDatabase, numbers: &N, elem: &PlaceElem, ty: &Ty) -> Option<u128>
+    ensures { result ≡ option_map saturated (elem_offset db.now (N.held numbers.now) elem.now ty.now) }
 {
     match elem {
-        ProjectionElem::Field(Either::Left(field)) => part_offset(db, field.local_id, ty),
-        ProjectionElem::Field(Either::Right(field)) => part_offset(db, field.index, ty),
+        ProjectionElem::Field(Either::Left(field)) => {
+            widened(part_offset(db, field.local_id, ty))
+        }
+        ProjectionElem::Field(Either::Right(field)) => widened(part_offset(db, field.index, ty)),
+        ProjectionElem::Index(local) => {
+            element_offset(
+                array_length(ty),
+                element_size(db, ty),
+                numbers.number(*local),
+            )
+        }
         _ => None,
     }
 }
@@ -76,13 +86,14 @@ pub(crate) fn type_behind<'a>(
     seen
 }
 
-/// How far behind the first byte of a value of a type what elements lead to begins.
-pub(crate) fn offset_behind(
+/// How far behind the first byte of a value of a type what elements lead to begins: the greatest number in place of a greater one.
+pub(crate) fn offset_behind<N: Numbers>(
     db: &HirDatabase,
+    numbers: &N,
     elements: &[PlaceElem],
     ty: Option<&Ty>,
 ) -> Option<u128>
-    ensures { result ≡ offset_behind db.now elements.now (option_copied ty.entry) }
+    ensures { result ≡ option_map saturated (offset_behind db.now (N.held numbers.now) elements.now (option_copied ty.entry)) }
 {
     let mut seen = ty;
     let mut offset: u128 = 0;
@@ -90,10 +101,10 @@ pub(crate) fn offset_behind(
         let Some(ty) = seen else {
             return None;
         };
-        let Some(more) = elem_offset(db, elem, ty) else {
+        let Some(more) = elem_offset(db, numbers, elem, ty) else {
             return None;
         };
-        offset += more as u128;
+        offset = offset.saturating_add(more);
         seen = elem_type(db, elem, ty);
     }
     Some(offset)
@@ -112,19 +123,20 @@ fn part_of_cell(cell: Interval, offset: u128, size: u64) -> Option<Interval>
 }
 
 /// Where the value lies that elements lead to, in the cell of a value of a type.
-fn cell_behind(
+fn cell_behind<N: Numbers>(
     db: &HirDatabase,
+    numbers: &N,
     elements: &[PlaceElem],
     ty: Option<&Ty>,
     cell: Interval,
 ) -> Option<Interval>
     requires { HasEnd cell }
-    ensures { result ≡ cell_behind db.now elements.now (option_copied ty.entry) cell }
+    ensures { result ≡ cell_behind db.now (N.held numbers.now) elements.now (option_copied ty.entry) cell }
 {
     if elements.is_empty() {
         return Some(cell);
     }
-    let Some(offset) = offset_behind(db, elements, ty) else {
+    let Some(offset) = offset_behind(db, numbers, elements, ty) else {
         return None;
     };
     let Some(seen) = type_behind(db, elements, ty) else {
@@ -149,7 +161,7 @@ pub(crate) fn elements(body: &MirBody, place: Place) -> Option<&[PlaceElem]>
 
 /// The cell of a local.
 #[inline(always)]
-pub(crate) fn cell_of(cells: &[Interval], local: LocalId) -> Option<Interval>
+pub fn cell_of(cells: &[Interval], local: LocalId) -> Option<Interval>
     ensures { result ≡ slice_get cells.now local.0 }
 {
     match cells.get(local.0 as usize) {
@@ -160,15 +172,21 @@ pub(crate) fn cell_of(cells: &[Interval], local: LocalId) -> Option<Interval>
 
 /// Where a place's value lies, by the elements that the id of its projection stands for.
 #[inline(never)]
-fn cell_at(db: &HirDatabase, body: &MirBody, cells: &[Interval], place: Place) -> Option<Interval>
+fn cell_at<N: Numbers>(
+    db: &HirDatabase,
+    body: &MirBody,
+    numbers: &N,
+    cells: &[Interval],
+    place: Place,
+) -> Option<Interval>
     requires { HaveEnds cells.now }
-    ensures { result ≡ cell_at db.now body.now cells.now place (projection_of body.now.projection_store.projections place.projection) }
+    ensures { result ≡ cell_at db.now body.now (N.held numbers.now) cells.now place (projection_of body.now.projection_store.projections place.projection) }
 {
     let Some(elements) = elements(body, place) else {
         return None;
     };
     match cell_of(cells, place.local) {
-        Some(cell) => cell_behind(db, elements, local_type(body, place.local), cell),
+        Some(cell) => cell_behind(db, numbers, elements, local_type(body, place.local), cell),
         None => None,
     }
 }
@@ -176,20 +194,21 @@ fn cell_at(db: &HirDatabase, body: &MirBody, cells: &[Interval], place: Place) -
 /// Where a place's value lies.
 #[inline(always)]
 #[tactic(auto, unfolding(mir::specs::Places::place_cell))]
-pub fn place_cell(
+pub fn place_cell<N: Numbers>(
     db: &HirDatabase,
     body: &MirBody,
+    numbers: &N,
     cells: &[Interval],
     place: Place,
 ) -> Option<Interval>
     requires { HaveEnds cells.now }
-    ensures cell { result ≡ place_cell db.now body.now cells.now place }
+    ensures cell { result ≡ place_cell db.now body.now (N.held numbers.now) cells.now place }
     ensures ends { IfSome result HasEnd }
 {
     if place.projection.0 == 0 {
         cell_of(cells, place.local)
     } else {
-        cell_at(db, body, cells, place)
+        cell_at(db, body, numbers, cells, place)
     }
 }
 

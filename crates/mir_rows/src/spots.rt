@@ -7,6 +7,7 @@ ghost use Rattle.mir_rows.specs.Places.{HasEnd, HaveEnds};
 ghost use Rattle.mir_rows.specs.declared.spots.Spot.TheVariants.{Part};
 ghost use Rattle.mir_rows.specs.Spots.{prepared, spot_cell, IsSpot};
 
+use crate::arrays::NoNumbers;
 use crate::places::{cell_of, elements, local_type, offset_behind, type_behind};
 use mir::{Address, Interval, LocalId, MirBody, Place};
 use world::HirDatabase;
@@ -22,7 +23,7 @@ pub enum Spot {
     },
 }
 
-/// Where the value of a place lies, as the layouts of the world say it, where an offset of 64 bits leads there.
+/// Where the value of a place lies, as the layouts of the world say it, where an offset of 64 bits leads there, and no index.
 pub(crate) fn spot_of(db: &HirDatabase, body: &MirBody, place: Place) -> Option<Spot>
     ensures { IfSome result (λ spot. IsSpot (prepared db.now body.now) place spot) }
 {
@@ -34,7 +35,7 @@ pub(crate) fn spot_of(db: &HirDatabase, body: &MirBody, place: Place) -> Option<
         return Some(Spot::Whole(place.local));
     }
     let ty = local_type(body, place.local);
-    let offset = offset_behind(db, elements, ty)?;
+    let offset = offset_behind(db, &NoNumbers, elements, ty)?;
     let seen = type_behind(db, elements, ty)?;
     let layout = db.layout_of(seen)?;
     if offset > u64::MAX as u128 {
@@ -104,5 +105,17 @@ pub fn spot_cell(cells: &[Interval], spot: Spot) -> Option<Interval>
             offset,
             size,
         } => part_of_local(cells, local, offset, size),
+    }
+}
+
+/// Where a spot lies, by the cells of the locals. A whole cell is found first.
+#[inline(always)]
+pub fn cell_of_spot(cells: &[Interval], spot: &Spot) -> Option<Interval>
+    requires { HaveEnds cells.now }
+    ensures { result ≡ spot_cell cells.now spot.now }
+{
+    match spot {
+        Spot::Whole(local) => cell_of(cells, *local),
+        Spot::Part { .. } => spot_cell(cells, *spot),
     }
 }

@@ -41,7 +41,7 @@ struct Call {
 
 /// What a run is told of a function, which has two parameters.
 #[derive(Clone, Copy)]
-enum Function {
+pub(crate) enum Function {
     /// Its body returns what the operator makes of the parameters.
     Computes(BinOp),
     /// Its body returns what the function of this number makes of the parameters.
@@ -356,7 +356,7 @@ fn tell_body(
 }
 
 /// Runs to the end, and returns how many bodies were asked for on the way.
-fn run_to_end(
+pub(crate) fn run_to_end(
     alloc: Global,
     evaluator: &mut Evaluator<'_, FlatMemory>,
     functions: &[Function],
@@ -389,7 +389,7 @@ fn limits_of(row: &Row) -> Result<Limits, Fail>
 }
 
 /// The report on a goal whose run is over.
-fn lines_of(
+pub(crate) fn lines_of(
     alloc: Global,
     db: &HirDatabase,
     evaluator: Evaluator<'_, FlatMemory>,

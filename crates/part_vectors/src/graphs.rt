@@ -7,8 +7,8 @@ use mir::{
 use std::alloc::Global;
 use std::test::Fail;
 use world::{
-    Bytes, Const, ConstId, ConstRow, Crate, CrateRow, DefWithBodyId, HirDatabase, Layout, List,
-    MemoryMap, NoMemory, Ty, UintTy, ValueConst, Variants,
+    Box, Bytes, Const, ConstId, ConstRow, Crate, CrateRow, DefWithBodyId, HirDatabase, Layout,
+    List, MemoryMap, NoMemory, Ty, UintTy, ValueConst, Variants,
 };
 use world_check::CheckedWorld;
 
@@ -21,7 +21,7 @@ pub(crate) const SLOT: Place = Place {
     projection: ProjectionId(0),
 };
 
-fn u64_type() -> Ty {
+pub(crate) fn u64_type() -> Ty {
     Ty::Uint(UintTy::U64)
 }
 
@@ -47,6 +47,33 @@ fn tables_of_one(alloc: Global) -> Result<HirDatabase, NoMemory> {
     };
     db.layouts.push((u64_type(), layout))?;
     Ok(db)
+}
+
+/// The type of arrays of three numbers of the type `u64`.
+pub(crate) fn array_type(alloc: Global) -> Result<Ty, NoMemory> {
+    let len = Const::Value(ValueConst {
+        ty: Ty::Uint(UintTy::Usize),
+        memory: Bytes::from_slice(alloc, &[3, 0, 0, 0, 0, 0, 0, 0])?,
+        memory_map: MemoryMap::Empty,
+    });
+    Ok(Ty::Array(Box::new(alloc, u64_type())?, Box::new(alloc, len)?))
+}
+
+/// A world of one constant of the type `u64`, with the layout of those arrays.
+pub(crate) fn world_with_arrays(alloc: Global) -> Result<CheckedWorld, Fail> {
+    let mut db = tables_of_one(alloc)?;
+    let layout = Layout {
+        size: 24,
+        align: 8,
+        sized: true,
+        offsets: List::new(alloc),
+        variants: Variants::Single(0),
+    };
+    db.layouts.push((array_type(alloc)?, layout))?;
+    match CheckedWorld::new(alloc, db) {
+        Ok(world) => Ok(world),
+        Err(_) => Err(Fail::new("the world with arrays is refused")),
+    }
 }
 
 /// A world of one constant of the type `u64`.
